@@ -1,0 +1,13 @@
+//! The plain values that every layer speaks of: an inode's metadata, a task's credentials, the place of a step, and the
+//! small choices of IMA and EVM (status, appraisal mode, template, bank, slot), each with its printed word.
+#![tactic(auto)]
+
+mod appraisal;
+mod identity;
+mod measurement;
+mod step;
+
+pub use appraisal::{EvmStatus, Mode, Need, Slot};
+pub use identity::{Cred, Meta};
+pub use measurement::{Bank, Template};
+pub use step::Who;

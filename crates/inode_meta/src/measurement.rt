@@ -1,0 +1,50 @@
+ghost use Rattle.std.specs.Prelude.{◌≡◌};
+ghost use Rattle.inode_meta.specs.Words.{bank_word, template_word};
+
+/// The template of an entry of the measurement list (Documentation/security/IMA-templates.rst).
+#[derive(Clone, Copy, Debug, PartialEq, Eq)]
+pub enum Template {
+    /// The fields `d` and `n`.
+    Ima,
+    /// The fields `d-ng` and `n-ng`.
+    ImaNg,
+    /// The fields `d-ng`, `n-ng` and `sig`.
+    ImaSig,
+    /// The fields `d-ng`, `n-ng` and `buf`. Only buffers of critical data use it: no rule, action, settings or script holds it.
+    ImaBuf,
+}
+
+impl Template {
+    /// The template's name as lists print it.
+    pub fn word(self) -> &'static str
+        ensures { result.now ≡ template_word self }
+    {
+        match self {
+            Template::Ima => "ima",
+            Template::ImaNg => "ima-ng",
+            Template::ImaSig => "ima-sig",
+            Template::ImaBuf => "ima-buf",
+        }
+    }
+}
+
+/// A bank of platform configuration registers, named for its hash.
+#[derive(Clone, Copy, Debug, PartialEq, Eq)]
+pub enum Bank {
+    /// Registers of 20 bytes.
+    Sha1,
+    /// Registers of 32 bytes.
+    Sha256,
+}
+
+impl Bank {
+    /// The name of the bank's hash.
+    pub fn word(self) -> &'static str
+        ensures { result.now ≡ bank_word self }
+    {
+        match self {
+            Bank::Sha1 => "sha1",
+            Bank::Sha256 => "sha256",
+        }
+    }
+}

@@ -1,0 +1,10 @@
+/// The place of a step: which task, which of its calls, and which step of that call, each counted from 0.
+#[derive(Clone, Copy, Debug, PartialEq, Eq)]
+pub struct Who {
+    /// The task's number.
+    pub task: u32,
+    /// The number of the call among the task's calls.
+    pub call: u32,
+    /// The number of the step within the call.
+    pub step: u32,
+}

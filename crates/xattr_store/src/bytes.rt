@@ -1,0 +1,62 @@
+ghost use Rattle.std.specs.Prelude.{◌≡◌, ℕ, List, IfOk};
+
+use std::alloc::{AllocError, Global};
+use std::marker::Model;
+
+/// Want of memory: the one answer of these crates that has no further cause.
+pub type OutOfMemory = AllocError;
+
+/// A byte string that owns its memory, as a path, a name or the value of an attribute. Contracts see its list of bytes.
+#[derive(Debug, Drop)]
+pub struct Bytes {
+    bytes: Vec<u8>,
+}
+
+impl Model for Bytes {
+    ghost Value = { List ℕ };
+
+    ghost view = { λ b. b.bytes.items };
+}
+
+impl Bytes {
+    /// The string with these bytes.
+    pub fn from_slice(alloc: Global, b: &[u8]) -> Result<Bytes, OutOfMemory>
+        ensures bytes { IfOk result (λ copy. copy ≡ b.now) }
+    {
+        let mut bytes = Vec::with_capacity(alloc, b.len())?;
+        bytes.extend_from_slice(b)?;
+        Ok(Bytes { bytes })
+    }
+
+    /// The string with the bytes of a vector, which it takes over.
+    pub fn from_vec(bytes: Vec<u8>) -> Bytes
+        ensures bytes { result ≡ bytes.items }
+    {
+        Bytes { bytes }
+    }
+
+    /// The vector of the string's bytes, taken over.
+    pub fn into_vec(self) -> Vec<u8>
+        ensures bytes { result.items ≡ self }
+    {
+        self.bytes
+    }
+
+    /// The bytes.
+    pub fn as_slice(&self) -> &[u8]
+        ensures bytes { result.now ≡ self.now }
+    {
+        self.bytes.as_slice()
+    }
+}
+
+#[cfg(test)]
+mod tests {
+    use super::Bytes;
+
+    #[test]
+    fn a_slice_is_copied(rt: HostRuntime) {
+        let copy = Bytes::from_slice(rt.alloc(), b"security.ima");
+        assert!(rt; copy.is_ok_and(|b| b.as_slice() == b"security.ima".as_slice()));
+    }
+}
