@@ -1,0 +1,37 @@
+ghost use Rattle.std.specs.Prelude.{◌≡◌, None};
+
+use crate::outside::{Failed, Source};
+use std::io::Read;
+
+/// A reader as a source. It tells no bytes. Its count of faults has 64 bits, rises at each `Err` of the
+/// reader, and stays at its last value.
+#[derive(Drop)]
+pub struct StdSource<R> {
+    reader: R,
+    faults: u64,
+}
+
+impl<R: Read> StdSource<R> {
+    /// The source that reads from `reader` and has not failed yet.
+    pub fn new(reader: R) -> StdSource<R>
+        ensures { ⟦<StdSource<R> as Source>⟧.faults result ≡ 0 }
+    {
+        StdSource { reader, faults: 0 }
+    }
+}
+
+impl<R: Read> Source for StdSource<R> {
+    ghost left = { λ _. None };
+
+    ghost faults = { λ s. s.faults };
+
+    fn read(&mut self, buf: &mut [u8]) -> Result<usize, Failed> {
+        match self.reader.read(buf) {
+            Ok(n) => Ok(n),
+            Err(_) => {
+                self.faults = self.faults.saturating_add(1);
+                Err(Failed)
+            }
+        }
+    }
+}

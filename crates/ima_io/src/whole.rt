@@ -1,0 +1,108 @@
+// Reading a source to its end, and writing a piece whole.
+ghost use Rattle.std.specs.Prelude.{◌≡◌, ◌+◌, ◌<◌, ◌≤◌, ◌↔◌, length, IfOk, OnOk, OnErr, IsErrOf, vec_len};
+ghost use Rattle.std.specs.Io.KnownBytes.{Appends, Consumes, IsAtEnd, ReadConsumes};
+ghost use Rattle.ima_io.specs.Counts.{Rose};
+ghost use Rattle.ima_io.specs.Bytes.{Gave, TookPart};
+ghost use Rattle.ima_io.specs.declared.whole.ReadErr.TheVariants.{Fault, OutOfMemory};
+
+use crate::outside::{Failed, OutOfMemory, Sink, Source};
+use std::alloc::{AllocError, Global};
+
+/// Why a source was not read to its end.
+#[derive(Clone, Copy, Debug, PartialEq, Eq)]
+pub enum ReadErr {
+    /// The source failed.
+    Fault,
+    /// The source gave more bytes than the limit.
+    TooLong,
+    /// Memory ran out.
+    OutOfMemory,
+}
+
+impl From<Failed> for ReadErr {
+    ghost from_gives = { λ _ e. e ≡ Fault };
+
+    fn from(_failed: Failed) -> ReadErr {
+        ReadErr::Fault
+    }
+}
+
+impl From<AllocError> for ReadErr {
+    ghost from_gives = { λ _ e. e ≡ OutOfMemory };
+
+    fn from(_error: AllocError) -> ReadErr {
+        ReadErr::OutOfMemory
+    }
+}
+
+// The most bytes that are read in one call.
+const CHUNK: usize = 65_536;
+
+// Room for what one call reads.
+fn new_chunk(alloc: Global) -> Result<Vec<u8>, OutOfMemory>
+    ensures { IfOk result (λ chunk. 0 < vec_len chunk) }
+{
+    vec![in alloc; 0u8; CHUNK]
+}
+
+// One read of at most `most` bytes into a front of the chunk.
+fn read_some<S: Source>(source: &mut S, chunk: &mut [u8], most: usize) -> Result<usize, Failed>
+    requires room { 0 < length chunk.old }
+    requires some { 0 < most }
+    ensures fits { IfOk result (λ n. n ≤ length chunk.new) }
+    ensures few { IfOk result (λ n. n ≤ most) }
+    ensures bytes { ReadConsumes (S.left source.old) (S.left source.new) result chunk.new }
+    ensures count { S.faults source.old ≤ S.faults source.new }
+    ensures cause { OnErr result (Rose (S.faults source.old) (S.faults source.new)) }
+{
+    let room = most.min(chunk.len());
+    source.read(&mut chunk[..room])
+}
+
+/// The bytes of the source up to its end.
+///
+/// `Fault` comes only where the source's count of faults rose in this call, `TooLong` exactly where the
+/// source gave more than `limit` bytes. At most one byte more than `limit` is read.
+pub fn read_all<S: Source>(alloc: Global, source: &mut S, limit: usize) -> Result<Vec<u8>, ReadErr>
+    // At `Ok` these are all the bytes, and none is left.
+    ensures all { IfOk result (λ bytes. Consumes (S.left source.old) (S.left source.new) bytes.items) }
+    ensures end { OnOk result (IsAtEnd (S.left source.new)) }
+    ensures short { IfOk result (λ bytes. length bytes.items ≤ limit) }
+
+    // Whatever the answer, what was given is a front of what was left.
+    ensures given { Gave (S.left source.old) (S.left source.new) (λ given.
+        (length given ≤ limit + 1) × (IsErrOf result ReadErr.TooLong ↔ (limit < length given))) }
+
+    ensures count { S.faults source.old ≤ S.faults source.new }
+    ensures cause { IsErrOf result ReadErr.Fault → Rose (S.faults source.old) (S.faults source.new) }
+{
+    let mut bytes = Vec::new(alloc);
+    let mut chunk = new_chunk(alloc)?;
+    loop {
+        let most = (limit - bytes.len()).saturating_add(1);
+        let n = read_some(source, &mut chunk, most)?;
+        if n == 0 {
+            return Ok(bytes);
+        }
+        if n > limit - bytes.len() {
+            return Err(ReadErr::TooLong);
+        }
+        bytes.extend_from_slice(&chunk[..n])?;
+    }
+}
+
+/// Writes the piece whole. `Failed` comes only where the sink's count of faults rose in this call; what was
+/// taken is then a front of the piece that is shorter than the piece. No memory is taken.
+pub fn write_all<K: Sink>(sink: &mut K, piece: &[u8]) -> Result<(), Failed>
+    ensures whole { OnOk result (Appends (K.taken sink.old) (K.taken sink.new) piece.now) }
+    ensures part { OnErr result (TookPart (K.taken sink.old) (K.taken sink.new) piece.now) }
+    ensures count { K.faults sink.old ≤ K.faults sink.new }
+    ensures cause { OnErr result (Rose (K.faults sink.old) (K.faults sink.new)) }
+{
+    let mut rest = piece;
+    while !rest.is_empty() {
+        let n = sink.write(rest)?;
+        rest = &rest[n..];
+    }
+    Ok(())
+}
