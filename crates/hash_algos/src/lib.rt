@@ -1,0 +1,17 @@
+//! The hash algorithms of file measurement: their names and numbers, sets of them, digests, and a
+//! hash that is fed by pieces. Names and numbers are those of the kernel's table of hash algorithms
+//! (include/uapi/linux/hash_info.h) as far as IMA's labels and templates use it. Nothing here takes
+//! memory.
+#![tactic(auto)]
+
+mod algo;
+mod algo_set;
+mod digest;
+mod running;
+#[cfg(test)]
+mod tests;
+
+pub use algo::{Algo, by_id, by_name};
+pub use algo_set::AlgoSet;
+pub use digest::Digest;
+pub use running::Running;

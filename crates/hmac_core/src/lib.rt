@@ -1,0 +1,10 @@
+//! HMAC-SHA1 (RFC 2104 with the SHA-1 of FIPS 180-4), fed piece by piece.
+//!
+//! No call takes memory. EVM uses it over a file's attributes and metadata.
+#![tactic(auto)]
+
+mod hmac;
+#[cfg(test)]
+mod tests;
+
+pub use hmac::{HmacSha1, MAC_LEN};

@@ -1,0 +1,10 @@
+//! The platform configuration registers that a measurement list extends: 24 registers in a bank of
+//! SHA-1 and in a bank of SHA-256, all zeros at first (TPM 2.0 Library, part 1, "PCR operations").
+#![tactic(auto)]
+
+mod banks;
+#[cfg(test)]
+mod tests;
+
+pub use banks::Banks;
+pub use inode_meta::Bank;

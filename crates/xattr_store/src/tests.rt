@@ -1,0 +1,36 @@
+use super::*;
+use std::test::Fail;
+
+// The pair at the place, as one text: name, `=` and value.
+fn shows(attrs: &Attrs, place: usize, name: &[u8], value: &[u8]) -> bool {
+    match attrs.at(place) {
+        Some((n, v)) => n == name && v == value,
+        None => false,
+    }
+}
+
+#[test]
+fn a_set_value_is_there_in_byte_order(rt: HostRuntime) -> Result<(), Fail> {
+    let mut attrs = Attrs::new(rt.alloc());
+    attrs.set(b"user.b", b"2")?;
+    attrs.set(b"security.ima", b"")?;
+    attrs.set(b"user", b"3")?;
+    attrs.set(b"user.b", b"4")?;
+    let copy = attrs.copy()?;
+    assert!(rt; shows(&copy, 0, b"security.ima", b""));
+    assert!(rt; shows(&copy, 1, b"user", b"3"));
+    assert!(rt; shows(&copy, 2, b"user.b", b"4"));
+    assert!(rt; copy.at(3).is_none());
+    Ok(())
+}
+
+#[test]
+fn a_value_has_at_most_4096_bytes(rt: HostRuntime) -> Result<(), Fail> {
+    let mut attrs = Attrs::new(rt.alloc());
+    attrs.set(b"user.x", &[0; MAX_VALUE])?;
+    assert_eq!(rt; attrs.set(b"user.x", &[0; 4097]), Err(SetErr::TooLong));
+    assert_eq!(rt; attrs.remove(b"user.y"), Err(NoData));
+    attrs.remove(b"user.x").ok().ok_or("user.x is there")?;
+    assert!(rt; attrs.get(b"user.x").is_none());
+    Ok(())
+}
