@@ -1,0 +1,4 @@
+pub mod Setup
+pub mod Input
+pub mod Status
+pub mod Changes

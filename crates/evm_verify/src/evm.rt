@@ -1,0 +1,205 @@
+ghost use Rattle.std.specs.Option.{option_copied};
+ghost use Rattle.std.specs.Prelude.{◌≡◌, IfOk, OnErr, OnOk};
+ghost use Rattle.evm_verify.specs.Changes.{allows_attr, allows_meta, may_change, may_set_meta, protects};
+ghost use Rattle.evm_verify.specs.Status.{evm_status, is_blank, renewed};
+ghost use Rattle.evm_verify.specs.Input.{evm_input, evm_value, old_input};
+
+use crate::input::{HMAC_TYPE, VALUE_LEN, value_of};
+use crate::names::{any_present, copy_names, is_among, protected_names};
+use inode_meta::{EvmStatus, Meta};
+use std::alloc::{AllocError, Global};
+use std::marker::Model;
+use xattr_store::{Attrs, Bytes, OutOfMemory};
+
+// The attribute that holds the HMAC.
+const EVM_NAME: &[u8] = b"security.evm";
+
+// How many names are always protected.
+const FIVE: usize = 5;
+
+/// EVM with a script's settings. Contracts see its key, the added names and the format.
+#[derive(Debug, Drop)]
+pub struct Evm {
+    key: Option<Bytes>,
+    // The five names, and then the added ones.
+    names: Vec<Bytes>,
+    format: u8,
+}
+
+impl Model for Evm {
+    ghost use Rattle.std.specs.Prelude.{◌≡◌, drop, take};
+    ghost use Rattle.evm_verify.specs.Input.{five_names};
+    ghost use Rattle.evm_verify.specs.Setup.{Setup};
+
+    ghost Value = { Setup };
+
+    ghost view = { λ e. record { key = e.key; added = drop 5 e.names.items; format = e.format } };
+
+    ghost invariant = { λ e. take 5 e.names.items ≡ five_names };
+}
+
+// No value, or one of the form of an HMAC.
+fn is_blank(value: Option<&[u8]>) -> bool
+    ensures { result ≡ is_blank (option_copied value.entry) }
+{
+    match value {
+        None => true,
+        Some(bytes) => bytes.len() == VALUE_LEN && bytes[0] == HMAC_TYPE,
+    }
+}
+
+// Whether EVM lets a call change a protected attribute of an inode of this status.
+fn allows_attr(status: EvmStatus, new: bool) -> bool
+    ensures { result ≡ allows_attr status new }
+{
+    match status {
+        EvmStatus::Pass | EvmStatus::Unknown => true,
+        EvmStatus::NoXattrs => new,
+        EvmStatus::NoLabel | EvmStatus::Fail | EvmStatus::Old => false,
+    }
+}
+
+// Whether EVM lets a call change the mode or the owner of an inode of this status.
+fn allows_meta(status: EvmStatus) -> bool
+    ensures { result ≡ allows_meta status }
+{
+    match status {
+        EvmStatus::Pass | EvmStatus::Unknown | EvmStatus::NoXattrs => true,
+        EvmStatus::NoLabel | EvmStatus::Fail | EvmStatus::Old => false,
+    }
+}
+
+impl Evm {
+    /// EVM with a key, if there is one, the names that are protected beside the kernel's five, in the order
+    /// in which they were added, and the format of the HMAC's message: 1, or 2 with the file system's UUID.
+    pub fn new(
+        alloc: Global,
+        key: Option<&[u8]>,
+        added: &[Bytes],
+        format: u8,
+    ) -> Result<Evm, OutOfMemory>
+        ensures { IfOk result (λ evm. evm ≡ record { key = option_copied key.entry; added = added.now; format = format }) }
+    {
+        let key = match key {
+            Some(bytes) => Some(Bytes::from_slice(alloc, bytes)?),
+            None => None,
+        };
+        let names = protected_names(alloc, added)?;
+        Ok(Evm { key, names, format })
+    }
+
+    /// An equal value.
+    pub fn copy(&self) -> Result<Evm, OutOfMemory>
+        ensures { IfOk result (λ copy. copy ≡ self.now) }
+    {
+        let alloc = *self.names.allocator();
+        let key = match &self.key {
+            Some(bytes) => Some(Bytes::from_slice(alloc, bytes.as_slice())?),
+            None => None,
+        };
+        let names = copy_names(alloc, &self.names)?;
+        let format = self.format;
+        Ok(Evm { key, names, format })
+    }
+
+    /// Whether the name is a protected attribute.
+    pub fn protects(&self, name: &[u8]) -> bool
+        ensures { result ≡ protects self.now name.now }
+    {
+        is_among(name, &self.names)
+    }
+
+    // The value of `security.evm` for the inode as it is.
+    fn value_now(&self, key: &[u8], attrs: &Attrs, meta: &Meta) -> [u8; VALUE_LEN]
+        ensures { result ≡ evm_value key.now (evm_input self.now attrs.now meta.now) }
+    {
+        value_of(key, &self.names, self.format, attrs, meta)
+    }
+
+    // Its value in the older form: the five names alone, and no UUID.
+    fn value_old(&self, key: &[u8], attrs: &Attrs, meta: &Meta) -> [u8; VALUE_LEN]
+        ensures { result ≡ evm_value key.now (old_input attrs.now meta.now) }
+    {
+        value_of(key, &self.names[..FIVE], 1, attrs, meta)
+    }
+
+    /// What EVM says of an inode: whether `security.evm` is the HMAC of its protected attributes and
+    /// metadata as they are, is the HMAC of the older form, is missing or doesn't fit, or whether there is
+    /// nothing to protect or no key.
+    pub fn status(&self, attrs: &Attrs, meta: &Meta) -> EvmStatus
+        ensures { result ≡ evm_status self.now attrs.now meta.now }
+    {
+        let Some(key) = &self.key else {
+            return EvmStatus::Unknown;
+        };
+        let value = attrs.get(EVM_NAME);
+        if !any_present(&self.names, attrs) && is_blank(value) {
+            return EvmStatus::NoXattrs;
+        }
+        let Some(bytes) = value else {
+            return EvmStatus::NoLabel;
+        };
+        if bytes == self.value_now(key.as_slice(), attrs, meta).as_slice() {
+            EvmStatus::Pass
+        } else if bytes == self.value_old(key.as_slice(), attrs, meta).as_slice() {
+            EvmStatus::Old
+        } else {
+            EvmStatus::Fail
+        }
+    }
+
+    /// Writes the HMAC anew, or takes `security.evm` away where nothing is protected any more. Without a
+    /// key nothing changes. After want of memory the attributes are as before.
+    pub fn renew(&self, attrs: &mut Attrs, meta: &Meta) -> Result<(), OutOfMemory>
+        ensures ok { OnOk result (attrs.new ≡ renewed self.now attrs.old meta.now) }
+        ensures err { OnErr result (attrs.new ≡ attrs.old) }
+    {
+        let Some(key) = &self.key else {
+            return Ok(());
+        };
+        if !any_present(&self.names, attrs) {
+            let _ = attrs.remove(EVM_NAME);
+            return Ok(());
+        }
+        let value = self.value_now(key.as_slice(), attrs, meta);
+        match attrs.set(EVM_NAME, &value) {
+            Ok(()) => Ok(()),
+            // A value of 21 bytes is never too long.
+            Err(_) => Err(AllocError),
+        }
+    }
+
+    /// Whether a call may change the attribute: refused, with the status, exactly where the name is
+    /// protected and the status is neither Pass nor Unknown, nor NoXattrs of a new file.
+    pub fn may_change(
+        &self,
+        name: &[u8],
+        attrs: &Attrs,
+        meta: &Meta,
+        new: bool,
+    ) -> Result<(), EvmStatus>
+        ensures { result ≡ may_change self.now name.now attrs.now meta.now new }
+    {
+        if !self.protects(name) {
+            return Ok(());
+        }
+        let status = self.status(attrs, meta);
+        if allows_attr(status, new) {
+            Ok(())
+        } else {
+            Err(status)
+        }
+    }
+
+    /// Whether a call may change mode or owner: refused, with the status, exactly at NoLabel, Fail and Old.
+    pub fn may_set_meta(&self, attrs: &Attrs, meta: &Meta) -> Result<(), EvmStatus>
+        ensures { result ≡ may_set_meta self.now attrs.now meta.now }
+    {
+        let status = self.status(attrs, meta);
+        if allows_meta(status) {
+            Ok(())
+        } else {
+            Err(status)
+        }
+    }
+}

@@ -1,0 +1,74 @@
+// The protected attributes.
+
+ghost use Rattle.std.specs.List.{list_any};
+ghost use Rattle.std.specs.Prelude.{◌≡◌, ◌++◌, IfOk, is_some};
+ghost use Rattle.std.specs.Str.{bytes_eq};
+ghost use Rattle.xattr_store.specs.Attrs.{value};
+ghost use Rattle.evm_verify.specs.Input.{any_present, five_names};
+
+use std::alloc::Global;
+use xattr_store::{Attrs, Bytes, OutOfMemory};
+
+// The attributes that are always protected, in the order of the kernel's list.
+const FIVE_NAMES: [&[u8]; 5] = [
+    b"security.selinux",
+    b"security.SMACK64",
+    b"security.apparmor",
+    b"security.ima",
+    b"security.capability",
+];
+
+// The five names.
+fn five_names(alloc: Global) -> Result<Vec<Bytes>, OutOfMemory>
+    ensures { IfOk result (λ names. names.items ≡ five_names) }
+{
+    let mut names = Vec::new(alloc);
+    for name in FIVE_NAMES {
+        names.push(Bytes::from_slice(alloc, name)?)?;
+    }
+    Ok(names)
+}
+
+// Appends copies of the names.
+fn append(alloc: Global, names: &mut Vec<Bytes>, more: &[Bytes]) -> Result<(), OutOfMemory>
+    ensures { IfOk result (λ _. names.new.items ≡ names.old.items ++ more.now) }
+{
+    for name in more {
+        names.push(Bytes::from_slice(alloc, name.as_slice())?)?;
+    }
+    Ok(())
+}
+
+// All protected names: the five, and then the added ones.
+pub fn protected_names(alloc: Global, added: &[Bytes]) -> Result<Vec<Bytes>, OutOfMemory>
+    ensures { IfOk result (λ names. names.items ≡ five_names ++ added.now) }
+{
+    let mut names = five_names(alloc)?;
+    append(alloc, &mut names, added)?;
+    Ok(names)
+}
+
+// A copy of the names.
+pub fn copy_names(alloc: Global, names: &[Bytes]) -> Result<Vec<Bytes>, OutOfMemory>
+    ensures { IfOk result (λ copy. copy.items ≡ names.now) }
+{
+    let mut copy = Vec::new(alloc);
+    append(alloc, &mut copy, names)?;
+    Ok(copy)
+}
+
+// Whether the name is one of these.
+pub fn is_among(name: &[u8], names: &[Bytes]) -> bool
+    ensures { result ≡ list_any (bytes_eq name.now) names.now }
+{
+    names.iter().any(|other| name == other.as_slice())
+}
+
+// Whether some of the names are present.
+pub fn any_present(names: &[Bytes], attrs: &Attrs) -> bool
+    ensures { result ≡ any_present names.now attrs.now }
+{
+    names
+        .iter()
+        .any(|name| attrs.get(name.as_slice()).is_some())
+}

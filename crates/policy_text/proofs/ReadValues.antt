@@ -1,0 +1,65 @@
+-- Reading values.
+use Rattle.std.proofs.Common.{◌≡◌, ℕ, ◌+◌, ◌≤◌, Bool, true, false, ◌||◌, List, ◌∷◌, length, drop, Option, Some, None, Result, Err, IsOk, ◌↔◌, refl}
+use Rattle.std.specs.Int.{w128, from_be_bytes}
+use Rattle.std.specs.Option.{option_map}
+use Rattle.std.proofs.Math.ListN.{drop_of_length-le}
+use Rattle.hash_algos.specs.declared.algo.Algo.{Algo}
+use Rattle.hash_algos.specs.declared.algo.Algo.TheVariants as algo
+use Rattle.hash_algos.specs.declared.algo_set.AlgoSet.{AlgoSet}
+use Rattle.hash_algos.specs.Algo.{algo_by_name}
+use Rattle.hash_algos.specs.AlgoSet.{with_algo, holds_algo}
+use Rattle.uuid.specs.Text.{parsed, parsed_hyphenated}
+use Rattle.text_forms.specs.Lines.{from_lines}
+use Rattle.text_forms.proofs.Steps.{stops}
+use Rattle.policy_text.specs.declared.fault.Fault.{Fault}
+use Rattle.policy_text.specs.declared.fault.LineErr.{LineErr}
+use Rattle.policy_text.specs.declared.fault.LineErr.TheVariants as err
+use Rattle.policy_text.specs.Gives.{LineFails, Fails, err_at}
+use Rattle.policy_text.specs.Grammar.{fault_at, with_line}
+use Rattle.policy_text.specs.RuleValue.{RuleValue, has_algos}
+use Rattle.policy_text.specs.Values.{algos_from, uuid_of}
+
+-- a text of 36 bytes is read in the hyphenated form alone
+parsed_at_36 : (s : List ℕ) → length s ≡ 36 → parsed s ≡ parsed_hyphenated s
+parsed_at_36 s len = rw len refl
+
+some_uuid : {E : Type 0} (e : E) (s : List ℕ) (o : Option (List ℕ)) → parsed s ≡ o → (IsOk {T = List ℕ} (Err e) ↔ ((u : List ℕ) × (parsed s ≡ Some u))) → None ≡ option_map (from_be_bytes w128) o
+some_uuid e s None is h = refl
+some_uuid e s (Some u) is h = absurd (cc (h.1 (u, is)))
+
+pub uuid_none : {E : Type 0} (e : E) (s : List ℕ) → length s ≡ 36 → (IsOk {T = List ℕ} (Err e) ↔ ((u : List ℕ) × (parsed s ≡ Some u))) → None ≡ uuid_of s
+uuid_none e s len h = some_uuid e s (parsed_hyphenated s) (parsed_at_36 s len) h
+
+after : {b : Bool} (a : Bool) → b ≡ true → (a || b) ≡ true
+after true e = refl
+after false e = e
+
+-- one name more
+pub one_more : (s : AlgoSet) (name : List ℕ) (a : Algo) (ls : List (List ℕ)) (n m : ℕ) (whole : Option AlgoSet)
+    → drop n ls ≡ name ∷ drop (n + 1) ls → algo_by_name name ≡ Some a → m ≡ n + 1 → algos_from s (drop n ls) ≡ whole → algos_from (with_algo s a) (drop m ls) ≡ whole
+one_more s name a ls n m whole item named is so_far = rw is (rw (item, named) at so_far)
+
+pub no_name : (s : AlgoSet) (name : List ℕ) (ls : List (List ℕ)) (n : ℕ) (whole : Option AlgoSet)
+    → drop n ls ≡ name ∷ drop (n + 1) ls → algo_by_name name ≡ None → algos_from s (drop n ls) ≡ whole → None ≡ whole
+no_name s name ls n whole item bad so_far = rw (item, bad) at so_far
+
+pub all_names : (s : AlgoSet) (ls : List (List ℕ)) (n : ℕ) (whole : Option AlgoSet) → length ls ≤ n → algos_from s (drop n ls) ≡ whole → Some s ≡ whole
+all_names s ls n whole le so_far = rw (drop_of_length-le ls le) at so_far
+
+-- a set with one algorithm more holds one
+pub holds_one : (s : AlgoSet) (a : Algo) → has_algos (with_algo s a) ≡ true
+holds_one s algo.Md5 = refl
+holds_one s algo.Sha1 = after (holds_algo s algo.Md5) refl
+holds_one s algo.Sha256 = after (holds_algo s algo.Md5) (after (holds_algo s algo.Sha1) refl)
+holds_one s algo.Sha384 = after (holds_algo s algo.Md5) (after (holds_algo s algo.Sha1) (after (holds_algo s algo.Sha256) refl))
+holds_one s algo.Sha512 =
+    after (holds_algo s algo.Md5) (after (holds_algo s algo.Sha1) (after (holds_algo s algo.Sha256) (after (holds_algo s algo.Sha384) refl)))
+holds_one s algo.Sha224 =
+    after (holds_algo s algo.Md5) (after (holds_algo s algo.Sha1) (after (holds_algo s algo.Sha256) (after (holds_algo s algo.Sha384) (after (holds_algo s algo.Sha512) refl))))
+
+-- a line that gave no rule stops the reading
+pub stops_at : (ls : List (List ℕ)) (whole : Result (List RuleValue) Fault) (n : ℕ) (rules : List RuleValue) (line : List ℕ) (e : LineErr)
+    → drop n ls ≡ line ∷ drop (n + 1) ls → LineFails e (with_line rules line)
+    → from_lines fault_at with_line (n + 1) rules (drop n ls) ≡ whole → Fails (err_at (n + 1) e) whole
+stops_at ls whole n rules line (err.Refused c) item bad so_far = stops fault_at with_line ls whole n rules line c item bad so_far
+stops_at ls whole n rules line err.OutOfMemory item bad so_far = tt

@@ -1,0 +1,6 @@
+use Rattle.std.proofs.Common.{◌≡◌, take}
+use Rattle.policy_text.specs.Spelling.{policy_text}
+use Rattle.policy_text.proofs.write.print.Given as goal
+
+abbrev pub invariant-loop-rule : goal.invariant-loop-rule
+invariant-loop-rule l = l.text.items ≡ policy_text (take l.rule-index l.rule-items)

@@ -1,0 +1,25 @@
+-- What contracts see of an action, and which actions a policy can have.
+use Rattle.std.specs.Prelude.{ℕ, Bool, ◌==◌, ◌||◌, ◌<◌, Option, is_none, IsTrue}
+use Rattle.hash_algos.specs.declared.algo_set.AlgoSet.{AlgoSet}
+use Rattle.inode_meta.specs.declared.appraisal.Need.{Need}
+use Rattle.inode_meta.specs.declared.measurement.Template.{Template}
+use Rattle.policy_text.specs.RuleValue.{is_any, if_there, is_named_template}
+
+pub record ActionValue : Type 0 where
+  pub measure : Bool
+  pub pcr : ℕ
+  pub template : Option Template
+  pub appraise : Bool
+  pub need : Need
+  pub algos : Option AlgoSet
+  pub audit : Bool
+  pub hash : Bool
+
+-- the register exists, and what isn't done has no options
+pub record IsAction (a : ActionValue) : Type 0 where
+  pub pcr : a.pcr < 24
+  pub no_pcr : IsTrue (a.measure || (a.pcr == 10))
+  pub no_template : IsTrue (a.measure || is_none a.template)
+  pub template : IsTrue (if_there is_named_template a.template)
+  pub no_need : IsTrue (a.appraise || is_any a.need)
+  pub no_algos : IsTrue (a.appraise || is_none a.algos)

@@ -1,0 +1,9 @@
+pub mod ActionInside
+pub mod ActionValue
+pub mod Gives
+pub mod Grammar
+pub mod Key
+pub mod RuleInside
+pub mod RuleValue
+pub mod Spelling
+pub mod Values

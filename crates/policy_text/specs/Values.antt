@@ -1,0 +1,97 @@
+-- The values of the keys.
+use Rattle.std.specs.Prelude.{ℕ, Bool, true, false, ◌==◌, ◌&&◌, ◌||◌, nat_le, List, [], ◌∷◌, length, codes, Option, Some, None, if◌then◌else◌}
+use Rattle.std.specs.Int.{w128, from_be_bytes}
+use Rattle.std.specs.List.{slice_split}
+use Rattle.std.specs.Option.{option_map}
+use Rattle.std.specs.Str.{bytes_eq}
+use Rattle.hash_algos.specs.declared.algo_set.AlgoSet.{AlgoSet}
+use Rattle.hash_algos.specs.Algo.{algo_by_name}
+use Rattle.hash_algos.specs.AlgoSet.{no_algos, with_algo}
+use Rattle.inode_meta.specs.declared.measurement.Template.{Template}
+use Rattle.inode_meta.specs.declared.measurement.Template.TheVariants as template
+use Rattle.text_forms.specs.Numbers.{number_of}
+use Rattle.uuid.specs.Text.{parsed_hyphenated}
+use Rattle.policy_text.specs.declared.key.Sign.{Sign}
+use Rattle.policy_text.specs.declared.key.Sign.TheVariants as sign
+use Rattle.policy_text.specs.declared.rule.Act.{Act}
+use Rattle.policy_text.specs.declared.rule.Act.TheVariants as act
+use Rattle.policy_text.specs.declared.rule.Func.{Func}
+use Rattle.policy_text.specs.declared.rule.Func.TheVariants as func
+use Rattle.policy_text.specs.declared.rule.IdTest.{IdTest}
+use Rattle.policy_text.specs.declared.rule.IdTest.TheVariants as id
+use Rattle.policy_text.specs.declared.rule.MaskTest.{MaskTest}
+use Rattle.policy_text.specs.Key.{◌>>=◌}
+
+-- what a table has for a word
+abbrev pub look_up : {A : Type 0} → List (List ℕ × A) → List ℕ → Option A
+look_up [] word = None
+look_up (e ∷ es) word = if bytes_eq word e.0 then Some e.1 else look_up es word
+
+abbrev pub act_of : List ℕ → Option Act
+act_of word =
+    look_up
+    ((codes "measure", act.Measure) ∷ (codes "dont_measure", act.DontMeasure) ∷ (codes "appraise", act.Appraise)
+    ∷ (codes "dont_appraise", act.DontAppraise) ∷ (codes "audit", act.Audit) ∷ (codes "dont_audit", act.DontAudit)
+    ∷ (codes "hash", act.Hash) ∷ (codes "dont_hash", act.DontHash) ∷ []) word
+
+-- the hooks by their main names, and two by their other names
+abbrev pub func_of : List ℕ → Option Func
+func_of word =
+    look_up
+    ((codes "BPRM_CHECK", func.BprmCheck) ∷ (codes "MMAP_CHECK", func.MmapCheck) ∷ (codes "FILE_MMAP", func.MmapCheck)
+    ∷ (codes "FILE_CHECK", func.FileCheck) ∷ (codes "PATH_CHECK", func.FileCheck) ∷ (codes "CREDS_CHECK", func.CredsCheck)
+    ∷ (codes "MODULE_CHECK", func.ModuleCheck) ∷ (codes "FIRMWARE_CHECK", func.FirmwareCheck)
+    ∷ (codes "KEXEC_KERNEL_CHECK", func.KexecKernelCheck) ∷ (codes "KEXEC_INITRAMFS_CHECK", func.KexecInitramfsCheck)
+    ∷ (codes "KEXEC_CMDLINE", func.KexecCmdline) ∷ (codes "KEY_CHECK", func.KeyCheck) ∷ (codes "CRITICAL_DATA", func.CriticalData)
+    ∷ (codes "SETXATTR_CHECK", func.SetxattrCheck) ∷ (codes "POLICY_CHECK", func.PolicyCheck)
+    ∷ (codes "MMAP_CHECK_REQPROT", func.MmapCheckReqprot) ∷ []) word
+
+abbrev pub mask_bits_of : List ℕ → Option ℕ
+mask_bits_of word =
+    look_up ((codes "MAY_EXEC", 1) ∷ (codes "MAY_WRITE", 2) ∷ (codes "MAY_READ", 4) ∷ (codes "MAY_APPEND", 8) ∷ []) word
+
+-- the name of a bit, behind `^` where the mask has to contain it alone
+abbrev pub mask_of : List ℕ → Option MaskTest
+mask_of [] = None
+mask_of (c ∷ cs) =
+    if c == 94 then option_map (λ b. record { exact = false; bits = b }) (mask_bits_of cs)
+    else option_map (λ b. record { exact = true; bits = b }) (mask_bits_of (c ∷ cs))
+
+abbrev pub without_0x : List ℕ → List ℕ
+without_0x [] = []
+without_0x (c ∷ []) = c ∷ []
+without_0x (c ∷ d ∷ digits) = if (c == 48) && ((d == 120) || (d == 88)) then digits else c ∷ d ∷ digits
+
+-- `0x` or `0X` or neither, then 1 to 16 hexadecimal digits
+abbrev pub magic_of : List ℕ → Option ℕ
+magic_of text = if nat_le (length (without_0x text)) 16 then number_of 16 0xffff_ffff_ffff_ffff (without_0x text) else None
+
+-- the hyphenated form of RFC 9562, in either case
+abbrev pub uuid_of : List ℕ → Option ℕ
+uuid_of text = option_map (from_be_bytes w128) (parsed_hyphenated text)
+
+abbrev pub id_test : Sign → ℕ → IdTest
+id_test sign.Is n = id.Is n
+id_test sign.Above n = id.Above n
+id_test sign.Below n = id.Below n
+
+-- the set of the names' algorithms and those of s
+abbrev pub algos_from : AlgoSet → List (List ℕ) → Option AlgoSet
+algos_from s [] = Some s
+algos_from s (name ∷ names) = algo_by_name name >>= λ a. algos_from (with_algo s a) names
+
+-- names parted by commas, at least one
+abbrev pub algos_of : List ℕ → Option AlgoSet
+algos_of text = algos_from no_algos (slice_split (λ b. b == 44) text)
+
+abbrev pub template_of : List ℕ → Option Template
+template_of word = look_up ((codes "ima", template.Ima) ∷ (codes "ima-ng", template.ImaNg) ∷ (codes "ima-sig", template.ImaSig) ∷ []) word
+
+-- the values of the kernel's that are left out here
+abbrev pub is_unsupported_type : List ℕ → Bool
+is_unsupported_type word = bytes_eq word (codes "imasig|modsig") || bytes_eq word (codes "sigv3")
+
+abbrev pub is_unsupported_template : List ℕ → Bool
+is_unsupported_template word =
+    bytes_eq word (codes "ima-ngv2") || bytes_eq word (codes "ima-sigv2") || bytes_eq word (codes "ima-modsig")
+    || bytes_eq word (codes "evm-sig")

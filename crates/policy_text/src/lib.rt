@@ -1,0 +1,24 @@
+//! IMA policy rules as text: read, printed canonically, and read again as the same rules
+//! (Documentation/ABI/testing/ima_policy).
+//!
+//! A policy is lines, and a rule is one line: an action, then conditions and options in any order.
+//! The grammar stands in `specs/Grammar.antt`, apart from the reader and the printer.
+#![tactic(auto)]
+
+mod access;
+mod fault;
+mod key;
+mod line;
+mod policy;
+mod read;
+mod rule;
+mod values;
+mod words;
+mod write;
+
+pub use access::{Access, Action, Super};
+pub use fault::{Fault, OutOfMemory, PolicyErr, RuleCause};
+pub use policy::{Policy, RULES};
+pub use read::{parse, parse_rule};
+pub use rule::{Act, Func, IdTest, MaskTest, Rule};
+pub use write::{print, print_rule};

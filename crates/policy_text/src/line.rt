@@ -1,0 +1,289 @@
+//! A rule, token by token.
+
+ghost use Rattle.std.specs.Prelude.{◌≡◌, ◌<◌, Some, IsTrue, ok_or, true};
+ghost use Rattle.text_forms.specs.Tokens.{tokens};
+ghost use Rattle.policy_text.specs.declared.fault.RuleCause.TheVariants as cause;
+ghost use Rattle.policy_text.specs.declared.key.Key.TheVariants as key;
+ghost use Rattle.policy_text.specs.Gives.{LineGives};
+ghost use Rattle.policy_text.specs.Grammar.{has_key, is_skipped, is_unsupported_value, plain_rule, rule_of, with_id, with_key, with_token, with_value};
+ghost use Rattle.policy_text.specs.Key.{belongs};
+ghost use Rattle.policy_text.specs.RuleValue.{has_algos, is_appraise, is_mask_bit, is_measure, is_named_template};
+ghost use Rattle.policy_text.specs.Values.{id_test};
+
+use crate::fault::{LineErr, RuleCause};
+use crate::key::{Key, Sign, Subject, is_unsupported_key, key_of};
+use crate::rule::{Act, IdTest, MaskTest, Rule};
+use crate::values::{
+    act_of, algos_of, func_of, is_unsupported_template, is_unsupported_type, magic_of, mask_of,
+    template_of, uuid_of,
+};
+use hash_algos::AlgoSet;
+use inode_meta::{Need, Template};
+use std::alloc::Global;
+use text_forms::{Tokens, is_word, number_of};
+use xattr_store::Bytes;
+
+/// The rule of a line; a blank line and a comment are no rule.
+pub fn rule_of(alloc: Global, line: &[u8]) -> Result<Rule, LineErr>
+    ensures { LineGives result (rule_of line.now) }
+{
+    let mut tokens = Tokens(line);
+    let first = tokens.next().ok_or(RuleCause::BadAction)?;
+    let act = act_of(first).ok_or(RuleCause::BadAction)?;
+    let mut rule = Rule::plain(act);
+    for token in tokens {
+        rule = rule.with_token(alloc, token)?;
+    }
+    Ok(rule)
+}
+
+/// Whether the line is blank or a comment.
+pub fn is_skipped(line: &[u8]) -> bool
+    ensures { result ≡ is_skipped (tokens line.now) }
+{
+    match Tokens(line).next() {
+        None => true,
+        Some([b'#', ..]) => true,
+        Some(_) => false,
+    }
+}
+
+fn id_test(sign: Sign, number: u32) -> IdTest
+    ensures { result ≡ id_test sign number }
+{
+    match sign {
+        Sign::Is => IdTest::Is(number),
+        Sign::Above => IdTest::Above(number),
+        Sign::Below => IdTest::Below(number),
+    }
+}
+
+fn is_unsupported_value(key: Key, value: &[u8]) -> bool
+    ensures { result ≡ is_unsupported_value key value.now }
+{
+    match key {
+        Key::AppraiseType => is_unsupported_type(value),
+        Key::Template => is_unsupported_template(value),
+        _ => false,
+    }
+}
+
+impl Rule {
+    // The action without conditions and options.
+    fn plain(act: Act) -> Rule
+        ensures { result ≡ plain_rule act }
+    {
+        Rule {
+            act,
+            func: None,
+            mask: None,
+            fsmagic: None,
+            fsuuid: None,
+            fsname: None,
+            uid: None,
+            euid: None,
+            gid: None,
+            egid: None,
+            fowner: None,
+            fgroup: None,
+            need: Need::Any,
+            blacklist: false,
+            algos: None,
+            directio: false,
+            pcr: None,
+            template: None,
+        }
+    }
+
+    fn with_token(self, alloc: Global, token: &[u8]) -> Result<Rule, LineErr>
+        ensures { LineGives result (with_token self token.now) }
+    {
+        if is_unsupported_key(token) {
+            return Err(LineErr::Refused(RuleCause::Unsupported));
+        }
+        let (key, value) = key_of(token).ok_or(RuleCause::BadKey)?;
+        self.with_key(alloc, key, value)
+    }
+
+    fn with_key(self, alloc: Global, key: Key, value: &[u8]) -> Result<Rule, LineErr>
+        ensures { LineGives result (with_key key value.now self) }
+    {
+        if !key.belongs(self.act) {
+            return Err(LineErr::Refused(RuleCause::NotForAction));
+        }
+        if self.has_key(key) {
+            return Err(LineErr::Refused(RuleCause::Twice));
+        }
+        if is_unsupported_value(key, value) {
+            return Err(LineErr::Refused(RuleCause::Unsupported));
+        }
+        self.with_value(alloc, key, value)
+    }
+
+    fn has_key(&self, key: Key) -> bool
+        ensures { result ≡ has_key key self.now }
+    {
+        match key {
+            Key::Func => self.func.is_some(),
+            Key::Mask => self.mask.is_some(),
+            Key::FsMagic => self.fsmagic.is_some(),
+            Key::FsUuid => self.fsuuid.is_some(),
+            Key::FsName => self.fsname.is_some(),
+            Key::Id(Subject::Uid, _) => self.uid.is_some(),
+            Key::Id(Subject::Euid, _) => self.euid.is_some(),
+            Key::Id(Subject::Gid, _) => self.gid.is_some(),
+            Key::Id(Subject::Egid, _) => self.egid.is_some(),
+            Key::Id(Subject::Fowner, _) => self.fowner.is_some(),
+            Key::Id(Subject::Fgroup, _) => self.fgroup.is_some(),
+            Key::AppraiseType => self.need != Need::Any,
+            Key::AppraiseFlag => self.blacklist,
+            Key::AppraiseAlgos => self.algos.is_some(),
+            Key::Directio => self.directio,
+            Key::Pcr => self.pcr.is_some(),
+            Key::Template => self.template.is_some(),
+        }
+    }
+}
+
+impl Rule {
+    fn with_value(self, alloc: Global, key: Key, value: &[u8]) -> Result<Rule, LineErr>
+        requires { belongs key self.act ≡ true }
+        ensures { LineGives result (ok_or (with_value key value.now self) cause.BadValue) }
+    {
+        let bad = RuleCause::BadValue;
+        match key {
+            Key::Func => {
+                let mut rule = self;
+                rule.func = Some(func_of(value).ok_or(bad)?);
+                Ok(rule)
+            }
+            Key::Mask => {
+                let mask = mask_of(value).ok_or(bad)?;
+                Ok(self.with_mask(mask))
+            }
+            Key::FsMagic => {
+                let mut rule = self;
+                rule.fsmagic = Some(magic_of(value).ok_or(bad)?);
+                Ok(rule)
+            }
+            Key::FsUuid => {
+                let mut rule = self;
+                rule.fsuuid = Some(uuid_of(value).ok_or(bad)?);
+                Ok(rule)
+            }
+            Key::FsName => self.with_name(alloc, value),
+            Key::Id(subject, sign) => {
+                let number = number_of(value, 10, u64::from(u32::MAX)).ok_or(bad)?;
+                Ok(self.with_id(subject, id_test(sign, number as u32)))
+            }
+            Key::AppraiseType => self.with_type(value),
+            Key::AppraiseFlag => self.with_flag(value),
+            Key::AppraiseAlgos => {
+                let algos = algos_of(value).ok_or(bad)?;
+                Ok(self.with_algos(algos))
+            }
+            Key::Directio => {
+                let mut rule = self;
+                rule.directio = true;
+                Ok(rule)
+            }
+            Key::Pcr => {
+                let pcr = number_of(value, 10, 23).ok_or(bad)?;
+                Ok(self.with_pcr(pcr as u8))
+            }
+            Key::Template => {
+                let template = template_of(value).ok_or(bad)?;
+                Ok(self.with_template(template))
+            }
+        }
+    }
+
+    fn with_mask(self, mask: MaskTest) -> Rule
+        requires { IsTrue (is_mask_bit mask.bits) }
+        ensures { result ≡ record self { mask = Some mask } }
+    {
+        let mut rule = self;
+        rule.mask = Some(mask);
+        rule
+    }
+
+    fn with_name(self, alloc: Global, name: &[u8]) -> Result<Rule, LineErr>
+        ensures { LineGives result (ok_or (with_value key.FsName name.now self) cause.BadValue) }
+    {
+        if !is_word(name, 255) {
+            return Err(LineErr::Refused(RuleCause::BadValue));
+        }
+        let mut rule = self;
+        rule.fsname = Some(Bytes::from_slice(alloc, name)?);
+        Ok(rule)
+    }
+
+    fn with_id(self, subject: Subject, test: IdTest) -> Rule
+        ensures { result ≡ with_id subject test self }
+    {
+        let mut rule = self;
+        match subject {
+            Subject::Uid => rule.uid = Some(test),
+            Subject::Euid => rule.euid = Some(test),
+            Subject::Gid => rule.gid = Some(test),
+            Subject::Egid => rule.egid = Some(test),
+            Subject::Fowner => rule.fowner = Some(test),
+            Subject::Fgroup => rule.fgroup = Some(test),
+        }
+        rule
+    }
+
+    fn with_type(self, value: &[u8]) -> Result<Rule, LineErr>
+        requires { is_appraise self.act ≡ true }
+        ensures { LineGives result (ok_or (with_value key.AppraiseType value.now self) cause.BadValue) }
+    {
+        if value != b"imasig".as_slice() {
+            return Err(LineErr::Refused(RuleCause::BadValue));
+        }
+        let mut rule = self;
+        rule.need = Need::Signature;
+        Ok(rule)
+    }
+
+    fn with_flag(self, value: &[u8]) -> Result<Rule, LineErr>
+        requires { is_appraise self.act ≡ true }
+        ensures { LineGives result (ok_or (with_value key.AppraiseFlag value.now self) cause.BadValue) }
+    {
+        if value != b"check_blacklist".as_slice() {
+            return Err(LineErr::Refused(RuleCause::BadValue));
+        }
+        let mut rule = self;
+        rule.blacklist = true;
+        Ok(rule)
+    }
+
+    fn with_algos(self, algos: AlgoSet) -> Rule
+        requires appraise { is_appraise self.act ≡ true }
+        requires filled { IsTrue (has_algos algos) }
+        ensures { result ≡ record self { algos = Some algos } }
+    {
+        let mut rule = self;
+        rule.algos = Some(algos);
+        rule
+    }
+
+    fn with_pcr(self, pcr: u8) -> Rule
+        requires measure { is_measure self.act ≡ true }
+        requires limit { pcr < 24 }
+        ensures { result ≡ record self { pcr = Some pcr } }
+    {
+        let mut rule = self;
+        rule.pcr = Some(pcr);
+        rule
+    }
+
+    fn with_template(self, template: Template) -> Rule
+        requires measure { is_measure self.act ≡ true }
+        requires named { IsTrue (is_named_template template) }
+        ensures { result ≡ record self { template = Some template } }
+    {
+        let mut rule = self;
+        rule.template = Some(template);
+        rule
+    }
+}

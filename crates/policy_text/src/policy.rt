@@ -1,0 +1,55 @@
+ghost use Rattle.std.specs.Prelude.{◌≡◌, ◌<◌, ◌≤◌, [], ◌∷◌, ◌++◌, length, OnOk, OnErr};
+
+use crate::fault::OutOfMemory;
+use crate::rule::Rule;
+use std::alloc::Global;
+use std::marker::Model;
+
+/// How many rules a policy may have.
+pub const RULES: usize = 1024;
+
+/// A policy: at most 1,024 rules, in order. Contracts see the list of its rules.
+#[derive(Debug, Drop)]
+pub struct Policy {
+    rules: Vec<Rule>,
+}
+
+impl Model for Policy {
+    ghost use Rattle.std.specs.Prelude.{List, ◌≤◌, length};
+    ghost use Rattle.policy_text.specs.RuleValue.{RuleValue};
+
+    ghost Value = { List RuleValue };
+
+    ghost view = { λ p. p.rules.items };
+
+    ghost invariant = { λ p. length p.rules.items ≤ 1024 };
+}
+
+impl Policy {
+    /// The policy with no rule.
+    pub fn new(alloc: Global) -> Policy
+        ensures { result ≡ [] }
+    {
+        Policy {
+            rules: Vec::new(alloc),
+        }
+    }
+
+    /// The rules, in order.
+    pub fn rules(&self) -> &[Rule]
+        ensures rules { result.now ≡ self.now }
+        ensures limit { length self.now ≤ 1024 }
+    {
+        self.rules.as_slice()
+    }
+
+    /// Puts a rule behind the others.
+    pub fn push(&mut self, rule: Rule) -> Result<(), OutOfMemory>
+        requires { length self.old < 1024 }
+        ensures ok { OnOk result (self.new ≡ self.old ++ rule ∷ []) }
+        ensures err { OnErr result (self.new ≡ self.old) }
+    {
+        self.rules.push(rule)?;
+        Ok(())
+    }
+}

@@ -1,0 +1,25 @@
+-- A text is read line by line: each line makes one state of the state before it, or has a cause.
+use Rattle.std.specs.Prelude.{ℕ, ◌+◌, ◌==◌, List, [], ◌∷◌, Result, Ok, Err, count_by}
+use Rattle.std.specs.List.{slice_split}
+
+-- the lines of a text; what stands behind the last newline is one more line, which may be empty
+abbrev pub lines : List ℕ → List (List ℕ)
+lines text = slice_split (λ b. b == 10) text
+
+abbrev pub newlines : List ℕ → ℕ
+newlines text = count_by (λ b. b == 10) text
+
+infixl 10 ◌>>=◌
+abbrev pub ◌>>=◌ : {A B E : Type 0} → Result A E → (A → Result B E) → Result B E
+(Ok x) >>= f = f x
+(Err e) >>= f = Err e
+
+-- a cause becomes a fault by the number of its line
+abbrev pub at_line : {A C F : Type 0} → (ℕ → C → F) → ℕ → Result A C → Result A F
+at_line fault n (Ok x) = Ok x
+at_line fault n (Err cause) = Err (fault n cause)
+
+-- what the lines make of the state s, where the first of them has the number n: the last state, or the first fault
+abbrev pub from_lines : {S C F : Type 0} → (ℕ → C → F) → (S → List ℕ → Result S C) → ℕ → S → List (List ℕ) → Result S F
+from_lines fault step n s [] = Ok s
+from_lines fault step n s (l ∷ ls) = at_line fault n (step s l) >>= λ t. from_lines fault step (n + 1) t ls
