@@ -3,6 +3,8 @@
 #![tactic(auto)]
 
 mod label;
+#[cfg(test)]
+mod tests;
 mod verdict;
 
 pub use label::{Label, MAX_LABEL, collect_algo, read_label, write_label};

@@ -1,10 +1,11 @@
-ghost use Rattle.std.specs.Prelude.{◌≡◌, None};
+ghost use Rattle.std.specs.Prelude.{◌≡◌};
 
 use crate::outside::{Failed, Sink};
 use std::io::Write;
 
-/// A writer as a sink. It tells no bytes. Its count of faults has 64 bits, rises at each `Err` of the writer
-/// and at each write that takes nothing of a piece that isn't empty, and stays at its last value.
+/// A writer as a sink. It tells the bytes that the writer tells, so none at a stream of the system. Its count
+/// of faults has 64 bits, rises at each `Err` of the writer and at each write that takes nothing of a piece
+/// that isn't empty, and stays at its last value.
 #[derive(Drop)]
 pub struct StdSink<W> {
     writer: W,
@@ -21,7 +22,7 @@ impl<W: Write> StdSink<W> {
 }
 
 impl<W: Write> Sink for StdSink<W> {
-    ghost taken = { λ _. None };
+    ghost taken = { λ s. W.contents s.writer };
 
     ghost faults = { λ s. s.faults };
 

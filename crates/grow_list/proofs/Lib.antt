@@ -1,0 +1,10 @@
+pub mod Prefixes
+pub mod Counting
+pub mod Stories
+pub mod Copies
+pub mod Loads
+pub mod Writes
+pub mod Moves
+pub mod Meetings
+pub mod Own
+pub mod Closing

@@ -1,0 +1,52 @@
+-- Lists that begin with others.
+use Rattle.std.proofs.Common.{◌≡◌, ◌≤◌, List, [], ◌∷◌, ◌++◌, length, cond, ltb, true, false, refl, sym, ap, ◌∙◌, arith, length-append}
+use mathlib.Core.List.{IsPrefix}
+use Rattle.std.proofs.lemmas.List.{append-nil, append_assoc, nil_from_length}
+use Rattle.grow_list.specs.Views.{longest}
+
+module _ {X : Type 0} where
+  pub prefix_none : (ys : List X) → IsPrefix [] ys
+  prefix_none ys = (ys, refl)
+
+  pub prefix_refl : (xs : List X) → IsPrefix xs xs
+  prefix_refl xs = ([], append-nil xs)
+
+  pub prefix_append : (xs ys : List X) → IsPrefix xs (xs ++ ys)
+  prefix_append xs ys = (ys, refl)
+
+  pub prefix_same : (xs ys : List X) → xs ≡ ys → IsPrefix xs ys
+  prefix_same xs ys e = ([], append-nil xs ∙ e)
+
+  pub prefix_trans : (xs ys zs : List X) → IsPrefix xs ys → IsPrefix ys zs → IsPrefix xs zs
+  prefix_trans xs ys zs a b = (a.0 ++ b.0, sym (append_assoc xs a.0 b.0) ∙ ap (λ (l : List X). l ++ b.0) a.1 ∙ b.1)
+
+  pub prefix_length : (xs ys : List X) → IsPrefix xs ys → length xs ≤ length ys
+  prefix_length xs ys a = omega (arith, length-append xs a.0, ap length a.1)
+
+  -- of two that begin one list, the shorter begins the longer
+  pub prefix_compare : (xs ys zs : List X) → IsPrefix xs zs → IsPrefix ys zs → length xs ≤ length ys → IsPrefix xs ys
+  prefix_compare [] ys zs a b short = (ys, refl)
+  prefix_compare (x ∷ xs) [] zs a b short = absurd (omega arith)
+  prefix_compare (x ∷ xs) (y ∷ ys) [] a b short = let e = a.1 in absurd (cc)
+  prefix_compare (x ∷ xs) (y ∷ ys) (z ∷ zs) a b short =
+      let e = a.1 in
+      let f = b.1 in
+      let e' : xs ++ a.0 ≡ zs = cc in
+      let f' : ys ++ b.0 ≡ zs = cc in
+      let r = prefix_compare xs ys zs (a.0, e') (b.0, f') (omega arith) in
+      let t : xs ++ r.0 ≡ ys = r.1 in
+      let h : x ≡ y = cc in
+      (r.0, (λ i. h i ∷ t i))
+
+  -- a prefix that is no shorter is the whole
+  pub prefix_whole : (xs ys : List X) → IsPrefix xs ys → length ys ≤ length xs → xs ≡ ys
+  prefix_whole xs ys a long =
+      let none : length a.0 ≡ 0 = omega (arith, length-append xs a.0, ap length a.1) in
+      sym (append-nil xs) ∙ ap (λ (l : List X). xs ++ l) (sym (nil_from_length a.0 none)) ∙ a.1
+
+  pub prefix_both : (xs ys : List X) → IsPrefix xs ys → IsPrefix ys xs → xs ≡ ys
+  prefix_both xs ys a b = prefix_whole xs ys a (prefix_length ys xs b)
+
+  pub prefix_longest : (xs ys zs : List X) → IsPrefix xs zs → IsPrefix ys zs → IsPrefix (longest xs ys) zs
+  prefix_longest xs ys zs a b =
+      elim (ltb (length xs) (length ys)) as (λ t. IsPrefix (cond t ys xs) zs) [ true ↦ b | false ↦ a ]

@@ -1,0 +1,7 @@
+pub mod Entries
+pub mod Views
+pub mod Rule
+pub mod Steps
+pub mod Meetings
+pub mod Shown
+pub mod Whole

@@ -1,0 +1,57 @@
+-- What contracts see of a growing list and of its passes.
+use Rattle.std.specs.Prelude.{◌≡◌, ℕ, ◌<◌, ◌==◌, List, [], All, count_by}
+use Rattle.atomic_table.specs.Seated.{TableId}
+use Rattle.atomic_table.specs.declared.shared.Seat.{Seat}
+use Rattle.grow_list.specs.declared.known.Known.{Known}
+use Rattle.grow_list.specs.Entries.{entries_of}
+use Rattle.grow_list.specs.Views.{held}
+
+-- which list it is: plain data, and no two lists have one name
+abbrev pub ListName : Type 0
+ListName = TableId
+
+-- the name of no list
+abbrev pub no_name : ListName
+no_name = record { words = 0; slots = 0; views_name = 0; atom = 0; block = 0; offset = 0; slot_names = [] }
+
+-- a list, beside each entry the number of the pass that added it, and for how many more entries there is room
+pub record Grown (E : Type 0) : Type 0 where
+  pub name : ListName
+  pub callers : ℕ
+  pub spare : ℕ
+  pub list : List E
+  pub numbers : List ℕ
+
+-- a pass of the list of this name: its number, the list that it has seen, and its own entries with their places
+pub record Passed (E : Type 0) : Type 0 where
+  pub name : ListName
+  pub number : ℕ
+  pub seen : List E
+  pub mine : List (ℕ × E)
+
+-- the same list, with perhaps another room
+pub record IsSameList {E : Type 0} (old new : Grown E) : Type 0 where
+  pub name : new.name ≡ old.name
+  pub callers : new.callers ≡ old.callers
+  pub list : new.list ≡ old.list
+  pub numbers : new.numbers ≡ old.numbers
+
+-- the entries of this pass's number in the list are its own, in order, each once
+abbrev pub HasItsOwn : {E : Type 0} → Grown E → Passed E → Type 0
+HasItsOwn g p = entries_of p.number g.numbers g.list ≡ p.mine
+
+-- the passes are of this list, and there is exactly one of each number
+pub record HasEach {E : Type 0} (g : Grown E) (passes : List (Passed E)) : Type 0 where
+  pub of_list : All (λ p. p.name ≡ g.name) passes
+  pub one_each : (n : ℕ) → n < g.callers → count_by (λ p. p.number == n) passes ≡ 1
+
+-- a pass that has seen and added nothing
+abbrev pub fresh : {E : Type 0} → ListName → ℕ → Passed E
+fresh name number = record { name = name; number = number; seen = []; mine = [] }
+
+-- the pass is what its seat knows
+pub record IsPassAt {E : Type 0} (p : Passed E) (seat : Seat (Unit {0}) (Known E)) : Type 0 where
+  pub name : p.name ≡ seat.table_id
+  pub number : p.number ≡ (held seat.me.0).number
+  pub seen : p.seen ≡ (held seat.me.0).seen
+  pub mine : p.mine ≡ (held seat.me.0).mine

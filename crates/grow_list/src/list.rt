@@ -1,0 +1,206 @@
+//! The growing list and its passes.
+ghost use Rattle.std.specs.Prelude.{◌≡◌, ◌≢◌, ◌↔◌, ℕ, ◌+◌, ◌<◌, ◌≤◌, [], ◌∷◌, ◌++◌, length, All, IfOk, OnOk, IsNone, count_by, slice_get, option_copied};
+ghost use mathlib.Core.List.{IsPrefix};
+ghost use Rattle.grow_list.specs.Entries.{has_place};
+ghost use Rattle.grow_list.specs.Meetings.{IsPassSeat};
+ghost use Rattle.grow_list.specs.Shown.{IsSameList, HasItsOwn, HasEach, fresh, IsPassAt};
+
+use crate::known::{Growing, Known};
+use crate::meeting::{Place, end, enter, meet, part, take_number};
+use atomic_table::Table;
+use std::alloc::{AllocError, Global};
+use std::marker::Model;
+
+/// There was no memory.
+pub type OutOfMemory = AllocError;
+
+/// A list that only grows. Contracts see its name, its number of callers, its entries, beside each entry the number of
+/// the pass that added it, and its room: for how many more entries it has memory.
+#[derive(Drop)]
+pub struct Grow<E> {
+    entries: Vec<E>,
+    callers: u32,
+    table: Table<(), Known<E>, u32, Growing, Global>,
+    seat: Place<E>,
+}
+
+impl<E> Model for Grow<E> {
+    ghost use Rattle.grow_list.specs.Shown.{Grown};
+
+    ghost Value = { Grown E };
+
+    ghost use Rattle.grow_list.specs.Whole.{grown_of, IsWhole};
+
+    ghost view = { grown_of };
+
+    ghost invariant = { IsWhole };
+}
+
+/// What one caller knows of a list. Contracts see the name of its list, its number, the list that it has seen, and its
+/// own entries, each with its place. It may stay with its caller while the list lies under a lock.
+pub struct Pass<E> {
+    seat: Place<E>,
+    number: u32,
+}
+
+impl<E> Model for Pass<E> {
+    ghost use Rattle.grow_list.specs.Shown.{Passed};
+
+    ghost Value = { Passed E };
+
+    ghost use Rattle.grow_list.specs.Whole.{passed_of, IsSeated};
+
+    ghost view = { passed_of };
+
+    ghost invariant = { IsSeated };
+}
+
+impl<E> Drop for Pass<E> {
+    fn drop(self) {
+        let Self { seat: _, number: _ } = self;
+    }
+}
+
+impl<E> Pass<E> {
+    /// The number of the pass, from 0 on.
+    pub fn number(&self) -> u32
+        ensures { result ≡ self.now.number }
+    {
+        self.number
+    }
+
+    fn into_place(self) -> Place<E>
+        ensures seat { IsPassSeat result × (result.me.1 ≡ []) }
+        ensures pass { IsPassAt self result }
+    {
+        let Self {
+            seat: place,
+            number: _,
+        } = self;
+        place
+    }
+}
+
+impl<E> Grow<E> {
+    /// An empty list, and a pass for each of its callers, in the order of their numbers.
+    pub fn start(alloc: Global, callers: u32) -> Result<(Grow<E>, Vec<Pass<E>>), OutOfMemory>
+        requires { 1 ≤ callers }
+        ensures list { IfOk result (λ r. (r.0.list ≡ []) × (r.0.numbers ≡ []) × (r.0.callers ≡ callers)) }
+        ensures count { IfOk result (λ r. length r.1.items ≡ callers) }
+        ensures passes { IfOk result (λ r. (k : ℕ) → k < callers → slice_get r.1.items k ≡ Some (fresh r.0.name k)) }
+        ensures each { IfOk result (λ r. HasEach r.0 r.1.items) }
+    {
+        let (table, mut seat) = Table::of_words(alloc, &[0, 0], &callers)?;
+        let mut passes = Vec::with_capacity(alloc, callers as usize)?;
+        for number in 0..callers {
+            let place = take_number(&table.shared, &mut seat, u64::from(number))?;
+            passes.push_reserved(Pass {
+                seat: place,
+                number,
+            });
+        }
+        let grow = Grow {
+            entries: Vec::new(alloc),
+            callers,
+            table,
+            seat,
+        };
+        Ok((grow, passes))
+    }
+
+    /// Makes room for `more` entries. The list stays, also where there is no memory.
+    pub fn reserve(&mut self, more: usize) -> Result<(), OutOfMemory>
+        ensures room { OnOk result (more ≤ self.new.spare) }
+        ensures kept { self.old.spare ≤ self.new.spare }
+        ensures list { IsSameList self.old self.new }
+    {
+        self.entries.reserve(more)
+    }
+
+    /// Adds an entry by a pass of this list, in room that was reserved, and answers its place, from 0 on.
+    /// The pass has then seen the list.
+    pub fn push(&mut self, pass: &mut Pass<E>, entry: E) -> u64
+        requires room { 1 ≤ self.old.spare }
+        requires name { pass.old.name ≡ self.old.name }
+
+        ensures place { result ≡ length self.old.list }
+        ensures list { self.new.list ≡ self.old.list ++ entry ∷ [] }
+        ensures numbers { self.new.numbers ≡ self.old.numbers ++ pass.old.number ∷ [] }
+        ensures kept { (self.new.name ≡ self.old.name) × (self.new.callers ≡ self.old.callers) }
+        ensures spare { self.old.spare ≤ self.new.spare + 1 }
+
+        ensures before { IsPrefix pass.old.seen self.old.list }
+        ensures seen { pass.new.seen ≡ self.new.list }
+        ensures mine { pass.new.mine ≡ pass.old.mine ++ (result, entry) ∷ [] }
+        ensures own { HasItsOwn self.new pass.new }
+        ensures placed { All (λ x. x.0 < length self.new.list) pass.new.mine }
+        ensures same_pass { (pass.new.name ≡ pass.old.name) × (pass.new.number ≡ pass.old.number) }
+    {
+        let place = self.entries.len() as u64;
+        let table = &self.table;
+        enter(
+            &table.shared,
+            &mut self.seat,
+            &mut pass.seat,
+            &entry,
+            place + 1,
+        );
+        self.entries.push_reserved(entry);
+        place
+    }
+
+    /// A pass of this list sees the list.
+    pub fn look(&mut self, pass: &mut Pass<E>)
+        requires { pass.old.name ≡ self.old.name }
+
+        ensures list { IsSameList self.old self.new }
+        ensures spare { self.old.spare ≤ self.new.spare }
+
+        ensures before { IsPrefix pass.old.seen self.old.list }
+        ensures seen { pass.new.seen ≡ self.new.list }
+        ensures mine { pass.new.mine ≡ pass.old.mine }
+        ensures own { HasItsOwn self.new pass.new }
+        ensures placed { All (λ x. x.0 < length self.new.list) pass.new.mine }
+        ensures same_pass { (pass.new.name ≡ pass.old.name) × (pass.new.number ≡ pass.old.number) }
+    {
+        let table = &self.table;
+        meet(&table.shared, &mut self.seat, &mut pass.seat);
+    }
+
+    /// The number of entries.
+    pub fn len(&self) -> u64
+        ensures { result ≡ length self.now.list }
+    {
+        self.entries.len() as u64
+    }
+
+    /// The entry at a place, from 0 on. None from `len` on.
+    pub fn at(&self, place: u64) -> Option<&E>
+        ensures entry { option_copied result ≡ slice_get self.now.list place }
+        ensures none { IsNone result ↔ (length self.now.list ≤ place) }
+    {
+        self.entries.get(place as usize)
+    }
+
+    /// Hands out the entries, and takes back the passes. What each pass saw begins the list, the list's entries of its
+    /// number are its own, and each place of the list is one pass's.
+    pub fn close(self, passes: Vec<Pass<E>>) -> Vec<E>
+        requires { HasEach self passes.items }
+        ensures list { result.items ≡ self.list }
+        ensures seen { All (λ p. IsPrefix p.seen self.list) passes.items }
+        ensures own { All (λ p. HasItsOwn self p) passes.items }
+        ensures places { (k : ℕ) → k < length self.list → count_by (λ p. has_place k p.mine) passes.items ≡ 1 }
+    {
+        let Grow {
+            entries,
+            callers: _,
+            table,
+            mut seat,
+        } = self;
+        end(&table.shared, &mut seat);
+        for pass in passes {
+            part(&table.shared, &mut seat, pass.into_place());
+        }
+        entries
+    }
+}

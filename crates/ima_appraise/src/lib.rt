@@ -1,0 +1,9 @@
+//! Appraisal: whether a file may be used, and what mode fix writes where it may not. No call takes
+//! memory.
+#![tactic(auto)]
+
+mod appraisal;
+#[cfg(test)]
+mod tests;
+
+pub use appraisal::{mend, verdict};
