@@ -1,5 +1,5 @@
 -- What contracts see of a rule, and which rules a line can say.
-use Rattle.std.specs.Prelude.{ℕ, Bool, true, false, ◌==◌, ◌||◌, List, Option, Some, None, is_none, nat_lt, not, IsTrue}
+use Rattle.std.specs.Prelude.{ℕ, Bool, true, false, ◌==◌, ◌||◌, List, Option, Some, None, is_none, nat_lt, not, IsTrue, nat_le, ◌^◌}
 use Rattle.std.specs.List.{list_any}
 use Rattle.hash_algos.specs.declared.algo_set.AlgoSet.{AlgoSet}
 use Rattle.hash_algos.specs.Algo.{algos}
@@ -13,6 +13,7 @@ use Rattle.policy_text.specs.declared.rule.Act.{Act}
 use Rattle.policy_text.specs.declared.rule.Act.TheVariants as act
 use Rattle.policy_text.specs.declared.rule.Func.{Func}
 use Rattle.policy_text.specs.declared.rule.IdTest.{IdTest}
+use Rattle.policy_text.specs.declared.rule.IdTest.TheVariants as id
 use Rattle.policy_text.specs.declared.rule.MaskTest.{MaskTest}
 
 pub record RuleValue : Type 0 where
@@ -64,10 +65,27 @@ abbrev pub if_there : {A : Type 0} → (A → Bool) → Option A → Bool
 if_there test None = true
 if_there test (Some x) = test x
 
--- what a line can say
+-- the number of a user or a group
+abbrev pub id_number : IdTest → ℕ
+id_number (id.Is n) = n
+id_number (id.Above n) = n
+id_number (id.Below n) = n
+
+abbrev pub is_id : IdTest → Bool
+is_id t = nat_le (id_number t) 0xffff_ffff
+
+-- what a line can say; its numbers fit their types
 pub record IsRule (r : RuleValue) : Type 0 where
   pub mask : IsTrue (if_there (λ m. is_mask_bit m.bits) r.mask)
+  pub fsmagic : IsTrue (if_there (λ n. nat_le n 0xffff_ffff_ffff_ffff) r.fsmagic)
+  pub fsuuid : IsTrue (if_there (λ n. nat_lt n (2 ^ 128)) r.fsuuid)
   pub fsname : IsTrue (if_there (is_word 255) r.fsname)
+  pub uid : IsTrue (if_there is_id r.uid)
+  pub euid : IsTrue (if_there is_id r.euid)
+  pub gid : IsTrue (if_there is_id r.gid)
+  pub egid : IsTrue (if_there is_id r.egid)
+  pub fowner : IsTrue (if_there is_id r.fowner)
+  pub fgroup : IsTrue (if_there is_id r.fgroup)
   pub need : IsTrue (is_any r.need || is_appraise r.act)
   pub blacklist : IsTrue (not r.blacklist || is_appraise r.act)
   pub appraise_algos : IsTrue (is_none r.algos || is_appraise r.act)

@@ -12,6 +12,8 @@ mod line;
 mod policy;
 mod read;
 mod rule;
+#[cfg(test)]
+mod tests;
 mod values;
 mod words;
 mod write;

@@ -7,7 +7,7 @@ ghost use Rattle.policy_text.specs.declared.key.Key.TheVariants as key;
 ghost use Rattle.policy_text.specs.Gives.{LineGives};
 ghost use Rattle.policy_text.specs.Grammar.{has_key, is_skipped, is_unsupported_value, plain_rule, rule_of, with_id, with_key, with_token, with_value};
 ghost use Rattle.policy_text.specs.Key.{belongs};
-ghost use Rattle.policy_text.specs.RuleValue.{has_algos, is_appraise, is_mask_bit, is_measure, is_named_template};
+ghost use Rattle.policy_text.specs.RuleValue.{has_algos, is_appraise, is_id, is_mask_bit, is_measure, is_named_template};
 ghost use Rattle.policy_text.specs.Values.{id_test};
 
 use crate::fault::{LineErr, RuleCause};
@@ -49,7 +49,8 @@ pub fn is_skipped(line: &[u8]) -> bool
 }
 
 fn id_test(sign: Sign, number: u32) -> IdTest
-    ensures { result ≡ id_test sign number }
+    ensures value { result ≡ id_test sign number }
+    ensures id { IsTrue (is_id result) }
 {
     match sign {
         Sign::Is => IdTest::Is(number),
@@ -162,14 +163,12 @@ impl Rule {
                 Ok(self.with_mask(mask))
             }
             Key::FsMagic => {
-                let mut rule = self;
-                rule.fsmagic = Some(magic_of(value).ok_or(bad)?);
-                Ok(rule)
+                let magic = magic_of(value).ok_or(bad)?;
+                Ok(self.with_magic(magic))
             }
             Key::FsUuid => {
-                let mut rule = self;
-                rule.fsuuid = Some(uuid_of(value).ok_or(bad)?);
-                Ok(rule)
+                let uuid = uuid_of(value).ok_or(bad)?;
+                Ok(self.with_uuid(uuid))
             }
             Key::FsName => self.with_name(alloc, value),
             Key::Id(subject, sign) => {
@@ -207,6 +206,22 @@ impl Rule {
         rule
     }
 
+    fn with_magic(self, magic: u64) -> Rule
+        ensures { result ≡ record self { fsmagic = Some magic } }
+    {
+        let mut rule = self;
+        rule.fsmagic = Some(magic);
+        rule
+    }
+
+    fn with_uuid(self, uuid: u128) -> Rule
+        ensures { result ≡ record self { fsuuid = Some uuid } }
+    {
+        let mut rule = self;
+        rule.fsuuid = Some(uuid);
+        rule
+    }
+
     fn with_name(self, alloc: Global, name: &[u8]) -> Result<Rule, LineErr>
         ensures { LineGives result (ok_or (with_value key.FsName name.now self) cause.BadValue) }
     {
@@ -219,6 +234,7 @@ impl Rule {
     }
 
     fn with_id(self, subject: Subject, test: IdTest) -> Rule
+        requires { IsTrue (is_id test) }
         ensures { result ≡ with_id subject test self }
     {
         let mut rule = self;

@@ -1,5 +1,9 @@
+ghost use Rattle.std.specs.Prelude.{◌≡◌, IfOk};
+
+use crate::fault::OutOfMemory;
 use hash_algos::AlgoSet;
 use inode_meta::{Need, Template};
+use std::alloc::Global;
 use std::marker::Model;
 use xattr_store::Bytes;
 
@@ -137,4 +141,36 @@ impl Model for Rule {
     ghost invariant = { λ r. IsRule (rule_value r) };
 
     ghost inverse = { rule_inside };
+}
+
+impl Rule {
+    /// An equal rule.
+    pub fn copy(&self, alloc: Global) -> Result<Rule, OutOfMemory>
+        ensures { IfOk result (λ copy. copy ≡ self.now) }
+    {
+        let fsname = match &self.fsname {
+            Some(name) => Some(Bytes::from_slice(alloc, name.as_slice())?),
+            None => None,
+        };
+        Ok(Rule {
+            act: self.act,
+            func: self.func,
+            mask: self.mask,
+            fsmagic: self.fsmagic,
+            fsuuid: self.fsuuid,
+            fsname,
+            uid: self.uid,
+            euid: self.euid,
+            gid: self.gid,
+            egid: self.egid,
+            fowner: self.fowner,
+            fgroup: self.fgroup,
+            need: self.need,
+            blacklist: self.blacklist,
+            algos: self.algos,
+            directio: self.directio,
+            pcr: self.pcr,
+            template: self.template,
+        })
+    }
 }

@@ -1,0 +1,5 @@
+pub mod FeedsLemmas
+pub mod DataLemmas
+pub mod SameLemmas
+pub mod ReplayLemmas
+pub mod Examples

@@ -1,0 +1,20 @@
+-- The template digest of an entry, and what registers are extended with.
+use Rattle.std.specs.Prelude.{ℕ, if◌then◌else◌, List, replicate}
+use Rattle.hash_algos.specs.declared.digest.Digest.{Digest}
+use Rattle.hash_algos.specs.Algo.{algo_size}
+use Rattle.hash_algos.specs.Digest.{digest_of, zero_digest}
+use Rattle.hash_algos.specs.Hash.{hash}
+use Rattle.inode_meta.specs.declared.measurement.Bank.{Bank}
+use Rattle.pcr_bank.specs.Bank.{bank_algo}
+use Rattle.ima_templates.specs.declared.entry.Entry.{Entry}
+use Rattle.ima_templates.specs.Data.{template_data}
+
+-- the template digest in a bank: the bank's hash of the template data, and zeros for a violation
+abbrev pub template_digest : Entry → Bank → Digest
+template_digest e bank =
+    if e.violation then zero_digest (bank_algo bank) else digest_of (bank_algo bank) (template_data e)
+
+-- what an entry extends its register with in a bank: its template digest, and bytes 0xff for a violation
+abbrev pub extension : Entry → Bank → List ℕ
+extension e bank =
+    if e.violation then replicate (algo_size (bank_algo bank)) 0xff else hash (bank_algo bank) (template_data e)

@@ -1,0 +1,13 @@
+-- What contracts see of an entry.
+use Rattle.std.specs.Prelude.{ℕ, Bool, List}
+use Rattle.hash_algos.specs.declared.digest.Digest.{Digest}
+use Rattle.inode_meta.specs.declared.measurement.Template.{Template}
+
+-- an entry of the measurement list
+pub record EntryValue : Type 0 where
+  pub pcr : ℕ
+  pub template : Template
+  pub digest : Digest
+  pub name : List ℕ
+  pub sig : List ℕ
+  pub violation : Bool

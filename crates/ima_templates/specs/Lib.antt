@@ -1,0 +1,10 @@
+pub mod EntryValue
+pub mod Path
+pub mod IsEntry
+pub mod Shown
+pub mod Entries
+pub mod Data
+pub mod Feeds
+pub mod Digests
+pub mod Same
+pub mod Replay

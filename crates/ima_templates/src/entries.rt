@@ -1,0 +1,63 @@
+// The entries that measurements make.
+
+ghost use Rattle.std.specs.Prelude.{◌≡◌, ◌≢◌, ◌<◌, ◌≤◌, IfOk, length};
+ghost use Rattle.ima_templates.specs.Entries.{entry_of, violation_of};
+ghost use Rattle.ima_templates.specs.Path.{IsMeasuredPath};
+
+use crate::entry::Entry;
+use crate::shown::{shown_digest, shown_name, shown_sig};
+use hash_algos::{Algo, Digest};
+use inode_meta::Template;
+use std::alloc::Global;
+use xattr_store::{Bytes, OutOfMemory};
+
+/// The entry of a file or buffer in this register: `file` is the digest by the algorithm that was
+/// collected and `sha1` that by SHA-1, and `sig` is the signature in `security.ima`, or under
+/// `ima-buf` the buffer. It shows of them what its template has.
+pub fn build(
+    alloc: Global,
+    pcr: u8,
+    template: Template,
+    file: &Digest,
+    sha1: &Digest,
+    path: &[u8],
+    sig: &[u8],
+) -> Result<Entry, OutOfMemory>
+    requires pcr { pcr < 24 }
+    requires sha1 { sha1.now.algo ≡ Algo.Sha1 }
+    requires path { IsMeasuredPath template path.now }
+    requires sig { length sig.now ≤ 4096 }
+    ensures { IfOk result (λ e. e ≡ entry_of pcr template file.now sha1.now path.now sig.now) }
+{
+    Ok(Entry {
+        pcr,
+        template,
+        digest: shown_digest(template, file, sha1),
+        name: Bytes::from_slice(alloc, shown_name(template, path))?,
+        sig: Bytes::from_slice(alloc, shown_sig(template, sig))?,
+        violation: false,
+    })
+}
+
+/// The violation of a file, under the default template and with zeros in place of a digest by the
+/// default algorithm. It is always in register 10, whatever a rule says.
+pub fn violation(
+    alloc: Global,
+    template: Template,
+    default: Algo,
+    path: &[u8],
+) -> Result<Entry, OutOfMemory>
+    requires template { template ≢ Template.ImaBuf }
+    requires path { IsMeasuredPath template path.now }
+    ensures { IfOk result (λ e. e ≡ violation_of template default path.now) }
+{
+    let zeros = Digest::zeros(default);
+    Ok(Entry {
+        pcr: 10,
+        template,
+        digest: shown_digest(template, &zeros, &Digest::zeros(Algo::Sha1)),
+        name: Bytes::from_slice(alloc, shown_name(template, path))?,
+        sig: Bytes::from_slice(alloc, &[])?,
+        violation: true,
+    })
+}

@@ -1,0 +1,122 @@
+// An entry of the measurement list.
+
+ghost use Rattle.std.specs.Prelude.{◌≡◌, ◌↔◌, IsTrue};
+ghost use Rattle.pcr_bank.specs.Bank.{bank_algo};
+
+use crate::data::feed_data;
+use hash_algos::{Algo, Digest, Running};
+use inode_meta::{Bank, Template};
+use pcr_bank::Banks;
+use std::marker::Model;
+use xattr_store::Bytes;
+
+/// An entry of the measurement list. It keeps that its register is below 24, that its digest has as
+/// many bytes as its algorithm and is of SHA-1 under `ima`, that its name has 1 to 1,024 bytes from
+/// 0x21 to 0x7e and under `ima` at most 255, that its `sig` has at most 4,096 bytes and none under
+/// `ima` and `ima-ng`, and that a violation has register 10, a digest of zeros, no `sig` and
+/// another template than `ima-buf`. Contracts see the record of its fields.
+#[derive(Debug, Drop)]
+pub struct Entry {
+    /// The register that the entry extends.
+    pub pcr: u8,
+    /// The template, which says what the entry shows.
+    pub template: Template,
+    /// The field `d` or `d-ng`: the digest of the file or buffer.
+    pub digest: Digest,
+    /// The field `n` or `n-ng`, without the zero byte at its end: the path or the buffer's name.
+    pub name: Bytes,
+    /// The field `sig`: the signature in `security.ima`. Under `ima-buf` the field `buf`.
+    pub sig: Bytes,
+    /// Whether the entry records that a file was measured while it could change. Its template digest
+    /// is then shown as zeros, and registers are extended by bytes 0xff.
+    pub violation: bool,
+}
+
+impl Model for Entry {
+    ghost use Rattle.ima_templates.specs.EntryValue.{EntryValue};
+
+    ghost Value = { EntryValue };
+
+    ghost use Rattle.ima_templates.specs.IsEntry.{IsEntry, fields_of};
+
+    ghost view = { fields_of };
+
+    ghost invariant = { λ e. IsEntry (fields_of e) };
+}
+
+/// What became of an entry that was to be added, with a place of the list, counted from 0.
+#[derive(Clone, Copy, PartialEq, Eq, Debug)]
+pub enum Placed {
+    /// It stands at this place, the last.
+    Added(u64),
+    /// The entry at this place is the same, and nothing was added.
+    Already(u64),
+}
+
+impl Entry {
+    ghost use Rattle.ima_templates.specs.Digests.{template_digest};
+    ghost use Rattle.ima_templates.specs.Replay.{extended_by};
+    ghost use Rattle.ima_templates.specs.Same.{same, same_data, SameFields};
+
+    /// The template digest: the bank's hash of the template data, and zeros for a violation.
+    pub fn sum(&self, bank: Bank) -> Digest
+        ensures { result ≡ template_digest self.now bank }
+    {
+        let algo = algo_of(bank);
+        if self.violation {
+            return Digest::zeros(algo);
+        }
+        let mut running = Running::new(algo);
+        feed_data(&mut running, self);
+        running.finish()
+    }
+
+    /// Extends the entry's register in each bank: by the bank's template digest, and for a violation
+    /// by bytes 0xff.
+    pub fn extend(&self, banks: &mut Banks)
+        ensures { banks.new ≡ extended_by banks.old self.now }
+    {
+        let mut sha1 = [0xff; 20];
+        let mut sha256 = [0xff; 32];
+        if !self.violation {
+            sha1.copy_from_slice(self.sum(Bank::Sha1).as_slice());
+            sha256.copy_from_slice(self.sum(Bank::Sha256).as_slice());
+        }
+        banks.extend(self.pcr, &sha1, &sha256);
+    }
+
+    /// Whether the two are one entry of a list, which holds it once: they have one register, one
+    /// template and one template data, and neither is a violation.
+    #[tactic(auto, unfolding(crate::specs::Same::same))]
+    pub fn same(&self, other: &Entry) -> bool
+        ensures { result ≡ same self.now other.now }
+    {
+        !self.violation && !other.violation && self.pcr == other.pcr && self.has_same_data(other)
+    }
+
+    // Whether the two have one template and one template data. No other fields make the same
+    // template data, so the fields are compared.
+    fn has_same_data(&self, other: &Entry) -> bool
+        ensures { result ≡ same_data self.now other.now }
+    {
+        self.template == other.template && self.has_same_fields(other)
+    }
+
+    fn has_same_fields(&self, other: &Entry) -> bool
+        ensures { IsTrue result ↔ SameFields self.now other.now }
+    {
+        self.digest == other.digest
+            && self.name.as_slice() == other.name.as_slice()
+            && self.sig.as_slice() == other.sig.as_slice()
+    }
+}
+
+// The hash for which the bank is named.
+fn algo_of(bank: Bank) -> Algo
+    ensures { result ≡ bank_algo bank }
+{
+    match bank {
+        Bank::Sha1 => Algo::Sha1,
+        Bank::Sha256 => Algo::Sha256,
+    }
+}

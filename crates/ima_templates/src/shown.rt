@@ -1,0 +1,56 @@
+// What a template shows of a file: which digest, name and signature.
+
+ghost use Rattle.std.specs.Prelude.{◌≡◌};
+ghost use Rattle.hash_algos.specs.Digest.{HasDigestSize};
+ghost use Rattle.ima_templates.specs.Path.{last_component};
+ghost use Rattle.ima_templates.specs.Shown.{shown_digest, shown_name, shown_sig};
+
+use hash_algos::Digest;
+use inode_meta::Template;
+
+// The digest in the field `d` or `d-ng`: that by SHA-1 under `ima`, else the one collected.
+pub(crate) fn shown_digest(template: Template, file: &Digest, sha1: &Digest) -> Digest
+    ensures digest { result ≡ shown_digest template file.now sha1.now }
+    ensures size { HasDigestSize result }
+{
+    let shown = match template {
+        Template::Ima => sha1,
+        Template::ImaNg | Template::ImaSig | Template::ImaBuf => file,
+    };
+    prove!(shown.as_slice().len() == shown.algo().size());
+    *shown
+}
+
+// The name in the field `n` or `n-ng`: the path, and under `ima` the last component of a long one.
+pub(crate) fn shown_name<'a>(template: Template, path: &'a [u8]) -> &'a [u8]
+    ensures { result.now ≡ shown_name template path.now }
+{
+    if template == Template::Ima && path.len() > 255 {
+        last_component(path)
+    } else {
+        path
+    }
+}
+
+// The signature or buffer, where the template shows one.
+pub(crate) fn shown_sig<'a>(template: Template, sig: &'a [u8]) -> &'a [u8]
+    ensures { result.now ≡ shown_sig template sig.now }
+{
+    match template {
+        Template::Ima | Template::ImaNg => &[],
+        Template::ImaSig | Template::ImaBuf => sig,
+    }
+}
+
+// What stands behind the last slash, or the whole path where there is none.
+fn last_component(path: &[u8]) -> &[u8]
+    ensures { result.now ≡ last_component path.now }
+{
+    let mut start = 0;
+    for (i, byte) in path.iter().enumerate() {
+        if *byte == b'/' {
+            start = i + 1;
+        }
+    }
+    &path[start..]
+}

@@ -1,0 +1,4 @@
+pub mod Examples
+pub mod MeasuringExamples
+pub mod AppraisalExamples
+pub mod ChangeExamples

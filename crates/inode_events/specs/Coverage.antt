@@ -1,0 +1,69 @@
+-- When a read is covered by the measurement list.
+use Rattle.std.specs.Prelude.{◌≡◌, ◌⊎◌, ℕ, ◌==◌, Bool, true, false, ◌&&◌, List, [], ◌∷◌, ◌++◌, Contains, Option, Some, None, slice_get, if◌then◌else◌}
+use Rattle.hash_algos.specs.Digest.{digest_of}
+use Rattle.ima_templates.specs.Shown.{shown_name}
+use Rattle.ima_templates.specs.declared.entry.Entry.{Entry}
+use Rattle.ima_templates.specs.declared.entry.Placed.{Placed}
+use Rattle.inode_events.specs.Inode.{Inode}
+use Rattle.inode_events.specs.Says.{place_of}
+use Rattle.inode_events.specs.State.{content}
+use Rattle.inode_events.specs.declared.deed.Deed.{Deed}
+use Rattle.inode_events.specs.declared.deed.Deed.TheVariants as deed
+use Rattle.inode_events.specs.declared.told.Event.{Event}
+use Rattle.inode_events.specs.declared.told.Told.{Told}
+use Rattle.inode_events.specs.declared.told.Told.TheVariants as told
+
+-- the event is a check of the file, and its action measures
+abbrev pub is_measuring : ℕ → Deed → Bool
+is_measuring file (deed.Check other func action rules) = (other == file) && action.measure
+is_measuring file _ = false
+
+abbrev pub place_in : Option Placed → List ℕ
+place_in None = []
+place_in (Some spot) = place_of spot ∷ []
+
+-- the place that a grant of the file names
+abbrev pub grant_places : ℕ → Deed → Told → List ℕ
+grant_places file (deed.Take other) (told.Grant grant) = if other == file then place_in grant.placed else []
+grant_places file (deed.Finish other) (told.Grant grant) = if other == file then place_in grant.placed else []
+grant_places file _ _ = []
+
+-- the places that grants of the file name
+abbrev pub places_granted : ℕ → List Event → List ℕ
+places_granted file [] = []
+places_granted file (e ∷ events) = grant_places file e.deed e.told ++ places_granted file events
+
+-- the place of the violation that the event is told
+abbrev pub violation_places : Deed → Told → List ℕ
+violation_places (deed.Check file func action rules) (told.OpenWriters place) = place ∷ []
+violation_places (deed.Check file func action rules) (told.ToMToU place) = place ∷ []
+violation_places _ _ = []
+
+-- the places of the violations that the events are told
+abbrev pub places_violated : List Event → List ℕ
+places_violated [] = []
+places_violated (e ∷ events) = violation_places e.deed e.told ++ places_violated events
+
+-- the list has at this place the name of the inode, and the digest of these bytes by the entry's own algorithm
+abbrev pub ShowsContent : Inode → List Entry → List ℕ → ℕ → Type 0
+ShowsContent inode list bytes place = (e : Entry) × ((slice_get list place ≡ Some e) × (e.violation ≡ false)
+    × (e.name ≡ shown_name e.template inode.path) × (e.digest ≡ digest_of e.digest.algo bytes))
+
+-- the list has at this place a violation of the inode
+abbrev pub ShowsViolation : Inode → List Entry → ℕ → Type 0
+ShowsViolation inode list place = (e : Entry) × ((slice_get list place ≡ Some e) × (e.violation ≡ true)
+    × (e.name ≡ shown_name e.template inode.path))
+
+-- A check is answered: the file got a grant since that names a place of the list, and the digest of these bytes stands there,
+-- or a violation was told, at the check or since. `later` are the events behind the check, and `check` is its own.
+abbrev pub IsAnswered : Inode → List Entry → ℕ → List ℕ → List Event → Event → Type 0
+IsAnswered inode list file bytes later check =
+    (place : ℕ) × (Contains (places_granted file later) place
+    × (ShowsContent inode list bytes place
+    ⊎ ((violation : ℕ) × (Contains (places_violated (later ++ check ∷ [])) violation × ShowsViolation inode list violation))))
+
+-- A read of the file behind this journal is covered: each check of the file that measures is answered, by the content as it is.
+abbrev pub IsCovered : Inode → List Entry → ℕ → List Event → Type 0
+IsCovered inode list file events =
+    (later : List Event) (check : Event) (before : List Event) → events ≡ later ++ check ∷ before → is_measuring file check.deed ≡ true
+    → IsAnswered inode list file (content events) later check

@@ -1,0 +1,89 @@
+-- What the events of an inode have to do with the measurement list.
+use Rattle.std.specs.Prelude.{◌≡◌, ℕ, ◌==◌, ◌||◌, List, [], ◌∷◌, Option, Some, None, option_map, slice_get, unwrap_or, if◌then◌else◌}
+use Rattle.ima_templates.specs.Entries.{entry_of, violation_of}
+use Rattle.ima_templates.specs.Same.{place_of_same}
+use Rattle.ima_templates.specs.declared.entry.Entry.{Entry}
+use Rattle.ima_templates.specs.declared.entry.Placed.{Placed}
+use Rattle.ima_templates.specs.declared.entry.Placed.TheVariants.{Added, Already}
+use Rattle.inode_meta.specs.declared.measurement.Template.{Template}
+use Rattle.label_values.specs.Labels.{type_of}
+use Rattle.policy_text.specs.declared.access.Action.{Action}
+use Rattle.inode_events.specs.Checks.{last_check}
+use Rattle.inode_events.specs.Inode.{Inode}
+use Rattle.inode_events.specs.Integrity.{Force, collecting, force, force_from, label}
+use Rattle.inode_events.specs.declared.deed.Deed.{Deed}
+use Rattle.inode_events.specs.declared.deed.Deed.TheVariants as deed
+use Rattle.inode_events.specs.declared.told.Event.{Event}
+use Rattle.inode_events.specs.declared.told.Told.{Told}
+use Rattle.inode_events.specs.declared.told.Told.TheVariants as told
+
+-- ---- the entries
+
+-- the template of a measurement: the rule's, else the script's
+abbrev pub template_for : Inode → Action → Template
+template_for inode action = unwrap_or action.template inode.settings.template
+
+-- the signature in the label (types 3 and 6), which the field `sig` shows
+abbrev pub signature_in : Option (List ℕ) → List ℕ
+signature_in None = []
+signature_in (Some bytes) = if type_of bytes == 3 || type_of bytes == 6 then bytes else []
+
+-- the entry of a file's measurement, with these digests and the label as it is
+abbrev pub measured : Inode → ℕ → Force → List Event → Entry
+measured inode file digests before =
+    entry_of (last_check file before).action.pcr (template_for inode (last_check file before).action) digests.digest digests.sha1
+    inode.path (signature_in (label inode before))
+
+-- a violation of the inode, under the script's template and algorithm whatever the rule says
+abbrev pub violated : Inode → Entry
+violated inode = violation_of inode.settings.template inode.settings.hash inode.path
+
+-- ---- the places that events name
+
+-- an entry with the place that an event was told for it
+abbrev pub Listed : Type 0
+Listed = ℕ × Entry
+
+-- the digests from which a finish's or a take's grant is made
+abbrev pub granting : Inode → Deed → List Event → Option Force
+granting inode (deed.Take file) before = force inode before
+granting inode (deed.Finish file) before = option_map force_from (collecting inode before)
+granting inode _ before = None
+
+abbrev pub added_at : Option Placed → Option Force → Inode → ℕ → List Event → Option Listed
+added_at (Some (Added place)) (Some digests) inode file before = Some (place, measured inode file digests before)
+added_at _ _ inode file before = None
+
+abbrev pub found_at : Option Placed → Option Force → Inode → ℕ → List Event → Option Listed
+found_at (Some (Already place)) (Some digests) inode file before = Some (place, measured inode file digests before)
+found_at _ _ inode file before = None
+
+-- the entry that the event adds to the list
+abbrev pub adds : Inode → Deed → Told → List Event → Option Listed
+adds inode (deed.Check file func action rules) (told.OpenWriters place) before = Some (place, violated inode)
+adds inode (deed.Check file func action rules) (told.ToMToU place) before = Some (place, violated inode)
+adds inode (deed.Take file) (told.Grant grant) before = added_at grant.placed (granting inode (deed.Take file) before) inode file before
+adds inode (deed.Finish file) (told.Grant grant) before = added_at grant.placed (granting inode (deed.Finish file) before) inode file before
+adds inode _ _ before = None
+
+-- the entry that the event finds in the list
+abbrev pub finds : Inode → Deed → Told → List Event → Option Listed
+finds inode (deed.Take file) (told.Grant grant) before = found_at grant.placed (granting inode (deed.Take file) before) inode file before
+finds inode (deed.Finish file) (told.Grant grant) before = found_at grant.placed (granting inode (deed.Finish file) before) inode file before
+finds inode _ _ before = None
+
+-- what is added stands at its place
+abbrev pub StandsIn : List Entry → Option Listed → Type 0
+StandsIn list None = Unit {0}
+StandsIn list (Some added) = slice_get list added.0 ≡ Some added.1
+
+-- what is found stands there first
+abbrev pub IsFirstIn : List Entry → Option Listed → Type 0
+IsFirstIn list None = Unit {0}
+IsFirstIn list (Some found) = place_of_same list found.1 ≡ Some found.0
+
+-- the list has what the events of the journal say of it
+abbrev pub IsListed : Inode → List Entry → List Event → Type 0
+IsListed inode list [] = Unit {0}
+IsListed inode list (e ∷ before) =
+    StandsIn list (adds inode e.deed e.told before) × IsFirstIn list (finds inode e.deed e.told before) × IsListed inode list before

@@ -1,0 +1,67 @@
+-- When the measurement list is that of the journals of all inodes.
+use Rattle.std.specs.Prelude.{◌≡◌, ℕ, ◌+◌, ◌<◌, ◌==◌, nat_lt, Bool, true, false, ◌&&◌, ◌||◌, All, Contains, List, [], ◌∷◌, ◌++◌, length, Option, Some, None, slice_get, sum_by, if◌then◌else◌}
+use Rattle.ima_templates.specs.Same.{same}
+use Rattle.ima_templates.specs.declared.entry.Entry.{Entry}
+use Rattle.inode_meta.specs.declared.step.Who.{Who}
+use Rattle.inode_events.specs.Inode.{Inode}
+use Rattle.inode_events.specs.Listing.{IsListed, Listed, adds, finds}
+use Rattle.inode_events.specs.declared.told.Event.{Event}
+
+-- an inode with its journal, newest event first
+pub record Journal : Type 0 where
+  pub inode : Inode
+  pub events : List Event
+
+-- a place that a step was told
+abbrev pub Named : Type 0
+Named = Who × ℕ
+
+abbrev pub named : Who → Option Listed → List Named
+named who None = []
+named who (Some listed) = (who, listed.0) ∷ []
+
+-- the places at which the events add an entry
+abbrev pub places_added : Inode → List Event → List Named
+places_added inode [] = []
+places_added inode (e ∷ before) = named e.who (adds inode e.deed e.told before) ++ places_added inode before
+
+-- the places that the events name: where they add an entry, and where they find one
+abbrev pub places_named : Inode → List Event → List Named
+places_named inode [] = []
+places_named inode (e ∷ before) =
+    named e.who (adds inode e.deed e.told before) ++ named e.who (finds inode e.deed e.told before) ++ places_named inode before
+
+-- how often an entry is added at the place
+abbrev pub times_named : ℕ → List Named → ℕ
+times_named place [] = 0
+times_named place (n ∷ rest) = if n.1 == place then 1 + times_named place rest else times_named place rest
+
+-- the step comes before the other of the same task
+abbrev pub is_earlier : Who → Who → Bool
+is_earlier a b = a.task == b.task && (nat_lt a.call b.call || (a.call == b.call && nat_lt a.step b.step))
+
+-- along the journal, an entry is added above all places that were named before it
+abbrev pub PlacesRise : Inode → List Event → Type 0
+PlacesRise inode [] = Unit {0}
+PlacesRise inode (e ∷ before) =
+    All (λ added. All (λ named. named.1 < added.1) (places_named inode before)) (named e.who (adds inode e.deed e.told before))
+    × PlacesRise inode before
+
+-- along a task's steps, an entry is added above all places that its earlier steps named, in whichever journals they stand
+abbrev pub StepsRise : List Journal → Type 0
+StepsRise journals = (j k : Journal) (earlier later : Named) → Contains journals j → Contains journals k
+    → Contains (places_named j.inode j.events) earlier → Contains (places_added k.inode k.events) later
+    → is_earlier earlier.0 later.0 ≡ true → earlier.1 < later.1
+
+pub record IsMerged (boot : Entry) (list : List Entry) (journals : List Journal) : Type 0 where
+  -- the first entry is the boot aggregate
+  pub first : slice_get list 0 ≡ Some boot
+  -- what an event adds stands at its place; what it finds stands there first
+  pub listed : All (λ j. IsListed j.inode list j.events) journals
+  -- every other entry was added by exactly one event
+  pub once : (place : ℕ) → 0 < place → place < length list → sum_by (λ j. times_named place (places_added j.inode j.events)) journals ≡ 1
+  -- along a journal and along a task's steps the places rise
+  pub along_journals : All (λ j. PlacesRise j.inode j.events) journals
+  pub along_tasks : StepsRise journals
+  -- no entry is the same as an earlier one
+  pub distinct : (a b : ℕ) (x y : Entry) → a < b → slice_get list a ≡ Some x → slice_get list b ≡ Some y → same x y ≡ false

@@ -1,0 +1,147 @@
+-- The one outcome of the next event, read from the journal before it.
+use Rattle.std.specs.Prelude.{ℕ, ◌+◌, ◌==◌, Bool, true, false, ◌&&◌, ◌||◌, not, nat_lt, nat_le, List, [], ◌∷◌, length, Option, Some, None, is_none, Result, Ok, Err, if◌then◌else◌}
+use Rattle.std.specs.Str.{bytes_eq}
+use Rattle.evm_verify.specs.Changes.{may_change, may_set_meta}
+use Rattle.evm_verify.specs.Input.{evm_name}
+use Rattle.hash_algos.specs.Digest.{digest_of}
+use Rattle.hash_algos.specs.declared.algo.Algo.TheVariants.{Sha256}
+use Rattle.ima_templates.specs.declared.entry.Placed.{Placed}
+use Rattle.ima_templates.specs.declared.entry.Placed.TheVariants.{Added, Already}
+use Rattle.inode_meta.specs.declared.appraisal.EvmStatus.{EvmStatus}
+use Rattle.xattr_store.specs.Attrs.{value}
+use Rattle.inode_events.specs.Content.{bytes_at, is_last_piece, size_limit}
+use Rattle.inode_events.specs.Files.{creates, execs, is_exec, is_writer, is_writing, readers, writers}
+use Rattle.inode_events.specs.Grants.{grant_of}
+use Rattle.inode_events.specs.Inode.{Inode}
+use Rattle.inode_events.specs.Integrity.{Collection, Force, attributes, collecting, digest_from, force, ima_name}
+use Rattle.inode_events.specs.Marks.{is_label_due, must_measure}
+use Rattle.inode_events.specs.State.{content, metadata, new, present}
+use Rattle.inode_events.specs.declared.deed.Deed.{Deed}
+use Rattle.inode_events.specs.declared.deed.Deed.TheVariants as deed
+use Rattle.inode_events.specs.declared.deed.How.{How}
+use Rattle.inode_events.specs.declared.told.Event.{Event}
+use Rattle.inode_events.specs.declared.told.Told.{Told}
+use Rattle.inode_events.specs.declared.told.Told.TheVariants as told
+
+-- ---- the place in the measurement list, which the list decides and not the journal
+
+abbrev pub place_of : Placed → ℕ
+place_of (Added place) = place
+place_of (Already place) = place
+
+-- the place that an event was told; any where it was told none
+abbrev pub spot_in_grant : Option Placed → Placed
+spot_in_grant None = Added 0
+spot_in_grant (Some spot) = spot
+
+abbrev pub spot_in : Told → Placed
+spot_in (told.OpenWriters place) = Added place
+spot_in (told.ToMToU place) = Added place
+spot_in (told.Grant grant) = spot_in_grant grant.placed
+spot_in _ = Added 0
+
+-- ---- the outcomes, deed by deed
+
+-- an open counts its file, unless the file is absent, or a writer would meet an execution
+abbrev pub count_told : How → Bool → ℕ → ℕ → Told
+count_told how present writers execs =
+    if not present && not (creates how) then told.NotFound
+    else if (is_writer how && nat_lt 0 execs) || (is_exec how && nat_lt 0 writers) then told.TextBusy
+    else told.Held
+
+-- a writer that meets readers of a measured file is a ToMToU violation, whatever the rules say of the writer itself; a measured
+-- reader that meets writers is an open-writers violation
+abbrev pub check_told : Bool → Bool → ℕ → ℕ → Bool → ℕ → Told
+check_told writing measure readers writers must place =
+    if writing then (if nat_lt 0 readers && must then told.ToMToU place else told.Quiet)
+    else (if measure && nat_lt 0 writers then told.OpenWriters place else told.Quiet)
+
+-- the grant where a digest is in force, else a collection begins
+abbrev pub take_told : Inode → ℕ → Placed → Option Force → List Event → Told
+take_told inode file spot None before = told.Begun
+take_told inode file spot (Some force) before = told.Grant (grant_of inode file spot force.digest before)
+
+abbrev pub chunk_told : List ℕ → Option Collection → Option Told
+chunk_told content None = None
+chunk_told content (Some c) = Some (if is_last_piece content c.pieces then told.Last else told.More)
+
+abbrev pub finish_told : Inode → ℕ → Placed → Option Collection → List Event → Option Told
+finish_told inode file spot None before = None
+finish_told inode file spot (Some c) before = Some (told.Grant (grant_of inode file spot (digest_from c) before))
+
+abbrev pub read_told : List ℕ → Told
+read_told bytes = told.Read (length bytes) (digest_of Sha256 bytes)
+
+-- a file has a limit
+abbrev pub write_told : ℕ → Told
+write_told limit = if nat_le limit size_limit then told.Done else told.TooBig
+
+abbrev pub status_told : Result (Unit {0}) EvmStatus → Told
+status_told (Ok _) = told.Done
+status_told (Err status) = told.Status status
+
+abbrev pub is_too_long : Option (List ℕ) → Bool
+is_too_long None = false
+is_too_long (Some bytes) = nat_lt 4096 (length bytes)
+
+-- the kernel refuses an empty `security.ima`, and one of a type that it doesn't know
+abbrev pub is_no_label : Option (List ℕ) → Bool
+is_no_label None = false
+is_no_label (Some []) = true
+is_no_label (Some (kind ∷ rest)) = nat_lt 6 kind
+
+-- the first refusal that holds, else done
+abbrev pub set_attr_told : Inode → List ℕ → Option (List ℕ) → Bool → List Event → Told
+set_attr_told inode name bytes admin before =
+    if not (present before) then told.NotFound
+    else if bytes_eq name evm_name then told.EvmName
+    else if bytes_eq name ima_name && not admin then told.NotAdmin
+    else if is_too_long bytes then told.TooLong
+    else if bytes_eq name ima_name && is_no_label bytes then told.Invalid
+    else if is_none bytes && is_none (value name (attributes inode before)) then told.NoData
+    else status_told (may_change inode.settings.evm name (attributes inode before) (metadata before) (new before))
+
+abbrev pub set_meta_told : Inode → List Event → Told
+set_meta_told inode before =
+    if not (present before) then told.NotFound
+    else status_told (may_set_meta inode.settings.evm (attributes inode before) (metadata before))
+
+-- the last writer's close collects where a label is due, and drops the file else
+abbrev pub close_take_told : Bool → ℕ → Told
+close_take_told due writers = if (writers == 1) && due then told.Begun else told.Dropped
+
+-- the label is written where its writer is still the only one
+abbrev pub close_finish_told : ℕ → Told
+close_finish_told writers = if writers == 1 then told.LabelledDropped else told.Dropped
+
+-- the integrity mutex is free, or the task is blocked at this step
+abbrev pub unless_collecting : Option Collection → Told → Option Told
+unless_collecting None t = Some t
+unless_collecting (Some c) t = None
+
+-- ---- all deeds
+
+-- What the next event is told. `spot` is the place in the list and whether it is added there or was there already, which isn't
+-- the journal's to say. `None` is blocked: no event. A birth follows no event, and the deeds of a semaphore stand in no inode's journal
+abbrev pub says : Inode → List Event → Placed → Deed → Option Told
+says inode before spot deed.Birth = None
+says inode before spot (deed.Count how) = Some (count_told how (present before) (writers before) (execs before))
+says inode before spot (deed.Check file func action rules) =
+    Some (check_told (is_writing file before) action.measure (readers before) (writers before) (must_measure before) (place_of spot))
+says inode before spot (deed.Take file) =
+    unless_collecting (collecting inode before) (take_told inode file spot (force inode before) before)
+says inode before spot (deed.Chunk file) = chunk_told (content before) (collecting inode before)
+says inode before spot (deed.Finish file) = finish_told inode file spot (collecting inode before) before
+says inode before spot (deed.Read file from len) = Some (read_told (bytes_at (content before) from len))
+says inode before spot (deed.Write file from bytes) = Some (write_told (from + length bytes))
+says inode before spot (deed.Trunc file len) = Some (write_told len)
+says inode before spot (deed.SetAttr name bytes admin) =
+    unless_collecting (collecting inode before) (set_attr_told inode name bytes admin before)
+says inode before spot (deed.SetMeta change) = unless_collecting (collecting inode before) (set_meta_told inode before)
+says inode before spot (deed.Close file) = Some told.Dropped
+says inode before spot (deed.CloseTake file) =
+    unless_collecting (collecting inode before) (close_take_told (is_label_due inode before) (writers before))
+says inode before spot (deed.CloseChunk file) = chunk_told (content before) (collecting inode before)
+says inode before spot (deed.CloseFinish file) = Some (close_finish_told (writers before))
+says inode before spot (deed.Post sem) = None
+says inode before spot (deed.Wait sem) = None

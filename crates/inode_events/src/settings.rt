@@ -1,0 +1,62 @@
+ghost use Rattle.std.specs.Prelude.{◌≡◌, IfOk, IsTrue};
+ghost use Rattle.policy_text.specs.RuleValue.{is_named_template};
+
+use evm_verify::Evm;
+use hash_algos::Algo;
+use inode_meta::{Mode, Template};
+use xattr_store::OutOfMemory;
+
+/// What a script sets for all inodes.
+#[derive(Drop)]
+pub struct Settings {
+    /// The algorithm of a collection whose label names none (the boot word `ima_hash=`).
+    pub hash: Algo,
+    /// The template of an entry whose rule names none (the boot word `ima_template=`). It isn't `ima-buf`, which is for
+    /// buffers alone.
+    pub template: Template,
+    /// The appraisal mode (the boot word `ima_appraise=`).
+    pub mode: Mode,
+    /// EVM, with its key.
+    pub evm: Evm,
+    ghost for_files: { IsTrue (is_named_template template) },
+}
+
+impl Settings {
+    /// An equal value.
+    pub fn copy(&self) -> Result<Settings, OutOfMemory>
+        ensures { IfOk result (λ copy. copy ≡ self.now) }
+    {
+        Ok(Settings {
+            hash: self.hash,
+            template: self.template,
+            mode: self.mode,
+            evm: self.evm.copy()?,
+        })
+    }
+}
+
+#[cfg(test)]
+mod tests {
+    use super::Settings;
+    use evm_verify::Evm;
+    use hash_algos::Algo;
+    use inode_meta::{Mode, Template};
+    use std::test::Fail;
+
+    #[test]
+    fn a_copy_has_the_same_settings(rt: HostRuntime) -> Result<(), Fail> {
+        let key = [0x5a; 32];
+        let settings = Settings {
+            hash: Algo::Sha512,
+            template: Template::ImaSig,
+            mode: Mode::Fix,
+            evm: Evm::new(rt.alloc(), Some(&key), &[], 2)?,
+        };
+        let copy = settings.copy()?;
+        assert_eq!(rt; copy.hash, Algo::Sha512);
+        assert_eq!(rt; copy.template, Template::ImaSig);
+        assert_eq!(rt; copy.mode, Mode::Fix);
+        assert!(rt; copy.evm.protects(b"security.ima"));
+        Ok(())
+    }
+}

@@ -1,0 +1,14 @@
+pub mod Small
+pub mod Labels
+pub mod Tallies
+pub mod Lives
+pub mod Stages
+pub mod Keys
+pub mod Fresh
+pub mod FreshSteps
+pub mod Admitting
+pub mod Closings
+pub mod Counting
+pub mod Guards
+pub mod Covering
+pub mod Covered

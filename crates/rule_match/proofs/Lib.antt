@@ -1,0 +1,6 @@
+mod Examples
+pub mod Lines
+pub mod Links
+pub mod Lookups
+pub mod Skips
+pub mod Walks

@@ -1,0 +1,72 @@
+-- First match: what the rules have done with an access. Per family of actions the first line that
+-- matches decides, and later lines of that family are ignored. No family has an effect on another.
+use Rattle.std.specs.Prelude.{ℕ, Bool, true, false, ◌&&◌, List, Option, Some, None, is_some, unwrap_or, find, if◌then◌else◌}
+use Rattle.std.specs.Option.{option_and_then, option_map_or}
+use Rattle.inode_meta.specs.declared.appraisal.Need.TheVariants as need
+use Rattle.policy_text.specs.ActionValue.{ActionValue}
+use Rattle.policy_text.specs.RuleValue.{RuleValue}
+use Rattle.policy_text.specs.declared.access.Access.{Access}
+use Rattle.policy_text.specs.declared.rule.Act.{Act}
+use Rattle.policy_text.specs.declared.rule.Act.TheVariants as act
+use Rattle.rule_match.specs.Conditions.{rule_matches}
+
+-- an action and its `dont_` form
+pub data Family : Type 0 where
+  Measuring : Family
+  Appraising : Family
+  Auditing : Family
+  Hashing : Family
+
+-- whether the action is of the family
+abbrev pub is_of : Family → Act → Bool
+is_of Measuring act.Measure = true
+is_of Measuring act.DontMeasure = true
+is_of Appraising act.Appraise = true
+is_of Appraising act.DontAppraise = true
+is_of Auditing act.Audit = true
+is_of Auditing act.DontAudit = true
+is_of Hashing act.Hash = true
+is_of Hashing act.DontHash = true
+is_of _ _ = false
+
+-- a `dont_` line has nothing done
+abbrev pub is_done : Act → Bool
+is_done act.Measure = true
+is_done act.Appraise = true
+is_done act.Audit = true
+is_done act.Hash = true
+is_done _ = false
+
+-- whether the line decides on the access for the family, where no earlier line does
+abbrev pub decides : Family → Access → RuleValue → Bool
+decides f a r = is_of f r.act && rule_matches r a
+
+abbrev pub first_of : Family → List RuleValue → Access → Option RuleValue
+first_of f rules a = find (decides f a) rules
+
+-- the rule, where it has something done
+abbrev pub carried_out : Option RuleValue → Option RuleValue
+carried_out None = None
+carried_out (Some r) = if is_done r.act then Some r else None
+
+-- the register of a measurement for which no register is given
+abbrev pub default_pcr : ℕ
+default_pcr = 10
+
+-- the action of the rules that are carried out, one at most for each family
+abbrev pub action_of : Option RuleValue → Option RuleValue → Option RuleValue → Option RuleValue → ActionValue
+action_of measure appraise audit hash = record {
+  measure = is_some measure;
+  pcr = unwrap_or (option_and_then (λ r. r.pcr) measure) default_pcr;
+  template = option_and_then (λ r. r.template) measure;
+  appraise = is_some appraise;
+  need = option_map_or (λ r. r.need) appraise need.Any;
+  algos = option_and_then (λ r. r.algos) appraise;
+  audit = is_some audit;
+  hash = is_some hash;
+}
+
+abbrev pub decide_of : List RuleValue → Access → ActionValue
+decide_of rules a =
+    let decider = λ (f : Family). carried_out (first_of f rules a) in
+    action_of (decider Measuring) (decider Appraising) (decider Auditing) (decider Hashing)

@@ -1,0 +1,6 @@
+pub mod Conditions
+pub mod Decision
+pub mod Group
+pub mod Groups
+pub mod Indexed
+pub mod SameGroup

@@ -1,0 +1,14 @@
+//! Rules matched against accesses, and the decision by first match: for each family of actions the first line of the
+//! policy that matches the access decides (Documentation/ABI/testing/ima_policy).
+#![tactic(auto)]
+
+mod conditions;
+mod decision;
+mod group;
+mod index;
+#[cfg(test)]
+mod tests;
+
+pub use conditions::matches;
+pub use decision::decide;
+pub use index::Index;
