@@ -10,3 +10,4 @@ mod shown;
 
 pub use entries::{build, violation};
 pub use entry::{Entry, Placed};
+pub use shown::can_show;

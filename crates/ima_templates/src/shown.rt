@@ -1,8 +1,8 @@
 // What a template shows of a file: which digest, name and signature.
 
-ghost use Rattle.std.specs.Prelude.{◌≡◌};
+ghost use Rattle.std.specs.Prelude.{◌≡◌, IsTrue};
 ghost use Rattle.hash_algos.specs.Digest.{HasDigestSize};
-ghost use Rattle.ima_templates.specs.Path.{last_component};
+ghost use Rattle.ima_templates.specs.Path.{last_component, IsMeasuredPath};
 ghost use Rattle.ima_templates.specs.Shown.{shown_digest, shown_name, shown_sig};
 
 use hash_algos::Digest;
@@ -40,6 +40,18 @@ pub(crate) fn shown_sig<'a>(template: Template, sig: &'a [u8]) -> &'a [u8]
         Template::Ima | Template::ImaNg => &[],
         Template::ImaSig | Template::ImaBuf => sig,
     }
+}
+
+/// Whether the template can show this path or name: it has 1 to 1,024 bytes from 0x21 to 0x7e, and
+/// under `ima` its last component has 1 to 255 bytes.
+pub fn can_show(template: Template, path: &[u8]) -> bool
+    ensures only { IsTrue result → IsMeasuredPath template path.now }
+    ensures each { IsMeasuredPath template path.now → IsTrue result }
+{
+    let component = last_component(path).len();
+    (1 <= path.len() && path.len() <= 1024)
+        && path.iter().all(|b| 0x21 <= *b && *b <= 0x7e)
+        && (template != Template::Ima || (1 <= component && component <= 255))
 }
 
 // What stands behind the last slash, or the whole path where there is none.

@@ -394,3 +394,89 @@ size_limit_kept = (
     ),
   ),
 )
+
+-- The mark outlives the reader that set it: another reader that is there is enough.
+mark_outlives : Tells (inode_of Off no_key true abc [] true) (born (inode_of Off no_key true abc [] true)) (
+    (deed.Count (how.Read false), Some (told.Held)) ∷
+    (deed.Check 1 FileCheck measure 1, Some (told.Quiet)) ∷
+    (deed.Take 1, Some (told.Begun)) ∷
+    (deed.Chunk 1, Some (told.Last)) ∷
+    (deed.Finish 1, Some (told.Grant (grant (Some (Added 1)) (None) true false))) ∷
+    (deed.Count (how.Read false), Some (told.Held)) ∷
+    (deed.Check 6 FileCheck no_action 1, Some (told.Quiet)) ∷
+    (deed.Close 1, Some (told.Dropped)) ∷
+    (deed.Count (how.Write false false), Some (told.Held)) ∷
+    (deed.Check 9 FileCheck no_action 1, Some (told.ToMToU 2)) ∷
+    [])
+mark_outlives = (
+  (tt, refl),
+  (
+    (refl, refl),
+    (
+      (refl, refl),
+      (
+        (refl, refl),
+        (
+          (refl, refl),
+          (
+            (tt, refl),
+            (
+              (refl, refl),
+              (
+                ((refl, refl), refl),
+                (
+                  (tt, refl),
+                  (
+                    (refl, refl),
+                    tt,
+                  ),
+                ),
+              ),
+            ),
+          ),
+        ),
+      ),
+    ),
+  ),
+)
+
+-- A file that is open for both is measured, and sets no mark.
+no_mark_by_writers : Tells (inode_of Off no_key true abc [] true) (born (inode_of Off no_key true abc [] true)) (
+    (deed.Count (how.Write true false), Some (told.Held)) ∷
+    (deed.Check 1 FileCheck measure 1, Some (told.Quiet)) ∷
+    (deed.Take 1, Some (told.Begun)) ∷
+    (deed.Chunk 1, Some (told.Last)) ∷
+    (deed.Finish 1, Some (told.Grant (grant (Some (Added 1)) (None) true false))) ∷
+    (deed.Count (how.Read false), Some (told.Held)) ∷
+    (deed.Check 6 FileCheck no_action 1, Some (told.Quiet)) ∷
+    (deed.Count (how.Write false false), Some (told.Held)) ∷
+    (deed.Check 8 FileCheck no_action 1, Some (told.Quiet)) ∷
+    [])
+no_mark_by_writers = (
+  (tt, refl),
+  (
+    (refl, refl),
+    (
+      (refl, refl),
+      (
+        (refl, refl),
+        (
+          (refl, refl),
+          (
+            (tt, refl),
+            (
+              (refl, refl),
+              (
+                (tt, refl),
+                (
+                  (refl, refl),
+                  tt,
+                ),
+              ),
+            ),
+          ),
+        ),
+      ),
+    ),
+  ),
+)

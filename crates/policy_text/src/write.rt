@@ -1,9 +1,10 @@
 //! Printing rules.
 
-ghost use Rattle.std.specs.Prelude.{◌≡◌, [], ◌∷◌, ◌++◌, codes, not, IfOk, OnOk, OnErr};
+ghost use Rattle.std.specs.Prelude.{◌≡◌, [], ◌∷◌, ◌++◌, codes, not, Ok, IfOk, OnOk, OnErr};
 ghost use Rattle.std.specs.Fmt.{decimal};
 ghost use Rattle.inode_meta.specs.Words.{template_word};
-ghost use Rattle.policy_text.specs.RuleValue.{is_any};
+ghost use Rattle.policy_text.specs.Grammar.{policy_of, rule_of};
+ghost use Rattle.policy_text.specs.RuleValue.{IsRule, is_any};
 ghost use Rattle.policy_text.specs.Spelling.{algos_text, flagged, func_word, id_text, ids_text, keyed, magic_text, mask_text, options_text, place_text, policy_text, rule_text, uuid_text};
 
 use crate::fault::OutOfMemory;
@@ -17,9 +18,10 @@ use std::io::{self, Write};
 use uuid::Uuid;
 use xattr_store::Bytes;
 
-/// The canonical text of a policy, one line a rule.
+/// The canonical text of a policy, one line a rule, which is read as the same policy.
 pub fn print(alloc: Global, policy: &Policy) -> Result<Vec<u8>, OutOfMemory>
     ensures text { IfOk result (λ v. v.items ≡ policy_text policy.now) }
+    ensures again { IfOk result (λ v. policy_of v.items ≡ Ok policy.now) }
 {
     let mut text = Vec::new(alloc);
     for rule in policy.rules() {
@@ -29,7 +31,8 @@ pub fn print(alloc: Global, policy: &Policy) -> Result<Vec<u8>, OutOfMemory>
 }
 
 fn push_line(text: &mut Vec<u8>, rule: &Rule) -> Result<(), AllocError>
-    ensures { OnOk result (text.new.items ≡ text.old.items ++ (rule_text rule.now ++ 10 ∷ [])) }
+    ensures text { OnOk result (text.new.items ≡ text.old.items ++ (rule_text rule.now ++ 10 ∷ [])) }
+    ensures rule { IsRule rule.now }
 {
     match push_rule(text, rule) {
         Ok(()) => {
@@ -40,10 +43,11 @@ fn push_line(text: &mut Vec<u8>, rule: &Rule) -> Result<(), AllocError>
     }
 }
 
-/// Puts the canonical text of a rule behind `out`, without a newline. After a refusal `out` is as
-/// before.
+/// Puts the canonical text of a rule behind `out`, without a newline; it is read as the same rule.
+/// After a refusal `out` is as before.
 pub fn print_rule(alloc: Global, rule: &Rule, out: &mut Vec<u8>) -> Result<(), OutOfMemory>
     ensures text { OnOk result (out.new.items ≡ out.old.items ++ rule_text rule.now) }
+    ensures again { rule_of (rule_text rule.now) ≡ Ok rule.now }
     ensures err { OnErr result (out.new.items ≡ out.old.items) }
 {
     let mut text = Vec::new(alloc);
@@ -54,7 +58,8 @@ pub fn print_rule(alloc: Global, rule: &Rule, out: &mut Vec<u8>) -> Result<(), O
 }
 
 fn push_rule(out: &mut Vec<u8>, rule: &Rule) -> io::Result<()>
-    ensures { OnOk result (out.new.items ≡ out.old.items ++ rule_text rule.now) }
+    ensures text { OnOk result (out.new.items ≡ out.old.items ++ rule_text rule.now) }
+    ensures rule { IsRule rule.now }
 {
     out.write_all(rule.act.word().as_bytes())?;
     push_places(out, rule)?;

@@ -1,6 +1,6 @@
 -- Cutting a list at the first element that passes a test, and a line at its blanks.
-use Rattle.std.proofs.Common.{◌≡◌, ◌≢◌, ℕ, zero, suc, ◌+◌, Bool, true, false, cond, not, ◌&&◌, ◌==◌, List, [], ◌∷◌, ◌++◌, length, take, drop, refl, sym, ap, ◌∙◌, inl, inr, one-add, Option, unwrap_or, ltb, arith}
-use Rattle.std.specs.List.{slice_split, onto_first, filter, list_all, position_or_len, position, prefix_len}
+use Rattle.std.proofs.Common.{◌≡◌, ◌≢◌, ℕ, zero, suc, ◌+◌, Bool, true, not, List, [], ◌∷◌, ◌++◌, length, take, drop, refl, sym, ap, ◌∙◌, inl, inr, one-add, unwrap_or, arith}
+use Rattle.std.specs.List.{slice_split, filter, list_all, position_or_len, position}
 use Rattle.std.proofs.lemmas.Bool.{cases_Bool, false≢true}
 use Rattle.std.proofs.lemmas.Bool.Decides.{nat_tests}
 use Rattle.std.proofs.lemmas.List.{take-append-drop}

@@ -1,10 +1,10 @@
 -- Going over a list one by one, as a loop does that reads a text line by line.
-use Rattle.std.proofs.Common.{◌≡◌, ℕ, suc, ◌+◌, ◌<◌, ◌≤◌, List, [], ◌∷◌, ◌++◌, length, get_or, drop, Result, Ok, Err, refl, sym, ap, ◌∙◌, add-one, arith}
+use Rattle.std.proofs.Common.{◌≡◌, ℕ, suc, ◌+◌, ◌<◌, ◌≤◌, List, [], ◌∷◌, length, get_or, drop, Result, Ok, Err, refl, sym, ap, ◌∙◌, add-one, arith}
 use Rattle.std.specs.List.{enumerate_from}
 use Rattle.std.proofs.lemmas.List.FromFn.{length-enumerate_from, get_or-enumerate_from}
 use Rattle.std.proofs.Math.ListN.{drop_of_length-le}
 use Rattle.std.proofs.Math.Seq.{drop-cons}
-use Rattle.text_forms.specs.Lines.{◌>>=◌, at_line, from_lines}
+use Rattle.text_forms.specs.Lines.{from_lines, IsFirstBad}
 
 -- the item of one iteration, where what is left of the list begins with it
 pub next_item : {A : Type 0} (xs : List A) (n : ℕ) (x : A) → (n < length xs) × (x ≡ get_or xs n x) → drop n xs ≡ x ∷ drop (n + 1) xs
@@ -32,3 +32,42 @@ module _ {S C F : Type 0} (fault : ℕ → C → F) (step : S → List ℕ → R
 
   pub is_done : (n : ℕ) (s : S) → length ls ≤ n → from_lines fault step (n + 1) s (drop n ls) ≡ whole → whole ≡ Ok s
   is_done n s le so_far = sym (rw (drop_of_length-le ls le) at so_far)
+
+module _ {S C F : Type 0} (fault : ℕ → C → F) (step : S → List ℕ → Result S C) where
+  here_or_later : (l : List ℕ) (ls : List (List ℕ)) (n : ℕ) (s : S) (f : F) (o : Result S C) → step s l ≡ o
+      → ((t : S) → from_lines fault step (n + 1) t ls ≡ Err f → IsFirstBad S C F fault step (n + 1) t ls f)
+      → from_lines fault step n s (l ∷ ls) ≡ Err f → IsFirstBad S C F fault step n s (l ∷ ls) f
+  here_or_later l ls n s f (Ok t) is later e =
+      let h = later t (rw is at e) in
+      let further : n + 1 + length h.before ≡ n + length (l ∷ h.before) = omega arith in
+      record {
+        before = l ∷ h.before;
+        line = h.line;
+        after = h.after;
+        reached = h.reached;
+        cause = h.cause;
+        parts = ap (λ (ks : List (List ℕ)). l ∷ ks) h.parts;
+        good = rw is h.good;
+        bad = h.bad;
+        is = h.is ∙ ap (λ (k : ℕ). fault k h.cause) further;
+      }
+  here_or_later l ls n s f (Err c) is later e =
+      let at_n : Err (fault n c) ≡ Err f = rw is at e in
+      let same : f ≡ fault n c = cc at_n in
+      let start : n ≡ n + 0 = omega arith in
+      record {
+        before = [];
+        line = l;
+        after = ls;
+        reached = s;
+        cause = c;
+        parts = refl;
+        good = refl;
+        bad = is;
+        is = same ∙ ap (λ (k : ℕ). fault k c) start;
+      }
+
+  -- a text that is refused has a first bad line
+  pub first_bad : (ls : List (List ℕ)) (n : ℕ) (s : S) (f : F) → from_lines fault step n s ls ≡ Err f → IsFirstBad S C F fault step n s ls f
+  first_bad [] n s f e = absurd (cc)
+  first_bad (l ∷ ls) n s f e = here_or_later l ls n s f (step s l) refl (λ t. first_bad ls (n + 1) t f) e

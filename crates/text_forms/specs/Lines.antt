@@ -1,5 +1,5 @@
 -- A text is read line by line: each line makes one state of the state before it, or has a cause.
-use Rattle.std.specs.Prelude.{ℕ, ◌+◌, ◌==◌, List, [], ◌∷◌, Result, Ok, Err, count_by}
+use Rattle.std.specs.Prelude.{◌≡◌, ℕ, ◌+◌, ◌==◌, List, [], ◌∷◌, ◌++◌, length, Result, Ok, Err, count_by}
 use Rattle.std.specs.List.{slice_split}
 
 -- the lines of a text; what stands behind the last newline is one more line, which may be empty
@@ -23,3 +23,15 @@ at_line fault n (Err cause) = Err (fault n cause)
 abbrev pub from_lines : {S C F : Type 0} → (ℕ → C → F) → (S → List ℕ → Result S C) → ℕ → S → List (List ℕ) → Result S F
 from_lines fault step n s [] = Ok s
 from_lines fault step n s (l ∷ ls) = at_line fault n (step s l) >>= λ t. from_lines fault step (n + 1) t ls
+
+-- f is the fault of the first bad line, where the first line has the number n: the lines before it make a state, and it is bad there
+pub record IsFirstBad (S C F : Type 0) (fault : ℕ → C → F) (step : S → List ℕ → Result S C) (n : ℕ) (s : S) (ls : List (List ℕ)) (f : F) : Type 0 where
+  pub before : List (List ℕ)
+  pub line : List ℕ
+  pub after : List (List ℕ)
+  pub reached : S
+  pub cause : C
+  pub parts : ls ≡ before ++ line ∷ after
+  pub good : from_lines fault step n s before ≡ Ok reached
+  pub bad : step reached line ≡ Err cause
+  pub is : f ≡ fault (n + length before) cause

@@ -1,6 +1,6 @@
 -- Words are parted by exactly one space each.
-use Rattle.std.specs.Prelude.{ℕ, Bool, ◌==◌, ◌&&◌, nat_le, List, length}
-use Rattle.std.specs.List.{slice_split, list_all}
+use Rattle.std.specs.Prelude.{ℕ, Bool, false, ◌==◌, ◌&&◌, nat_le, nat_lt, List, [], ◌∷◌, ◌++◌, length}
+use Rattle.std.specs.List.{slice_split, list_all, flat_map, join_with_byte}
 use Rattle.text_forms.specs.Tokens.{is_filled}
 
 abbrev pub words : List ℕ → List (List ℕ)
@@ -13,3 +13,16 @@ is_visible b = nat_le 33 b && nat_le b 126
 -- 1 to `most` visible bytes
 abbrev pub is_word : ℕ → List ℕ → Bool
 is_word most text = is_filled text && nat_le (length text) most && list_all is_visible text
+
+-- a word of a report: no byte is a blank or a newline
+abbrev pub is_clean : List ℕ → Bool
+is_clean word = list_all (λ b. nat_lt 32 b) word
+
+-- a line of a report: one word or more, any of them empty
+abbrev pub is_line : List (List ℕ) → Bool
+is_line [] = false
+is_line (w ∷ ws) = list_all is_clean (w ∷ ws)
+
+-- the text of lines of words
+abbrev pub text_of : List (List (List ℕ)) → List ℕ
+text_of ls = flat_map (λ ws. join_with_byte 32 ws ++ 10 ∷ []) ls

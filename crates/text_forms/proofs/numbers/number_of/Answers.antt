@@ -1,5 +1,4 @@
-use Rattle.std.proofs.Common.{◌≡◌, ◌+◌, ◌*◌, ◌<◌, true, take, ap, sym, ◌∙◌, arith}
-use Rattle.std.specs.Char.{is_digit, digit_value}
+use Rattle.std.proofs.Common.{◌+◌, ◌*◌, ◌<◌, ◌∙◌, arith}
 use Rattle.text_forms.proofs.Digits.{number_of-above, more_digits}
 use Rattle.text_forms.proofs.numbers.number_of.Goals as goal
 

@@ -1,4 +1,4 @@
-use Rattle.std.proofs.Common.{rules, tests, ◌≡◌, ◌≢◌, ◌+◌, List, [], ◌∷◌, length, ℕ, arith, ap}
+use Rattle.std.proofs.Common.{rules, ◌≡◌, ◌+◌, ◌∷◌, length, arith}
 use Rattle.std.proofs.lemmas.Bool.Decides.{nat_tests}
 use Rattle.text_forms.specs.Tokens.{tokens}
 use Rattle.text_forms.proofs.Cuts.{is_next}

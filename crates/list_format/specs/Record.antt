@@ -1,0 +1,23 @@
+-- The record of an entry in `binary_runtime_measurements`, with the low byte of each number first.
+use Rattle.std.specs.Prelude.{ℕ, List, ◌++◌}
+use Rattle.byteorder.specs.Endian.{little_bytes}
+use Rattle.inode_meta.specs.declared.measurement.Bank.TheVariants.{Sha1}
+use Rattle.inode_meta.specs.declared.measurement.Template.{Template}
+use Rattle.inode_meta.specs.declared.measurement.Template.TheVariants.{Ima, ImaNg, ImaSig, ImaBuf}
+use Rattle.inode_meta.specs.Words.{template_word}
+use Rattle.ima_templates.specs.declared.entry.Entry.{Entry}
+use Rattle.ima_templates.specs.Data.{sized, template_data}
+use Rattle.ima_templates.specs.Digests.{template_digest}
+
+-- what a record shows of the fields: `ima` has its digest and its name with a length, and no zeros
+-- behind it; the others have their template data with a length
+abbrev pub shown_data : Template → Entry → List ℕ
+shown_data Ima e = e.digest.bytes ++ sized e.name
+shown_data ImaNg e = sized (template_data e)
+shown_data ImaSig e = sized (template_data e)
+shown_data ImaBuf e = sized (template_data e)
+
+-- the whole record
+unfoldable pub binary_record : Entry → List ℕ
+binary_record e =
+    little_bytes 4 e.pcr ++ (template_digest e Sha1).bytes ++ sized (template_word e.template) ++ shown_data e.template e

@@ -1,0 +1,18 @@
+// Counts over a list.
+
+ghost use Rattle.std.specs.Prelude.{◌≡◌};
+ghost use Rattle.std.specs.List.{count_by};
+
+use ima_templates::Entry;
+
+/// How many entries of the list are violations.
+pub fn violations(list: &[Entry]) -> u64
+    ensures { result ≡ count_by (λ e. e.violation) list.now }
+{
+    list.iter()
+        .filter(|e| {
+            let entry: &Entry = e;
+            entry.violation
+        })
+        .count() as u64
+}

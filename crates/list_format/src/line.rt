@@ -1,0 +1,116 @@
+// The line of the ASCII form.
+
+ghost use Rattle.std.specs.Prelude.{◌≡◌, ◌∷◌, ◌++◌, ◌<◌, ◌≤◌, codes, length, take, OnOk, OnErr};
+ghost use Rattle.std.specs.Vec.{vec_len};
+ghost use Rattle.hash_algos.specs.Algo.{algo_name};
+ghost use Rattle.hex.specs.Hex.{encode_lower};
+ghost use Rattle.list_format.specs.Line.{ascii_line, digest_text, line_front, line_head, pcr_text, sig_text};
+
+use hash_algos::Digest;
+use ima_templates::Entry;
+use inode_meta::{Bank, Template};
+use xattr_store::OutOfMemory;
+
+/// Appends the line of an entry: its register, right in a width of 2, the template digest of SHA-1
+/// in hexadecimal, the template's name, and each field behind a space. An empty field leaves its
+/// space. After a refusal `out` is as before.
+pub fn ascii(e: &Entry, out: &mut Vec<u8>) -> Result<(), OutOfMemory>
+    ensures ok { OnOk result (out.new.items ≡ out.old.items ++ ascii_line e.now) }
+    ensures err { OnErr result (out.new.items ≡ out.old.items) }
+{
+    let length = out.len();
+    let appended = append_line(e, out);
+    if appended.is_err() {
+        out.truncate(length);
+    }
+    appended
+}
+
+fn append_line(e: &Entry, out: &mut Vec<u8>) -> Result<(), OutOfMemory>
+    ensures ok { OnOk result (out.new.items ≡ out.old.items ++ ascii_line e.now) }
+    ensures kept { take (vec_len out.old) out.new.items ≡ out.old.items }
+{
+    append_front(e, out)?;
+    append_sig(e, out)?;
+    out.extend_from_slice(b"\n")?;
+    Ok(())
+}
+
+// The line up to the field of the name.
+fn append_front(e: &Entry, out: &mut Vec<u8>) -> Result<(), OutOfMemory>
+    ensures ok { OnOk result (out.new.items ≡ out.old.items ++ line_front e.now) }
+    ensures kept { take (vec_len out.old) out.new.items ≡ out.old.items }
+{
+    append_head(e, out)?;
+    append_digest(e, out)?;
+    out.extend_from_slice(b" ")?;
+    out.extend_from_slice(e.name.as_slice())?;
+    Ok(())
+}
+
+// The register, the template digest and the template's name.
+fn append_head(e: &Entry, out: &mut Vec<u8>) -> Result<(), OutOfMemory>
+    ensures ok { OnOk result (out.new.items ≡ out.old.items ++ line_head e.now) }
+    ensures kept { take (vec_len out.old) out.new.items ≡ out.old.items }
+{
+    out.extend_from_slice(&pcr_digits(e.pcr))?;
+    append_hex(out, b' ', e.sum(Bank::Sha1).as_slice())?;
+    out.extend_from_slice(b" ")?;
+    out.extend_from_slice(e.template.word().as_bytes())?;
+    Ok(())
+}
+
+// The field `d` or `d-ng` behind its space.
+fn append_digest(e: &Entry, out: &mut Vec<u8>) -> Result<(), OutOfMemory>
+    ensures ok { OnOk result (out.new.items ≡ out.old.items ++ codes " " ++ digest_text e.now.template e.now.digest) }
+    ensures kept { take (vec_len out.old) out.new.items ≡ out.old.items }
+{
+    match e.template {
+        Template::Ima => append_hex(out, b' ', e.digest.as_slice()),
+        Template::ImaNg | Template::ImaSig | Template::ImaBuf => append_named_digest(
+            &e.digest, out,
+        ),
+    }
+}
+
+// A space, the algorithm's name, a colon and the digest in hexadecimal.
+fn append_named_digest(digest: &Digest, out: &mut Vec<u8>) -> Result<(), OutOfMemory>
+    ensures ok { OnOk result (out.new.items ≡ out.old.items ++ 32 ∷ algo_name digest.now.algo ++ 58 ∷ encode_lower digest.now.bytes) }
+    ensures kept { take (vec_len out.old) out.new.items ≡ out.old.items }
+{
+    out.extend_from_slice(b" ")?;
+    out.extend_from_slice(digest.algo().name().as_bytes())?;
+    append_hex(out, b':', digest.as_slice())
+}
+
+// The third field behind its space, where the template has one.
+fn append_sig(e: &Entry, out: &mut Vec<u8>) -> Result<(), OutOfMemory>
+    ensures ok { OnOk result (out.new.items ≡ out.old.items ++ sig_text e.now) }
+    ensures err { OnErr result (out.new.items ≡ out.old.items) }
+{
+    match e.template {
+        Template::Ima | Template::ImaNg => Ok(()),
+        Template::ImaSig | Template::ImaBuf => append_hex(out, b' ', e.sig.as_slice()),
+    }
+}
+
+// This byte and the bytes in hexadecimal.
+fn append_hex(out: &mut Vec<u8>, before: u8, bytes: &[u8]) -> Result<(), OutOfMemory>
+    requires { length bytes.now ≤ 4096 }
+    ensures ok { OnOk result (out.new.items ≡ out.old.items ++ before ∷ encode_lower bytes.now) }
+    ensures err { OnErr result (out.new.items ≡ out.old.items) }
+{
+    let start = out.len() + 1;
+    out.resize(start + 2 * bytes.len(), before)?;
+    hex::encode_to_slice(bytes, &mut out[start..]).unwrap();
+    Ok(())
+}
+
+// A register's number, right in a width of 2.
+fn pcr_digits(pcr: u8) -> [u8; 2]
+    requires { pcr < 24 }
+    ensures { result ≡ pcr_text pcr }
+{
+    let tens = if pcr < 10 { b' ' } else { b'0' + pcr / 10 };
+    [tens, b'0' + pcr % 10]
+}

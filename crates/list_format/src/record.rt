@@ -1,0 +1,62 @@
+// The record of the binary form.
+
+ghost use Rattle.std.specs.Prelude.{◌≡◌, ◌++◌, take, OnOk, OnErr};
+ghost use Rattle.std.specs.Vec.{vec_len};
+ghost use Rattle.ima_templates.specs.Data.{sized};
+ghost use Rattle.list_format.specs.Record.{binary_record, shown_data};
+
+use crate::data::{append_fields, append_number, append_sized, data_length};
+use ima_templates::Entry;
+use inode_meta::{Bank, Template};
+use xattr_store::OutOfMemory;
+
+/// Appends the record of an entry, with numbers of 4 bytes, the low one first: its register, the 20
+/// bytes of the template digest of SHA-1, the length of the template's name and the name. Under
+/// `ima` follow the 20 bytes of the digest, the length of the name and the name; under the others
+/// the length of the template data and the template data. After a refusal `out` is as before.
+pub fn binary(e: &Entry, out: &mut Vec<u8>) -> Result<(), OutOfMemory>
+    ensures ok { OnOk result (out.new.items ≡ out.old.items ++ binary_record e.now) }
+    ensures err { OnErr result (out.new.items ≡ out.old.items) }
+{
+    let length = out.len();
+    let appended = append_record(e, out);
+    if appended.is_err() {
+        out.truncate(length);
+    }
+    appended
+}
+
+fn append_record(e: &Entry, out: &mut Vec<u8>) -> Result<(), OutOfMemory>
+    ensures ok { OnOk result (out.new.items ≡ out.old.items ++ binary_record e.now) }
+    ensures kept { take (vec_len out.old) out.new.items ≡ out.old.items }
+{
+    append_number(out, e.pcr as usize)?;
+    out.extend_from_slice(e.sum(Bank::Sha1).as_slice())?;
+    append_sized(out, e.template.word().as_bytes())?;
+    append_data(e, out)?;
+    Ok(())
+}
+
+// What the record shows of the fields.
+fn append_data(e: &Entry, out: &mut Vec<u8>) -> Result<(), OutOfMemory>
+    ensures ok { OnOk result (out.new.items ≡ out.old.items ++ shown_data e.now.template e.now) }
+    ensures kept { take (vec_len out.old) out.new.items ≡ out.old.items }
+{
+    match e.template {
+        Template::Ima => append_ima(e, out),
+        Template::ImaNg | Template::ImaSig | Template::ImaBuf => {
+            append_number(out, data_length(e))?;
+            append_fields(e, out)?;
+            Ok(())
+        }
+    }
+}
+
+// The digest, and the name with its length.
+fn append_ima(e: &Entry, out: &mut Vec<u8>) -> Result<(), OutOfMemory>
+    ensures ok { OnOk result (out.new.items ≡ out.old.items ++ e.now.digest.bytes ++ sized e.now.name) }
+    ensures kept { take (vec_len out.old) out.new.items ≡ out.old.items }
+{
+    out.extend_from_slice(e.digest.as_slice())?;
+    append_sized(out, e.name.as_slice())
+}
