@@ -7,6 +7,8 @@ mod counts;
 mod data;
 mod line;
 mod record;
+#[cfg(test)]
+mod tests;
 
 pub use counts::violations;
 pub use line::ascii;
