@@ -98,8 +98,9 @@ pub fn verdict(
     }
 }
 
-// What mode fix writes on the verdict `found`, where `sound` is the verdict under a right HMAC.
-fn mend_for(found: Verdict, sound: Verdict, status: EvmStatus, kind: Label) -> Mend
+/// What mode fix writes on the verdict `found`, where `sound` is the verdict under a right HMAC and `kind` is what the label
+/// says. A verdict that is still in force may differ from one that [`verdict`] gives anew.
+pub fn mend_for(found: Verdict, sound: Verdict, status: EvmStatus, kind: Label) -> Mend
     ensures { result ≡ mend_for found sound status kind }
 {
     match found {
