@@ -1,0 +1,4 @@
+pub mod Cutting
+pub mod Files
+pub mod Paths
+pub mod Registers

@@ -1,0 +1,10 @@
+pub mod Line
+pub mod PlainList
+pub mod FileView
+pub mod ListAnswer
+pub mod PolicyAnswer
+pub mod Words
+pub mod Failure
+pub mod Answer
+pub mod Answered
+pub mod Served

@@ -1,0 +1,5 @@
+-- A line of a text.
+use Rattle.std.specs.Prelude.{ℕ, List, [], ◌∷◌, ◌++◌}
+
+abbrev pub with_newline : List ℕ → List ℕ
+with_newline text = text ++ 10 ∷ []

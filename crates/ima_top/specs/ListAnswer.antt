@@ -1,0 +1,45 @@
+-- What `list` answers: the measurement list of a plain list's files, and the registers that it extends.
+use Rattle.std.specs.Prelude.{ℕ, List, [], ◌∷◌, ◌++◌, codes, map, flat_map, Option, Some, None, Result, Ok, Err}
+use Rattle.std.specs.List.{fold}
+use Rattle.hex.specs.Hex.{encode_lower}
+use Rattle.hash_algos.specs.declared.algo.Algo.TheVariants as algo
+use Rattle.hash_algos.specs.Digest.{digest_of, zero_digest}
+use Rattle.inode_meta.specs.declared.measurement.Bank.{Bank}
+use Rattle.inode_meta.specs.declared.measurement.Bank.TheVariants as bank
+use Rattle.inode_meta.specs.declared.measurement.Template.TheVariants.{ImaNg}
+use Rattle.inode_meta.specs.Words.{bank_word}
+use Rattle.ima_templates.specs.declared.entry.Entry.{Entry}
+use Rattle.ima_templates.specs.Entries.{entry_of}
+use Rattle.ima_templates.specs.Same.{add}
+use Rattle.ima_templates.specs.Replay.{replay}
+use Rattle.list_format.specs.Line.{ascii_line}
+use Rattle.ima_top.specs.Line.{with_newline}
+use Rattle.ima_top.specs.PlainList.{File, plain_list_of}
+
+-- the first entry: nothing was measured before the kernel ran
+abbrev pub boot_entry : Entry
+boot_entry = entry_of 10 ImaNg (zero_digest algo.Sha256) (zero_digest algo.Sha1) (codes "boot_aggregate") []
+
+-- a file is measured by SHA-256 into register 10
+abbrev pub file_entry : File → Entry
+file_entry f = entry_of 10 ImaNg (digest_of algo.Sha256 f.content) (digest_of algo.Sha1 f.content) f.path []
+
+-- the entries of the files are added in order; one that is in the list already isn't added
+abbrev pub measured : List File → List Entry
+measured files = fold add (boot_entry ∷ []) (map file_entry files)
+
+-- `pcr BANK 10 HEX`
+abbrev pub register_line : Bank → List ℕ → List ℕ
+register_line b value = with_newline (codes "pcr " ++ bank_word b ++ codes " 10 " ++ encode_lower value)
+
+-- a line for each entry, and register 10 of both banks
+abbrev pub list_text : List Entry → List ℕ
+list_text list =
+    (flat_map ascii_line list ++ register_line bank.Sha1 (replay list bank.Sha1 10)) ++ register_line bank.Sha256 (replay list bank.Sha256 10)
+
+abbrev pub answer_of_files : Option (List File) → Result (List ℕ) (List ℕ)
+answer_of_files None = Err (with_newline (codes "not a plain list"))
+answer_of_files (Some files) = Ok (list_text (measured files))
+
+unfoldable pub list_answer : List ℕ → Result (List ℕ) (List ℕ)
+list_answer input = answer_of_files (plain_list_of input)

@@ -1,0 +1,139 @@
+// The command `list`: the measurement list of the files of a list text, and the registers that it extends.
+ghost use Rattle.std.specs.Prelude.{◌≡◌, ◌∷◌, [], ◌++◌, map, flat_map, IfOk, OnOk};
+ghost use Rattle.hash_algos.specs.Digest.{digest_of};
+ghost use Rattle.ima_templates.specs.Replay.{banks_of};
+ghost use Rattle.ima_templates.specs.Same.{add, place_of_same};
+ghost use Rattle.list_format.specs.Line.{ascii_line};
+ghost use Rattle.ima_top.specs.Answered.{Answers};
+ghost use Rattle.ima_top.specs.FileView.{file_view};
+ghost use Rattle.ima_top.specs.ListAnswer.{boot_entry, file_entry, list_answer, list_text, measured, register_line};
+
+use crate::failure::AnswerErr;
+use crate::file_line::FileLine;
+use crate::list_text::plain_list;
+use hash_algos::{Algo, Digest, Running};
+use ima_io::OutOfMemory;
+use ima_templates::{Entry, build};
+use inode_meta::{Bank, Template};
+use list_format::ascii;
+use pcr_bank::Banks;
+use std::alloc::Global;
+
+/// The measurement list of the files, or the line that tells that the input is no plain list.
+#[tactic(auto, unfolding(crate::specs::ListAnswer::list_answer))]
+pub fn list_answer(alloc: Global, input: &[u8]) -> Result<Vec<u8>, AnswerErr>
+    ensures { Answers result (list_answer input.now) }
+{
+    let Some(files) = plain_list(alloc, input)? else {
+        return Err(AnswerErr::Refused(Vec::from_slice(alloc, b"not a plain list\n")?));
+    };
+    let list = measured(alloc, &files)?;
+    Ok(list_text(alloc, &list)?)
+}
+
+fn measured(alloc: Global, files: &[FileLine<'_>]) -> Result<Vec<Entry>, OutOfMemory>
+    ensures { IfOk result (λ list. list.items ≡ measured (map file_view files.now)) }
+{
+    let mut list = Vec::new(alloc);
+    list.push(boot_entry(alloc)?)?;
+    for file in files {
+        let entry = file_entry(alloc, file)?;
+        add(&mut list, entry)?;
+    }
+    Ok(list)
+}
+
+fn boot_entry(alloc: Global) -> Result<Entry, OutOfMemory>
+    ensures { IfOk result (λ e. e ≡ boot_entry) }
+{
+    let zeros = Digest::zeros(Algo::Sha256);
+    build(
+        alloc,
+        10,
+        Template::ImaNg,
+        &zeros,
+        &Digest::zeros(Algo::Sha1),
+        b"boot_aggregate",
+        &[],
+    )
+}
+
+fn file_entry(alloc: Global, file: &FileLine<'_>) -> Result<Entry, OutOfMemory>
+    ensures { IfOk result (λ e. e ≡ file_entry (file_view file.now)) }
+{
+    let sha256 = digest(Algo::Sha256, file.content);
+    let sha1 = digest(Algo::Sha1, file.content);
+    build(alloc, 10, Template::ImaNg, &sha256, &sha1, file.path, &[])
+}
+
+fn digest(algo: Algo, content: &[u8]) -> Digest
+    ensures { result ≡ digest_of algo content.now }
+{
+    let mut running = Running::new(algo);
+    running.feed(content);
+    running.finish()
+}
+
+// Adds an entry that isn't in the list yet.
+fn add(list: &mut Vec<Entry>, entry: Entry) -> Result<(), OutOfMemory>
+    ensures { OnOk result (list.new.items ≡ add list.old.items entry) }
+{
+    if place_of_same(list, &entry).is_none() {
+        list.push(entry)?;
+    }
+    Ok(())
+}
+
+fn place_of_same(list: &[Entry], entry: &Entry) -> Option<usize>
+    ensures { result ≡ place_of_same list.now entry.now }
+{
+    list.iter().position(|earlier| earlier.same(entry))
+}
+
+fn list_text(alloc: Global, list: &[Entry]) -> Result<Vec<u8>, OutOfMemory>
+    ensures { IfOk result (λ text. text.items ≡ list_text list.now) }
+{
+    let banks = banks_of(list);
+    let mut text = entry_lines(alloc, list)?;
+    push_register(alloc, &mut text, Bank::Sha1, banks.value(Bank::Sha1, 10))?;
+    push_register(
+        alloc,
+        &mut text,
+        Bank::Sha256,
+        banks.value(Bank::Sha256, 10),
+    )?;
+    Ok(text)
+}
+
+fn banks_of(list: &[Entry]) -> Banks
+    ensures { result ≡ banks_of list.now }
+{
+    let mut banks = Banks::new();
+    for entry in list {
+        entry.extend(&mut banks);
+    }
+    banks
+}
+
+fn entry_lines(alloc: Global, list: &[Entry]) -> Result<Vec<u8>, OutOfMemory>
+    ensures { IfOk result (λ text. text.items ≡ flat_map ascii_line list.now) }
+{
+    let mut text = Vec::new(alloc);
+    for entry in list {
+        ascii(entry, &mut text)?;
+    }
+    Ok(text)
+}
+
+fn push_register(
+    alloc: Global,
+    text: &mut Vec<u8>,
+    bank: Bank,
+    value: &[u8],
+) -> Result<(), OutOfMemory>
+    ensures { OnOk result (text.new.items ≡ text.old.items ++ register_line bank value.now) }
+{
+    let digits = hex::encode(alloc, value)?;
+    let line = format!(in alloc; "pcr {} 10 {}\n", bank.word(), digits)?;
+    text.extend_from_slice(line.as_bytes())
+}

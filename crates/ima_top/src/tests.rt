@@ -1,0 +1,219 @@
+// The commands over sources and sinks in memory. The digests come from Python's hashlib.
+use crate::serve;
+use ima_io::{FreeGate, MemSink, MemSource};
+use std::alloc::{AllocError, Global};
+use std::test::Fail;
+
+const BOOT: &str =
+    "10 0adefe762c149c7cec19da62f0da1297fcfbffff ima-ng sha256:0000000000000000000000000000000000000000000000000000000000000000 boot_aggregate\npcr sha1 10 5141100982188d48fb6fa0f19a8d27e3eabd703b\npcr sha256 10 35d08f4de6c76c315d9ea3e5fea0305fc1e902506504f80d7c98d6d4e6e33072\n";
+
+const EMPTY_FILE: &str =
+    "10 0adefe762c149c7cec19da62f0da1297fcfbffff ima-ng sha256:0000000000000000000000000000000000000000000000000000000000000000 boot_aggregate\n10 22afe330f60f66a29d50c93d502f479b4347f93a ima-ng sha256:e3b0c44298fc1c149afbf4c8996fb92427ae41e4649b934ca495991b7852b855 /e\npcr sha1 10 97db6d9764c17e638fddd2a0bd77527c22a3c2be\npcr sha256 10 d3e8a1961654efe8e24346df457b3d2bbe5a89d7d86212ce731a8bb9cace4d52\n";
+
+const ONE_FILE: &str =
+    "10 0adefe762c149c7cec19da62f0da1297fcfbffff ima-ng sha256:0000000000000000000000000000000000000000000000000000000000000000 boot_aggregate\n10 760e8bce1babb2102a26353db8318441da8a08df ima-ng sha256:ba7816bf8f01cfea414140de5dae2223b00361a396177a9cb410ff61f20015ad /a\npcr sha1 10 4f631986c6d974b0556328cf142852f28335705c\npcr sha256 10 7389b173d583f863ccf2ca7bf4f39a7efa203fb6474ee698fd1fa9c081ce4d44\n";
+
+const ONE_FILE_LIST: &str = "imalist 1\nfile /a txt:abc\nend\n";
+
+// What a command did: its status, its output and its note.
+#[derive(Drop)]
+struct Outcome {
+    status: u8,
+    out: Vec<u8>,
+    note: Vec<u8>,
+}
+
+impl Outcome {
+    fn is(&self, status: u8, out: &str, note: &str) -> bool {
+        self.status == status
+            && self.out.as_slice() == out.as_bytes()
+            && self.note.as_slice() == note.as_bytes()
+    }
+}
+
+fn no_calls(alloc: Global) -> Vec<u64> {
+    Vec::new(alloc)
+}
+
+// Serves one word over this source, with rooms for the output and the note.
+fn served(
+    alloc: Global,
+    word: &str,
+    script: &mut MemSource,
+    out: usize,
+    note: usize,
+) -> Result<Outcome, AllocError> {
+    let words = vec![in alloc; String::from_str(alloc, word)?]?;
+    let mut out = MemSink::new(alloc, out, 7, no_calls(alloc))?;
+    let mut note = MemSink::new(alloc, note, 100, no_calls(alloc))?;
+    let status = serve(alloc, &words, script, &mut out, &mut note, &FreeGate);
+    Ok(Outcome {
+        status,
+        out: out.taken().to_vec(alloc)?,
+        note: note.taken().to_vec(alloc)?,
+    })
+}
+
+fn answer(alloc: Global, word: &str, input: &[u8]) -> Result<Outcome, AllocError> {
+    let mut script = MemSource::new(input.to_vec(alloc)?, 1000, no_calls(alloc));
+    served(alloc, word, &mut script, 100_000, 100)
+}
+
+#[test]
+fn a_list_is_measured(rt: HostRuntime) -> Result<(), Fail> {
+    let not = "not a plain list\n";
+    let texts = [
+        ("imalist 1\nend\n", 0, BOOT, ""),
+        ("imalist 1\nfile /e txt:\nend\n", 0, EMPTY_FILE, ""),
+        (ONE_FILE_LIST, 0, ONE_FILE, ""),
+        (
+            "imalist 1\nfile /a txt:abc\nfile /a txt:abc\nend\n",
+            0,
+            ONE_FILE,
+            "",
+        ),
+        ("", 2, "", not),
+        ("imalist 1\nfile /a hex:616263\nend\n", 2, "", not),
+        ("imalist 1\nfile /a txt:a b\nend\n", 2, "", not),
+        ("imalist 1\nfile /a  txt:abc\nend\n", 2, "", not),
+        ("imalist 1\nfile a txt:abc\nend\n", 2, "", not),
+        ("imalist 1\nfile / txt:abc\nend\n", 2, "", not),
+        ("imalist 1\nfile /a/ txt:abc\nend\n", 2, "", not),
+        ("imalist 1\nfile /a//b txt:abc\nend\n", 2, "", not),
+        ("imalist 2\nend\n", 2, "", not),
+        ("imalist 1\nend", 2, "", not),
+        ("imalist 1\nend\nend\n", 2, "", not),
+        ("imalist 1\n", 2, "", not),
+    ];
+    for (text, status, out, note) in texts {
+        let got = answer(rt.alloc(), "list", text.as_bytes())?;
+        assert!(rt; got.is(status, out, note), "at {text}");
+    }
+    Ok(())
+}
+
+// A list of this many files, each another one.
+fn many_files(alloc: Global, files: u32) -> Result<Vec<u8>, AllocError> {
+    let mut text = String::from_str(alloc, "imalist 1\n")?;
+    for i in 0..files {
+        text.push_str(format!(in alloc; "file /f{i} txt:{i}\n")?.as_str())?;
+    }
+    text.push_str("end\n")?;
+    Ok(text.into_bytes())
+}
+
+#[test]
+fn a_list_has_at_most_256_files(rt: HostRuntime) -> Result<(), Fail> {
+    let most = answer(rt.alloc(), "list", &many_files(rt.alloc(), 256)?)?;
+    assert_eq!(rt; most.status, 0);
+    assert_eq!(rt; most.out.iter().filter(|b| **b == b'\n').count(), 259);
+    let more = answer(rt.alloc(), "list", &many_files(rt.alloc(), 257)?)?;
+    assert!(rt; more.is(2, "", "not a plain list\n"));
+    Ok(())
+}
+
+#[test]
+fn a_policy_is_printed(rt: HostRuntime) -> Result<(), Fail> {
+    let texts = [
+        ("", 0, "", ""),
+        ("measure uid=007", 0, "measure uid=7\n", ""),
+        (
+            "measure func=PATH_CHECK mask=MAY_READ uid=0\n",
+            0,
+            "measure func=FILE_CHECK mask=MAY_READ uid=0\n",
+            "",
+        ),
+        (
+            "dont_measure fsmagic=9FA0\n",
+            0,
+            "dont_measure fsmagic=0x9fa0\n",
+            "",
+        ),
+        ("measure pcr=24", 2, "", "line 1: bad-value\n"),
+        ("appraise pcr=10", 2, "", "line 1: not-for-action\n"),
+        ("audit uid=1 uid=x", 2, "", "line 1: twice\n"),
+        ("measure uid=0 uid>5", 2, "", "line 1: twice\n"),
+        ("measure template=evm-sig", 2, "", "line 1: unsupported\n"),
+        (
+            "# labels\nmeasure obj_type=etc_t\n",
+            2,
+            "",
+            "line 2: unsupported\n",
+        ),
+        ("mesure", 2, "", "line 1: bad-action\n"),
+    ];
+    for (text, status, out, note) in texts {
+        let got = answer(rt.alloc(), "policy", text.as_bytes())?;
+        assert!(rt; got.is(status, out, note), "at {text}");
+    }
+    Ok(())
+}
+
+#[test]
+fn a_policy_has_at_most_1024_rules(rt: HostRuntime) -> Result<(), Fail> {
+    let mut text = String::new(rt.alloc());
+    for _ in 0..1024 {
+        text.push_str("measure\n")?;
+    }
+    let most = answer(rt.alloc(), "policy", text.as_bytes())?;
+    assert!(rt; most.is(0, text.as_str(), ""));
+    text.push_str("measure\n")?;
+    let more = answer(rt.alloc(), "policy", text.as_bytes())?;
+    assert!(rt; more.is(2, "", "line 1025: too-many\n"));
+    Ok(())
+}
+
+#[test]
+fn other_words_are_usage(rt: HostRuntime) -> Result<(), Fail> {
+    let usage = "usage: imakern list | policy\n";
+    for word in ["", "lists", "-list", "help", "run"] {
+        assert!(rt;
+            answer(rt.alloc(), word, b"imalist 1\nend\n")?.is(1, "", usage),
+            "at {word}"
+        );
+    }
+    Ok(())
+}
+
+#[test]
+fn an_input_has_at_most_4194304_bytes(rt: HostRuntime) -> Result<(), Fail> {
+    for (bytes, status, note) in [
+        (4_194_304, 2, "not a plain list\n"),
+        (4_194_305, 6, "input too long\n"),
+    ] {
+        let input = vec![in rt.alloc(); b'x'; bytes]?;
+        let mut script = MemSource::new(input, usize::MAX, no_calls(rt.alloc()));
+        let got = served(rt.alloc(), "list", &mut script, 100, 100)?;
+        assert!(rt; got.is(status, "", note), "at {bytes}");
+    }
+    Ok(())
+}
+
+#[test]
+fn faults_have_their_statuses(rt: HostRuntime) -> Result<(), Fail> {
+    // A source that fails at its first, second and third call; the third would be the end.
+    for call in [0, 1, 2] {
+        let fails = vec![in rt.alloc(); call]?;
+        let mut script = MemSource::new(ONE_FILE_LIST.as_bytes().to_vec(rt.alloc())?, 20, fails);
+        let got = served(rt.alloc(), "list", &mut script, 1000, 100)?;
+        assert!(rt; got.is(4, "", "read fault\n"), "call {call}");
+    }
+    // An output with too little room, and a note with none.
+    for (room, note, told) in [
+        (0, 100, "write fault\n"),
+        (380, 100, "write fault\n"),
+        (0, 0, ""),
+    ] {
+        let input = ONE_FILE_LIST.as_bytes().to_vec(rt.alloc())?;
+        let mut script = MemSource::new(input, 20, no_calls(rt.alloc()));
+        let got = served(rt.alloc(), "list", &mut script, room, note)?;
+        assert_eq!(rt; got.status, 5);
+        assert!(rt;
+            ONE_FILE.as_bytes().starts_with(got.out.as_slice()),
+            "room {room}"
+        );
+        assert_eq!(rt; got.out.len(), room);
+        assert_eq!(rt; got.note.as_slice(), told.as_bytes());
+    }
+    Ok(())
+}

@@ -1,0 +1,32 @@
+//! The program: [`ima_top::serve`] over the process's own words and streams.
+#![tactic(auto)]
+
+use ima_io::{FreeGate, StdSink, StdSource};
+use ima_top::serve;
+use std::process::ExitCode;
+use std::{env, io};
+
+fn main(rt: HostRuntime) -> ExitCode {
+    let mut script = StdSource::new(rt.stdin());
+    let mut out = StdSink::new(rt.stdout());
+    let mut note = StdSink::new(rt.stderr());
+    let words = match words(&rt) {
+        Ok(words) => words,
+        // A word that isn't UTF-8 makes no command, as no words at all do.
+        Err(_) => Vec::new(rt.alloc()),
+    };
+    let status = serve(
+        rt.alloc(),
+        &words,
+        &mut script,
+        &mut out,
+        &mut note,
+        &FreeGate,
+    );
+    ExitCode::from(status)
+}
+
+// The words of the command line, without the program's name.
+fn words(rt: &HostRuntime) -> io::Result<Vec<String>> {
+    Ok(env::args(rt)?.skip(1).collect(rt.alloc())?)
+}
