@@ -1,5 +1,6 @@
 pub mod Line
 pub mod PlainList
+pub mod Spelling
 pub mod FileView
 pub mod ListAnswer
 pub mod PolicyAnswer

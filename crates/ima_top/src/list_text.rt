@@ -5,6 +5,7 @@ ghost use Rattle.text_forms.specs.Lines.{lines};
 ghost use Rattle.text_forms.specs.Words.{is_word};
 ghost use Rattle.ima_top.specs.PlainList.{cut, is_path, is_content, file_of, files_of, plain_list_of};
 ghost use Rattle.ima_top.specs.FileView.{file_view};
+ghost use Rattle.ima_top.specs.Spelling.{spelled};
 
 use crate::file_line::FileLine;
 use ima_io::OutOfMemory;
@@ -87,7 +88,10 @@ fn files_of(alloc: Global, text: &[u8]) -> Result<Option<Vec<FileLine<'_>>>, Out
 
 /// The files of a plain list, or `None` exactly where the text is no plain list.
 pub fn plain_list(alloc: Global, text: &[u8]) -> Result<Option<Vec<FileLine<'_>>>, OutOfMemory>
-    ensures { IfOk result (λ files. option_map (λ v. map file_view v.items) files ≡ plain_list_of text.now) }
+    ensures value { IfOk result (λ files. option_map (λ v. map file_view v.items) files ≡ plain_list_of text.now) }
+
+    // It is the text of these files, byte for byte.
+    ensures spelled { IfOk result (λ found. IfSome found (λ files. text.now ≡ spelled (map file_view files.items))) }
 {
     let Some((head, rest)) = cut(text, b'\n') else {
         return Ok(None);
