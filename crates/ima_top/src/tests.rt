@@ -141,6 +141,43 @@ fn a_policy_is_printed(rt: HostRuntime) -> Result<(), Fail> {
             "line 2: unsupported\n",
         ),
         ("mesure", 2, "", "line 1: bad-action\n"),
+        (
+            "audit uid=0 euid=0 gid=0 egid=0 fowner=0 fgroup=0",
+            0,
+            "audit uid=0 euid=0 gid=0 egid=0 fowner=0 fgroup=0\n",
+            "",
+        ),
+        (
+            "audit euid<4294967295 gid=4294967295 egid>4294967295",
+            0,
+            "audit euid<4294967295 gid=4294967295 egid>4294967295\n",
+            "",
+        ),
+        (
+            "audit fowner<4294967295 fgroup>4294967295",
+            0,
+            "audit fowner<4294967295 fgroup>4294967295\n",
+            "",
+        ),
+        ("audit euid=4294967296", 2, "", "line 1: bad-value\n"),
+        ("audit gid<4294967296", 2, "", "line 1: bad-value\n"),
+        ("audit egid>4294967296", 2, "", "line 1: bad-value\n"),
+        ("audit fowner=4294967296", 2, "", "line 1: bad-value\n"),
+        ("audit fgroup<4294967296", 2, "", "line 1: bad-value\n"),
+        (
+            "appraise appraise_algos=md5",
+            0,
+            "appraise appraise_algos=md5\n",
+            "",
+        ),
+        ("appraise appraise_algos=", 2, "", "line 1: bad-value\n"),
+        (
+            "measure template=ima-ng",
+            0,
+            "measure template=ima-ng\n",
+            "",
+        ),
+        ("measure template=ima-ngv2", 2, "", "line 1: unsupported\n"),
     ];
     for (text, status, out, note) in texts {
         let got = answer(rt.alloc(), "policy", text.as_bytes())?;
