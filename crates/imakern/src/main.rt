@@ -3,6 +3,7 @@
 
 use ima_io::{FreeGate, StdSink, StdSource};
 use ima_top::serve;
+use std::io::ErrorKind;
 use std::process::ExitCode;
 use std::{env, io};
 
@@ -12,6 +13,10 @@ fn main(rt: HostRuntime) -> ExitCode {
     let mut note = StdSink::new(rt.stderr());
     let words = match words(&rt) {
         Ok(words) => words,
+        Err(error) if error.kind() == ErrorKind::OutOfMemory => {
+            let _ = rt.eprintln("out of memory");
+            return ExitCode::from(7);
+        }
         // A word that isn't UTF-8 makes no command, as no words at all do.
         Err(_) => Vec::new(rt.alloc()),
     };
