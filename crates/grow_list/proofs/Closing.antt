@@ -3,11 +3,13 @@ use Rattle.std.proofs.Common.{◌≡◌, ◌≢◌, ℕ, zero, suc, ◌+◌, ◌
 use Rattle.std.specs.Prelude.{All, count_by, slice_get}
 use Rattle.std.proofs.lemmas.Bool.{cases_eq}
 use Rattle.std.proofs.lemmas.Option.{same_Some, slice_get_within, get_or_from_slice_get}
-use Rattle.std.proofs.lemmas.List.Elements.{All-head, All-tail, All-get_or, All-weaker, All-same}
+use Rattle.std.proofs.lemmas.List.Elements.{All-cons, All-head, All-tail, All-get_or, All-weaker, All-same}
 use Rattle.std.proofs.lemmas.List.{append-nil, nil_from_length}
 use Rattle.std.proofs.lemmas.List.Sums.{sum_by-cons}
 use Rattle.grow_list.specs.Entries.{entries_from, entries_of, has_place}
-use Rattle.grow_list.specs.Shown.{Grown, Passed, HasItsOwn, HasEach, fresh}
+use Rattle.grow_list.specs.Shown.{Grown, Passed, HasItsOwn, HasEach, Accounts, fresh}
+use Rattle.grow_list.specs.Views.{listed, entries_in}
+use Rattle.grow_list.specs.declared.known.Known.{Known}
 use Rattle.grow_list.specs.Meetings.{Tallies}
 use Rattle.grow_list.specs.Steps.{IsComplete}
 use Rattle.grow_list.specs.declared.known.Listed.{Listed}
@@ -46,7 +48,7 @@ module _ {E : Type 0} where
       ∙ has_place_from n (low + 1) ms xs j (omega arith) (omega arith)
 
   -- an entry of the number n stands at the place k, where n stands beside it
-  has_place-entries : (n k : ℕ) (ms : List ℕ) (xs : List E) → length ms ≡ length xs → k < length xs → has_place k (entries_of n ms xs) ≡ eqb n (get_or ms k 0)
+  pub has_place-entries : (n k : ℕ) (ms : List ℕ) (xs : List E) → length ms ≡ length xs → k < length xs → has_place k (entries_of n ms xs) ≡ eqb n (get_or ms k 0)
   has_place-entries n k ms xs even within =
       let place : k ≡ 0 + k = omega arith in
       ap (λ (j : ℕ). has_place j (entries_of n ms xs)) place ∙ has_place_from n 0 ms xs k even within
@@ -58,7 +60,7 @@ none_at : (a b : ℕ) → a ≢ b → ◌≡◌ {A = ℕ} (cond (eqb a b) 1 0) 0
 none_at a b ne = ap (λ (t : Bool). cond t 1 0) (ne_eqb a b ne)
 
 -- two tests that agree on each element count as many
-count_by-same : {X : Type 0} (p q : X → Bool) (xs : List X) → All (λ x. p x ≡ q x) xs → count_by p xs ≡ count_by q xs
+pub count_by-same : {X : Type 0} (p q : X → Bool) (xs : List X) → All (λ x. p x ≡ q x) xs → count_by p xs ≡ count_by q xs
 count_by-same p q [] same = refl
 count_by-same p q (x ∷ xs) same =
     let rest = count_by-same p q xs (All-tail (λ y. p y ≡ q y) x xs same) in
@@ -75,17 +77,6 @@ All-yielded P items yielded rest split none all =
     All-same P items yielded (split ∙ ap (λ xs. yielded ++ xs) (nil_from_length rest none) ∙ append-nil yielded) all
 
 module _ {E : Type 0} where
-  -- each place of the list is exactly one pass's
-  pub places : (g : Grown E) (l : Listed E) (passes : List (Passed E)) → l.list ≡ g.list → l.numbers ≡ g.numbers → l.callers ≡ g.callers → IsComplete l → All (λ p. HasItsOwn g p) passes → HasEach g passes
-      → (k : ℕ) → k < length g.list → count_by (λ p. has_place k p.mine) passes ≡ 1
-  places g l passes list numbers callers complete own each k within =
-      let n = get_or g.numbers k 0 in
-      let even : length g.numbers ≡ length g.list = ap length (sym numbers) ∙ complete.even ∙ ap length list in
-      let below : All (λ m. m < g.callers) g.numbers = subst (λ (x : ℕ × List ℕ). All (λ m. m < x.0) x.1) (λ i. (callers i, numbers i)) complete.below in
-      count_by-same (λ p. has_place k p.mine) (λ p. eqb p.number n) passes
-      (All-weaker (λ p. HasItsOwn g p) (λ p. has_place k p.mine ≡ eqb p.number n) (λ p mine. ap (has_place k) (sym mine) ∙ has_place-entries p.number k g.numbers g.list even within) passes own)
-      ∙ each.one_each n (All-get_or (λ m. m < g.callers) g.numbers k 0 (omega arith) below)
-
   count_numbers : (n low : ℕ) (passes : List (Passed E)) → ((k : ℕ) (p : Passed E) → slice_get passes k ≡ Some p → p.number ≡ low + k)
       → (n < low → count_by (λ p. p.number == n) passes ≡ 0) × (low ≤ n → n < low + length passes → count_by (λ p. p.number == n) passes ≡ 1)
   count_numbers n low [] numbered = ((λ before. refl), (λ from to. absurd (omega arith)))
@@ -108,6 +99,16 @@ module _ {E : Type 0} where
     one_each = λ n below. (count_numbers n 0 passes (λ k p e. let is = numbered k p e in omega arith)).1 (omega arith) (omega arith);
   }
 
+  -- the owner's pass, of the number 0, and the others, of which the k-th has the number k + 1
+  pub each_after_own : (g : Grown E) (own : Passed E) (passes : List (Passed E)) → length passes + 1 ≡ g.callers → own.name ≡ g.name → own.number ≡ 0
+      → All (λ p. p.name ≡ g.name) passes → ((k : ℕ) (p : Passed E) → slice_get passes k ≡ Some p → p.number ≡ k + 1) → HasEach g (own ∷ passes)
+  each_after_own g own passes count name number of_list numbered =
+      each_in_order g (own ∷ passes) (omega (arith, count)) (All-cons (λ p. p.name ≡ g.name) own passes name of_list) at
+    where
+      at : (k : ℕ) (p : Passed E) → slice_get (own ∷ passes) k ≡ Some p → p.number ≡ k
+      at zero p e = ap (λ (q : Passed E). q.number) (sym (same_Some own p e)) ∙ number
+      at (suc k) p e = let is = numbered k p e in omega (arith, is)
+
   -- fresh passes in the order of their numbers
   pub fresh_in_order : (g : Grown E) (passes : List (Passed E)) → length passes ≡ g.callers
       → ((k : ℕ) → k < length passes → slice_get passes k ≡ Some (fresh g.name k)) → HasEach g passes
@@ -116,11 +117,36 @@ module _ {E : Type 0} where
       (λ k d below. ap (λ (p : Passed E). p.name) (get_or_from_slice_get passes k (fresh g.name k) d (each k below)))
       (λ k p e. ap (λ (q : Passed E). q.number) (same_Some p (fresh g.name k) (sym e ∙ each k (slice_get_within passes k p e))))
 
-  -- what the pass saw begins the list, and the list's entries of its number are its own
-  abbrev pub Accounts : Grown E → Passed E → Type 0
-  Accounts g p = IsPrefix p.seen g.list × HasItsOwn g p
-
   -- a pass that the list has met accounts for what it saw and added
-  pub accounts : (g : Grown E) (p : Passed E) (l : Listed E) (h : Held E) → l.list ≡ g.list → l.numbers ≡ g.numbers → p.number ≡ h.number → p.seen ≡ h.seen → p.mine ≡ h.mine → Tallies l h → Accounts g p
-  accounts g p l h list numbers number seen mine t =
-      (subst (λ (x : List E × List E). IsPrefix x.0 x.1) (λ i. (sym seen i, list i)) t.seen, (λ i. entries_of (number i) (sym numbers i) (sym list i)) ∙ t.own ∙ sym mine)
+  pub accounts : (l : Listed E) (p : Passed E) (h : Held E) → p.number ≡ h.number → p.seen ≡ h.seen → p.mine ≡ h.mine → Tallies l h → Accounts l p
+  accounts l p h number seen mine t =
+      (subst (λ (x : List E). IsPrefix x l.list) (sym seen) t.seen, ap (λ (n : ℕ). entries_in n l) number ∙ t.own ∙ sym mine)
+
+  -- the same of a view that is equal
+  pub tallies_at : (v w : Known E) (h : Held E) → v ≡ w → Tallies (listed v) h → Tallies (listed w) h
+  tallies_at v w h e t = subst (λ (x : Known E). Tallies (listed x) h) e t
+
+  pub accounts_at : (v w : Known E) (passes : List (Passed E)) → v ≡ w → All (Accounts (listed v)) passes → All (Accounts (listed w)) passes
+  accounts_at v w passes e all = subst (λ (x : Known E). All (Accounts (listed x)) passes) e all
+
+  -- what each pass saw begins the list
+  pub all_saw : (g : Grown E) (l : Listed E) (passes : List (Passed E)) → l.list ≡ g.list → All (Accounts l) passes → All (λ p. IsPrefix p.seen g.list) passes
+  all_saw g l passes list all =
+      All-weaker (Accounts l) (λ p. IsPrefix p.seen g.list) (λ p a. subst (λ (xs : List E). IsPrefix p.seen xs) list a.0) passes all
+
+  -- the list's entries of each pass's number are its own
+  pub all_own : (g : Grown E) (l : Listed E) (passes : List (Passed E)) → l.list ≡ g.list → l.numbers ≡ g.numbers → All (Accounts l) passes → All (λ p. HasItsOwn g p) passes
+  all_own g l passes list numbers all =
+      All-weaker (Accounts l) (λ p. HasItsOwn g p) (λ p a. (λ i. entries_of p.number (sym numbers i) (sym list i)) ∙ a.1) passes all
+
+  -- each place of the list is exactly one pass's
+  pub places : (g : Grown E) (l : Listed E) (passes : List (Passed E)) → l.list ≡ g.list → l.numbers ≡ g.numbers → l.callers ≡ g.callers → IsComplete l → HasEach g passes → All (Accounts l) passes
+      → (k : ℕ) → k < length g.list → count_by (λ p. has_place k p.mine) passes ≡ 1
+  places g l passes list numbers callers complete each all k within =
+      let n = get_or g.numbers k 0 in
+      let own = all_own g l passes list numbers all in
+      let even : length g.numbers ≡ length g.list = ap length (sym numbers) ∙ complete.even ∙ ap length list in
+      let below : All (λ m. m < g.callers) g.numbers = subst (λ (x : ℕ × List ℕ). All (λ m. m < x.0) x.1) (λ i. (callers i, numbers i)) complete.below in
+      count_by-same (λ p. has_place k p.mine) (λ p. eqb p.number n) passes
+      (All-weaker (λ p. HasItsOwn g p) (λ p. has_place k p.mine ≡ eqb p.number n) (λ p mine. ap (has_place k) (sym mine) ∙ has_place-entries p.number k g.numbers g.list even within) passes own)
+      ∙ each.one_each n (All-get_or (λ m. m < g.callers) g.numbers k 0 (omega arith) below)

@@ -1,7 +1,10 @@
 -- Lists that begin with others.
-use Rattle.std.proofs.Common.{◌≡◌, ◌≤◌, List, [], ◌∷◌, ◌++◌, length, cond, ltb, true, false, refl, sym, ap, ◌∙◌, arith, length-append}
+use Rattle.std.proofs.Common.{◌≡◌, ◌≤◌, ℕ, zero, suc, Some, List, [], ◌∷◌, ◌++◌, length, cond, ltb, true, false, refl, sym, ap, ◌∙◌, arith, length-append}
 use mathlib.Core.List.{IsPrefix}
-use Rattle.std.proofs.lemmas.List.{append-nil, append_assoc, nil_from_length}
+use Rattle.std.proofs.Math.ListN.{take}
+use Rattle.std.specs.Prelude.{slice_get}
+use Rattle.std.proofs.lemmas.Option.{none-some}
+use Rattle.std.proofs.lemmas.List.{append-nil, append_assoc, nil_from_length, take-append-le}
 use Rattle.grow_list.specs.Views.{longest}
 
 module _ {X : Type 0} where
@@ -50,3 +53,14 @@ module _ {X : Type 0} where
   pub prefix_longest : (xs ys zs : List X) → IsPrefix xs zs → IsPrefix ys zs → IsPrefix (longest xs ys) zs
   prefix_longest xs ys zs a b =
       elim (ltb (length xs) (length ys)) as (λ t. IsPrefix (cond t ys xs) zs) [ true ↦ b | false ↦ a ]
+
+  -- what stands at a place of a prefix stands there in the whole
+  pub prefix_get : (xs ys : List X) (k : ℕ) (x : X) → IsPrefix xs ys → slice_get xs k ≡ Some x → slice_get ys k ≡ Some x
+  prefix_get [] ys k x a e = absurd (none-some x e)
+  prefix_get (y ∷ xs) [] k x a e = let s = a.1 in absurd (cc)
+  prefix_get (y ∷ xs) (z ∷ ys) zero x a e = let s = a.1 in let same : y ≡ z = cc in ap Some (sym same) ∙ e
+  prefix_get (y ∷ xs) (z ∷ ys) (suc k) x a e = let s = a.1 in let rest : xs ++ a.0 ≡ ys = cc in prefix_get xs ys k x (a.0, rest) e
+
+  -- a prefix and the whole have the same first elements
+  pub prefix_take : (xs ys : List X) (k : ℕ) → IsPrefix xs ys → k ≤ length xs → take k ys ≡ take k xs
+  prefix_take xs ys k a within = ap (take k) (sym a.1) ∙ take-append-le k xs a.0 within

@@ -1,10 +1,12 @@
 -- What contracts see of a growing list and of its passes.
 use Rattle.std.specs.Prelude.{◌≡◌, ℕ, ◌<◌, ◌==◌, List, [], All, count_by}
+use mathlib.Core.List.{IsPrefix}
 use Rattle.atomic_table.specs.Seated.{TableId}
 use Rattle.atomic_table.specs.declared.shared.Seat.{Seat}
 use Rattle.grow_list.specs.declared.known.Known.{Known}
 use Rattle.grow_list.specs.Entries.{entries_of}
-use Rattle.grow_list.specs.Views.{held}
+use Rattle.grow_list.specs.declared.known.Listed.{Listed}
+use Rattle.grow_list.specs.Views.{held, entries_in}
 
 -- which list it is: plain data, and no two lists have one name
 abbrev pub ListName : Type 0
@@ -48,6 +50,10 @@ pub record HasEach {E : Type 0} (g : Grown E) (passes : List (Passed E)) : Type 
 -- a pass that has seen and added nothing
 abbrev pub fresh : {E : Type 0} → ListName → ℕ → Passed E
 fresh name number = record { name = name; number = number; seen = []; mine = [] }
+
+-- the pass accounts for what it saw and added: what it saw begins the list, and the list's entries of its number are its own
+abbrev pub Accounts : {E : Type 0} → Listed E → Passed E → Type 0
+Accounts l p = IsPrefix p.seen l.list × (entries_in p.number l ≡ p.mine)
 
 -- the pass is what its seat knows
 pub record IsPassAt {E : Type 0} (p : Passed E) (seat : Seat (Unit {0}) (Known E)) : Type 0 where

@@ -2,11 +2,12 @@
 ghost use Rattle.std.specs.Prelude.{◌≡◌, ◌≢◌, ◌↔◌, ℕ, ◌+◌, ◌<◌, ◌≤◌, [], ◌∷◌, ◌++◌, length, All, IfOk, OnOk, IsNone, count_by, slice_get, option_copied};
 ghost use mathlib.Core.List.{IsPrefix};
 ghost use Rattle.grow_list.specs.Entries.{has_place};
-ghost use Rattle.grow_list.specs.Meetings.{IsPassSeat};
-ghost use Rattle.grow_list.specs.Shown.{IsSameList, HasItsOwn, HasEach, fresh, IsPassAt};
+ghost use Rattle.grow_list.specs.Meetings.{IsListSeat, IsPassSeat, IsMoved};
+ghost use Rattle.grow_list.specs.Views.{listed};
+ghost use Rattle.grow_list.specs.Shown.{IsSameList, HasItsOwn, HasEach, Accounts, fresh, IsPassAt};
 
 use crate::known::{Growing, Known};
-use crate::meeting::{Place, end, enter, meet, part, take_number};
+use crate::meeting::{Board, Place, end, enter, meet, part, take_number};
 use atomic_table::Table;
 use std::alloc::{AllocError, Global};
 use std::marker::Model;
@@ -81,6 +82,20 @@ impl<E> Pass<E> {
     }
 }
 
+// Each pass meets the list a last time, and its seat is joined away.
+fn take_back<E>(board: &Board<E>, list: &mut Place<E>, passes: Vec<Pass<E>>)
+    requires seat { list.old.table_id ≡ board.now.table_id }
+    requires words { board.now.table_id.words ≡ 2 }
+    requires list { IsListSeat list.old }
+    requires of_list { All (λ p. p.name ≡ list.old.table_id) passes.items }
+    ensures list { IsMoved list.old list.new list.old.me.0 }
+    ensures accounts { All (Accounts (listed list.old.me.0)) passes.items }
+{
+    for pass in passes {
+        part(board, list, pass.into_place());
+    }
+}
+
 impl<E> Grow<E> {
     /// An empty list, and a pass for each of its callers, in the order of their numbers.
     pub fn start(alloc: Global, callers: u32) -> Result<(Grow<E>, Vec<Pass<E>>), OutOfMemory>
@@ -134,6 +149,8 @@ impl<E> Grow<E> {
         ensures mine { pass.new.mine ≡ pass.old.mine ++ (result, entry) ∷ [] }
         ensures own { HasItsOwn self.new pass.new }
         ensures placed { All (λ x. x.0 < length self.new.list) pass.new.mine }
+        ensures number { pass.new.number < self.new.callers }
+        ensures even { length self.new.numbers ≡ length self.new.list }
         ensures same_pass { (pass.new.name ≡ pass.old.name) × (pass.new.number ≡ pass.old.number) }
     {
         let place = self.entries.len() as u64;
@@ -161,6 +178,8 @@ impl<E> Grow<E> {
         ensures mine { pass.new.mine ≡ pass.old.mine }
         ensures own { HasItsOwn self.new pass.new }
         ensures placed { All (λ x. x.0 < length self.new.list) pass.new.mine }
+        ensures number { pass.new.number < self.new.callers }
+        ensures even { length self.new.numbers ≡ length self.new.list }
         ensures same_pass { (pass.new.name ≡ pass.old.name) × (pass.new.number ≡ pass.old.number) }
     {
         let table = &self.table;
@@ -198,9 +217,29 @@ impl<E> Grow<E> {
             mut seat,
         } = self;
         end(&table.shared, &mut seat);
-        for pass in passes {
-            part(&table.shared, &mut seat, pass.into_place());
-        }
+        take_back(&table.shared, &mut seat, passes);
+        entries
+    }
+
+    /// Closes the list of an owner that kept one pass for itself, and takes that pass apart from the others, so that no
+    /// memory is needed to put them together. What holds of each pass is as for `close`.
+    pub fn close_with(self, own: Pass<E>, passes: Vec<Pass<E>>) -> Vec<E>
+        requires { HasEach self (own ∷ passes.items) }
+        ensures list { result.items ≡ self.list }
+        ensures seen { All (λ p. IsPrefix p.seen self.list) (own ∷ passes.items) }
+        ensures own { All (λ p. HasItsOwn self p) (own ∷ passes.items) }
+        ensures places { (k : ℕ) → k < length self.list
+            → count_by (λ p. has_place k p.mine) (own ∷ passes.items) ≡ 1 }
+    {
+        let Grow {
+            entries,
+            callers: _,
+            table,
+            mut seat,
+        } = self;
+        end(&table.shared, &mut seat);
+        part(&table.shared, &mut seat, own.into_place());
+        take_back(&table.shared, &mut seat, passes);
         entries
     }
 }

@@ -82,6 +82,34 @@ fn one_caller_that_adds_nothing(rt: HostRuntime) -> Result<(), Fail> {
     Ok(())
 }
 
+/// Closes a list of two callers, of which the first is its owner's.
+fn close_with_one(
+    alloc: Global,
+    grow: Grow<u64>,
+    own: Pass<u64>,
+    other: Pass<u64>,
+) -> Result<Vec<u64>, OutOfMemory>
+    requires callers { grow.callers ≡ 2 }
+    requires names { (own.name ≡ grow.name) × (other.name ≡ grow.name) }
+    requires numbers { (own.number ≡ 0) × (other.number ≡ 1) }
+    ensures { IfOk result (λ entries. entries.items ≡ grow.list) }
+{
+    let mut others = Vec::with_capacity(alloc, 1)?;
+    others.push_reserved(other);
+    Ok(grow.close_with(own, others))
+}
+
+#[test]
+fn an_owner_and_a_caller(rt: HostRuntime) -> Result<(), Fail> {
+    let (mut grow, mut own, mut other) = start_two(rt.alloc())?;
+    grow.reserve(2)?;
+    grow.push(&mut other, 6);
+    grow.push(&mut own, 5);
+    let entries = close_with_one(rt.alloc(), grow, own, other)?;
+    assert_eq!(rt; entries.as_slice(), [6, 5].as_slice());
+    Ok(())
+}
+
 /// Which list it is. Each call picks it.
 trait Name {
     ghost use Rattle.grow_list.specs.Shown.{ListName};
