@@ -1,0 +1,4 @@
+pub mod Handles
+pub mod Steps
+pub mod Mind
+pub mod Forms

@@ -1,0 +1,244 @@
+-- The steps of a call, one after the other: which comes first, and which comes after what the step before was told.
+use Rattle.std.specs.Prelude.{ℕ, Bool, true, false, ◌&&◌, ◌||◌, not, Option, Some, None, unwrap_or, if◌then◌else◌}
+use Rattle.inode_meta.specs.declared.appraisal.Mode.{Mode}
+use Rattle.label_values.specs.declared.verdict.Cause.{Cause}
+use Rattle.label_values.specs.declared.verdict.Verdict.{Verdict}
+use Rattle.label_values.specs.declared.verdict.Verdict.TheVariants.{Deny}
+use Rattle.policy_text.specs.declared.access.Action.{Action}
+use Rattle.policy_text.specs.declared.rule.Func.{Func}
+use Rattle.policy_text.specs.declared.rule.Func.TheVariants as func
+use Rattle.inode_events.specs.Checks.{is_off, no_action, slot_of}
+use Rattle.inode_events.specs.Content.{size_limit}
+use Rattle.inode_events.specs.Files.{can_read, is_writer}
+use Rattle.inode_events.specs.declared.deed.How.{How}
+use Rattle.inode_events.specs.declared.deed.How.TheVariants as how
+use Rattle.inode_events.specs.declared.told.Grant.{Grant}
+use Rattle.inode_events.specs.declared.told.Told.{Told}
+use Rattle.inode_events.specs.declared.told.Told.TheVariants as told
+use Rattle.call_steps.specs.declared.ask.Ask.{Ask}
+use Rattle.call_steps.specs.declared.ask.Ask.TheVariants as ask
+use Rattle.call_steps.specs.declared.call.Call.{Call}
+use Rattle.call_steps.specs.declared.call.Call.TheVariants as call
+use Rattle.call_steps.specs.declared.course.Course.{Course}
+use Rattle.call_steps.specs.declared.course.Course.TheVariants as course
+use Rattle.call_steps.specs.declared.held.Hand.{Hand}
+use Rattle.call_steps.specs.declared.held.Held.{Held}
+use Rattle.call_steps.specs.declared.plan.Plan.{Plan}
+use Rattle.call_steps.specs.declared.reply.Reply.{Reply}
+use Rattle.call_steps.specs.declared.reply.Reply.TheVariants as reply
+use Rattle.call_steps.specs.declared.stage.Next.{Next}
+use Rattle.call_steps.specs.declared.stage.Next.TheVariants.{On, Over}
+use Rattle.call_steps.specs.declared.stage.Stage.{Stage}
+
+-- a further step, and the reply that comes with the call's last one unless a step to come decides another
+abbrev pub stage : Ask → Reply → Stage
+stage a r = record { ask = a; reply = r }
+
+abbrev pub goes : Ask → Reply → Next
+goes a r = On (stage a r)
+
+-- ---- the access of an open, a mapping, an execution or a read by the kernel
+
+-- a mapping for reading alone raises no check
+abbrev pub course_of : Call → Course
+course_of (call.Open fd inode h trunc) = course.Open h trunc
+course_of (call.Mmap map fd exec) = course.Mmap
+course_of (call.Exec run inode) = course.Exec
+course_of (call.Module inode) = course.Module
+course_of (call.Firmware inode) = course.Firmware
+course_of _ = course.Other
+
+-- how the call counts its file
+abbrev pub how_of : Course → How
+how_of (course.Open h trunc) = h
+how_of _ = how.Exec
+
+abbrev pub func_of : Course → Func
+func_of course.Mmap = func.MmapCheck
+func_of course.Exec = func.BprmCheck
+func_of course.Module = func.ModuleCheck
+func_of course.Firmware = func.FirmwareCheck
+func_of _ = func.FileCheck
+
+-- MAY_READ 4, MAY_WRITE 2 and both 6
+abbrev pub open_mask : How → ℕ
+open_mask (how.Write true create) = 6
+open_mask (how.Write false create) = 2
+open_mask _ = 4
+
+-- MAY_EXEC 1
+abbrev pub mask_of : Course → ℕ
+mask_of (course.Open h trunc) = open_mask h
+mask_of course.Module = 4
+mask_of course.Firmware = 4
+mask_of _ = 1
+
+abbrev pub check : Course → Ask
+check c = ask.Check (func_of c) (mask_of c)
+
+abbrev pub take : Course → Ask
+take c = ask.Take (slot_of (func_of c))
+
+-- the whole content
+abbrev pub whole : Ask
+whole = ask.Read 0 size_limit
+
+-- how the close of a file begins
+abbrev pub close : How → Ask
+close h = if is_writer h then ask.CloseTake else ask.Close
+
+-- ---- the first step
+
+-- one step without an event answers the call
+abbrev pub at_once : Reply → Stage
+at_once r = stage ask.Plain r
+
+-- `EBADF` comes before all else: here where the name is made anew while it is there
+abbrev pub if_free : Bool → Stage → Stage
+if_free true s = s
+if_free false s = at_once reply.BadFile
+
+-- and here where the file isn't there, or can't be read
+abbrev pub if_readable : Option Held → Stage → Stage
+if_readable None s = at_once reply.BadFile
+if_readable (Some h) s = if can_read h.how then s else at_once reply.BadFile
+
+-- or can't be written
+abbrev pub if_writable : Option Held → Stage → Stage
+if_writable None s = at_once reply.BadFile
+if_writable (Some h) s = if is_writer h.how then s else at_once reply.BadFile
+
+-- the file is closed with its last name
+abbrev pub close_held : Option Held → Stage
+close_held None = at_once reply.BadFile
+close_held (Some h) = if h.last then stage (close h.how) reply.Done else at_once reply.Done
+
+-- a mapping counts nothing, and only one for execution is checked
+abbrev pub map_held : Bool → Hand → Stage
+map_held exec hand =
+    if_free hand.free (if_readable hand.held (if exec then stage (check course.Mmap) reply.Done else at_once reply.Done))
+
+abbrev pub first : Call → Hand → Stage
+first (call.Open fd inode h trunc) hand = if_free hand.free (stage ask.Count reply.Done)
+first (call.Read fd from len) hand = if_readable hand.held (stage (ask.Read from len) reply.Done)
+first (call.Write fd from bytes) hand = if_writable hand.held (stage ask.Write reply.Done)
+first (call.Ftruncate fd len) hand = if_writable hand.held (stage (ask.Trunc len) reply.Done)
+first (call.Close fd) hand = close_held hand.held
+first (call.Mmap map fd exec) hand = map_held exec hand
+first (call.Mread map from len) hand = if_readable hand.held (stage (ask.Read from len) reply.Done)
+first (call.Munmap map) hand = close_held hand.held
+first (call.Exec run inode) hand = if_free hand.free (stage ask.Count reply.Done)
+first (call.Endexec run) hand = close_held hand.held
+first (call.SetAttr inode name value) hand = stage ask.SetAttr reply.Done
+first (call.SetMeta inode change) hand = stage ask.SetMeta reply.Done
+first (call.Post sem) hand = at_once reply.Done
+first (call.Wait sem) hand = at_once reply.Done
+first (call.AddRule rule) hand = at_once (if hand.admin then reply.Done else reply.NotAdmin)
+first (call.Module inode) hand = stage ask.Count reply.Done
+first (call.Firmware inode) hand = stage ask.Count reply.Done
+
+-- ---- the steps after it
+
+-- the reply that an outcome gives
+abbrev pub reply_of : Told → Reply
+reply_of (told.Read n digest) = reply.Bytes n digest
+reply_of told.NotFound = reply.NotFound
+reply_of told.TextBusy = reply.TextBusy
+reply_of told.TooBig = reply.TooBig
+reply_of told.TooLong = reply.TooLong
+reply_of told.NoData = reply.NoData
+reply_of told.Invalid = reply.Invalid
+reply_of told.EvmName = reply.EvmName
+reply_of told.NotAdmin = reply.NotAdmin
+reply_of (told.Status status) = reply.Status status
+reply_of _ = reply.Done
+
+-- what follows where the file is admitted: an open may cut it, and an execution and the kernel read it
+abbrev pub admitted : Course → Next
+admitted (course.Open h true) = goes (ask.Trunc 0) reply.Done
+admitted course.Exec = goes whole reply.Done
+admitted course.Module = goes whole reply.Done
+admitted course.Firmware = goes whole reply.Done
+admitted _ = Over reply.Done
+
+-- what follows where it isn't: what the call counted is closed. A mapping counted nothing
+abbrev pub refused : Course → Cause → Next
+refused course.Mmap cause = Over (reply.Denied cause)
+refused c cause = goes (close (how_of c)) (reply.Denied cause)
+
+-- a grant that isn't admitted has the cause
+abbrev pub refused_by : Course → Option Verdict → Next
+refused_by c (Some (Deny cause)) = refused c cause
+refused_by c _ = admitted c
+
+abbrev pub granted : Course → Grant → Next
+granted c g = if g.admitted then admitted c else refused_by c g.verdict
+
+-- the kernel closes what it has read
+abbrev pub has_read : Course → Reply → Next
+has_read course.Module r = goes ask.Close r
+has_read course.Firmware r = goes ask.Close r
+has_read _ r = Over r
+
+-- the file is measured, or appraised in a mode that appraises
+abbrev pub asks_in : Mode → Action → Bool
+asks_in mode action = action.measure || (action.appraise && not (is_off mode))
+
+abbrev pub after_count : Course → Reply → Told → Next
+after_count c r told.Held = goes (check c) r
+after_count c r t = Over (reply_of t)
+
+abbrev pub after_check : Mode → Course → Reply → Action → Next
+after_check mode c r action = if asks_in mode action then goes (take c) r else admitted c
+
+abbrev pub after_take : Course → Reply → Told → Next
+after_take c r (told.Grant grant) = granted c grant
+after_take c r t = goes ask.Chunk r
+
+-- a collection goes on to its last piece, and then ends
+abbrev pub after_chunk : Ask → Ask → Reply → Told → Next
+after_chunk again end r told.More = goes again r
+after_chunk again end r t = goes end r
+
+abbrev pub after_finish : Course → Reply → Told → Next
+after_finish c r (told.Grant grant) = granted c grant
+after_finish c r t = Over r
+
+abbrev pub after_close : Reply → Told → Next
+after_close r told.Begun = goes ask.CloseChunk r
+after_close r t = Over r
+
+-- what comes after a step: by the step, by the reply that its call has so far, by what the step was told, and after a check by its
+-- action
+abbrev pub next_by : Mode → Course → Ask → Reply → Told → Action → Next
+next_by mode c ask.Count r t action = after_count c r t
+next_by mode c (ask.Check func mask) r t action = after_check mode c r action
+next_by mode c (ask.Take slot) r t action = after_take c r t
+next_by mode c ask.Chunk r t action = after_chunk ask.Chunk ask.Finish r t
+next_by mode c ask.Finish r t action = after_finish c r t
+next_by mode c (ask.Read from len) r t action = has_read c (reply_of t)
+next_by mode c ask.Write r t action = Over (reply_of t)
+next_by mode c (ask.Trunc len) r t action = Over (reply_of t)
+next_by mode c ask.SetAttr r t action = Over (reply_of t)
+next_by mode c ask.SetMeta r t action = Over (reply_of t)
+next_by mode c ask.Close r t action = Over r
+next_by mode c ask.CloseTake r t action = after_close r t
+next_by mode c ask.CloseChunk r t action = after_chunk ask.CloseChunk ask.CloseFinish r t
+next_by mode c ask.CloseFinish r t action = Over r
+next_by mode c ask.Plain r t action = Over r
+
+abbrev pub next : Mode → Call → Stage → Told → Action → Next
+next mode c s t action = next_by mode (course_of c) s.ask s.reply t action
+
+-- ---- the same of a plan
+
+abbrev pub plan_of : Mode → Call → Stage → Plan
+plan_of mode c s = record { course = course_of c; mode = mode; stage = s }
+
+abbrev pub moved_by : Plan → Next → Plan × Option Reply
+moved_by p (On s) = (record p { stage = s }, None)
+moved_by p (Over r) = (p, Some r)
+
+-- only a check has an action
+abbrev pub told_of : Plan → Told → Option Action → Plan × Option Reply
+told_of p t action = moved_by p (next_by p.mode p.course p.stage.ask p.stage.reply t (unwrap_or action no_action))

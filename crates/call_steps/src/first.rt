@@ -1,0 +1,129 @@
+//! The first step of a call.
+
+ghost use Rattle.std.specs.Prelude.{◌≡◌};
+ghost use Rattle.inode_events.specs.Files.{can_read, is_writer};
+ghost use Rattle.call_steps.specs.Steps.{at_once, close, close_held, first, if_free, if_readable, if_writable, map_held};
+
+use crate::ask::Ask;
+use crate::call::Call;
+use crate::course::Course;
+use crate::held::{Hand, Held};
+use crate::reply::Reply;
+use crate::stage::Stage;
+use inode_events::How;
+
+/// The first step of the call, by what the task holds.
+pub fn first(call: &Call, hand: Hand) -> Stage
+    ensures { result ≡ first call.now hand }
+{
+    match call {
+        Call::Open { .. } | Call::Exec { .. } => if_free(hand.free, stage(Ask::Count)),
+        Call::Read { from, len, .. } | Call::Mread { from, len, .. } => {
+            let (from, len) = (*from, *len);
+            if_readable(hand.held, stage(Ask::Read { from, len }))
+        }
+        Call::Write { .. } => if_writable(hand.held, stage(Ask::Write)),
+        Call::Ftruncate { len, .. } => if_writable(hand.held, stage(Ask::Trunc { len: *len })),
+        Call::Close { .. } | Call::Munmap { .. } | Call::Endexec { .. } => close_held(hand.held),
+        Call::Mmap { exec, .. } => map_held(*exec, hand),
+        Call::SetAttr { .. } => stage(Ask::SetAttr),
+        Call::SetMeta { .. } => stage(Ask::SetMeta),
+        Call::Post { .. } | Call::Wait { .. } => at_once(Reply::Done),
+        Call::AddRule { .. } => at_once(if hand.admin {
+            Reply::Done
+        } else {
+            Reply::NotAdmin
+        }),
+        Call::Module { .. } | Call::Firmware { .. } => stage(Ask::Count),
+    }
+}
+
+// The step, and the reply of a call that nothing stops.
+fn stage(ask: Ask) -> Stage
+    ensures { result ≡ record { ask = ask; reply = Reply.Done } }
+{
+    Stage {
+        ask,
+        reply: Reply::Done,
+    }
+}
+
+fn at_once(reply: Reply) -> Stage
+    ensures { result ≡ at_once reply }
+{
+    Stage {
+        ask: Ask::Plain,
+        reply,
+    }
+}
+
+fn if_free(free: bool, stage: Stage) -> Stage
+    ensures { result ≡ if_free free stage }
+{
+    if free { stage } else { at_once(Reply::BadFile) }
+}
+
+fn if_readable(held: Option<Held>, stage: Stage) -> Stage
+    ensures { result ≡ if_readable held stage }
+{
+    match held {
+        Some(held) if can_read(held.how) => stage,
+        _ => at_once(Reply::BadFile),
+    }
+}
+
+fn if_writable(held: Option<Held>, stage: Stage) -> Stage
+    ensures { result ≡ if_writable held stage }
+{
+    match held {
+        Some(held) if is_writer(held.how) => stage,
+        _ => at_once(Reply::BadFile),
+    }
+}
+
+fn close_held(held: Option<Held>) -> Stage
+    ensures { result ≡ close_held held }
+{
+    match held {
+        Some(held) if held.last => stage(close(held.how)),
+        Some(_) => at_once(Reply::Done),
+        None => at_once(Reply::BadFile),
+    }
+}
+
+fn map_held(exec: bool, hand: Hand) -> Stage
+    ensures { result ≡ map_held exec hand }
+{
+    let mapped = if exec {
+        stage(Course::Mmap.check())
+    } else {
+        at_once(Reply::Done)
+    };
+    if_free(hand.free, if_readable(hand.held, mapped))
+}
+
+/// How the close of a file begins.
+pub fn close(how: How) -> Ask
+    ensures { result ≡ close how }
+{
+    if is_writer(how) {
+        Ask::CloseTake
+    } else {
+        Ask::Close
+    }
+}
+
+fn is_writer(how: How) -> bool
+    ensures { result ≡ is_writer how }
+{
+    matches!(how, How::Write { .. })
+}
+
+fn can_read(how: How) -> bool
+    ensures { result ≡ can_read how }
+{
+    match how {
+        How::Write { read, .. } => read,
+        _ => true,
+    }
+}

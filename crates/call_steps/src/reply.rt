@@ -1,0 +1,63 @@
+ghost use Rattle.std.specs.Prelude.{◌≡◌};
+ghost use Rattle.call_steps.specs.Steps.{reply_of};
+
+use hash_algos::Digest;
+use inode_events::Told;
+use inode_meta::EvmStatus;
+use label_values::Cause;
+
+/// What a call replies.
+#[derive(Clone, Copy, Debug, PartialEq, Eq)]
+pub enum Reply {
+    /// Done.
+    Done,
+    /// So many bytes were read; the digest is their SHA-256.
+    Bytes { n: u64, digest: Digest },
+    /// The file is absent (`ENOENT`).
+    NotFound,
+    /// The descriptor, map or run isn't there, is of the wrong mode, or is made anew while it is
+    /// there (`EBADF`).
+    BadFile,
+    /// A writer meets an execution, or an execution a writer (`ETXTBSY`).
+    TextBusy,
+    /// The file would end above the limit (`EFBIG`).
+    TooBig,
+    /// The attribute's value is above 4,096 bytes (`E2BIG`).
+    TooLong,
+    /// There is no such attribute to remove (`ENODATA`).
+    NoData,
+    /// A value of `security.ima` that is no label (`EINVAL`).
+    Invalid,
+    /// The attribute is `security.evm` (`EPERM`).
+    EvmName,
+    /// The right to administer is wanted (`EPERM`).
+    NotAdmin,
+    /// EVM forbids the change (`EPERM`), with its status.
+    Status(EvmStatus),
+    /// Appraisal refuses the file (`EACCES`), with the cause.
+    Denied(Cause),
+}
+
+impl Reply {
+    /// The reply that the outcome of a call's one event gives.
+    pub fn of(told: &Told) -> Reply
+        ensures { result ≡ reply_of told.now }
+    {
+        match told {
+            Told::Read { n, digest } => Reply::Bytes {
+                n: *n,
+                digest: *digest,
+            },
+            Told::NotFound => Reply::NotFound,
+            Told::TextBusy => Reply::TextBusy,
+            Told::TooBig => Reply::TooBig,
+            Told::TooLong => Reply::TooLong,
+            Told::NoData => Reply::NoData,
+            Told::Invalid => Reply::Invalid,
+            Told::EvmName => Reply::EvmName,
+            Told::NotAdmin => Reply::NotAdmin,
+            Told::Status(status) => Reply::Status(*status),
+            _ => Reply::Done,
+        }
+    }
+}
