@@ -240,5 +240,8 @@ moved_by p (On s) = (record p { stage = s }, None)
 moved_by p (Over r) = (p, Some r)
 
 -- only a check has an action
+abbrev pub given : Option Action → Action
+given action = unwrap_or action no_action
+
 abbrev pub told_of : Plan → Told → Option Action → Plan × Option Reply
-told_of p t action = moved_by p (next_by p.mode p.course p.stage.ask p.stage.reply t (unwrap_or action no_action))
+told_of p t action = moved_by p (next_by p.mode p.course p.stage.ask p.stage.reply t (given action))

@@ -3,7 +3,7 @@
 ghost use Rattle.std.specs.Prelude.{◌≡◌, unwrap_or};
 ghost use Rattle.std.specs.Option.{option_copied};
 ghost use Rattle.inode_events.specs.Checks.{no_action};
-ghost use Rattle.call_steps.specs.Steps.{admitted, after_check, after_chunk, after_close, after_count, after_finish, after_take, asks_in, goes, granted, has_read, next_by, refused, refused_by};
+ghost use Rattle.call_steps.specs.Steps.{given, admitted, after_check, after_chunk, after_close, after_count, after_finish, after_take, asks_in, goes, granted, has_read, next_by, refused, refused_by};
 
 use crate::ask::Ask;
 use crate::course::Course;
@@ -27,7 +27,7 @@ pub fn next_by(
     told: &Told,
     action: Option<&Action>,
 ) -> Next
-    ensures { result ≡ next_by mode course ask reply told.now (unwrap_or (option_copied action.entry) no_action) }
+    ensures { result ≡ next_by mode course ask reply told.now (given (option_copied action.entry)) }
 {
     match ask {
         Ask::Count => after_count(course, reply, told),
@@ -59,7 +59,7 @@ fn after_count(course: Course, reply: Reply, told: &Told) -> Next
 }
 
 fn after_check(mode: Mode, course: Course, reply: Reply, action: Option<&Action>) -> Next
-    ensures { result ≡ after_check mode course reply (unwrap_or (option_copied action.entry) no_action) }
+    ensures { result ≡ after_check mode course reply (given (option_copied action.entry)) }
 {
     match action {
         Some(action) if asks_in(mode, action) => goes(course.take(), reply),
