@@ -1,6 +1,6 @@
 -- What a call line of a script can say: the ranges of its numbers and the lengths of its bytes.
 use Rattle.std.specs.Prelude.{ℕ, Bool, true, ◌&&◌, ◌||◌, not, nat_le, nat_lt, List, length, Option, Some, None}
-use Rattle.inode_events.specs.Content.{size_limit}
+use Rattle.inode_events.specs.Content.{most_bytes}
 use Rattle.inode_events.specs.Files.{is_writer}
 use Rattle.text_forms.specs.Words.{is_word}
 use Rattle.call_steps.specs.declared.call.Call.{Call}
@@ -16,7 +16,7 @@ is_small n = nat_lt n 64
 
 -- so many bytes may be read or written at once
 abbrev pub is_portion : ℕ → Bool
-is_portion n = nat_le 1 n && nat_le n size_limit
+is_portion n = nat_le 1 n && nat_le n most_bytes
 
 -- an attribute may be set to more bytes than it can have
 abbrev pub is_set_value : Option (List ℕ) → Bool

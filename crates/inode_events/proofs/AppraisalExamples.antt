@@ -28,7 +28,7 @@ use Rattle.std.proofs.lemmas.Slice.Eq.{bytes_eq-Decides}
 use Rattle.xattr_store.specs.Attrs.{Pair}
 use Rattle.evm_verify.specs.Input.{evm_input, evm_value}
 use Rattle.inode_events.specs.Inode.{Inode}
-use Rattle.inode_events.specs.Integrity.{attributes, force, label, label_in, status as status_of}
+use Rattle.inode_events.specs.Integrity.{attributes, in_force, label, label_in, status as status_of}
 use Rattle.inode_events.specs.Grants.{is_mend}
 use Rattle.inode_events.specs.Says.{close_take_told}
 use Rattle.inode_events.proofs.Examples.{Tells, abc, appraise, behind, born, grant, inode_of, meta, no_key}
@@ -99,7 +99,7 @@ fixed_journal =
     (behind (deed.Count (how.Read false)) (Some told.Held) (born (inode_of Fix no_key true abc [] true))))))
 
 -- at once after it no digest is in force, and the label is that of the content
-fixed_label : (label (inode_of Fix no_key true abc [] true) fixed_journal ≡ Some (label_of (digest_of Sha256 abc))) × (force (inode_of Fix no_key true abc [] true) fixed_journal ≡ None)
+fixed_label : (label (inode_of Fix no_key true abc [] true) fixed_journal ≡ Some (label_of (digest_of Sha256 abc))) × (in_force (inode_of Fix no_key true abc [] true) fixed_journal ≡ None)
 fixed_label = (refl, refl)
 
 -- Enforced appraisal with a key: a new file passes without a label, and its last writer's close labels it. An open that

@@ -13,7 +13,7 @@ use Rattle.policy_text.specs.declared.access.Action.{Action}
 use Rattle.xattr_store.specs.Attrs.{Pair}
 use Rattle.inode_events.specs.Inode.{Inode, nobody}
 use Rattle.inode_events.specs.Legal.{May}
-use Rattle.inode_events.specs.Says.{says, spot_in}
+use Rattle.inode_events.specs.Says.{says, placed_in}
 use Rattle.inode_events.specs.declared.deed.Deed.{Deed}
 use Rattle.inode_events.specs.declared.deed.Deed.TheVariants as deed
 use Rattle.inode_events.specs.declared.told.Event.{Event}
@@ -21,9 +21,9 @@ use Rattle.inode_events.specs.declared.told.Grant.{Grant}
 use Rattle.inode_events.specs.declared.told.Told.{Told}
 use Rattle.inode_events.specs.declared.told.Told.TheVariants as told
 
-abbrev pub spot_of : Option Told → Placed
-spot_of None = Added 0
-spot_of (Some t) = spot_in t
+abbrev pub placed_of : Option Told → Placed
+placed_of None = Added 0
+placed_of (Some t) = placed_in t
 
 abbrev pub behind : Deed → Option Told → List Event → List Event
 behind d None before = before
@@ -33,7 +33,7 @@ behind d (Some t) before = record { who = nobody; deed = d; told = t } ∷ befor
 abbrev pub Tells : Inode → List Event → List (Deed × Option Told) → Type 0
 Tells inode before [] = Unit {0}
 Tells inode before (s ∷ rest) =
-    (May inode before s.0 × (says inode before (spot_of s.1) s.0 ≡ s.1)) × Tells inode (behind s.0 s.1 before) rest
+    (May inode before s.0 × (says inode before (placed_of s.1) s.0 ≡ s.1)) × Tells inode (behind s.0 s.1 before) rest
 
 -- the journal of an inode that has just come into being
 abbrev pub born : Inode → List Event

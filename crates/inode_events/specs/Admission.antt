@@ -3,8 +3,8 @@ use Rattle.std.specs.Prelude.{ℕ, Bool, true, not, List, Option, Some, None, op
 use Rattle.label_values.specs.Verdicts.{is_pass}
 use Rattle.policy_text.specs.declared.access.Action.{Action}
 use Rattle.inode_events.specs.Inode.{Inode}
-use Rattle.inode_events.specs.Integrity.{Collection, Force, collecting, force}
-use Rattle.inode_events.specs.State.{written_since}
+use Rattle.inode_events.specs.Integrity.{Collection, Digests, collecting, in_force}
+use Rattle.inode_events.specs.State.{modified_since}
 use Rattle.inode_events.specs.Verdicts.{fresh_verdict}
 use Rattle.inode_events.specs.declared.deed.Deed.{Deed}
 use Rattle.inode_events.specs.declared.deed.Deed.TheVariants as deed
@@ -19,22 +19,22 @@ granted_file _ = None
 abbrev pub collection_begin : Collection → ℕ
 collection_begin c = c.begin
 
-abbrev pub force_begin : Force → ℕ
-force_begin f = f.begin
+abbrev pub digests_begin : Digests → ℕ
+digests_begin f = f.begin
 
 -- the begin of the digest from which the grant is made: that in force, or that of the collection which the finish ends
 abbrev pub grant_begin : Inode → Deed → List Event → Option ℕ
-grant_begin inode (deed.Take file) before = option_map force_begin (force inode before)
+grant_begin inode (deed.Take file) before = option_map digests_begin (in_force inode before)
 grant_begin inode (deed.Finish file) before = option_map collection_begin (collecting inode before)
 grant_begin inode _ before = None
 
-abbrev pub is_unwritten_since : Option ℕ → List Event → Bool
-is_unwritten_since None before = true
-is_unwritten_since (Some place) before = not (written_since place before)
+abbrev pub unmodified_since : Option ℕ → List Event → Bool
+unmodified_since None before = true
+unmodified_since (Some place) before = not (modified_since place before)
 
--- the grant is made unwritten: no write or truncation was done between the begin of its digest and the grant
-abbrev pub is_unwritten : Inode → Deed → List Event → Bool
-is_unwritten inode d before = is_unwritten_since (grant_begin inode d before) before
+-- the grant is made of an unmodified file: no write or truncation was done between the begin of its digest and the grant
+abbrev pub granted_unmodified : Inode → Deed → List Event → Bool
+granted_unmodified inode d before = unmodified_since (grant_begin inode d before) before
 
 -- digest and HMAC fit: the verdict over everything as it is passes
 abbrev pub fits : Inode → Action → List Event → Bool

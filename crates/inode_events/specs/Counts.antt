@@ -1,7 +1,7 @@
 -- How often a file is hashed.
 use Rattle.std.specs.Prelude.{ℕ, ◌+◌, Bool, true, false, List, [], ◌∷◌, if◌then◌else◌}
 use Rattle.inode_events.specs.Inode.{Inode}
-use Rattle.inode_events.specs.Integrity.{force, voids_digest}
+use Rattle.inode_events.specs.Integrity.{in_force, voids_digest}
 use Rattle.inode_events.specs.declared.deed.Deed.{Deed}
 use Rattle.inode_events.specs.declared.deed.Deed.TheVariants as deed
 use Rattle.inode_events.specs.declared.told.Event.{Event}
@@ -18,13 +18,13 @@ abbrev pub takes_begun : List Event → ℕ
 takes_begun [] = 0
 takes_begun (e ∷ before) = if begins_take e.deed e.told then 1 + takes_begun before else takes_begun before
 
--- the events that void the digest, whether or not one was in force
-abbrev pub voids : Inode → List Event → ℕ
-voids inode [] = 0
-voids inode (e ∷ before) =
-    if voids_digest e.deed e.told before (force inode before) then 1 + voids inode before else voids inode before
+-- how many events void the digest, whether or not one was in force
+abbrev pub times_voided : Inode → List Event → ℕ
+times_voided inode [] = 0
+times_voided inode (e ∷ before) =
+    if voids_digest e.deed e.told before (in_force inode before) then 1 + times_voided inode before else times_voided inode before
 
 -- those of them before the last take that began a collection
-abbrev pub voids_before_last : Inode → List Event → ℕ
-voids_before_last inode [] = 0
-voids_before_last inode (e ∷ before) = if begins_take e.deed e.told then voids inode before else voids_before_last inode before
+abbrev pub times_voided_before_last : Inode → List Event → ℕ
+times_voided_before_last inode [] = 0
+times_voided_before_last inode (e ∷ before) = if begins_take e.deed e.told then times_voided inode before else times_voided_before_last inode before

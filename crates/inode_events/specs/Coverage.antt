@@ -20,7 +20,7 @@ is_measuring file _ = false
 
 abbrev pub place_in : Option Placed → List ℕ
 place_in None = []
-place_in (Some spot) = place_of spot ∷ []
+place_in (Some placed) = place_of placed ∷ []
 
 -- the place that a grant of the file names
 abbrev pub grant_places : ℕ → Deed → Told → List ℕ

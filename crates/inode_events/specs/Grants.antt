@@ -21,8 +21,8 @@ use Rattle.inode_events.specs.declared.told.Grant.{Grant}
 use Rattle.std.specs.Prelude.{length}
 
 -- the place of the entry, where the action measures
-abbrev pub placed_for : Action → Placed → Option Placed
-placed_for action spot = if action.measure then Some spot else None
+abbrev pub placed_if_measured : Action → Placed → Option Placed
+placed_if_measured action placed = if action.measure then Some placed else None
 
 -- the verdict, where the file is appraised: the one in force, else one over the digest and everything else as it is
 abbrev pub verdict_for : Inode → Check → Digest → List Event → Option Verdict
@@ -47,19 +47,20 @@ mend_of inode action digest verdict before =
     (judge action.need action.algos (label inode before) evm.Pass digest inode.settings.hash (length (content before)) (new before))
     (status inode before) (read_label (label inode before) inode.settings.hash)
 
-abbrev pub labels : Inode → Action → Digest → Option Verdict → List Event → Bool
-labels inode action digest None before = false
-labels inode action digest (Some verdict) before = is_fix inode.settings.mode && is_mend (mend_of inode action digest verdict before)
+-- mode fix writes something on the verdict: the label, or the HMAC alone
+abbrev pub mends : Inode → Action → Digest → Option Verdict → List Event → Bool
+mends inode action digest None before = false
+mends inode action digest (Some verdict) before = is_fix inode.settings.mode && is_mend (mend_of inode action digest verdict before)
 
 abbrev pub granted : Inode → Check → Placed → Digest → Option Verdict → List Event → Grant
-granted inode check spot digest verdict before = record {
-  placed = placed_for check.action spot;
+granted inode check placed digest verdict before = record {
+  placed = placed_if_measured check.action placed;
   verdict = verdict;
   admitted = admits inode.settings.mode verdict;
-  labelled = labels inode check.action digest verdict before;
+  labelled = mends inode check.action digest verdict before;
 }
 
 -- the grant of the file, made from a digest
 abbrev pub grant_of : Inode → ℕ → Placed → Digest → List Event → Grant
-grant_of inode file spot digest before =
-    granted inode (last_check file before) spot digest (verdict_for inode (last_check file before) digest before) before
+grant_of inode file placed digest before =
+    granted inode (last_check file before) placed digest (verdict_for inode (last_check file before) digest before) before

@@ -14,7 +14,7 @@ use Rattle.label_values.specs.Verdicts.{is_old}
 use Rattle.xattr_store.specs.Attrs.{Pair, value, put, without}
 use Rattle.inode_events.specs.Content.{piece_at}
 use Rattle.inode_events.specs.Inode.{Inode}
-use Rattle.inode_events.specs.State.{changed, content, is_last_drop, metadata, new, versions, written_since}
+use Rattle.inode_events.specs.State.{changed, content, is_last_drop, metadata, new, versions, modified_since}
 use Rattle.inode_events.specs.declared.deed.Deed.{Deed}
 use Rattle.inode_events.specs.declared.deed.Deed.TheVariants as deed
 use Rattle.inode_events.specs.declared.told.Event.{Event}
@@ -34,8 +34,9 @@ pub record Collection : Type 0 where
   pub bytes : List ℕ
   pub complete : Bool
 
--- a digest in force: by the algorithm that was chosen and by SHA-1, with the place of the take that began its collection
-pub record Force : Type 0 where
+-- the digests of one content: by the algorithm that was chosen and by SHA-1, with the place of the take that began their
+-- collection
+pub record Digests : Type 0 where
   pub digest : Digest
   pub sha1 : Digest
   pub begin : ℕ
@@ -43,7 +44,7 @@ pub record Force : Type 0 where
 pub record Integrity : Type 0 where
   pub attributes : List Pair
   pub collecting : Option Collection
-  pub force : Option Force
+  pub digests : Option Digests
 
 -- ---- attributes
 
@@ -96,12 +97,12 @@ abbrev pub collected_more : List ℕ → Bool → Option Collection → Option C
 collected_more content complete None = None
 collected_more content complete (Some c) = Some (record c { pieces = c.pieces + 1; bytes = c.bytes ++ piece_at content c.pieces; complete = complete })
 
--- what a collection gives
+-- what a collection gives: the digest by its own algorithm, and both
 abbrev pub digest_from : Collection → Digest
 digest_from c = digest_of c.algo c.bytes
 
-abbrev pub force_from : Collection → Force
-force_from c = record { digest = digest_from c; sha1 = digest_of Sha1 c.bytes; begin = c.begin }
+abbrev pub digests_of : Collection → Digests
+digests_of c = record { digest = digest_from c; sha1 = digest_of Sha1 c.bytes; begin = c.begin }
 
 abbrev pub collecting_after : Inode → Deed → Told → List Event → Integrity → Option Collection
 collecting_after inode (deed.Take file) told.Begun before old =
@@ -120,23 +121,23 @@ collecting_after inode _ _ before old = old.collecting
 -- ---- what voids
 
 -- the content may be another one than when the digest was taken
-abbrev pub is_stale : Option Force → List Event → Bool
+abbrev pub is_stale : Option Digests → List Event → Bool
 is_stale None before = false
-is_stale (Some force) before = written_since force.begin before
+is_stale (Some digests) before = modified_since digests.begin before
 
 -- at a last writer's close the kernel looks at the inode's version. A new file, and one of a file system that counts no
 -- changes, are taken as changed
-abbrev pub drop_voids : Deed → Told → List Event → Option Force → Bool
-drop_voids d t before force = is_last_drop d t before && (new before || not (versions before) || is_stale force before)
+abbrev pub drop_voids : Deed → Told → List Event → Option Digests → Bool
+drop_voids d t before digests = is_last_drop d t before && (new before || not (versions before) || is_stale digests before)
 
 -- the event voids the digest in force, and with it all verdicts: an attribute was set or removed, a label was written, or a
 -- last writer left a content that is taken as changed
-abbrev pub voids_digest : Deed → Told → List Event → Option Force → Bool
-voids_digest (deed.SetAttr name bytes admin) told.Done before force = true
-voids_digest (deed.Take file) (told.Grant grant) before force = grant.labelled
-voids_digest (deed.Finish file) (told.Grant grant) before force = grant.labelled
-voids_digest (deed.CloseFinish file) told.LabelledDropped before force = true
-voids_digest d t before force = drop_voids d t before force
+abbrev pub voids_digest : Deed → Told → List Event → Option Digests → Bool
+voids_digest (deed.SetAttr name bytes admin) told.Done before digests = true
+voids_digest (deed.Take file) (told.Grant grant) before digests = grant.labelled
+voids_digest (deed.Finish file) (told.Grant grant) before digests = grant.labelled
+voids_digest (deed.CloseFinish file) told.LabelledDropped before digests = true
+voids_digest d t before digests = drop_voids d t before digests
 
 -- ---- the three together
 
@@ -146,30 +147,30 @@ attributes_after inode (deed.SetAttr name bytes admin) told.Done before old = at
 attributes_after inode (deed.SetMeta change) told.Done before old =
     renewed inode.settings.evm old.attributes (changed change (metadata before))
 attributes_after inode (deed.Take file) (told.Grant grant) before old =
-    fixed_by inode grant.labelled (option_map (λ f. f.digest) old.force) (metadata before) old.attributes
+    fixed_by inode grant.labelled (option_map (λ f. f.digest) old.digests) (metadata before) old.attributes
 attributes_after inode (deed.Finish file) (told.Grant grant) before old =
     fixed_by inode grant.labelled (option_map digest_from old.collecting) (metadata before) old.attributes
 attributes_after inode (deed.CloseFinish file) told.LabelledDropped before old =
     labelled_by inode (option_map digest_from old.collecting) (metadata before) old.attributes
 attributes_after inode _ _ before old = old.attributes
 
--- the digest that the event gives: a finished take's comes in force
-abbrev pub force_given : Deed → Told → Integrity → Option Force
-force_given (deed.Finish file) (told.Grant grant) old = option_map force_from old.collecting
-force_given _ _ old = old.force
+-- the digests that the event gives: a finished take's come in force
+abbrev pub digests_given : Deed → Told → Integrity → Option Digests
+digests_given (deed.Finish file) (told.Grant grant) old = option_map digests_of old.collecting
+digests_given _ _ old = old.digests
 
-abbrev pub force_after : Deed → Told → List Event → Integrity → Option Force
-force_after d t before old = if voids_digest d t before old.force then None else force_given d t old
+abbrev pub digests_after : Deed → Told → List Event → Integrity → Option Digests
+digests_after d t before old = if voids_digest d t before old.digests then None else digests_given d t old
 
 abbrev pub integrity_after : Inode → Deed → Told → List Event → Integrity → Integrity
 integrity_after inode d t before old = record {
   attributes = attributes_after inode d t before old;
   collecting = collecting_after inode d t before old;
-  force = force_after d t before old;
+  digests = digests_after d t before old;
 }
 
 abbrev pub integrity : Inode → List Event → Integrity
-integrity inode [] = record { attributes = []; collecting = None; force = None }
+integrity inode [] = record { attributes = []; collecting = None; digests = None }
 integrity inode (e ∷ before) = integrity_after inode e.deed e.told before (integrity inode before)
 
 -- the extended attributes
@@ -181,9 +182,9 @@ attributes inode before = (integrity inode before).attributes
 abbrev pub collecting : Inode → List Event → Option Collection
 collecting inode before = (integrity inode before).collecting
 
--- the digest in force: that of the last finished take, unless it was voided since
-abbrev pub force : Inode → List Event → Option Force
-force inode before = (integrity inode before).force
+-- the digests in force: those of the last finished take, unless they were voided since
+abbrev pub in_force : Inode → List Event → Option Digests
+in_force inode before = (integrity inode before).digests
 
 -- the label of the inode, and what EVM says of it
 abbrev pub label : Inode → List Event → Option (List ℕ)

@@ -9,10 +9,13 @@ pub mod Verdicts
 pub mod Grants
 pub mod Marks
 pub mod Says
-pub mod Life
+pub mod Stage
 pub mod Legal
 pub mod Admission
 pub mod Counts
 pub mod Listing
+pub mod Asked
+pub mod Callers
+pub mod Semaphores
 pub mod Coverage
 pub mod Merged

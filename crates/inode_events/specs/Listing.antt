@@ -1,16 +1,18 @@
 -- What the events of an inode have to do with the measurement list.
-use Rattle.std.specs.Prelude.{◌≡◌, ℕ, ◌==◌, ◌||◌, List, [], ◌∷◌, Option, Some, None, option_map, slice_get, unwrap_or, if◌then◌else◌}
+use Rattle.std.specs.Prelude.{◌≡◌, ℕ, ◌==◌, ◌||◌, List, [], ◌∷◌, ◌++◌, Option, Some, None, option_map, slice_get, unwrap_or, if◌then◌else◌}
 use Rattle.ima_templates.specs.Entries.{entry_of, violation_of}
+use Rattle.ima_templates.specs.IsEntry.{IsEntry}
 use Rattle.ima_templates.specs.Same.{place_of_same}
 use Rattle.ima_templates.specs.declared.entry.Entry.{Entry}
 use Rattle.ima_templates.specs.declared.entry.Placed.{Placed}
 use Rattle.ima_templates.specs.declared.entry.Placed.TheVariants.{Added, Already}
 use Rattle.inode_meta.specs.declared.measurement.Template.{Template}
+use Rattle.inode_meta.specs.declared.step.Who.{Who}
 use Rattle.label_values.specs.Labels.{type_of}
 use Rattle.policy_text.specs.declared.access.Action.{Action}
 use Rattle.inode_events.specs.Checks.{last_check}
 use Rattle.inode_events.specs.Inode.{Inode}
-use Rattle.inode_events.specs.Integrity.{Force, collecting, force, force_from, label}
+use Rattle.inode_events.specs.Integrity.{Digests, collecting, in_force, digests_of, label}
 use Rattle.inode_events.specs.declared.deed.Deed.{Deed}
 use Rattle.inode_events.specs.declared.deed.Deed.TheVariants as deed
 use Rattle.inode_events.specs.declared.told.Event.{Event}
@@ -29,7 +31,7 @@ signature_in None = []
 signature_in (Some bytes) = if type_of bytes == 3 || type_of bytes == 6 then bytes else []
 
 -- the entry of a file's measurement, with these digests and the label as it is
-abbrev pub measured : Inode → ℕ → Force → List Event → Entry
+abbrev pub measured : Inode → ℕ → Digests → List Event → Entry
 measured inode file digests before =
     entry_of (last_check file before).action.pcr (template_for inode (last_check file before).action) digests.digest digests.sha1
     inode.path (signature_in (label inode before))
@@ -38,23 +40,23 @@ measured inode file digests before =
 abbrev pub violated : Inode → Entry
 violated inode = violation_of inode.settings.template inode.settings.hash inode.path
 
--- ---- the places that events name
+-- ---- the entries that one event adds or finds
 
 -- an entry with the place that an event was told for it
 abbrev pub Listed : Type 0
 Listed = ℕ × Entry
 
 -- the digests from which a finish's or a take's grant is made
-abbrev pub granting : Inode → Deed → List Event → Option Force
-granting inode (deed.Take file) before = force inode before
-granting inode (deed.Finish file) before = option_map force_from (collecting inode before)
+abbrev pub granting : Inode → Deed → List Event → Option Digests
+granting inode (deed.Take file) before = in_force inode before
+granting inode (deed.Finish file) before = option_map digests_of (collecting inode before)
 granting inode _ before = None
 
-abbrev pub added_at : Option Placed → Option Force → Inode → ℕ → List Event → Option Listed
+abbrev pub added_at : Option Placed → Option Digests → Inode → ℕ → List Event → Option Listed
 added_at (Some (Added place)) (Some digests) inode file before = Some (place, measured inode file digests before)
 added_at _ _ inode file before = None
 
-abbrev pub found_at : Option Placed → Option Force → Inode → ℕ → List Event → Option Listed
+abbrev pub found_at : Option Placed → Option Digests → Inode → ℕ → List Event → Option Listed
 found_at (Some (Already place)) (Some digests) inode file before = Some (place, measured inode file digests before)
 found_at _ _ inode file before = None
 
@@ -72,6 +74,33 @@ finds inode (deed.Take file) (told.Grant grant) before = found_at grant.placed (
 finds inode (deed.Finish file) (told.Grant grant) before = found_at grant.placed (granting inode (deed.Finish file) before) inode file before
 finds inode _ _ before = None
 
+-- ---- all that a journal says of the list
+
+-- what one event says: the step that made it, the entry that it adds, and the one that it finds
+pub record Mention : Type 0 where
+  pub who : Who
+  pub added : Option Listed
+  pub found : Option Listed
+
+-- what each event says, newest first. All that follows is read off it
+abbrev pub mentions : Inode → List Event → List Mention
+mentions inode [] = []
+mentions inode (e ∷ before) =
+    record { who = e.who; added = adds inode e.deed e.told before; found = finds inode e.deed e.told before }
+    ∷ mentions inode before
+
+abbrev pub listed_in : Option Listed → List Listed
+listed_in None = []
+listed_in (Some listed) = listed ∷ []
+
+abbrev pub added_in : List Mention → List Listed
+added_in [] = []
+added_in (m ∷ earlier) = added_in earlier ++ listed_in m.added
+
+-- the entries that the journal adds, oldest first, each with its place
+abbrev pub entries_added : Inode → List Event → List Listed
+entries_added inode events = added_in (mentions inode events)
+
 -- what is added stands at its place
 abbrev pub StandsIn : List Entry → Option Listed → Type 0
 StandsIn list None = Unit {0}
@@ -82,8 +111,18 @@ abbrev pub IsFirstIn : List Entry → Option Listed → Type 0
 IsFirstIn list None = Unit {0}
 IsFirstIn list (Some found) = place_of_same list found.1 ≡ Some found.0
 
+abbrev pub AreIn : List Entry → List Mention → Type 0
+AreIn list [] = Unit {0}
+AreIn list (m ∷ earlier) = StandsIn list m.added × IsFirstIn list m.found × AreIn list earlier
+
 -- the list has what the events of the journal say of it
 abbrev pub IsListed : Inode → List Entry → List Event → Type 0
-IsListed inode list [] = Unit {0}
-IsListed inode list (e ∷ before) =
-    StandsIn list (adds inode e.deed e.told before) × IsFirstIn list (finds inode e.deed e.told before) × IsListed inode list before
+IsListed inode list events = AreIn list (mentions inode events)
+
+abbrev pub AreFoundEntries : List Mention → Type 0
+AreFoundEntries [] = Unit {0}
+AreFoundEntries (m ∷ earlier) = ((found : Listed) → m.found ≡ Some found → IsEntry found.1) × AreFoundEntries earlier
+
+-- what the events find is an entry that can stand in a list
+abbrev pub FindsEntries : Inode → List Event → Type 0
+FindsEntries inode events = AreFoundEntries (mentions inode events)

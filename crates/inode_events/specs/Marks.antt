@@ -6,7 +6,7 @@ use Rattle.label_values.specs.declared.verdict.Verdict.{Verdict}
 use Rattle.inode_events.specs.Files.{is_writing}
 use Rattle.inode_events.specs.Inode.{Inode}
 use Rattle.inode_events.specs.Integrity.{label}
-use Rattle.inode_events.specs.State.{is_last_drop, is_written, new, span, versions}
+use Rattle.inode_events.specs.State.{is_last_drop, modified_in, new, span, versions}
 use Rattle.inode_events.specs.declared.deed.Deed.{Deed}
 use Rattle.inode_events.specs.declared.deed.Deed.TheVariants as deed
 use Rattle.inode_events.specs.declared.told.Event.{Event}
@@ -49,9 +49,9 @@ update (e ∷ before) = update_after e.deed e.told before (update before)
 
 -- ---- labels at a close
 
--- a last writer's close owes the file a label. The span says whether the content changed: the kernel compares with the version
+-- a last writer's close owes the file a label. The span says whether the content was modified: the kernel compares with the version
 -- that it noted at the last collection
 abbrev pub is_label_due : Inode → List Event → Bool
 is_label_due inode before =
     update before && not (is_signature (read_label (label inode before) inode.settings.hash))
-    && (new before || not (versions before) || is_written (span before))
+    && (new before || not (versions before) || modified_in (span before))

@@ -4,7 +4,7 @@ use Rattle.ima_templates.specs.Same.{same}
 use Rattle.ima_templates.specs.declared.entry.Entry.{Entry}
 use Rattle.inode_meta.specs.declared.step.Who.{Who}
 use Rattle.inode_events.specs.Inode.{Inode}
-use Rattle.inode_events.specs.Listing.{IsListed, Listed, adds, finds}
+use Rattle.inode_events.specs.Listing.{IsListed, Listed, Mention, mentions}
 use Rattle.inode_events.specs.declared.told.Event.{Event}
 
 -- an inode with its journal, newest event first
@@ -20,32 +20,39 @@ abbrev pub named : Who → Option Listed → List Named
 named who None = []
 named who (Some listed) = (who, listed.0) ∷ []
 
+abbrev pub all_added : List Mention → List Named
+all_added [] = []
+all_added (m ∷ earlier) = named m.who m.added ++ all_added earlier
+
+abbrev pub all_named : List Mention → List Named
+all_named [] = []
+all_named (m ∷ earlier) = named m.who m.added ++ named m.who m.found ++ all_named earlier
+
 -- the places at which the events add an entry
 abbrev pub places_added : Inode → List Event → List Named
-places_added inode [] = []
-places_added inode (e ∷ before) = named e.who (adds inode e.deed e.told before) ++ places_added inode before
+places_added inode events = all_added (mentions inode events)
 
 -- the places that the events name: where they add an entry, and where they find one
 abbrev pub places_named : Inode → List Event → List Named
-places_named inode [] = []
-places_named inode (e ∷ before) =
-    named e.who (adds inode e.deed e.told before) ++ named e.who (finds inode e.deed e.told before) ++ places_named inode before
+places_named inode events = all_named (mentions inode events)
 
 -- how often an entry is added at the place
-abbrev pub times_named : ℕ → List Named → ℕ
-times_named place [] = 0
-times_named place (n ∷ rest) = if n.1 == place then 1 + times_named place rest else times_named place rest
+abbrev pub times_added : ℕ → List Named → ℕ
+times_added place [] = 0
+times_added place (n ∷ rest) = if n.1 == place then 1 + times_added place rest else times_added place rest
 
 -- the step comes before the other of the same task
 abbrev pub is_earlier : Who → Who → Bool
 is_earlier a b = a.task == b.task && (nat_lt a.call b.call || (a.call == b.call && nat_lt a.step b.step))
 
+abbrev pub MentionsRise : List Mention → Type 0
+MentionsRise [] = Unit {0}
+MentionsRise (m ∷ earlier) =
+    All (λ added. All (λ name. name.1 < added.1) (all_named earlier)) (named m.who m.added) × MentionsRise earlier
+
 -- along the journal, an entry is added above all places that were named before it
 abbrev pub PlacesRise : Inode → List Event → Type 0
-PlacesRise inode [] = Unit {0}
-PlacesRise inode (e ∷ before) =
-    All (λ added. All (λ named. named.1 < added.1) (places_named inode before)) (named e.who (adds inode e.deed e.told before))
-    × PlacesRise inode before
+PlacesRise inode events = MentionsRise (mentions inode events)
 
 -- along a task's steps, an entry is added above all places that its earlier steps named, in whichever journals they stand
 abbrev pub StepsRise : List Journal → Type 0
@@ -58,8 +65,9 @@ pub record IsMerged (boot : Entry) (list : List Entry) (journals : List Journal)
   pub first : slice_get list 0 ≡ Some boot
   -- what an event adds stands at its place; what it finds stands there first
   pub listed : All (λ j. IsListed j.inode list j.events) journals
-  -- every other entry was added by exactly one event
-  pub once : (place : ℕ) → 0 < place → place < length list → sum_by (λ j. times_named place (places_added j.inode j.events)) journals ≡ 1
+  -- no event added that first entry, and every other was added by exactly one event
+  pub once : (place : ℕ) → place < length list
+      → sum_by (λ j. times_added place (places_added j.inode j.events)) journals ≡ (if place == 0 then 0 else 1)
   -- along a journal and along a task's steps the places rise
   pub along_journals : All (λ j. PlacesRise j.inode j.events) journals
   pub along_tasks : StepsRise journals

@@ -9,11 +9,11 @@ use Rattle.ima_templates.specs.declared.entry.Placed.{Placed}
 use Rattle.ima_templates.specs.declared.entry.Placed.TheVariants.{Added, Already}
 use Rattle.inode_meta.specs.declared.appraisal.EvmStatus.{EvmStatus}
 use Rattle.xattr_store.specs.Attrs.{value}
-use Rattle.inode_events.specs.Content.{bytes_at, is_last_piece, size_limit}
+use Rattle.inode_events.specs.Content.{bytes_at, is_last_piece, most_bytes}
 use Rattle.inode_events.specs.Files.{creates, execs, is_exec, is_writer, is_writing, readers, writers}
 use Rattle.inode_events.specs.Grants.{grant_of}
 use Rattle.inode_events.specs.Inode.{Inode}
-use Rattle.inode_events.specs.Integrity.{Collection, Force, attributes, collecting, digest_from, force, ima_name}
+use Rattle.inode_events.specs.Integrity.{Collection, Digests, attributes, collecting, digest_from, in_force, ima_name}
 use Rattle.inode_events.specs.Marks.{is_label_due, must_measure}
 use Rattle.inode_events.specs.State.{content, metadata, new, present}
 use Rattle.inode_events.specs.declared.deed.Deed.{Deed}
@@ -23,22 +23,22 @@ use Rattle.inode_events.specs.declared.told.Event.{Event}
 use Rattle.inode_events.specs.declared.told.Told.{Told}
 use Rattle.inode_events.specs.declared.told.Told.TheVariants as told
 
--- ---- the place in the measurement list, which the list decides and not the journal
+-- ---- the answer of the measurement list, which isn't the journal's to give: `placed`
 
 abbrev pub place_of : Placed → ℕ
 place_of (Added place) = place
 place_of (Already place) = place
 
--- the place that an event was told; any where it was told none
-abbrev pub spot_in_grant : Option Placed → Placed
-spot_in_grant None = Added 0
-spot_in_grant (Some spot) = spot
+-- the list's answer that an event was told; any where it was told none
+abbrev pub placed_in_grant : Option Placed → Placed
+placed_in_grant None = Added 0
+placed_in_grant (Some placed) = placed
 
-abbrev pub spot_in : Told → Placed
-spot_in (told.OpenWriters place) = Added place
-spot_in (told.ToMToU place) = Added place
-spot_in (told.Grant grant) = spot_in_grant grant.placed
-spot_in _ = Added 0
+abbrev pub placed_in : Told → Placed
+placed_in (told.OpenWriters place) = Added place
+placed_in (told.ToMToU place) = Added place
+placed_in (told.Grant grant) = placed_in_grant grant.placed
+placed_in _ = Added 0
 
 -- ---- the outcomes, deed by deed
 
@@ -57,32 +57,36 @@ check_told writing measure readers writers must place =
     else (if measure && nat_lt 0 writers then told.OpenWriters place else told.Quiet)
 
 -- the grant where a digest is in force, else a collection begins
-abbrev pub take_told : Inode → ℕ → Placed → Option Force → List Event → Told
-take_told inode file spot None before = told.Begun
-take_told inode file spot (Some force) before = told.Grant (grant_of inode file spot force.digest before)
+abbrev pub take_told : Inode → ℕ → Placed → Option Digests → List Event → Told
+take_told inode file placed None before = told.Begun
+take_told inode file placed (Some digests) before = told.Grant (grant_of inode file placed digests.digest before)
 
 abbrev pub chunk_told : List ℕ → Option Collection → Option Told
 chunk_told content None = None
 chunk_told content (Some c) = Some (if is_last_piece content c.pieces then told.Last else told.More)
 
 abbrev pub finish_told : Inode → ℕ → Placed → Option Collection → List Event → Option Told
-finish_told inode file spot None before = None
-finish_told inode file spot (Some c) before = Some (told.Grant (grant_of inode file spot (digest_from c) before))
+finish_told inode file placed None before = None
+finish_told inode file placed (Some c) before = Some (told.Grant (grant_of inode file placed (digest_from c) before))
 
 abbrev pub read_told : List ℕ → Told
 read_told bytes = told.Read (length bytes) (digest_of Sha256 bytes)
 
 -- a file has a limit
 abbrev pub write_told : ℕ → Told
-write_told limit = if nat_le limit size_limit then told.Done else told.TooBig
+write_told limit = if nat_le limit most_bytes then told.Done else told.TooBig
 
 abbrev pub status_told : Result (Unit {0}) EvmStatus → Told
 status_told (Ok _) = told.Done
 status_told (Err status) = told.Status status
 
+-- the most bytes that the value of an attribute may have
+abbrev pub most_value_bytes : ℕ
+most_value_bytes = 4096
+
 abbrev pub is_too_long : Option (List ℕ) → Bool
 is_too_long None = false
-is_too_long (Some bytes) = nat_lt 4096 (length bytes)
+is_too_long (Some bytes) = nat_lt most_value_bytes (length bytes)
 
 -- the kernel refuses an empty `security.ima`, and one of a type that it doesn't know
 abbrev pub is_no_label : Option (List ℕ) → Bool
@@ -121,27 +125,27 @@ unless_collecting (Some c) t = None
 
 -- ---- all deeds
 
--- What the next event is told. `spot` is the place in the list and whether it is added there or was there already, which isn't
+-- What the next event is told. `placed` is the place in the list and whether it is added there or was there already, which isn't
 -- the journal's to say. `None` is blocked: no event. A birth follows no event, and the deeds of a semaphore stand in no inode's journal
 abbrev pub says : Inode → List Event → Placed → Deed → Option Told
-says inode before spot deed.Birth = None
-says inode before spot (deed.Count how) = Some (count_told how (present before) (writers before) (execs before))
-says inode before spot (deed.Check file func action rules) =
-    Some (check_told (is_writing file before) action.measure (readers before) (writers before) (must_measure before) (place_of spot))
-says inode before spot (deed.Take file) =
-    unless_collecting (collecting inode before) (take_told inode file spot (force inode before) before)
-says inode before spot (deed.Chunk file) = chunk_told (content before) (collecting inode before)
-says inode before spot (deed.Finish file) = finish_told inode file spot (collecting inode before) before
-says inode before spot (deed.Read file from len) = Some (read_told (bytes_at (content before) from len))
-says inode before spot (deed.Write file from bytes) = Some (write_told (from + length bytes))
-says inode before spot (deed.Trunc file len) = Some (write_told len)
-says inode before spot (deed.SetAttr name bytes admin) =
+says inode before placed deed.Birth = None
+says inode before placed (deed.Count how) = Some (count_told how (present before) (writers before) (execs before))
+says inode before placed (deed.Check file func action rules) =
+    Some (check_told (is_writing file before) action.measure (readers before) (writers before) (must_measure before) (place_of placed))
+says inode before placed (deed.Take file) =
+    unless_collecting (collecting inode before) (take_told inode file placed (in_force inode before) before)
+says inode before placed (deed.Chunk file) = chunk_told (content before) (collecting inode before)
+says inode before placed (deed.Finish file) = finish_told inode file placed (collecting inode before) before
+says inode before placed (deed.Read file from len) = Some (read_told (bytes_at (content before) from len))
+says inode before placed (deed.Write file from bytes) = Some (write_told (from + length bytes))
+says inode before placed (deed.Trunc file len) = Some (write_told len)
+says inode before placed (deed.SetAttr name bytes admin) =
     unless_collecting (collecting inode before) (set_attr_told inode name bytes admin before)
-says inode before spot (deed.SetMeta change) = unless_collecting (collecting inode before) (set_meta_told inode before)
-says inode before spot (deed.Close file) = Some told.Dropped
-says inode before spot (deed.CloseTake file) =
+says inode before placed (deed.SetMeta change) = unless_collecting (collecting inode before) (set_meta_told inode before)
+says inode before placed (deed.Close file) = Some told.Dropped
+says inode before placed (deed.CloseTake file) =
     unless_collecting (collecting inode before) (close_take_told (is_label_due inode before) (writers before))
-says inode before spot (deed.CloseChunk file) = chunk_told (content before) (collecting inode before)
-says inode before spot (deed.CloseFinish file) = Some (close_finish_told (writers before))
-says inode before spot (deed.Post sem) = None
-says inode before spot (deed.Wait sem) = None
+says inode before placed (deed.CloseChunk file) = chunk_told (content before) (collecting inode before)
+says inode before placed (deed.CloseFinish file) = Some (close_finish_told (writers before))
+says inode before placed (deed.Post sem) = None
+says inode before placed (deed.Wait sem) = None

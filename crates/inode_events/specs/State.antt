@@ -1,7 +1,7 @@
 -- What the events leave of a file: whether it is there, its content and its metadata.
 use Rattle.std.specs.Prelude.{ℕ, ◌==◌, Bool, true, false, ◌&&◌, ◌||◌, not, nat_le, List, [], ◌∷◌, length, if◌then◌else◌}
 use Rattle.inode_meta.specs.declared.identity.Meta.{Meta}
-use Rattle.inode_events.specs.Content.{written, resized}
+use Rattle.inode_events.specs.Content.{overwritten, resized}
 use Rattle.inode_events.specs.Files.{is_writer, writers}
 use Rattle.inode_events.specs.declared.deed.Change.{Change}
 use Rattle.inode_events.specs.declared.deed.Change.TheVariants as change
@@ -13,11 +13,11 @@ use Rattle.inode_events.specs.declared.told.Told.TheVariants as told
 
 -- ---- the kinds of event that matter
 
--- the content may have changed: a write or a truncation was done
-abbrev pub is_write : Deed → Told → Bool
-is_write (deed.Write file from bytes) told.Done = true
-is_write (deed.Trunc file len) told.Done = true
-is_write _ _ = false
+-- the event modifies the content: a write or a truncation was done
+abbrev pub modifies : Deed → Told → Bool
+modifies (deed.Write file from bytes) told.Done = true
+modifies (deed.Trunc file len) told.Done = true
+modifies _ _ = false
 
 -- a writer is dropped
 abbrev pub drops_writer : Deed → Told → Bool
@@ -30,10 +30,10 @@ drops_writer _ _ = false
 abbrev pub is_last_drop : Deed → Told → List Event → Bool
 is_last_drop d t before = drops_writer d t && (writers before == 1)
 
--- a write or truncation stands at this place or after it
-abbrev pub written_since : ℕ → List Event → Bool
-written_since place [] = false
-written_since place (e ∷ before) = (is_write e.deed e.told && nat_le place (length before)) || written_since place before
+-- the content was modified at this place or after it
+abbrev pub modified_since : ℕ → List Event → Bool
+modified_since place [] = false
+modified_since place (e ∷ before) = (modifies e.deed e.told && nat_le place (length before)) || modified_since place before
 
 -- ---- the file
 
@@ -67,7 +67,7 @@ versions (e ∷ before) = versions_after e.deed e.told (versions before)
 
 abbrev pub content_after : Deed → Told → List ℕ → List ℕ
 content_after deed.Birth (told.Image image) old = image.content
-content_after (deed.Write file from bytes) told.Done old = written old from bytes
+content_after (deed.Write file from bytes) told.Done old = overwritten old from bytes
 content_after (deed.Trunc file len) told.Done old = resized old len
 content_after _ _ old = old
 
@@ -102,7 +102,7 @@ abbrev pub span : List Event → List Event
 span [] = []
 span (e ∷ before) = if raises_writers e.deed e.told before then [] else e ∷ span before
 
--- a write or truncation stands in the span
-abbrev pub is_written : List Event → Bool
-is_written [] = false
-is_written (e ∷ events) = is_write e.deed e.told || is_written events
+-- one of the events modifies the content
+abbrev pub modified_in : List Event → Bool
+modified_in [] = false
+modified_in (e ∷ events) = modifies e.deed e.told || modified_in events

@@ -12,7 +12,7 @@ use Rattle.label_values.specs.Verdicts.{judge}
 use Rattle.label_values.specs.declared.verdict.Verdict.{Verdict}
 use Rattle.inode_events.specs.Checks.{Check, last_check, slot_of}
 use Rattle.inode_events.specs.Inode.{Inode}
-use Rattle.inode_events.specs.Integrity.{Force, chosen_algo, force, label, status, voids_digest}
+use Rattle.inode_events.specs.Integrity.{Digests, chosen_algo, in_force, label, status, voids_digest}
 use Rattle.inode_events.specs.State.{content, new}
 use Rattle.inode_events.specs.declared.deed.Deed.{Deed}
 use Rattle.inode_events.specs.declared.deed.Deed.TheVariants as deed
@@ -62,9 +62,9 @@ same_key a b = same_slot a.slot b.slot && same_need a.need b.need && same_algos 
 -- ---- the verdict in force
 
 -- a change of mode or owner voids the verdicts and leaves the digest
-abbrev pub voids_verdicts : Deed → Told → List Event → Option Force → Bool
-voids_verdicts (deed.SetMeta change) told.Done before force = true
-voids_verdicts d t before force = voids_digest d t before force
+abbrev pub voids_verdicts : Deed → Told → List Event → Option Digests → Bool
+voids_verdicts (deed.SetMeta change) told.Done before digests = true
+voids_verdicts d t before digests = voids_digest d t before digests
 
 -- a grant's verdict is kept under the key of the file's last check
 abbrev pub verdict_kept : Key → ℕ → Option Verdict → List Event → Option Verdict → Option Verdict
@@ -79,7 +79,7 @@ verdict_given key _ _ before old = old
 abbrev pub verdict_in_force : Inode → Key → List Event → Option Verdict
 verdict_in_force inode key [] = None
 verdict_in_force inode key (e ∷ before) =
-    if voids_verdicts e.deed e.told before (force inode before) then None
+    if voids_verdicts e.deed e.told before (in_force inode before) then None
     else verdict_given key e.deed e.told before (verdict_in_force inode key before)
 
 -- ---- verdicts computed anew

@@ -93,12 +93,8 @@ pub enum Deed {
     CloseFinish {
         file: u64,
     },
-    /// One is added to a semaphore. It stands in no inode's journal.
-    Post {
-        sem: u8,
-    },
-    /// One is taken from a semaphore. It stands in no inode's journal.
-    Wait {
-        sem: u8,
-    },
+    /// One is added to a semaphore. It stands in the journal of the semaphores, and in no inode's.
+    Post(u8),
+    /// One is taken from a semaphore. It stands in the journal of the semaphores, and in no inode's.
+    Wait(u8),
 }

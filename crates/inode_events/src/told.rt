@@ -15,7 +15,7 @@ pub struct Grant {
     pub verdict: Option<Verdict>,
     /// Whether the mode admits the file.
     pub admitted: bool,
-    /// Whether mode fix mended the inode's attributes.
+    /// Whether mode fix mended the inode's attributes: it wrote the label, or renewed the HMAC alone.
     pub labelled: bool,
 }
 
@@ -46,7 +46,7 @@ pub enum Told {
     Last,
     /// A read: the number of bytes and their SHA-256.
     Read { n: u64, digest: Digest },
-    /// A write, truncation or change: it was done.
+    /// A write, truncation or change, a post or a wait: it was done.
     Done,
     /// A write or truncation: it would end above the limit on a file.
     TooBig,

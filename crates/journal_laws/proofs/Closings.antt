@@ -10,16 +10,16 @@ use Rattle.inode_events.specs.Files.{writers}
 use Rattle.inode_events.specs.Inode.{Inode}
 use Rattle.inode_events.specs.Integrity.{Collection, attributes, chosen_algo, collecting, digest_from, labelled_by, labelled_with}
 use Rattle.inode_events.specs.Legal.{EachFollows, Follows}
-use Rattle.inode_events.specs.Life.{life}
-use Rattle.inode_events.specs.Life.{Closed}
-use Rattle.inode_events.specs.State.{content, metadata, written_since}
+use Rattle.inode_events.specs.Stage.{stage, is_collecting}
+use Rattle.inode_events.specs.Stage.{CloseCollected}
+use Rattle.inode_events.specs.State.{content, metadata, modified_since}
 use Rattle.inode_events.specs.Says.{close_finish_told}
 use Rattle.inode_events.specs.declared.deed.Deed.TheVariants as deed
 use Rattle.inode_events.specs.declared.told.Event.{Event}
 use Rattle.inode_events.specs.declared.told.Told.TheVariants as told
 use Rattle.journal_laws.proofs.Fresh.{CollectionIs, Fresh}
 use Rattle.journal_laws.proofs.FreshSteps.{finished, freshness_lem}
-use Rattle.journal_laws.proofs.Stages.{Busy, Stages, is_busy, stages}
+use Rattle.journal_laws.proofs.Stages.{Busy, Stages, stages}
 use Rattle.journal_laws.specs.Laws.{labelled_close}
 
 -- the label is written where one writer is left
@@ -32,17 +32,17 @@ one_left n e = at (n == 1) refl e where
 -- the digest that a close gives where its writer is the only one
 closed_digest : (i : Inode) (p : List Event) (c : Collection) → CollectionIs i p (Some c) → c.closing ≡ true → c.complete ≡ true → writers p ≡ 1
     → digest_from c ≡ digest_of i.settings.hash (content p)
-closed_digest i p c h k m one = at (written_since c.begin p) refl where
-  at : (b : Bool) → written_since c.begin p ≡ b → digest_from c ≡ digest_of i.settings.hash (content p)
+closed_digest i p c h k m one = at (modified_since c.begin p) refl where
+  at : (b : Bool) → modified_since c.begin p ≡ b → digest_from c ≡ digest_of i.settings.hash (content p)
   at true w = let many : cond c.closing 1 0 < writers p = h.1 w in let two : 1 < writers p = rw k at many in absurd (omega arith)
   at false w =
       ap (λ (x : List ℕ). digest_of c.algo x) ((h.2 w).1 m)
       ∙ ap (λ (x : Algo). digest_of x (content p)) (h.3 ∙ cond-true c.closing i.settings.hash (chosen_algo i p) k)
 
-labelled_lem : (i : Inode) (p : List Event) (file : ℕ) → life i file p ≡ Closed → writers p ≡ 1 → Stages i p → Fresh i p → (o : Option Collection) → collecting i p ≡ o
+labelled_lem : (i : Inode) (p : List Event) (file : ℕ) → stage i file p ≡ CloseCollected → writers p ≡ 1 → Stages i p → Fresh i p → (o : Option Collection) → collecting i p ≡ o
     → labelled_by i (option_map digest_from o) (metadata p) (attributes i p) ≡ labelled_with i (digest_of i.settings.hash (content p)) (metadata p) (attributes i p)
 labelled_lem i p file l one s fr None e =
-    let b : Busy i p None = subst (λ (x : Option Collection). Busy i p x) e s.0 in absurd (b file (ap is_busy l))
+    let b : Busy i p None = subst (λ (x : Option Collection). Busy i p x) e s.0 in absurd (b file (ap is_collecting l))
 labelled_lem i p file l one s fr (Some c) e =
     let ends : (c.file ≡ file) × (c.closing ≡ true) × (c.complete ≡ true) = finished i p file true l s c e in
     let ci : CollectionIs i p (Some c) = subst (λ (o : Option Collection). CollectionIs i p o) e fr.collection_is in

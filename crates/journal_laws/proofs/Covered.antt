@@ -13,24 +13,23 @@ use Rattle.inode_events.specs.Coverage.{IsAnswered, ShowsContent, ShowsViolation
 use Rattle.inode_events.specs.Files.{files, held, holds, is_reader, is_writer, is_writing, writers}
 use Rattle.inode_events.specs.Grants.{grant_of}
 use Rattle.inode_events.specs.Inode.{Inode}
-use Rattle.inode_events.specs.Integrity.{Collection, Force, chosen_algo, collecting, digest_from, force, force_from}
+use Rattle.inode_events.specs.Integrity.{Collection, Digests, chosen_algo, collecting, digest_from, in_force, digests_of}
 use Rattle.inode_events.specs.Legal.{EachFollows, Follows}
-use Rattle.inode_events.specs.Life.{life}
-use Rattle.inode_events.specs.Life.{Settled}
-use Rattle.inode_events.specs.Listing.{IsFirstIn, IsListed, Listed, StandsIn, added_at, adds, finds, found_at, violated}
-use Rattle.inode_events.specs.Says.{check_told, place_of, spot_in}
-use Rattle.inode_events.specs.State.{content, written_since}
+use Rattle.inode_events.specs.Stage.{stage, is_gone}
+use Rattle.inode_events.specs.Stage.{Settled}
+use Rattle.inode_events.specs.Listing.{FindsEntries, IsFirstIn, IsListed, Listed, StandsIn, added_at, adds, finds, found_at, violated}
+use Rattle.inode_events.specs.Says.{check_told, place_of, placed_in}
+use Rattle.inode_events.specs.State.{content, modified_since}
 use Rattle.inode_events.specs.declared.deed.Deed.{Deed}
 use Rattle.inode_events.specs.declared.deed.Deed.TheVariants as deed
 use Rattle.inode_events.specs.declared.told.Event.{Event}
 use Rattle.inode_events.specs.declared.told.Grant.{Grant}
 use Rattle.inode_events.specs.declared.told.Told.{Told}
 use Rattle.inode_events.specs.declared.told.Told.TheVariants as told
-use Rattle.journal_laws.specs.Laws.{FindsEntries}
-use Rattle.journal_laws.proofs.Fresh.{CollectionIs, ForceIs, Fresh, finish_grants, take_grants}
+use Rattle.journal_laws.proofs.Fresh.{CollectionIs, DigestsIs, Fresh, finish_grants, take_grants}
 use Rattle.journal_laws.proofs.FreshSteps.{collected_fresh, finished, freshness_lem}
-use Rattle.journal_laws.proofs.Guards.{CollectionClean, ForceClean, Guarded, guard_step, held_same}
-use Rattle.journal_laws.proofs.Lives.{alive_before, is_gone, lives}
+use Rattle.journal_laws.proofs.Guards.{CollectionClean, DigestsClean, Guarded, guard_step, held_same}
+use Rattle.journal_laws.proofs.Lives.{alive_before, lives}
 use Rattle.journal_laws.proofs.Small.{event}
 use Rattle.journal_laws.proofs.Stages.{Stages, stages}
 use Rattle.std.proofs.lemmas.List.Elements.{Contains-append_cases}
@@ -82,65 +81,65 @@ walk_any : (i : Inode) (f : ℕ) (b : List Event) (later : List Event) → EachF
     → Progress (λ q. Unit {0}) i f (later ++ b) (places_granted f later)
 walk_any i f b [] h l p = p
 walk_any i f b (e ∷ later) h l p =
-    step (λ q. Unit {0}) i f (later ++ b) e.who e.deed e.told (places_granted f later) h.0 (longer f later b l) (λ grant spot a c d k. tt)
+    step (λ q. Unit {0}) i f (later ++ b) e.who e.deed e.told (places_granted f later) h.0 (longer f later b l) (λ grant placed a c d k. tt)
     (walk_any i f b later h.1 l p)
 
-take_shows : (i : Inode) (list : List Entry) (f g : ℕ) (p : List Event) (bytes : List ℕ) (who : Who) (grant : Grant) (spot : Placed)
+take_shows : (i : Inode) (list : List Entry) (f g : ℕ) (p : List Event) (bytes : List ℕ) (who : Who) (grant : Grant) (placed : Placed)
     → Follows i p who (deed.Take g) (told.Grant grant) → Fresh i p → Guarded i bytes p
     → StandsIn list (adds i (deed.Take g) (told.Grant grant) p) → IsFirstIn list (finds i (deed.Take g) (told.Grant grant) p) → All IsEntry list
-    → ((found : Listed) → finds i (deed.Take g) (told.Grant grant) p ≡ Some found → IsEntry found.1) → grant.placed ≡ Some spot → ShowsContent i list bytes (place_of spot)
-take_shows i list f g p bytes who grant spot h fr gu st fi kept entry placed =
-    let made : (x : Force) × ((force i p ≡ Some x) × (grant_of i g (spot_in (told.Grant grant)) x.digest p ≡ grant)) =
-    take_grants i p g (spot_in (told.Grant grant)) grant (collecting i p) (force i p) h.2 in
+    → ((found : Listed) → finds i (deed.Take g) (told.Grant grant) p ≡ Some found → IsEntry found.1) → grant.placed ≡ Some placed → ShowsContent i list bytes (place_of placed)
+take_shows i list f g p bytes who grant placed h fr gu st fi kept entry names_it =
+    let made : (x : Digests) × ((in_force i p ≡ Some x) × (grant_of i g (placed_in (told.Grant grant)) x.digest p ≡ grant)) =
+    take_grants i p g (placed_in (told.Grant grant)) grant (collecting i p) (in_force i p) h.2 in
     at made.0 made.1.0 where
-      at : (x : Force) → force i p ≡ Some x → ShowsContent i list bytes (place_of spot)
+      at : (x : Digests) → in_force i p ≡ Some x → ShowsContent i list bytes (place_of placed)
       at x e =
-          let fi' : ForceIs i p (Some x) = subst (λ (o : Option Force). ForceIs i p o) e fr.force_is in
-          let clean : written_since x.begin p ≡ false = subst (λ (o : Option Force). ForceClean p o) e gu.clean_force in
-          let ats : added_at grant.placed (force i p) i g p ≡ added_at (Some spot) (Some x) i g p =
-          ap (λ (o : Option Placed). added_at o (force i p) i g p) placed ∙ ap (λ (o : Option Force). added_at (Some spot) o i g p) e in
-          let founds : found_at grant.placed (force i p) i g p ≡ found_at (Some spot) (Some x) i g p =
-          ap (λ (o : Option Placed). found_at o (force i p) i g p) placed ∙ ap (λ (o : Option Force). found_at (Some spot) o i g p) e in
-          shows_listed i list g p x (chosen_algo i p) bytes spot
+          let fi' : DigestsIs i p (Some x) = subst (λ (o : Option Digests). DigestsIs i p o) e fr.digests_is in
+          let clean : modified_since x.begin p ≡ false = subst (λ (o : Option Digests). DigestsClean p o) e gu.clean_digests in
+          let ats : added_at grant.placed (in_force i p) i g p ≡ added_at (Some placed) (Some x) i g p =
+          ap (λ (o : Option Placed). added_at o (in_force i p) i g p) names_it ∙ ap (λ (o : Option Digests). added_at (Some placed) o i g p) e in
+          let founds : found_at grant.placed (in_force i p) i g p ≡ found_at (Some placed) (Some x) i g p =
+          ap (λ (o : Option Placed). found_at o (in_force i p) i g p) names_it ∙ ap (λ (o : Option Digests). found_at (Some placed) o i g p) e in
+          shows_listed i list g p x (chosen_algo i p) bytes placed
           ((fi'.2 clean).0 ∙ ap (digest_of (chosen_algo i p)) gu.same) ((fi'.2 clean).1 ∙ ap (digest_of Sha1) gu.same)
           (subst (λ (o : Option Listed). StandsIn list o) ats st) (subst (λ (o : Option Listed). IsFirstIn list o) founds fi) kept
           (λ found z. entry found (founds ∙ z))
 
-finish_shows : (i : Inode) (list : List Entry) (f g : ℕ) (p : List Event) (bytes : List ℕ) (who : Who) (grant : Grant) (spot : Placed)
+finish_shows : (i : Inode) (list : List Entry) (f g : ℕ) (p : List Event) (bytes : List ℕ) (who : Who) (grant : Grant) (placed : Placed)
     → Follows i p who (deed.Finish g) (told.Grant grant) → Stages i p → Fresh i p → Guarded i bytes p
     → StandsIn list (adds i (deed.Finish g) (told.Grant grant) p) → IsFirstIn list (finds i (deed.Finish g) (told.Grant grant) p) → All IsEntry list
-    → ((found : Listed) → finds i (deed.Finish g) (told.Grant grant) p ≡ Some found → IsEntry found.1) → grant.placed ≡ Some spot → ShowsContent i list bytes (place_of spot)
-finish_shows i list f g p bytes who grant spot h s fr gu st fi kept entry placed =
-    let made : (c : Collection) × ((collecting i p ≡ Some c) × (grant_of i g (spot_in (told.Grant grant)) (digest_from c) p ≡ grant)) =
-    finish_grants i p g (spot_in (told.Grant grant)) grant (collecting i p) h.2 in
+    → ((found : Listed) → finds i (deed.Finish g) (told.Grant grant) p ≡ Some found → IsEntry found.1) → grant.placed ≡ Some placed → ShowsContent i list bytes (place_of placed)
+finish_shows i list f g p bytes who grant placed h s fr gu st fi kept entry names_it =
+    let made : (c : Collection) × ((collecting i p ≡ Some c) × (grant_of i g (placed_in (told.Grant grant)) (digest_from c) p ≡ grant)) =
+    finish_grants i p g (placed_in (told.Grant grant)) grant (collecting i p) h.2 in
     at made.0 made.1.0 where
-      at : (c : Collection) → collecting i p ≡ Some c → ShowsContent i list bytes (place_of spot)
+      at : (c : Collection) → collecting i p ≡ Some c → ShowsContent i list bytes (place_of placed)
       at c e =
           let ends : (c.file ≡ g) × (c.closing ≡ false) × (c.complete ≡ true) = finished i p g false h.1 s c e in
           let ci : CollectionIs i p (Some c) = subst (λ (o : Option Collection). CollectionIs i p o) e fr.collection_is in
-          let clean : written_since c.begin p ≡ false = subst (λ (o : Option Collection). CollectionClean p o) e gu.clean_collecting in
-          let from : option_map force_from (collecting i p) ≡ Some (force_from c) = ap (option_map force_from) e in
-          let ats : added_at grant.placed (option_map force_from (collecting i p)) i g p ≡ added_at (Some spot) (Some (force_from c)) i g p =
-          ap (λ (o : Option Placed). added_at o (option_map force_from (collecting i p)) i g p) placed ∙ ap (λ (o : Option Force). added_at (Some spot) o i g p) from in
-          let founds : found_at grant.placed (option_map force_from (collecting i p)) i g p ≡ found_at (Some spot) (Some (force_from c)) i g p =
-          ap (λ (o : Option Placed). found_at o (option_map force_from (collecting i p)) i g p) placed ∙ ap (λ (o : Option Force). found_at (Some spot) o i g p) from in
-          shows_listed i list g p (force_from c) (chosen_algo i p) bytes spot
+          let clean : modified_since c.begin p ≡ false = subst (λ (o : Option Collection). CollectionClean p o) e gu.clean_collecting in
+          let from : option_map digests_of (collecting i p) ≡ Some (digests_of c) = ap (option_map digests_of) e in
+          let ats : added_at grant.placed (option_map digests_of (collecting i p)) i g p ≡ added_at (Some placed) (Some (digests_of c)) i g p =
+          ap (λ (o : Option Placed). added_at o (option_map digests_of (collecting i p)) i g p) names_it ∙ ap (λ (o : Option Digests). added_at (Some placed) o i g p) from in
+          let founds : found_at grant.placed (option_map digests_of (collecting i p)) i g p ≡ found_at (Some placed) (Some (digests_of c)) i g p =
+          ap (λ (o : Option Placed). found_at o (option_map digests_of (collecting i p)) i g p) names_it ∙ ap (λ (o : Option Digests). found_at (Some placed) o i g p) from in
+          shows_listed i list g p (digests_of c) (chosen_algo i p) bytes placed
           (collected_fresh i p c ci ends.2 clean ends.1 ∙ ap (digest_of (chosen_algo i p)) gu.same)
           (ap (digest_of Sha1) ((ci.2 clean).1 ends.2) ∙ ap (digest_of Sha1) gu.same)
           (subst (λ (o : Option Listed). StandsIn list o) ats st) (subst (λ (o : Option Listed). IsFirstIn list o) founds fi) kept
           (λ found z. entry found (founds ∙ z))
 
-event_shows : (i : Inode) (list : List Entry) (f : ℕ) (p : List Event) (bytes : List ℕ) (who : Who) (d : Deed) (t : Told) (grant : Grant) (spot : Placed)
+event_shows : (i : Inode) (list : List Entry) (f : ℕ) (p : List Event) (bytes : List ℕ) (who : Who) (d : Deed) (t : Told) (grant : Grant) (placed : Placed)
     → Follows i p who d t → Stages i p → Fresh i p → Guarded i bytes p → StandsIn list (adds i d t p) → IsFirstIn list (finds i d t p) → All IsEntry list
     → ((found : Listed) → finds i d t p ≡ Some found → IsEntry found.1)
-    → t ≡ told.Grant grant → grant_places f d t ≡ place_of spot ∷ [] → grant.placed ≡ Some spot → ShowsContent i list bytes (place_of spot)
-event_shows i list f p bytes who (deed.Take g) (told.Grant gr) grant spot h s fr gu st fi kept entry e named placed =
+    → t ≡ told.Grant grant → grant_places f d t ≡ place_of placed ∷ [] → grant.placed ≡ Some placed → ShowsContent i list bytes (place_of placed)
+event_shows i list f p bytes who (deed.Take g) (told.Grant gr) grant placed h s fr gu st fi kept entry e named names_it =
     let same : gr ≡ grant = cc in
-    take_shows i list f g p bytes who gr spot h fr gu st fi kept entry (ap (λ (x : Grant). x.placed) same ∙ placed)
-event_shows i list f p bytes who (deed.Finish g) (told.Grant gr) grant spot h s fr gu st fi kept entry e named placed =
+    take_shows i list f g p bytes who gr placed h fr gu st fi kept entry (ap (λ (x : Grant). x.placed) same ∙ names_it)
+event_shows i list f p bytes who (deed.Finish g) (told.Grant gr) grant placed h s fr gu st fi kept entry e named names_it =
     let same : gr ≡ grant = cc in
-    finish_shows i list f g p bytes who gr spot h s fr gu st fi kept entry (ap (λ (x : Grant). x.placed) same ∙ placed)
-event_shows i list f p bytes who d t grant spot h s fr gu st fi kept entry e named placed = cc
+    finish_shows i list f g p bytes who gr placed h s fr gu st fi kept entry (ap (λ (x : Grant). x.placed) same ∙ names_it)
+event_shows i list f p bytes who d t grant placed h s fr gu st fi kept entry e named names_it = cc
 
 nil_parts : (xs ys : List ℕ) → xs ++ ys ≡ [] → (xs ≡ []) × (ys ≡ [])
 nil_parts [] ys h = (refl, h)
@@ -148,7 +147,7 @@ nil_parts (x ∷ xs) ys h = cc
 
 walk_guarded : (i : Inode) (list : List Entry) (f : ℕ) (check : Event) (before : List Event) (bytes : List ℕ) (later : List Event)
     → EachFollows i (later ++ check ∷ before) → f < length (check ∷ before) → places_violated (later ++ check ∷ []) ≡ []
-    → is_gone (life i f (later ++ check ∷ before)) ≡ false → holds is_reader (held f (later ++ check ∷ before)) ≡ true
+    → is_gone (stage i f (later ++ check ∷ before)) ≡ false → holds is_reader (held f (later ++ check ∷ before)) ≡ true
     → IsListed i list (later ++ check ∷ before) → FindsEntries i (later ++ check ∷ before) → All IsEntry list
     → (violation_places check.deed check.told ≡ [] → holds is_reader (held f (check ∷ before)) ≡ true → Guarded i bytes (check ∷ before))
     → Progress (ShowsContent i list bytes) i f (check ∷ before) []
@@ -157,7 +156,7 @@ walk_guarded i list f check before bytes [] h l v alive reads listed entries kep
     (base (nil_parts (violation_places check.deed check.told) [] v).0 reads, p)
 walk_guarded i list f check before bytes (e ∷ later) h l v alive reads listed entries kept base p =
     let lt : f < length (later ++ check ∷ before) = longer f later (check ∷ before) l in
-    let was : is_gone (life i f (later ++ check ∷ before)) ≡ false = alive_before i (later ++ check ∷ before) e.who e.deed e.told h.0 f lt alive in
+    let was : is_gone (stage i f (later ++ check ∷ before)) ≡ false = alive_before i (later ++ check ∷ before) e.who e.deed e.told h.0 f lt alive in
     let reading : holds is_reader (held f (later ++ check ∷ before)) ≡ true =
     sym (ap (holds is_reader) (held_same i (later ++ check ∷ before) e.who e.deed e.told f lt alive)) ∙ reads in
     let parts : (violation_places e.deed e.told ≡ []) × (places_violated (later ++ check ∷ []) ≡ []) =
@@ -166,8 +165,8 @@ walk_guarded i list f check before bytes (e ∷ later) h l v alive reads listed 
     walk_guarded i list f check before bytes later h.1 l parts.1 was reading listed.2 entries.1 kept base p in (
       guard_step i bytes (later ++ check ∷ before) e.who e.deed e.told f h.0 (stages i (later ++ check ∷ before) h.1) reading parts.0 ih.0,
       step (ShowsContent i list bytes) i f (later ++ check ∷ before) e.who e.deed e.told (places_granted f later) h.0 lt
-          (λ grant spot a n placed k. event_shows i list f (later ++ check ∷ before) bytes e.who e.deed e.told grant spot h.0 (stages i (later ++ check ∷ before) h.1)
-          (freshness_lem i (later ++ check ∷ before) h.1) ih.0 listed.0 listed.1 kept entries.0 a n placed) ih.1,
+          (λ grant placed a n names_it k. event_shows i list f (later ++ check ∷ before) bytes e.who e.deed e.told grant placed h.0 (stages i (later ++ check ∷ before) h.1)
+          (freshness_lem i (later ++ check ∷ before) h.1) ih.0 listed.0 listed.1 kept entries.0 a n names_it) ih.1,
     )
 
 -- ---- at the check
@@ -194,25 +193,25 @@ quiet_check r w place must g func action rules t m e v = at (nat_lt 0 w) refl wh
       let none : w ≤ 0 = ltb-false 0 w q in
       (sym (sym (cond-false (action.measure && nat_lt 0 w) (told.OpenWriters place) told.Quiet c) ∙ same), omega arith)
 
-clean_force_at : (i : Inode) (p : List Event) → writers p ≡ 0 → (o : Option Force) → ForceIs i p o → ForceClean p o
-clean_force_at i p none None h = tt
-clean_force_at i p none (Some x) h = at (written_since x.begin p) refl where
-  at : (b : Bool) → written_since x.begin p ≡ b → written_since x.begin p ≡ false
+clean_digests_at : (i : Inode) (p : List Event) → writers p ≡ 0 → (o : Option Digests) → DigestsIs i p o → DigestsClean p o
+clean_digests_at i p none None h = tt
+clean_digests_at i p none (Some x) h = at (modified_since x.begin p) refl where
+  at : (b : Bool) → modified_since x.begin p ≡ b → modified_since x.begin p ≡ false
   at true e = let some : 0 < writers p = h.1 e in absurd (omega arith)
   at false e = e
 
 clean_collecting_at : (i : Inode) (p : List Event) → writers p ≡ 0 → (o : Option Collection) → CollectionIs i p o → CollectionClean p o
 clean_collecting_at i p none None h = tt
-clean_collecting_at i p none (Some c) h = at (written_since c.begin p) refl where
-  at : (b : Bool) → written_since c.begin p ≡ b → written_since c.begin p ≡ false
+clean_collecting_at i p none (Some c) h = at (modified_since c.begin p) refl where
+  at : (b : Bool) → modified_since c.begin p ≡ b → modified_since c.begin p ≡ false
   at true e = let some : cond c.closing 1 0 < writers p = h.1 e in absurd (omega arith)
   at false e = e
 
-clean_more : (p q : List Event) → ((place : ℕ) → written_since place q ≡ written_since place p) → (o : Option Force) → ForceClean p o → ForceClean q o
+clean_more : (p q : List Event) → ((place : ℕ) → modified_since place q ≡ modified_since place p) → (o : Option Digests) → DigestsClean p o → DigestsClean q o
 clean_more p q since None h = tt
 clean_more p q since (Some x) h = since x.begin ∙ h
 
-collection_more : (p q : List Event) → ((place : ℕ) → written_since place q ≡ written_since place p) → (o : Option Collection) → CollectionClean p o → CollectionClean q o
+collection_more : (p q : List Event) → ((place : ℕ) → modified_since place q ≡ modified_since place p) → (o : Option Collection) → CollectionClean p o → CollectionClean q o
 collection_more p q since None h = tt
 collection_more p q since (Some x) h = since x.begin ∙ h
 
@@ -222,7 +221,7 @@ quiet_base i p who g func action rules m w none fr = record {
   same = refl;
   marked = or_right (must_measure p) (action.measure && not (is_writing g p)) (ap (λ (b : Bool). b && not (is_writing g p)) m ∙ ap not w);
   unchecked = λ x a wr. let some : 0 < writers p = tally_held is_writer x (files p) wr in absurd (omega arith);
-  clean_force = clean_more p (event who (deed.Check g func action rules) told.Quiet ∷ p) (λ place. refl) (force i p) (clean_force_at i p none (force i p) fr.force_is);
+  clean_digests = clean_more p (event who (deed.Check g func action rules) told.Quiet ∷ p) (λ place. refl) (in_force i p) (clean_digests_at i p none (in_force i p) fr.digests_is);
   clean_collecting = collection_more p (event who (deed.Check g func action rules) told.Quiet ∷ p) (λ place. refl) (collecting i p) (clean_collecting_at i p none (collecting i p) fr.collection_is);
 }
 
@@ -231,9 +230,9 @@ base : (i : Inode) (p : List Event) (who : Who) (d : Deed) (t : Told) (f : ℕ) 
 base i p who (deed.Check g func action rules) t f e h fr v reads =
     let parts : ((g == f) ≡ true) × (action.measure ≡ true) = and_parts _ _ e in
     let w : is_writing g p ≡ false = ap (λ (x : ℕ). is_writing x p) (eqb-true g f parts.0) ∙ reader_no_writer (held f p) reads in
-    let said : Some (check_told false action.measure (readers p) (writers p) (must_measure p) (place_of (spot_in t))) ≡ Some t =
-    sym (ap (λ (b : Bool). Some (check_told b action.measure (readers p) (writers p) (must_measure p) (place_of (spot_in t)))) w) ∙ h.2 in
-    let q : (t ≡ told.Quiet) × (writers p ≡ 0) = quiet_check (readers p) (writers p) (place_of (spot_in t)) (must_measure p) g func action rules t parts.1 said v in
+    let said : Some (check_told false action.measure (readers p) (writers p) (must_measure p) (place_of (placed_in t))) ≡ Some t =
+    sym (ap (λ (b : Bool). Some (check_told b action.measure (readers p) (writers p) (must_measure p) (place_of (placed_in t)))) w) ∙ h.2 in
+    let q : (t ≡ told.Quiet) × (writers p ≡ 0) = quiet_check (readers p) (writers p) (place_of (placed_in t)) (must_measure p) g func action rules t parts.1 said v in
     subst (λ (x : Told). Guarded i (content p) (event who (deed.Check g func action rules) x ∷ p)) (sym q.0) (quiet_base i p who g func action rules parts.1 w q.1 fr)
 base i p who d t f e h fr v reads = cc
 
@@ -243,19 +242,19 @@ follows_at : (i : Inode) (later : List Event) (b : List Event) → EachFollows i
 follows_at i [] b h = h
 follows_at i (e ∷ later) b h = follows_at i later b h.1
 
-settled : (P : ℕ → Type 0) (i : Inode) (f : ℕ) (p : List Event) (places : List ℕ) → life i f p ≡ Settled → Progress P i f p places → (q : ℕ) × (Contains places q × P q)
-settled P i f p places e (inl o) = let z : is_owing (life i f p) ≡ false = ap is_owing e in cc
+settled : (P : ℕ → Type 0) (i : Inode) (f : ℕ) (p : List Event) (places : List ℕ) → stage i f p ≡ Settled → Progress P i f p places → (q : ℕ) × (Contains places q × P q)
+settled P i f p places e (inl o) = let z : is_owing (stage i f p) ≡ false = ap is_owing e in cc
 settled P i f p places e (inr g) = g
 
 answered : (i : Inode) (list : List Entry) (f : ℕ) (later : List Event) (check : Event) (before : List Event) → EachFollows i (later ++ check ∷ before)
-    → life i f (later ++ check ∷ before) ≡ Settled → holds is_reader (held f (later ++ check ∷ before)) ≡ true → is_measuring f check.deed ≡ true
+    → stage i f (later ++ check ∷ before) ≡ Settled → holds is_reader (held f (later ++ check ∷ before)) ≡ true → is_measuring f check.deed ≡ true
     → IsListed i list (later ++ check ∷ before) → All IsEntry list → FindsEntries i (later ++ check ∷ before)
     → IsAnswered i list f (content (later ++ check ∷ before)) later check
 answered i list f later check before h s reads m listed kept entries = at (places_violated (later ++ check ∷ [])) refl where
   here : EachFollows i (check ∷ before)
   here = follows_at i later (check ∷ before) h
 
-  asked : (is_owing (life i f (check ∷ before)) ≡ true) × ((last_check f (check ∷ before)).action.measure ≡ true) × (is_gone (life i f before) ≡ false)
+  asked : (is_owing (stage i f (check ∷ before)) ≡ true) × ((last_check f (check ∷ before)).action.measure ≡ true) × (is_gone (stage i f before) ≡ false)
   asked = check_asks i f before check m here.0
 
   low : f < length (check ∷ before)
@@ -278,10 +277,10 @@ answered i list f later check before h s reads m listed kept entries = at (place
       let has : Contains (places_violated (later ++ check ∷ [])) v = subst (λ (xs : List ℕ). Contains xs v) (sym e) (0, omega arith, refl) in
       (got.0, (got.1.0, inr (v, (has, violations_shown i list later check before v listed has))))
 
-pub covered : (i : Inode) (list : List Entry) (p : List Event) (file : ℕ) → EachFollows i p → life i file p ≡ Settled → holds is_reader (held file p) ≡ true
+pub covered : (i : Inode) (list : List Entry) (p : List Event) (file : ℕ) → EachFollows i p → stage i file p ≡ Settled → holds is_reader (held file p) ≡ true
     → IsListed i list p → All IsEntry list → FindsEntries i p → IsCovered i list file p
 covered i list p file h s reads listed kept entries = λ later check before e m.
     subst (λ (x : List Event). IsAnswered i list file (content x) later check) (sym e)
-    (answered i list file later check before (subst (λ (x : List Event). EachFollows i x) e h) (subst (λ (x : List Event). life i file x ≡ Settled) e s)
+    (answered i list file later check before (subst (λ (x : List Event). EachFollows i x) e h) (subst (λ (x : List Event). stage i file x ≡ Settled) e s)
     (subst (λ (x : List Event). holds is_reader (held file x) ≡ true) e reads) m (subst (λ (x : List Event). IsListed i list x) e listed) kept
     (subst (λ (x : List Event). FindsEntries i x) e entries))

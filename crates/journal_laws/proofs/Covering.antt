@@ -26,12 +26,12 @@ use Rattle.inode_events.specs.Checks.{Check, appraises, asks, check_after, last_
 use Rattle.inode_events.specs.Coverage.{ShowsContent, grant_places, is_measuring, place_in}
 use Rattle.inode_events.specs.Grants.{grant_of}
 use Rattle.inode_events.specs.Inode.{Inode}
-use Rattle.inode_events.specs.Integrity.{Collection, Force, collecting, digest_from, force}
+use Rattle.inode_events.specs.Integrity.{Collection, Digests, collecting, digest_from, in_force}
 use Rattle.inode_events.specs.Legal.{Follows}
-use Rattle.inode_events.specs.Life.{Life, life, lived, may_check, touches}
-use Rattle.inode_events.specs.Life.{Gone, Counted, Asked, Taking, Taken, Settled, Closing, Closed}
+use Rattle.inode_events.specs.Stage.{Stage, stage, next_stage, may_check, touches, is_gone}
+use Rattle.inode_events.specs.Stage.{Gone, Counted, Asked, Collecting, Collected, Settled, CloseCollecting, CloseCollected}
 use Rattle.inode_events.specs.Listing.{IsFirstIn, Listed, StandsIn, added_at, found_at, measured, template_for}
-use Rattle.inode_events.specs.Says.{place_of, spot_in}
+use Rattle.inode_events.specs.Says.{place_of, placed_in}
 use Rattle.inode_events.specs.declared.deed.Deed.{Deed}
 use Rattle.inode_events.specs.declared.deed.Deed.TheVariants as deed
 use Rattle.inode_events.specs.declared.told.Event.{Event}
@@ -39,7 +39,7 @@ use Rattle.inode_events.specs.declared.told.Grant.{Grant}
 use Rattle.inode_events.specs.declared.told.Told.{Told}
 use Rattle.inode_events.specs.declared.told.Told.TheVariants as told
 use Rattle.journal_laws.proofs.Fresh.{finish_grants, take_grants}
-use Rattle.journal_laws.proofs.Lives.{check_alive, is_gone}
+use Rattle.journal_laws.proofs.Lives.{check_alive}
 use Rattle.journal_laws.proofs.Small.{cond_same, event}
 
 -- ---- what a place of the list shows
@@ -69,7 +69,7 @@ shown_of ImaSig algo bytes = refl
 shown_of ImaBuf algo bytes = refl
 
 -- the digest of a measurement
-measured_digest : (i : Inode) (f : ℕ) (x : Force) (p : List Event) (algo : Algo) (bytes : List ℕ) → x.digest ≡ digest_of algo bytes → x.sha1 ≡ digest_of Sha1 bytes
+measured_digest : (i : Inode) (f : ℕ) (x : Digests) (p : List Event) (algo : Algo) (bytes : List ℕ) → x.digest ≡ digest_of algo bytes → x.sha1 ≡ digest_of Sha1 bytes
     → (measured i f x p).digest ≡ digest_of (measured i f x p).digest.algo bytes
 measured_digest i f x p algo bytes d s =
     let t : Template = template_for i (last_check f p).action in
@@ -85,11 +85,11 @@ first_shows list e place h =
     position-Some (λ (y : Entry). same y e) list place e h in
     (slice_get-get_or list place e a.0, a.1, a.0)
 
-pub shows_listed : (i : Inode) (list : List Entry) (f : ℕ) (p : List Event) (x : Force) (algo : Algo) (bytes : List ℕ) (spot : Placed)
+pub shows_listed : (i : Inode) (list : List Entry) (f : ℕ) (p : List Event) (x : Digests) (algo : Algo) (bytes : List ℕ) (placed : Placed)
     → x.digest ≡ digest_of algo bytes → x.sha1 ≡ digest_of Sha1 bytes
-    → StandsIn list (added_at (Some spot) (Some x) i f p) → IsFirstIn list (found_at (Some spot) (Some x) i f p)
-    → All IsEntry list → ((found : Listed) → found_at (Some spot) (Some x) i f p ≡ Some found → IsEntry found.1)
-    → ShowsContent i list bytes (place_of spot)
+    → StandsIn list (added_at (Some placed) (Some x) i f p) → IsFirstIn list (found_at (Some placed) (Some x) i f p)
+    → All IsEntry list → ((found : Listed) → found_at (Some placed) (Some x) i f p ≡ Some found → IsEntry found.1)
+    → ShowsContent i list bytes (place_of placed)
 shows_listed i list f p x algo bytes (Added place) d s st fi kept entry = (measured i f x p, (st, refl, refl, measured_digest i f x p algo bytes d s))
 shows_listed i list f p x algo bytes (Already place) d s st fi kept entry =
     let e : Entry = measured i f x p in
@@ -109,115 +109,115 @@ shows_listed i list f p x algo bytes (Already place) d s st fi kept entry =
 
 -- ---- a grant is owed until it is given
 
-abbrev pub is_owing : Life → Bool
+abbrev pub is_owing : Stage → Bool
 is_owing Asked = true
-is_owing Taking = true
-is_owing Taken = true
+is_owing Collecting = true
+is_owing Collected = true
 is_owing _ = false
 
 abbrev pub Progress : (ℕ → Type 0) → Inode → ℕ → List Event → List ℕ → Type 0
 Progress P i f p places =
-    ((is_owing (life i f p) ≡ true) × ((last_check f p).action.measure ≡ true)) ⊎ ((q : ℕ) × (Contains places q × P q))
+    ((is_owing (stage i f p) ≡ true) × ((last_check f p).action.measure ≡ true)) ⊎ ((q : ℕ) × (Contains places q × P q))
 
-check_not_owing : (l : Life) → may_check l ≡ true → is_owing l ≡ false
+check_not_owing : (l : Stage) → may_check l ≡ true → is_owing l ≡ false
 check_not_owing Gone m = cc
 check_not_owing Counted m = refl
 check_not_owing Asked m = cc
-check_not_owing Taking m = cc
-check_not_owing Taken m = cc
+check_not_owing Collecting m = cc
+check_not_owing Collected m = cc
 check_not_owing Settled m = refl
-check_not_owing Closing m = cc
-check_not_owing Closed m = cc
+check_not_owing CloseCollecting m = cc
+check_not_owing CloseCollected m = cc
 
-owe_other : (i : Inode) (p : List Event) (g f : ℕ) (after l : Life) → life i g p ≡ l → is_owing l ≡ false → is_owing (life i f p) ≡ true
-    → is_owing (cond (g == f) after (life i f p)) ≡ true
+owe_other : (i : Inode) (p : List Event) (g f : ℕ) (after l : Stage) → stage i g p ≡ l → is_owing l ≡ false → is_owing (stage i f p) ≡ true
+    → is_owing (cond (g == f) after (stage i f p)) ≡ true
 owe_other i p g f after l e n o = at (g == f) refl where
-  at : (b : Bool) → (g == f) ≡ b → is_owing (cond b after (life i f p)) ≡ true
-  at true q = let z : life i f p ≡ l = subst (λ (x : ℕ). life i x p ≡ l) (eqb-true g f q) e in cc (ap is_owing z)
+  at : (b : Bool) → (g == f) ≡ b → is_owing (cond b after (stage i f p)) ≡ true
+  at true q = let z : stage i f p ≡ l = subst (λ (x : ℕ). stage i x p ≡ l) (eqb-true g f q) e in cc (ap is_owing z)
   at false q = o
 
-owe_after : (b : Bool) (after old : Life) → is_owing after ≡ true → is_owing old ≡ true → is_owing (cond b after old) ≡ true
+owe_after : (b : Bool) (after old : Stage) → is_owing after ≡ true → is_owing old ≡ true → is_owing (cond b after old) ≡ true
 owe_after true after old a o = a
 owe_after false after old a o = o
 
-owe_counted : (f : ℕ) (p : List Event) (old : Life) → f < length p → is_owing old ≡ true → is_owing (cond (length p == f) Counted old) ≡ true
+owe_counted : (f : ℕ) (p : List Event) (old : Stage) → f < length p → is_owing old ≡ true → is_owing (cond (length p == f) Counted old) ≡ true
 owe_counted f p old b o = at (length p == f) refl where
   at : (x : Bool) → (length p == f) ≡ x → is_owing (cond x Counted old) ≡ true
   at true q = let s : length p ≡ f = eqb-true (length p) f q in absurd (omega arith)
   at false q = o
 
-owe_check : (i : Inode) (p : List Event) (g f : ℕ) (new : Check) → may_check (life i g p) ≡ true → is_owing (life i f p) ≡ true
+owe_check : (i : Inode) (p : List Event) (g f : ℕ) (new : Check) → may_check (stage i g p) ≡ true → is_owing (stage i f p) ≡ true
     → cond (g == f) new (last_check f p) ≡ last_check f p
 owe_check i p g f new m o = at (g == f) refl where
   at : (b : Bool) → (g == f) ≡ b → cond b new (last_check f p) ≡ last_check f p
-  at true q = let z : is_owing (life i f p) ≡ false = subst (λ (x : ℕ). is_owing (life i x p) ≡ false) (eqb-true g f q) (check_not_owing (life i g p) m) in cc
+  at true q = let z : is_owing (stage i f p) ≡ false = subst (λ (x : ℕ). is_owing (stage i x p) ≡ false) (eqb-true g f q) (check_not_owing (stage i g p) m) in cc
   at false q = refl
 
 -- the grant of the file names a place
-given : (P : ℕ → Type 0) (i : Inode) (f g : ℕ) (p : List Event) (grant : Grant) (spot : Placed) (places : List ℕ) → (last_check f p).action.measure ≡ true
-    → ((g == f) ≡ true → grant.placed ≡ cond (last_check g p).action.measure (Some spot) None) → is_owing (life i f p) ≡ true
-    → ((g == f) ≡ true → grant.placed ≡ Some spot → P (place_of spot))
-    → ((is_owing (cond (g == f) Settled (life i f p)) ≡ true) × ((last_check f p).action.measure ≡ true))
+given : (P : ℕ → Type 0) (i : Inode) (f g : ℕ) (p : List Event) (grant : Grant) (placed : Placed) (places : List ℕ) → (last_check f p).action.measure ≡ true
+    → ((g == f) ≡ true → grant.placed ≡ cond (last_check g p).action.measure (Some placed) None) → is_owing (stage i f p) ≡ true
+    → ((g == f) ≡ true → grant.placed ≡ Some placed → P (place_of placed))
+    → ((is_owing (cond (g == f) Settled (stage i f p)) ≡ true) × ((last_check f p).action.measure ≡ true))
     ⊎ ((q : ℕ) × (Contains (cond (g == f) (place_in grant.placed) [] ++ places) q × P q))
-given P i f g p grant spot places m made o shows = at (g == f) refl where
-  at : (b : Bool) → (g == f) ≡ b → ((is_owing (cond b Settled (life i f p)) ≡ true) × ((last_check f p).action.measure ≡ true))
+given P i f g p grant placed places m made o shows = at (g == f) refl where
+  at : (b : Bool) → (g == f) ≡ b → ((is_owing (cond b Settled (stage i f p)) ≡ true) × ((last_check f p).action.measure ≡ true))
       ⊎ ((q : ℕ) × (Contains (cond b (place_in grant.placed) [] ++ places) q × P q))
   at true e =
       let mm : (last_check g p).action.measure ≡ true = subst (λ (x : ℕ). (last_check x p).action.measure ≡ true) (sym (eqb-true g f e)) m in
-      let placed : grant.placed ≡ Some spot = made e ∙ cond-true _ (Some spot) None mm in
+      let names_it : grant.placed ≡ Some placed = made e ∙ cond-true _ (Some placed) None mm in
       inr (
-        place_of spot,
+        place_of placed,
         (
-          subst (λ (o : Option Placed). Contains (place_in o ++ places) (place_of spot)) (sym placed)
-              (Contains-append_left (place_of spot ∷ []) places (place_of spot) (0, omega arith, refl)),
-          shows e placed,
+          subst (λ (o : Option Placed). Contains (place_in o ++ places) (place_of placed)) (sym names_it)
+              (Contains-append_left (place_of placed ∷ []) places (place_of placed) (0, omega arith, refl)),
+          shows e names_it,
         ),
       )
   at false e = inl (o, m)
 
 pub step : (P : ℕ → Type 0) (i : Inode) (f : ℕ) (p : List Event) (who : Who) (d : Deed) (t : Told) (places : List ℕ) → Follows i p who d t → f < length p
-    → ((grant : Grant) (spot : Placed) → t ≡ told.Grant grant → grant_places f d t ≡ place_of spot ∷ [] → grant.placed ≡ Some spot → spot_in t ≡ spot → P (place_of spot))
+    → ((grant : Grant) (placed : Placed) → t ≡ told.Grant grant → grant_places f d t ≡ place_of placed ∷ [] → grant.placed ≡ Some placed → placed_in t ≡ placed → P (place_of placed))
     → Progress P i f p places → Progress P i f (event who d t ∷ p) (grant_places f d t ++ places)
 step P i f p who d t places h b shows (inr g) = inr (g.0, (Contains-append_right (grant_places f d t) places g.0 g.1.0, g.1.1))
 step P i f p who deed.Birth t places h b shows (inl o) = inl o
-step P i f p who (deed.Count how) told.Held places h b shows (inl o) = inl (owe_counted f p (life i f p) b o.0, o.1)
+step P i f p who (deed.Count how) told.Held places h b shows (inl o) = inl (owe_counted f p (stage i f p) b o.0, o.1)
 step P i f p who (deed.Check g func action rules) t places h b shows (inl o) =
     inl (
-      owe_other i p g f (cond (asks i action) Asked Settled) (life i g p) refl (check_not_owing (life i g p) h.1) o.0,
+      owe_other i p g f (cond (asks i action) Asked Settled) (stage i g p) refl (check_not_owing (stage i g p) h.1) o.0,
       ap (λ (c : Check). c.action.measure) (owe_check i p g f (record { func = func; action = action }) h.1 o.0) ∙ o.1,
     )
-step P i f p who (deed.Take g) told.Begun places h b shows (inl o) = inl (owe_after (g == f) Taking (life i f p) refl o.0, o.1)
+step P i f p who (deed.Take g) told.Begun places h b shows (inl o) = inl (owe_after (g == f) Collecting (stage i f p) refl o.0, o.1)
 step P i f p who (deed.Take g) (told.Grant grant) places h b shows (inl o) =
-    given P i f g p grant (spot_in (told.Grant grant)) places o.1
-    (λ e. let made : (x : Force) × ((force i p ≡ Some x) × (grant_of i g (spot_in (told.Grant grant)) x.digest p ≡ grant)) =
-    take_grants i p g (spot_in (told.Grant grant)) grant (collecting i p) (force i p) h.2 in sym (ap (λ (y : Grant). y.placed) made.1.1)) o.0
-    (λ e placed. shows grant (spot_in (told.Grant grant)) refl (cond-true (g == f) (place_in grant.placed) [] e ∙ ap place_in placed) placed refl)
-step P i f p who (deed.Chunk g) told.Last places h b shows (inl o) = inl (owe_after (g == f) Taken (life i f p) refl o.0, o.1)
+    given P i f g p grant (placed_in (told.Grant grant)) places o.1
+    (λ e. let made : (x : Digests) × ((in_force i p ≡ Some x) × (grant_of i g (placed_in (told.Grant grant)) x.digest p ≡ grant)) =
+    take_grants i p g (placed_in (told.Grant grant)) grant (collecting i p) (in_force i p) h.2 in sym (ap (λ (y : Grant). y.placed) made.1.1)) o.0
+    (λ e names_it. shows grant (placed_in (told.Grant grant)) refl (cond-true (g == f) (place_in grant.placed) [] e ∙ ap place_in names_it) names_it refl)
+step P i f p who (deed.Chunk g) told.Last places h b shows (inl o) = inl (owe_after (g == f) Collected (stage i f p) refl o.0, o.1)
 step P i f p who (deed.Finish g) (told.Grant grant) places h b shows (inl o) =
-    given P i f g p grant (spot_in (told.Grant grant)) places o.1
-    (λ e. let made : (c : Collection) × ((collecting i p ≡ Some c) × (grant_of i g (spot_in (told.Grant grant)) (digest_from c) p ≡ grant)) =
-    finish_grants i p g (spot_in (told.Grant grant)) grant (collecting i p) h.2 in sym (ap (λ (y : Grant). y.placed) made.1.1)) o.0
-    (λ e placed. shows grant (spot_in (told.Grant grant)) refl (cond-true (g == f) (place_in grant.placed) [] e ∙ ap place_in placed) placed refl)
+    given P i f g p grant (placed_in (told.Grant grant)) places o.1
+    (λ e. let made : (c : Collection) × ((collecting i p ≡ Some c) × (grant_of i g (placed_in (told.Grant grant)) (digest_from c) p ≡ grant)) =
+    finish_grants i p g (placed_in (told.Grant grant)) grant (collecting i p) h.2 in sym (ap (λ (y : Grant). y.placed) made.1.1)) o.0
+    (λ e names_it. shows grant (placed_in (told.Grant grant)) refl (cond-true (g == f) (place_in grant.placed) [] e ∙ ap place_in names_it) names_it refl)
 step P i f p who (deed.Close g) told.Dropped places h b shows (inl o) = inl (owe_other i p g f Gone Settled h.1.0 refl o.0, o.1)
-step P i f p who (deed.CloseTake g) told.Begun places h b shows (inl o) = inl (owe_other i p g f Closing Settled h.1.0 refl o.0, o.1)
+step P i f p who (deed.CloseTake g) told.Begun places h b shows (inl o) = inl (owe_other i p g f CloseCollecting Settled h.1.0 refl o.0, o.1)
 step P i f p who (deed.CloseTake g) told.Dropped places h b shows (inl o) = inl (owe_other i p g f Gone Settled h.1.0 refl o.0, o.1)
-step P i f p who (deed.CloseChunk g) told.Last places h b shows (inl o) = inl (owe_other i p g f Closed Closing h.1 refl o.0, o.1)
-step P i f p who (deed.CloseFinish g) told.Dropped places h b shows (inl o) = inl (owe_other i p g f Gone Closed h.1 refl o.0, o.1)
-step P i f p who (deed.CloseFinish g) told.LabelledDropped places h b shows (inl o) = inl (owe_other i p g f Gone Closed h.1 refl o.0, o.1)
-step P i f p who d t places h b shows (inl o) = inl (ap is_owing (cond_same (touches f (length p) d) (life i f p)) ∙ o.0, o.1)
+step P i f p who (deed.CloseChunk g) told.Last places h b shows (inl o) = inl (owe_other i p g f CloseCollected CloseCollecting h.1 refl o.0, o.1)
+step P i f p who (deed.CloseFinish g) told.Dropped places h b shows (inl o) = inl (owe_other i p g f Gone CloseCollected h.1 refl o.0, o.1)
+step P i f p who (deed.CloseFinish g) told.LabelledDropped places h b shows (inl o) = inl (owe_other i p g f Gone CloseCollected h.1 refl o.0, o.1)
+step P i f p who d t places h b shows (inl o) = inl (ap is_owing (cond_same (touches f (length p) d) (stage i f p)) ∙ o.0, o.1)
 
 -- ---- the check
 
 -- it asks for a take
 pub check_asks : (i : Inode) (f : ℕ) (before : List Event) (check : Event) → is_measuring f check.deed ≡ true → Follows i before check.who check.deed check.told
-    → (is_owing (life i f (check ∷ before)) ≡ true) × ((last_check f (check ∷ before)).action.measure ≡ true) × (is_gone (life i f before) ≡ false)
+    → (is_owing (stage i f (check ∷ before)) ≡ true) × ((last_check f (check ∷ before)).action.measure ≡ true) × (is_gone (stage i f before) ≡ false)
 check_asks i f before check m h = at check.deed m h where
   at : (d : Deed) → is_measuring f d ≡ true → Follows i before check.who d check.told
-      → (is_owing (lived i f (length before) d check.told (life i f before)) ≡ true) × ((check_after f d (last_check f before)).action.measure ≡ true) × (is_gone (life i f before) ≡ false)
+      → (is_owing (next_stage i f (length before) d check.told (stage i f before)) ≡ true) × ((check_after f d (last_check f before)).action.measure ≡ true) × (is_gone (stage i f before) ≡ false)
   at (deed.Check g func action rules) e h =
       let parts : ((g == f) ≡ true) × (action.measure ≡ true) = and_parts _ _ e in (
         ap is_owing (cond-true (g == f) _ _ parts.0 ∙ cond-true (asks i action) Asked Settled (or_left action.measure (appraises i action) parts.1)),
         ap (λ (c : Check). c.action.measure) (cond-true (g == f) (record { func = func; action = action }) (last_check f before) parts.0) ∙ parts.1,
-        subst (λ (x : ℕ). is_gone (life i x before) ≡ false) (eqb-true g f parts.0) (check_alive (life i g before) h.1),
+        subst (λ (x : ℕ). is_gone (stage i x before) ≡ false) (eqb-true g f parts.0) (check_alive (stage i g before) h.1),
       )
   at _ e h = cc

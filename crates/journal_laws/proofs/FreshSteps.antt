@@ -17,12 +17,12 @@ use Rattle.inode_events.specs.Checks.{Check, last_check}
 use Rattle.inode_events.specs.Files.{files, less_file, is_writer, is_writing, tally, writers}
 use Rattle.inode_events.specs.Grants.{grant_of, verdict_for}
 use Rattle.inode_events.specs.Inode.{Inode}
-use Rattle.inode_events.specs.Integrity.{Collection, Force, attributes, chosen_algo, collecting, digest_from, force, force_from, label, label_in}
+use Rattle.inode_events.specs.Integrity.{Collection, Digests, attributes, chosen_algo, collecting, digest_from, in_force, digests_of, label, label_in}
 use Rattle.inode_events.specs.Legal.{EachFollows, Follows}
-use Rattle.inode_events.specs.Life.{Closed}
-use Rattle.inode_events.specs.Life.{life}
-use Rattle.inode_events.specs.Says.{spot_in}
-use Rattle.inode_events.specs.State.{content, new, present, versions, written_since}
+use Rattle.inode_events.specs.Stage.{CloseCollected, is_collecting, is_gone}
+use Rattle.inode_events.specs.Stage.{stage}
+use Rattle.inode_events.specs.Says.{placed_in}
+use Rattle.inode_events.specs.State.{content, new, present, versions, modified_since}
 use Rattle.inode_events.specs.Verdicts.{Key, fresh_digest, fresh_verdict, key_of, same_key, verdict_in_force, verdict_kept}
 use Rattle.inode_events.specs.declared.deed.Deed.{Deed}
 use Rattle.inode_events.specs.declared.deed.Deed.TheVariants as deed
@@ -31,11 +31,11 @@ use Rattle.inode_events.specs.declared.told.Grant.{Grant}
 use Rattle.inode_events.specs.declared.told.Told.{Told}
 use Rattle.inode_events.specs.declared.told.Told.TheVariants as told
 use Rattle.journal_laws.proofs.Labels.{label-renewed}
-use Rattle.journal_laws.proofs.Lives.{Lives, is_gone, lives}
+use Rattle.journal_laws.proofs.Lives.{Lives, lives}
 use Rattle.journal_laws.proofs.Small.{event, or_none}
-use Rattle.journal_laws.proofs.Stages.{Busy, Stages, StageIs, free_at, is_busy, stage_busy, stage_of, stages}
+use Rattle.journal_laws.proofs.Stages.{Busy, Stages, StageIs, free_at, stage_busy, collecting_stage, stages}
 use Rattle.journal_laws.proofs.Tallies.{tally-less}
-use Rattle.journal_laws.proofs.Fresh.{CollectionIs, ForceIs, Fresh, FreshUnless, Still, VerdictIs, digest_same, finish_grants, force_still, fresh_unless, given_fresh, kept_fresh, last_told, leaves_fresh, piece_taken, take_begins, take_grants, unwritten, void_fresh, write_fresh}
+use Rattle.journal_laws.proofs.Fresh.{CollectionIs, DigestsIs, Fresh, FreshUnless, Still, VerdictIs, digest_same, finish_grants, digests_still, fresh_unless, given_fresh, kept_fresh, last_told, leaves_fresh, piece_taken, take_begins, take_grants, unmodified, void_fresh, write_fresh}
 use Rattle.inode_events.specs.Integrity.{fixed_by, is_stale}
 use Rattle.inode_events.specs.State.{metadata}
 use Rattle.inode_meta.specs.declared.identity.Meta.{Meta}
@@ -65,20 +65,20 @@ unlabelled : (i : Inode) (b : Bool) (d : Option Digest) (meta : Meta) (attrs : L
 unlabelled i b d meta attrs e = subst (λ (x : Bool). fixed_by i x d meta attrs ≡ attrs) (sym e) refl
 
 -- the grant gives its verdict, and the digest from which it is made is in force
-granted_fresh : (i : Inode) (p q : List Event) (check : Check) (digest : Digest) (x : Force) → force i q ≡ Some x → ForceIs i q (Some x)
-    → written_since x.begin q ≡ written_since x.begin p → (written_since x.begin p ≡ false → digest ≡ fresh_digest i p)
-    → ((k : Key) → FreshUnless i k p (written_since x.begin p) (verdict_in_force i k p))
+granted_fresh : (i : Inode) (p q : List Event) (check : Check) (digest : Digest) (x : Digests) → in_force i q ≡ Some x → DigestsIs i q (Some x)
+    → modified_since x.begin q ≡ modified_since x.begin p → (modified_since x.begin p ≡ false → digest ≡ fresh_digest i p)
+    → ((k : Key) → FreshUnless i k p (modified_since x.begin p) (verdict_in_force i k p))
     → ((k : Key) → verdict_in_force i k q
     ≡ cond (same_key k (key_of check)) (option_or (verdict_for i check digest p) (verdict_in_force i k p)) (verdict_in_force i k p))
     → ((need : Need) (algos : Option AlgoSet) → fresh_verdict i need algos q ≡ fresh_verdict i need algos p)
     → CollectionIs i q (collecting i q) → present q ≡ true → Fresh i q
 granted_fresh i p q check digest x f fi w d h v n c there = record {
   collection_is = c;
-  force_is = subst (λ (o : Option Force). ForceIs i q o) (sym f) fi;
-  verdict_is = λ k. subst (λ (o : Option Force). VerdictIs i k q (verdict_in_force i k q) o) (sym f)
-      (subst (λ (o : Option Verdict). FreshUnless i k q (written_since x.begin q) o) (sym (v k))
-      (fresh_unless i k p q (written_since x.begin p) (written_since x.begin q) w n _
-      (given_fresh i p k check digest (written_since x.begin p) d h)));
+  digests_is = subst (λ (o : Option Digests). DigestsIs i q o) (sym f) fi;
+  verdict_is = λ k. subst (λ (o : Option Digests). VerdictIs i k q (verdict_in_force i k q) o) (sym f)
+      (subst (λ (o : Option Verdict). FreshUnless i k q (modified_since x.begin q) o) (sym (v k))
+      (fresh_unless i k p q (modified_since x.begin p) (modified_since x.begin q) w n _
+      (given_fresh i p k check digest (modified_since x.begin p) d h)));
   absent = λ a. cc;
 }
 
@@ -89,23 +89,23 @@ take_granted i p who g grant true e h v fr =
     void_fresh i (event who (deed.Take g) (told.Grant grant) ∷ p) (cond-true grant.labelled _ _ e) (λ k. cond-true grant.labelled _ _ e)
     (subst (λ (o : Option Collection). CollectionIs i (event who (deed.Take g) (told.Grant grant) ∷ p) o) (sym (free_at (collecting i p) _ _ h.2)) tt)
 take_granted i p who g grant false e h v fr =
-    let made : (x : Force) × ((force i p ≡ Some x) × (grant_of i g (spot_in (told.Grant grant)) x.digest p ≡ grant)) =
-    take_grants i p g (spot_in (told.Grant grant)) grant (collecting i p) (force i p) h.2 in
+    let made : (x : Digests) × ((in_force i p ≡ Some x) × (grant_of i g (placed_in (told.Grant grant)) x.digest p ≡ grant)) =
+    take_grants i p g (placed_in (told.Grant grant)) grant (collecting i p) (in_force i p) h.2 in
     at made.0 made.1.0 made.1.1 where
-      at : (x : Force) → force i p ≡ Some x → grant_of i g (spot_in (told.Grant grant)) x.digest p ≡ grant → Fresh i (event who (deed.Take g) (told.Grant grant) ∷ p)
+      at : (x : Digests) → in_force i p ≡ Some x → grant_of i g (placed_in (told.Grant grant)) x.digest p ≡ grant → Fresh i (event who (deed.Take g) (told.Grant grant) ∷ p)
       at x f made =
-          let attrs : fixed_by i grant.labelled (option_map (λ (y : Force). y.digest) (force i p)) (metadata p) (attributes i p) ≡ attributes i p = unlabelled i grant.labelled _ _ _ e in
+          let attrs : fixed_by i grant.labelled (option_map (λ (y : Digests). y.digest) (in_force i p)) (metadata p) (attributes i p) ≡ attributes i p = unlabelled i grant.labelled _ _ _ e in
           let still : Still i p (event who (deed.Take g) (told.Grant grant) ∷ p) = record { longer = refl; since = λ place. refl; writers = omega arith; content = refl; label = ap label_in attrs } in
-          let fi : ForceIs i p (Some x) = subst (λ (o : Option Force). ForceIs i p o) f fr.force_is in
+          let fi : DigestsIs i p (Some x) = subst (λ (o : Option Digests). DigestsIs i p o) f fr.digests_is in
           granted_fresh i p (event who (deed.Take g) (told.Grant grant) ∷ p) (last_check g p) x.digest x (cond-false grant.labelled _ _ e ∙ f)
-          (force_still i p (event who (deed.Take g) (told.Grant grant) ∷ p) still (Some x) fi)
-          refl (λ w. (fi.2 w).0) (λ k. subst (λ (o : Option Force). VerdictIs i k p (verdict_in_force i k p) o) f (fr.verdict_is k))
+          (digests_still i p (event who (deed.Take g) (told.Grant grant) ∷ p) still (Some x) fi)
+          refl (λ w. (fi.2 w).0) (λ k. subst (λ (o : Option Digests). VerdictIs i k p (verdict_in_force i k p) o) f (fr.verdict_is k))
           (λ k. cond-false grant.labelled _ _ e ∙ ap (λ (y : Grant). verdict_kept k g y.verdict p (verdict_in_force i k p)) (sym made))
           (verdict_new i p (event who (deed.Take g) (told.Grant grant) ∷ p) attrs refl refl refl)
           (subst (λ (o : Option Collection). CollectionIs i (event who (deed.Take g) (told.Grant grant) ∷ p) o) (sym (free_at (collecting i p) _ _ h.2)) tt)
           (v g (ap is_gone h.1)).1
 
-pub stage_ends : (a b k : Bool) → stage_of a b ≡ stage_of k true → (a ≡ k) × (b ≡ true)
+pub stage_ends : (a b k : Bool) → collecting_stage a b ≡ collecting_stage k true → (a ≡ k) × (b ≡ true)
 stage_ends false true false e = (refl, refl)
 stage_ends true true true e = (refl, refl)
 stage_ends false false false e = cc
@@ -116,18 +116,18 @@ stage_ends false true true e = cc
 stage_ends true true false e = cc
 
 -- the collection of a file that owes a finish
-pub finished : (i : Inode) (p : List Event) (g : ℕ) (k : Bool) → life i g p ≡ stage_of k true → Stages i p
+pub finished : (i : Inode) (p : List Event) (g : ℕ) (k : Bool) → stage i g p ≡ collecting_stage k true → Stages i p
     → (c : Collection) → collecting i p ≡ Some c → (c.file ≡ g) × (c.closing ≡ k) × (c.complete ≡ true)
 finished i p g k l s c e =
     let b : Busy i p (Some c) = subst (λ (o : Option Collection). Busy i p o) e s.0 in
     let t : StageIs i p (Some c) = subst (λ (o : Option Collection). StageIs i p o) e s.1 in
-    let mine : c.file ≡ g = b g (ap is_busy l ∙ stage_busy k true) in
-    let ends : (c.closing ≡ k) × (c.complete ≡ true) = stage_ends c.closing c.complete k (sym t.0 ∙ ap (λ (x : ℕ). life i x p) mine ∙ l) in
+    let mine : c.file ≡ g = b g (ap is_collecting l ∙ stage_busy k true) in
+    let ends : (c.closing ≡ k) × (c.complete ≡ true) = stage_ends c.closing c.complete k (sym t.0 ∙ ap (λ (x : ℕ). stage i x p) mine ∙ l) in
     (mine, ends.0, ends.1)
 
 -- what a finished collection gives, where nothing was written since its begin
 pub collected_fresh : (i : Inode) (p : List Event) (c : Collection) → CollectionIs i p (Some c) → c.complete ≡ true
-    → written_since c.begin p ≡ false → c.closing ≡ false → digest_from c ≡ fresh_digest i p
+    → modified_since c.begin p ≡ false → c.closing ≡ false → digest_from c ≡ fresh_digest i p
 collected_fresh i p c h m w k =
     ap (λ (x : List ℕ). digest_of c.algo x) ((h.2 w).1 m)
     ∙ ap (λ (x : Algo). digest_of x (content p)) (h.3 ∙ cond-false c.closing i.settings.hash (chosen_algo i p) k)
@@ -137,18 +137,18 @@ finish_granted : (i : Inode) (p : List Event) (who : Who) (g : ℕ) (grant : Gra
 finish_granted i p who g grant true e h v s fr =
     void_fresh i (event who (deed.Finish g) (told.Grant grant) ∷ p) (cond-true grant.labelled _ _ e) (λ k. cond-true grant.labelled _ _ e) tt
 finish_granted i p who g grant false e h v s fr =
-    let made : (c : Collection) × ((collecting i p ≡ Some c) × (grant_of i g (spot_in (told.Grant grant)) (digest_from c) p ≡ grant)) =
-    finish_grants i p g (spot_in (told.Grant grant)) grant (collecting i p) h.2 in
+    let made : (c : Collection) × ((collecting i p ≡ Some c) × (grant_of i g (placed_in (told.Grant grant)) (digest_from c) p ≡ grant)) =
+    finish_grants i p g (placed_in (told.Grant grant)) grant (collecting i p) h.2 in
     at made.0 made.1.0 made.1.1 where
-      at : (c : Collection) → collecting i p ≡ Some c → grant_of i g (spot_in (told.Grant grant)) (digest_from c) p ≡ grant → Fresh i (event who (deed.Finish g) (told.Grant grant) ∷ p)
+      at : (c : Collection) → collecting i p ≡ Some c → grant_of i g (placed_in (told.Grant grant)) (digest_from c) p ≡ grant → Fresh i (event who (deed.Finish g) (told.Grant grant) ∷ p)
       at c f made =
           let ends : (c.file ≡ g) × (c.closing ≡ false) × (c.complete ≡ true) = finished i p g false h.1 s c f in
           let ci : CollectionIs i p (Some c) = subst (λ (o : Option Collection). CollectionIs i p o) f fr.collection_is in
-          let none : force i p ≡ None = ci.4 ends.1 in
+          let none : in_force i p ≡ None = ci.4 ends.1 in
           let attrs : fixed_by i grant.labelled (option_map digest_from (collecting i p)) (metadata p) (attributes i p) ≡ attributes i p = unlabelled i grant.labelled _ _ _ e in
-          let digest : written_since c.begin p ≡ false → digest_from c ≡ fresh_digest i p = λ w. collected_fresh i p c ci ends.2 w ends.1 in
-          granted_fresh i p (event who (deed.Finish g) (told.Grant grant) ∷ p) (last_check g p) (digest_from c) (force_from c)
-          (cond-false grant.labelled _ _ e ∙ ap (option_map force_from) f) (
+          let digest : modified_since c.begin p ≡ false → digest_from c ≡ fresh_digest i p = λ w. collected_fresh i p c ci ends.2 w ends.1 in
+          granted_fresh i p (event who (deed.Finish g) (told.Grant grant) ∷ p) (last_check g p) (digest_from c) (digests_of c)
+          (cond-false grant.labelled _ _ e ∙ ap (option_map digests_of) f) (
             omega (arith, ci.0),
             (λ w. let a : cond c.closing 1 0 < writers p = ci.1 w in omega arith),
             (λ w. (
@@ -157,7 +157,7 @@ finish_granted i p who g grant false e h v s fr =
             )),
           )
           refl digest
-          (λ k. subst (λ (o : Option Verdict). FreshUnless i k p (written_since c.begin p) o) (sym (subst (λ (o : Option Force). VerdictIs i k p (verdict_in_force i k p) o) none (fr.verdict_is k))) tt)
+          (λ k. subst (λ (o : Option Verdict). FreshUnless i k p (modified_since c.begin p) o) (sym (subst (λ (o : Option Digests). VerdictIs i k p (verdict_in_force i k p) o) none (fr.verdict_is k))) tt)
           (λ k. cond-false grant.labelled _ _ e ∙ ap (λ (y : Grant). verdict_kept k g y.verdict p (verdict_in_force i k p)) (sym made))
           (verdict_new i p (event who (deed.Finish g) (told.Grant grant) ∷ p) attrs refl refl refl)
           tt
@@ -175,13 +175,13 @@ not_last n b e t h = at (n == 1) refl e where
   at true q f = cc
   at false q f = let ne : n ≡ 1 → ⊥ = eqb-false n 1 q in omega arith
 
-force_dropped : (i : Inode) (p q : List Event) → length q ≡ suc (length p) → ((place : ℕ) → written_since place q ≡ written_since place p)
+digests_dropped : (i : Inode) (p q : List Event) → length q ≡ suc (length p) → ((place : ℕ) → modified_since place q ≡ modified_since place p)
     → writers q + 1 ≡ writers p → content q ≡ content p → label i q ≡ label i p
-    → (o : Option Force) → ((writers p == 1) && (new p || not (versions p) || is_stale o p)) ≡ false → ForceIs i p o → ForceIs i q o
-force_dropped i p q longer since w c l None v h = tt
-force_dropped i p q longer since w c l (Some f) v h = (
+    → (o : Option Digests) → ((writers p == 1) && (new p || not (versions p) || is_stale o p)) ≡ false → DigestsIs i p o → DigestsIs i q o
+digests_dropped i p q longer since w c l None v h = tt
+digests_dropped i p q longer since w c l (Some f) v h = (
   omega (arith, h.0, longer),
-  (λ u. let stale : written_since f.begin p ≡ true = sym (since f.begin) ∙ u in
+  (λ u. let stale : modified_since f.begin p ≡ true = sym (since f.begin) ∙ u in
       let many : 1 < writers p = not_last (writers p) _ v (or_right _ _ stale) (h.1 stale) in omega arith),
   (λ u. let a : (f.digest ≡ fresh_digest i p) × (f.sha1 ≡ digest_of Sha1 (content p)) = h.2 (sym (since f.begin) ∙ u) in
       (a.0 ∙ sym (digest_same i p q c l), a.1 ∙ sym (ap (digest_of Sha1) c))),
@@ -193,43 +193,43 @@ new_dropped n new rest e = at (n == 1) e where
   at true f = sym (or_parts new rest f).0
   at false f = refl
 
-verdict_dropped : (i : Inode) (k : Key) (p q : List Event) → ((place : ℕ) → written_since place q ≡ written_since place p)
+verdict_dropped : (i : Inode) (k : Key) (p q : List Event) → ((place : ℕ) → modified_since place q ≡ modified_since place p)
     → ((need : Need) (algos : Option AlgoSet) → fresh_verdict i need algos q ≡ fresh_verdict i need algos p)
-    → (v : Option Verdict) (o : Option Force) → VerdictIs i k p v o → VerdictIs i k q v o
+    → (v : Option Verdict) (o : Option Digests) → VerdictIs i k p v o → VerdictIs i k q v o
 verdict_dropped i k p q since f v None h = h
 verdict_dropped i k p q since f v (Some x) h = fresh_unless i k p q _ _ (since x.begin) f v h
 
 record Drops (i : Inode) (p q : List Event) : Type 0 where
   longer : length q ≡ suc (length p)
-  since : (place : ℕ) → written_since place q ≡ written_since place p
+  since : (place : ℕ) → modified_since place q ≡ modified_since place p
   writers_is : writers q + 1 ≡ writers p
   content_is : content q ≡ content p
   attributes_is : attributes i q ≡ attributes i p
   metadata_is : metadata q ≡ metadata p
   new_is : new q ≡ cond (writers p == 1) false (new p)
-  force_is : force i q ≡ cond ((writers p == 1) && (new p || not (versions p) || is_stale (force i p) p)) None (force i p)
+  digests_is : in_force i q ≡ cond ((writers p == 1) && (new p || not (versions p) || is_stale (in_force i p) p)) None (in_force i p)
   verdict_is : (k : Key) → verdict_in_force i k q
-      ≡ cond ((writers p == 1) && (new p || not (versions p) || is_stale (force i p) p)) None (verdict_in_force i k p)
+      ≡ cond ((writers p == 1) && (new p || not (versions p) || is_stale (in_force i p) p)) None (verdict_in_force i k p)
   collecting_is : collecting i q ≡ None
   present_is : present q ≡ present p
 
 dropped_fresh : (i : Inode) (p q : List Event) → Drops i p q → Fresh i p → Fresh i q
-dropped_fresh i p q d h = at ((writers p == 1) && (new p || not (versions p) || is_stale (force i p) p)) refl where
+dropped_fresh i p q d h = at ((writers p == 1) && (new p || not (versions p) || is_stale (in_force i p) p)) refl where
   nothing : CollectionIs i q (collecting i q)
   nothing = subst (λ (o : Option Collection). CollectionIs i q o) (sym d.collecting_is) tt
 
-  at : (b : Bool) → ((writers p == 1) && (new p || not (versions p) || is_stale (force i p) p)) ≡ b → Fresh i q
-  at true e = void_fresh i q (d.force_is ∙ cond-true _ _ _ e) (λ k. d.verdict_is k ∙ cond-true _ _ _ e) nothing
+  at : (b : Bool) → ((writers p == 1) && (new p || not (versions p) || is_stale (in_force i p) p)) ≡ b → Fresh i q
+  at true e = void_fresh i q (d.digests_is ∙ cond-true _ _ _ e) (λ k. d.verdict_is k ∙ cond-true _ _ _ e) nothing
   at false e =
-      let f : force i q ≡ force i p = d.force_is ∙ cond-false _ None (force i p) e in
-      let n : new q ≡ new p = d.new_is ∙ new_dropped (writers p) (new p) (not (versions p) || is_stale (force i p) p) (sym (ap (λ (x : Bool). (writers p == 1) && x) (or_assoc (new p) _ _)) ∙ e) in
+      let f : in_force i q ≡ in_force i p = d.digests_is ∙ cond-false _ None (in_force i p) e in
+      let n : new q ≡ new p = d.new_is ∙ new_dropped (writers p) (new p) (not (versions p) || is_stale (in_force i p) p) (sym (ap (λ (x : Bool). (writers p == 1) && x) (or_assoc (new p) _ _)) ∙ e) in
       record {
         collection_is = nothing;
-        force_is = subst (λ (o : Option Force). ForceIs i q o) (sym f)
-            (force_dropped i p q d.longer d.since d.writers_is d.content_is (ap label_in d.attributes_is) (force i p) e h.force_is);
-        verdict_is = λ k. subst (λ (o : Option Force). VerdictIs i k q (verdict_in_force i k q) o) (sym f)
-            (subst (λ (v : Option Verdict). VerdictIs i k q v (force i p)) (sym (d.verdict_is k ∙ cond-false _ None (verdict_in_force i k p) e))
-            (verdict_dropped i k p q d.since (verdict_new i p q d.attributes_is d.metadata_is d.content_is n) (verdict_in_force i k p) (force i p) (h.verdict_is k)));
+        digests_is = subst (λ (o : Option Digests). DigestsIs i q o) (sym f)
+            (digests_dropped i p q d.longer d.since d.writers_is d.content_is (ap label_in d.attributes_is) (in_force i p) e h.digests_is);
+        verdict_is = λ k. subst (λ (o : Option Digests). VerdictIs i k q (verdict_in_force i k q) o) (sym f)
+            (subst (λ (v : Option Verdict). VerdictIs i k q v (in_force i p)) (sym (d.verdict_is k ∙ cond-false _ None (verdict_in_force i k p) e))
+            (verdict_dropped i k p q d.since (verdict_new i p q d.attributes_is d.metadata_is d.content_is n) (verdict_in_force i k p) (in_force i p) (h.verdict_is k)));
         absent = λ a. f ∙ h.absent (sym d.present_is ∙ a);
       }
 
@@ -237,10 +237,10 @@ dropped_one : (g : ℕ) (p : List Event) → is_writing g p ≡ true → tally i
 dropped_one g p w = rw w at (tally-less is_writer g (files p))
 
 -- the file of a close's finish is open for writing
-pub closing_writer : (i : Inode) (p : List Event) (g : ℕ) → life i g p ≡ Closed → Stages i p → is_writing g p ≡ true
+pub closing_writer : (i : Inode) (p : List Event) (g : ℕ) → stage i g p ≡ CloseCollected → Stages i p → is_writing g p ≡ true
 closing_writer i p g l s = at (collecting i p) refl where
   at : (o : Option Collection) → collecting i p ≡ o → is_writing g p ≡ true
-  at None e = let b : Busy i p None = subst (λ (x : Option Collection). Busy i p x) e s.0 in absurd (b g (ap is_busy l))
+  at None e = let b : Busy i p None = subst (λ (x : Option Collection). Busy i p x) e s.0 in absurd (b g (ap is_collecting l))
   at (Some c) e = let t : StageIs i p (Some c) = subst (λ (x : Option Collection). StageIs i p x) e s.1 in
       let ends : (c.file ≡ g) × (c.closing ≡ true) × (c.complete ≡ true) = finished i p g true l s c e in
       sym (ap (λ (x : ℕ). is_writing x p) ends.0) ∙ t.1 ends.1
@@ -250,7 +250,7 @@ closing_writer i p g l s = at (collecting i p) refl where
 new_held : (new there : Bool) → there ≡ true → (new || not there) ≡ new
 new_held new there e = rw e (or_none new)
 
-none_is : (i : Inode) (k : Key) (q : List Event) (o : Option Force) → VerdictIs i k q None o
+none_is : (i : Inode) (k : Key) (q : List Event) (o : Option Digests) → VerdictIs i k q None o
 none_is i k q None = refl
 none_is i k q (Some f) = tt
 
@@ -259,7 +259,7 @@ nothing_open i q o e = subst (λ (x : Option Collection). CollectionIs i q x) (s
 
 born : (i : Inode) (who : Who) (image : Image) (p : List Event) → p ≡ [] → Fresh i (event who deed.Birth (told.Image image) ∷ p)
 born i who image p e = subst (λ (x : List Event). Fresh i (event who deed.Birth (told.Image image) ∷ x)) (sym e)
-    (record { collection_is = tt; force_is = tt; verdict_is = λ k. refl; absent = λ a. refl })
+    (record { collection_is = tt; digests_is = tt; verdict_is = λ k. refl; absent = λ a. refl })
 
 -- ---- all events
 
@@ -269,22 +269,22 @@ step i p who (deed.Count how) told.Held h v s fr = kept_fresh i p (event who (de
     (record {
       still = record { longer = refl; since = λ place. refl; writers = omega arith; content = refl; label = refl };
       fresh = λ there. verdict_new i p (event who (deed.Count how) told.Held ∷ p) refl refl refl (new_held (new p) (present p) there);
-      force = refl;
+      digests = refl;
       verdict = λ k. refl;
       present = λ a. cc;
     }) refl fr
 step i p who (deed.Take g) told.Begun h v s fr =
-    let none : force i p ≡ None = take_begins i p g (spot_in told.Begun) (collecting i p) (force i p) h.2 in
+    let none : in_force i p ≡ None = take_begins i p g (placed_in told.Begun) (collecting i p) (in_force i p) h.2 in
     leaves_fresh i p (event who (deed.Take g) told.Begun ∷ p)
     (record {
       still = record { longer = refl; since = λ place. refl; writers = omega arith; content = refl; label = refl };
       fresh = λ there need algos. refl;
-      force = refl;
+      digests = refl;
       verdict = λ k. refl;
       present = λ a. a;
     }) (
       omega arith,
-      (λ w. let u : written_since (length p) p ≡ false = unwritten (length p) p (omega arith) in cc),
+      (λ w. let u : modified_since (length p) p ≡ false = unmodified (length p) p (omega arith) in cc),
       (λ w. (refl, (λ m. cc))),
       refl,
       (λ k. none),
@@ -294,7 +294,7 @@ step i p who (deed.Chunk g) told.More h v s fr = leaves_fresh i p (event who (de
     (record {
       still = record { longer = refl; since = λ place. refl; writers = omega arith; content = refl; label = refl };
       fresh = λ there need algos. refl;
-      force = refl;
+      digests = refl;
       verdict = λ k. refl;
       present = λ a. a;
     })
@@ -304,7 +304,7 @@ step i p who (deed.Chunk g) told.Last h v s fr = leaves_fresh i p (event who (de
     (record {
       still = record { longer = refl; since = λ place. refl; writers = omega arith; content = refl; label = refl };
       fresh = λ there need algos. refl;
-      force = refl;
+      digests = refl;
       verdict = λ k. refl;
       present = λ a. a;
     })
@@ -318,7 +318,7 @@ step i p who (deed.Write g from bytes) told.Done h v s fr = write_fresh i p (eve
       since = λ place below. or_left _ _ (le-leb place (length p) below);
       writers = refl;
       label = refl;
-      force = refl;
+      digests = refl;
       collecting = refl;
       verdict = λ k. refl;
       present = refl;
@@ -329,7 +329,7 @@ step i p who (deed.Trunc g len) told.Done h v s fr = write_fresh i p (event who 
       since = λ place below. or_left _ _ (le-leb place (length p) below);
       writers = refl;
       label = refl;
-      force = refl;
+      digests = refl;
       collecting = refl;
       verdict = λ k. refl;
       present = refl;
@@ -338,17 +338,17 @@ step i p who (deed.SetAttr name bytes admin) told.Done h v s fr = void_fresh i (
     (nothing_open i (event who (deed.SetAttr name bytes admin) told.Done ∷ p) (collecting i p) (free_at (collecting i p) _ _ h.2))
 step i p who (deed.SetMeta change) told.Done h v s fr = record {
   collection_is = nothing_open i (event who (deed.SetMeta change) told.Done ∷ p) (collecting i p) (free_at (collecting i p) _ _ h.2);
-  force_is = force_still i p (event who (deed.SetMeta change) told.Done ∷ p)
+  digests_is = digests_still i p (event who (deed.SetMeta change) told.Done ∷ p)
       (record { longer = refl; since = λ place. refl; writers = omega arith; content = refl; label = label-renewed i.settings.evm (attributes i p) _ })
-      (force i p) fr.force_is;
-  verdict_is = λ k. none_is i k (event who (deed.SetMeta change) told.Done ∷ p) (force i p);
+      (in_force i p) fr.digests_is;
+  verdict_is = λ k. none_is i k (event who (deed.SetMeta change) told.Done ∷ p) (in_force i p);
   absent = λ a. fr.absent a;
 }
 step i p who (deed.Close g) told.Dropped h v s fr = kept_fresh i p (event who (deed.Close g) told.Dropped ∷ p)
     (record {
       still = record { longer = refl; since = λ place. refl; writers = omega (arith, rw h.1.1 at (tally-less is_writer g (files p))); content = refl; label = refl };
       fresh = λ there need algos. refl;
-      force = refl;
+      digests = refl;
       verdict = λ k. refl;
       present = λ a. a;
     }) refl fr
@@ -356,12 +356,12 @@ step i p who (deed.CloseTake g) told.Begun h v s fr = leaves_fresh i p (event wh
     (record {
       still = record { longer = refl; since = λ place. refl; writers = omega arith; content = refl; label = refl };
       fresh = λ there need algos. refl;
-      force = refl;
+      digests = refl;
       verdict = λ k. refl;
       present = λ a. a;
     }) (
       omega arith,
-      (λ w. let u : written_since (length p) p ≡ false = unwritten (length p) p (omega arith) in cc),
+      (λ w. let u : modified_since (length p) p ≡ false = unmodified (length p) p (omega arith) in cc),
       (λ w. (refl, (λ m. cc))),
       refl,
       (λ k. cc),
@@ -375,7 +375,7 @@ step i p who (deed.CloseTake g) told.Dropped h v s fr = dropped_fresh i p (event
       attributes_is = refl;
       metadata_is = refl;
       new_is = refl;
-      force_is = refl;
+      digests_is = refl;
       verdict_is = λ k. refl;
       collecting_is = free_at (collecting i p) _ _ h.2;
       present_is = refl;
@@ -384,7 +384,7 @@ step i p who (deed.CloseChunk g) told.More h v s fr = leaves_fresh i p (event wh
     (record {
       still = record { longer = refl; since = λ place. refl; writers = omega arith; content = refl; label = refl };
       fresh = λ there need algos. refl;
-      force = refl;
+      digests = refl;
       verdict = λ k. refl;
       present = λ a. a;
     })
@@ -394,7 +394,7 @@ step i p who (deed.CloseChunk g) told.Last h v s fr = leaves_fresh i p (event wh
     (record {
       still = record { longer = refl; since = λ place. refl; writers = omega arith; content = refl; label = refl };
       fresh = λ there need algos. refl;
-      force = refl;
+      digests = refl;
       verdict = λ k. refl;
       present = λ a. a;
     })
@@ -410,7 +410,7 @@ step i p who (deed.CloseFinish g) told.Dropped h v s fr = dropped_fresh i p (eve
       attributes_is = refl;
       metadata_is = refl;
       new_is = refl;
-      force_is = refl;
+      digests_is = refl;
       verdict_is = λ k. refl;
       collecting_is = refl;
       present_is = refl;
@@ -420,11 +420,11 @@ step i p who d t h v s fr = kept_fresh i p (event who d t ∷ p)
     (record {
       still = record { longer = refl; since = λ place. refl; writers = omega arith; content = refl; label = refl };
       fresh = λ there need algos. refl;
-      force = refl;
+      digests = refl;
       verdict = λ k. refl;
       present = λ a. a;
     }) refl fr
 
 pub freshness_lem : (i : Inode) (p : List Event) → EachFollows i p → Fresh i p
-freshness_lem i [] h = record { collection_is = tt; force_is = tt; verdict_is = λ k. refl; absent = λ a. refl }
+freshness_lem i [] h = record { collection_is = tt; digests_is = tt; verdict_is = λ k. refl; absent = λ a. refl }
 freshness_lem i (e ∷ before) h = step i before e.who e.deed e.told h.0 (lives i before h.1) (stages i before h.1) (freshness_lem i before h.1)

@@ -5,8 +5,8 @@ use Rattle.std.proofs.lemmas.Bool.{eqb-true}
 use Rattle.inode_meta.specs.declared.step.Who.{Who}
 use Rattle.inode_events.specs.Inode.{Inode}
 use Rattle.inode_events.specs.Legal.{EachFollows, Follows}
-use Rattle.inode_events.specs.Life.{Life, life, lived, may_check}
-use Rattle.inode_events.specs.Life.{Gone, Counted, Asked, Taking, Taken, Settled, Closing, Closed}
+use Rattle.inode_events.specs.Stage.{Stage, stage, next_stage, may_check, is_gone}
+use Rattle.inode_events.specs.Stage.{Gone, Counted, Asked, Collecting, Collected, Settled, CloseCollecting, CloseCollected}
 use Rattle.inode_events.specs.State.{present, present_after}
 use Rattle.inode_events.specs.declared.deed.Deed.{Deed}
 use Rattle.inode_events.specs.declared.deed.Deed.TheVariants as deed
@@ -14,94 +14,90 @@ use Rattle.inode_events.specs.declared.told.Event.{Event}
 use Rattle.inode_events.specs.declared.told.Told.{Told}
 use Rattle.inode_events.specs.declared.told.Told.TheVariants as told
 
-abbrev pub is_gone : Life → Bool
-is_gone Gone = true
-is_gone _ = false
-
-pub check_alive : (l : Life) → may_check l ≡ true → is_gone l ≡ false
+pub check_alive : (l : Stage) → may_check l ≡ true → is_gone l ≡ false
 check_alive Gone m = cc
 check_alive Counted m = refl
 check_alive Asked m = refl
-check_alive Taking m = refl
-check_alive Taken m = refl
+check_alive Collecting m = refl
+check_alive Collected m = refl
 check_alive Settled m = refl
-check_alive Closing m = refl
-check_alive Closed m = refl
+check_alive CloseCollecting m = refl
+check_alive CloseCollected m = refl
 
 abbrev pub Lives : Inode → List Event → Type 0
-Lives i p = (f : ℕ) → is_gone (life i f p) ≡ false → (f < length p) × (present p ≡ true)
+Lives i p = (f : ℕ) → is_gone (stage i f p) ≡ false → (f < length p) × (present p ≡ true)
 
 -- a deed names no file that is gone
-was : (b : Bool) (after old : Life) → (b ≡ true → is_gone old ≡ false) → is_gone (cond b after old) ≡ false → is_gone old ≡ false
+was : (b : Bool) (after old : Stage) → (b ≡ true → is_gone old ≡ false) → is_gone (cond b after old) ≡ false → is_gone old ≡ false
 was true after old m a = m refl
 was false after old m a = a
 
-was_same : (b : Bool) (x : Life) → is_gone (cond b x x) ≡ false → is_gone x ≡ false
+was_same : (b : Bool) (x : Stage) → is_gone (cond b x x) ≡ false → is_gone x ≡ false
 was_same true x a = a
 was_same false x a = a
 
-pub named : (i : Inode) (p : List Event) (g f : ℕ) (l : Life) → life i g p ≡ l → is_gone l ≡ false → (g == f) ≡ true → is_gone (life i f p) ≡ false
-named i p g f l e n h = subst (λ (x : ℕ). is_gone (life i x p) ≡ false) (eqb-true g f h) (ap is_gone e ∙ n)
+pub named : (i : Inode) (p : List Event) (g f : ℕ) (l : Stage) → stage i g p ≡ l → is_gone l ≡ false → (g == f) ≡ true → is_gone (stage i f p) ≡ false
+named i p g f l e n h = subst (λ (x : ℕ). is_gone (stage i x p) ≡ false) (eqb-true g f h) (ap is_gone e ∙ n)
 
 later : (f : ℕ) (p : List Event) → (f < length p) × (present p ≡ true) → (f < suc (length p)) × (present p ≡ true)
 later f p h = (omega (arith, h.0), h.1)
 
-count_lives : (f place : ℕ) (old : Life) (p : List Event) → place ≡ length p → (is_gone old ≡ false → (f < length p) × (present p ≡ true))
+count_lives : (f place : ℕ) (old : Stage) (p : List Event) → place ≡ length p → (is_gone old ≡ false → (f < length p) × (present p ≡ true))
     → (b : Bool) → (place == f) ≡ b → is_gone (cond b Counted old) ≡ false → (f < suc (length p)) × (true ≡ true)
 count_lives f place old p e h true q a = let s : place ≡ f = eqb-true place f q in (omega arith, refl)
 count_lives f place old p e h false q a = (omega (arith, (h a).0), refl)
 
-no_life : (i : Inode) (p : List Event) (f : ℕ) → p ≡ [] → is_gone (life i f p) ≡ false → ⊥
-no_life i p f e a = let z : is_gone (life i f []) ≡ false = subst (λ (q : List Event). is_gone (life i f q) ≡ false) e a in cc
+no_stage : (i : Inode) (p : List Event) (f : ℕ) → p ≡ [] → is_gone (stage i f p) ≡ false → ⊥
+no_stage i p f e a = let z : is_gone (stage i f []) ≡ false = subst (λ (q : List Event). is_gone (stage i f q) ≡ false) e a in cc
 
 -- a file that was counted before the event and isn't gone after it wasn't gone before it
-apart_count : (f : ℕ) (p : List Event) (old : Life) → f < length p → is_gone (cond (length p == f) Counted old) ≡ false → is_gone old ≡ false
+apart_count : (f : ℕ) (p : List Event) (old : Stage) → f < length p → is_gone (cond (length p == f) Counted old) ≡ false → is_gone old ≡ false
 apart_count f p old b a = at (length p == f) refl a where
   at : (x : Bool) → (length p == f) ≡ x → is_gone (cond x Counted old) ≡ false → is_gone old ≡ false
   at true q h = let s : length p ≡ f = eqb-true (length p) f q in absurd (omega arith)
   at false q h = h
 
 pub alive_before : (i : Inode) (p : List Event) (who : Who) (d : Deed) (t : Told) → Follows i p who d t → (f : ℕ) → f < length p
-    → is_gone (lived i f (length p) d t (life i f p)) ≡ false → is_gone (life i f p) ≡ false
+    → is_gone (next_stage i f (length p) d t (stage i f p)) ≡ false → is_gone (stage i f p) ≡ false
 alive_before i p who deed.Birth t h f b a = a
-alive_before i p who (deed.Count how) told.Held h f b a = apart_count f p (life i f p) b a
-alive_before i p who (deed.Count how) t h f b a = was_same (length p == f) (life i f p) a
+alive_before i p who (deed.Count how) told.Held h f b a = apart_count f p (stage i f p) b a
+alive_before i p who (deed.Count how) t h f b a = was_same (length p == f) (stage i f p) a
 alive_before i p who (deed.Check g func action rules) t h f b a =
-    was (g == f) _ (life i f p) (named i p g f (life i g p) refl (check_alive (life i g p) h.1)) a
-alive_before i p who (deed.Take g) t h f b a = was (g == f) _ (life i f p) (named i p g f Asked h.1 refl) a
-alive_before i p who (deed.Chunk g) t h f b a = was (g == f) _ (life i f p) (named i p g f Taking h.1 refl) a
-alive_before i p who (deed.Finish g) t h f b a = was (g == f) _ (life i f p) (named i p g f Taken h.1 refl) a
-alive_before i p who (deed.Read g from len) t h f b a = was (g == f) _ (life i f p) (named i p g f Settled h.1.0 refl) a
-alive_before i p who (deed.Write g from bytes) t h f b a = was (g == f) _ (life i f p) (named i p g f Settled h.1.0 refl) a
-alive_before i p who (deed.Trunc g len) t h f b a = was (g == f) _ (life i f p) (named i p g f Settled h.1.0 refl) a
+    was (g == f) _ (stage i f p) (named i p g f (stage i g p) refl (check_alive (stage i g p) h.1)) a
+alive_before i p who (deed.Take g) t h f b a = was (g == f) _ (stage i f p) (named i p g f Asked h.1 refl) a
+alive_before i p who (deed.Chunk g) t h f b a = was (g == f) _ (stage i f p) (named i p g f Collecting h.1 refl) a
+alive_before i p who (deed.Finish g) t h f b a = was (g == f) _ (stage i f p) (named i p g f Collected h.1 refl) a
+alive_before i p who (deed.Read g from len) t h f b a = was (g == f) _ (stage i f p) (named i p g f Settled h.1.0 refl) a
+alive_before i p who (deed.Write g from bytes) t h f b a = was (g == f) _ (stage i f p) (named i p g f Settled h.1.0 refl) a
+alive_before i p who (deed.Trunc g len) t h f b a = was (g == f) _ (stage i f p) (named i p g f Settled h.1.0 refl) a
 alive_before i p who (deed.SetAttr name bytes admin) t h f b a = a
 alive_before i p who (deed.SetMeta change) t h f b a = a
-alive_before i p who (deed.Close g) t h f b a = was (g == f) _ (life i f p) (named i p g f Settled h.1.0 refl) a
-alive_before i p who (deed.CloseTake g) t h f b a = was (g == f) _ (life i f p) (named i p g f Settled h.1.0 refl) a
-alive_before i p who (deed.CloseChunk g) t h f b a = was (g == f) _ (life i f p) (named i p g f Closing h.1 refl) a
-alive_before i p who (deed.CloseFinish g) t h f b a = was (g == f) _ (life i f p) (named i p g f Closed h.1 refl) a
+alive_before i p who (deed.Close g) t h f b a = was (g == f) _ (stage i f p) (named i p g f Settled h.1.0 refl) a
+alive_before i p who (deed.CloseTake g) t h f b a = was (g == f) _ (stage i f p) (named i p g f Settled h.1.0 refl) a
+alive_before i p who (deed.CloseChunk g) t h f b a = was (g == f) _ (stage i f p) (named i p g f CloseCollecting h.1 refl) a
+alive_before i p who (deed.CloseFinish g) t h f b a = was (g == f) _ (stage i f p) (named i p g f CloseCollected h.1 refl) a
 alive_before i p who (deed.Post sem) t h f b a = absurd h.1
 alive_before i p who (deed.Wait sem) t h f b a = absurd h.1
 
 step : (i : Inode) (p : List Event) (who : Who) (d : Deed) (t : Told) → Follows i p who d t → Lives i p → (f : ℕ)
-    → is_gone (lived i f (length p) d t (life i f p)) ≡ false → (f < suc (length p)) × (present_after d t (present p) ≡ true)
-step i p who deed.Birth t h v f a = absurd (no_life i p f h.0 a)
-step i p who (deed.Count how) told.Held h v f a = count_lives f (length p) (life i f p) p refl (v f) (length p == f) refl a
-step i p who (deed.Count how) t h v f a = later f p (v f (was_same (length p == f) (life i f p) a))
+    → is_gone (next_stage i f (length p) d t (stage i f p)) ≡ false → (f < suc (length p)) × (present_after d t (present p) ≡ true)
+step i p who deed.Birth t h v f a = absurd (no_stage i p f h.0 a)
+step i p who (deed.Count how) told.Held h v f a = count_lives f (length p) (stage i f p) p refl (v f) (length p == f) refl a
+step i p who (deed.Count how) t h v f a = later f p (v f (was_same (length p == f) (stage i f p) a))
 step i p who (deed.Check g func action rules) t h v f a =
-    later f p (v f (was (g == f) _ (life i f p) (named i p g f (life i g p) refl (check_alive (life i g p) h.1)) a))
-step i p who (deed.Take g) t h v f a = later f p (v f (was (g == f) _ (life i f p) (named i p g f Asked h.1 refl) a))
-step i p who (deed.Chunk g) t h v f a = later f p (v f (was (g == f) _ (life i f p) (named i p g f Taking h.1 refl) a))
-step i p who (deed.Finish g) t h v f a = later f p (v f (was (g == f) _ (life i f p) (named i p g f Taken h.1 refl) a))
-step i p who (deed.Read g from len) t h v f a = later f p (v f (was (g == f) _ (life i f p) (named i p g f Settled h.1.0 refl) a))
-step i p who (deed.Write g from bytes) t h v f a = later f p (v f (was (g == f) _ (life i f p) (named i p g f Settled h.1.0 refl) a))
-step i p who (deed.Trunc g len) t h v f a = later f p (v f (was (g == f) _ (life i f p) (named i p g f Settled h.1.0 refl) a))
+    later f p (v f (was (g == f) _ (stage i f p) (named i p g f (stage i g p) refl (check_alive (stage i g p) h.1)) a))
+step i p who (deed.Take g) t h v f a = later f p (v f (was (g == f) _ (stage i f p) (named i p g f Asked h.1 refl) a))
+step i p who (deed.Chunk g) t h v f a = later f p (v f (was (g == f) _ (stage i f p) (named i p g f Collecting h.1 refl) a))
+step i p who (deed.Finish g) t h v f a = later f p (v f (was (g == f) _ (stage i f p) (named i p g f Collected h.1 refl) a))
+step i p who (deed.Read g from len) t h v f a = later f p (v f (was (g == f) _ (stage i f p) (named i p g f Settled h.1.0 refl) a))
+step i p who (deed.Write g from bytes) t h v f a = later f p (v f (was (g == f) _ (stage i f p) (named i p g f Settled h.1.0 refl) a))
+step i p who (deed.Trunc g len) t h v f a = later f p (v f (was (g == f) _ (stage i f p) (named i p g f Settled h.1.0 refl) a))
 step i p who (deed.SetAttr name bytes admin) t h v f a = later f p (v f a)
 step i p who (deed.SetMeta change) t h v f a = later f p (v f a)
-step i p who (deed.Close g) t h v f a = later f p (v f (was (g == f) _ (life i f p) (named i p g f Settled h.1.0 refl) a))
-step i p who (deed.CloseTake g) t h v f a = later f p (v f (was (g == f) _ (life i f p) (named i p g f Settled h.1.0 refl) a))
-step i p who (deed.CloseChunk g) t h v f a = later f p (v f (was (g == f) _ (life i f p) (named i p g f Closing h.1 refl) a))
-step i p who (deed.CloseFinish g) t h v f a = later f p (v f (was (g == f) _ (life i f p) (named i p g f Closed h.1 refl) a))
+step i p who (deed.Close g) t h v f a = later f p (v f (was (g == f) _ (stage i f p) (named i p g f Settled h.1.0 refl) a))
+step i p who (deed.CloseTake g) t h v f a = later f p (v f (was (g == f) _ (stage i f p) (named i p g f Settled h.1.0 refl) a))
+step i p who (deed.CloseChunk g) t h v f a = later f p (v f (was (g == f) _ (stage i f p) (named i p g f CloseCollecting h.1 refl) a))
+step i p who (deed.CloseFinish g) t h v f a = later f p (v f (was (g == f) _ (stage i f p) (named i p g f CloseCollected h.1 refl) a))
 step i p who (deed.Post sem) t h v f a = absurd h.1
 step i p who (deed.Wait sem) t h v f a = absurd h.1
 

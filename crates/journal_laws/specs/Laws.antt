@@ -7,17 +7,17 @@ use Rattle.inode_meta.specs.declared.appraisal.Mode.TheVariants.{Enforce}
 use Rattle.inode_meta.specs.declared.step.Who.{Who}
 use Rattle.label_values.specs.Labels.{label_of}
 use Rattle.label_values.specs.declared.verdict.Verdict.{Verdict}
-use Rattle.inode_events.specs.Admission.{fits, granted_file, is_unwritten}
+use Rattle.inode_events.specs.Admission.{fits, granted_file, granted_unmodified}
 use Rattle.inode_events.specs.Checks.{last_check}
-use Rattle.inode_events.specs.Counts.{takes_begun, voids_before_last}
+use Rattle.inode_events.specs.Counts.{takes_begun, times_voided_before_last}
 use Rattle.inode_events.specs.Coverage.{IsCovered}
 use Rattle.inode_events.specs.Files.{held, holds, is_reader, writers}
-use Rattle.inode_events.specs.Listing.{IsListed, Listed, finds}
+use Rattle.inode_events.specs.Listing.{FindsEntries, IsListed}
 use Rattle.ima_templates.specs.IsEntry.{IsEntry}
 use Rattle.ima_templates.specs.declared.entry.Entry.{Entry}
 use Rattle.inode_events.specs.declared.told.Told.{Told}
 use Rattle.inode_events.specs.Inode.{Inode}
-use Rattle.inode_events.specs.Integrity.{Force, attributes, force, label, labelled_with}
+use Rattle.inode_events.specs.Integrity.{Digests, attributes, in_force, label, labelled_with}
 use Rattle.inode_events.specs.Legal.{Legal}
 use Rattle.inode_events.specs.Marks.{is_passed}
 use Rattle.inode_events.specs.State.{content, metadata}
@@ -30,7 +30,7 @@ use Rattle.inode_events.specs.declared.told.Told.TheVariants as told
 
 -- the digest in force is that of the content by the algorithm that the label names, and by SHA-1
 abbrev pub IsDigestFresh : Inode → List Event → Type 0
-IsDigestFresh i p = (f : Force) → force i p ≡ Some f → (f.digest ≡ fresh_digest i p) × (f.sha1 ≡ digest_of Sha1 (content p))
+IsDigestFresh i p = (f : Digests) → in_force i p ≡ Some f → (f.digest ≡ fresh_digest i p) × (f.sha1 ≡ digest_of Sha1 (content p))
 
 -- a verdict in force is the one over attributes, metadata and content
 abbrev pub AreVerdictsFresh : Inode → List Event → Type 0
@@ -40,15 +40,15 @@ AreVerdictsFresh i p = (k : Key) (v : Verdict) → verdict_in_force i k p ≡ So
 abbrev pub Freshness : Type 0
 Freshness = (i : Inode) (p : List Event) → Legal i p → writers p ≡ 0 → IsDigestFresh i p × AreVerdictsFresh i p
 
--- a grant of mode enforce admits exactly on Pass; made unwritten, it gives the verdict over everything as it is, and admits
+-- a grant of mode enforce admits exactly on Pass; made of an unmodified file, it gives the verdict over everything as it is, and admits
 -- exactly where the file fits
 abbrev pub IsAdmitted : Inode → List Event → Deed → Grant → ℕ → Type 0
 IsAdmitted i p d grant file =
     (grant.admitted ≡ is_passed grant.verdict)
-    × (is_unwritten i d p ≡ true → grant.verdict ≡ Some (fresh_verdict i (last_check file p).action.need (last_check file p).action.algos p))
-    × (is_unwritten i d p ≡ true → grant.admitted ≡ fits i (last_check file p).action p)
+    × (granted_unmodified i d p ≡ true → grant.verdict ≡ Some (fresh_verdict i (last_check file p).action.need (last_check file p).action.algos p))
+    × (granted_unmodified i d p ≡ true → grant.admitted ≡ fits i (last_check file p).action p)
 
--- Admission: enforcing appraisal admits an unwritten file exactly where digest and HMAC fit.
+-- Admission: enforcing appraisal admits an unmodified file exactly where digest and HMAC fit.
 abbrev pub Admission : Type 0
 Admission = (i : Inode) (p : List Event) (who : Who) (d : Deed) (grant : Grant) (file : ℕ)
     → Legal i (record { who = who; deed = d; told = told.Grant grant } ∷ p) → granted_file d ≡ Some file
@@ -67,12 +67,7 @@ CloseLabel = (i : Inode) (p : List Event) (who : Who) (file : ℕ) → Legal i (
 
 -- Few collections: the takes that began one are at most one more than the events that voided the digest before the last of them.
 abbrev pub FewCollections : Type 0
-FewCollections = (i : Inode) (p : List Event) → Legal i p → takes_begun p ≤ voids_before_last i p + 1
-
--- what the events find is an entry that can stand in a list
-abbrev pub FindsEntries : Inode → List Event → Type 0
-FindsEntries i [] = Unit {0}
-FindsEntries i (e ∷ before) = ((found : Listed) → finds i e.deed e.told before ≡ Some found → IsEntry found.1) × FindsEntries i before
+FewCollections = (i : Inode) (p : List Event) → Legal i p → takes_begun p ≤ times_voided_before_last i p + 1
 
 -- Coverage: each read of a read-only file is covered by every list in which the journal's events are listed. The last two
 -- premises say what an `Entry` keeps by its type.

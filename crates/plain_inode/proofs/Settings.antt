@@ -16,12 +16,12 @@ use Rattle.policy_text.specs.declared.access.Action.{Action}
 use Rattle.xattr_store.specs.Attrs.{Pair, value}
 use Rattle.inode_events.specs.Checks.{Check, appraises, is_fix, last_check}
 use Rattle.inode_events.specs.Files.{writers}
-use Rattle.inode_events.specs.Grants.{admits, grant_of, granted, is_mend, labels, placed_for, verdict_for}
+use Rattle.inode_events.specs.Grants.{admits, grant_of, granted, is_mend, mends, placed_if_measured, verdict_for}
 use Rattle.inode_events.specs.Inode.{Inode}
-use Rattle.inode_events.specs.Integrity.{Collection, Force, Integrity, attributes_after, collecting_after, fixed_by, force, force_after, ima_name, integrity, integrity_after, label_in, labelled_by}
+use Rattle.inode_events.specs.Integrity.{Collection, Digests, Integrity, attributes_after, collecting_after, fixed_by, in_force, digests_after, ima_name, integrity, integrity_after, label_in, labelled_by}
 use Rattle.inode_events.specs.Marks.{update}
 use Rattle.inode_events.specs.Says.{chunk_told, close_take_told, finish_told, is_no_label, is_too_long, says, status_told, take_told, unless_collecting}
-use Rattle.inode_events.specs.State.{content, is_written, metadata, new, present, span, versions}
+use Rattle.inode_events.specs.State.{content, modified_in, metadata, new, present, span, versions}
 use Rattle.inode_events.specs.Verdicts.{Key, key_of, verdict_given, verdict_in_force, voids_verdicts}
 use Rattle.inode_events.specs.declared.deed.Deed.{Deed}
 use Rattle.inode_events.specs.declared.deed.Deed.TheVariants as deed
@@ -59,9 +59,9 @@ collecting_step i d t b old = refl
 
 step : (i : Inode) (d : Deed) (t : Told) (b : List Event) (old : Integrity) → integrity_after (inode_of i.settings) d t b old ≡ integrity_after i d t b old
 step i d t b old =
-    ap (λ (ps : List Pair). let w : Integrity = record { attributes = ps; collecting = collecting_after (inode_of i.settings) d t b old; force = force_after d t b old } in w)
+    ap (λ (ps : List Pair). let w : Integrity = record { attributes = ps; collecting = collecting_after (inode_of i.settings) d t b old; digests = digests_after d t b old } in w)
     (attributes_step i d t b old)
-    ∙ ap (λ (c : Option Collection). let w : Integrity = record { attributes = attributes_after i d t b old; collecting = c; force = force_after d t b old } in w)
+    ∙ ap (λ (c : Option Collection). let w : Integrity = record { attributes = attributes_after i d t b old; collecting = c; digests = digests_after d t b old } in w)
     (collecting_step i d t b old)
 
 integrity_is : (i : Inode) (b : List Event) → integrity (inode_of i.settings) b ≡ integrity i b
@@ -73,8 +73,8 @@ integrity_is i (e ∷ b) = step i e.deed e.told b (integrity (inode_of i.setting
 verdict_is : (i : Inode) (key : Key) (b : List Event) → verdict_in_force (inode_of i.settings) key b ≡ verdict_in_force i key b
 verdict_is i key [] = refl
 verdict_is i key (e ∷ b) =
-    ap (λ (w : Integrity). cond (voids_verdicts e.deed e.told b w.force) None (verdict_given key e.deed e.told b (verdict_in_force (inode_of i.settings) key b))) (integrity_is i b)
-    ∙ ap (λ (o : Option Verdict). cond (voids_verdicts e.deed e.told b (force i b)) None (verdict_given key e.deed e.told b o)) (verdict_is i key b)
+    ap (λ (w : Integrity). cond (voids_verdicts e.deed e.told b w.digests) None (verdict_given key e.deed e.told b (verdict_in_force (inode_of i.settings) key b))) (integrity_is i b)
+    ∙ ap (λ (o : Option Verdict). cond (voids_verdicts e.deed e.told b (in_force i b)) None (verdict_given key e.deed e.told b o)) (verdict_is i key b)
 
 verdict_for_is : (i : Inode) (check : Check) (d : Digest) (b : List Event) → verdict_for (inode_of i.settings) check d b ≡ verdict_for i check d b
 verdict_for_is i check d b =
@@ -83,46 +83,46 @@ verdict_for_is i check d b =
       given : Option Verdict → Integrity → Option Verdict
       given v w = cond (appraises i check.action) (Some (unwrap_or v (judge check.action.need check.action.algos (label_in w.attributes) (evm_status i.settings.evm w.attributes (metadata b)) d i.settings.hash (length (content b)) (new b)))) None
 
-labels_is : (i : Inode) (action : Action) (d : Digest) (v : Option Verdict) (b : List Event) → labels (inode_of i.settings) action d v b ≡ labels i action d v b
-labels_is i action d None b = refl
-labels_is i action d (Some v) b = ap writes (integrity_is i b) where
+mends_is : (i : Inode) (action : Action) (d : Digest) (v : Option Verdict) (b : List Event) → mends (inode_of i.settings) action d v b ≡ mends i action d v b
+mends_is i action d None b = refl
+mends_is i action d (Some v) b = ap writes (integrity_is i b) where
   writes : Integrity → Bool
   writes w =
       is_fix i.settings.mode
       && is_mend (mend_for v (judge action.need action.algos (label_in w.attributes) evm.Pass d i.settings.hash (length (content b)) (new b))
       (evm_status i.settings.evm w.attributes (metadata b)) (read_label (label_in w.attributes) i.settings.hash))
 
-granted_is : (i : Inode) (check : Check) (spot : Placed) (d : Digest) (v : Option Verdict) (b : List Event)
-    → granted (inode_of i.settings) check spot d v b ≡ granted i check spot d v b
-granted_is i check spot d v b =
-    ap (λ (l : Bool). let g : Grant = record { placed = placed_for check.action spot; verdict = v; admitted = admits i.settings.mode v; labelled = l } in g)
-    (labels_is i check.action d v b)
+granted_is : (i : Inode) (check : Check) (placed : Placed) (d : Digest) (v : Option Verdict) (b : List Event)
+    → granted (inode_of i.settings) check placed d v b ≡ granted i check placed d v b
+granted_is i check placed d v b =
+    ap (λ (l : Bool). let g : Grant = record { placed = placed_if_measured check.action placed; verdict = v; admitted = admits i.settings.mode v; labelled = l } in g)
+    (mends_is i check.action d v b)
 
-grant_is : (i : Inode) (file : ℕ) (spot : Placed) (d : Digest) (b : List Event) → grant_of (inode_of i.settings) file spot d b ≡ grant_of i file spot d b
-grant_is i file spot d b =
-    ap (λ (v : Option Verdict). granted (inode_of i.settings) (last_check file b) spot d v b) (verdict_for_is i (last_check file b) d b)
-    ∙ granted_is i (last_check file b) spot d (verdict_for i (last_check file b) d b) b
+grant_is : (i : Inode) (file : ℕ) (placed : Placed) (d : Digest) (b : List Event) → grant_of (inode_of i.settings) file placed d b ≡ grant_of i file placed d b
+grant_is i file placed d b =
+    ap (λ (v : Option Verdict). granted (inode_of i.settings) (last_check file b) placed d v b) (verdict_for_is i (last_check file b) d b)
+    ∙ granted_is i (last_check file b) placed d (verdict_for i (last_check file b) d b) b
 
 -- ---- the outcomes
 
-take_is : (i : Inode) (file : ℕ) (spot : Placed) (f : Option Force) (b : List Event) → take_told (inode_of i.settings) file spot f b ≡ take_told i file spot f b
-take_is i file spot None b = refl
-take_is i file spot (Some f) b = ap (λ (g : Grant). told.Grant g) (grant_is i file spot f.digest b)
+take_is : (i : Inode) (file : ℕ) (placed : Placed) (f : Option Digests) (b : List Event) → take_told (inode_of i.settings) file placed f b ≡ take_told i file placed f b
+take_is i file placed None b = refl
+take_is i file placed (Some f) b = ap (λ (g : Grant). told.Grant g) (grant_is i file placed f.digest b)
 
-finish_is : (i : Inode) (file : ℕ) (spot : Placed) (c : Option Collection) (b : List Event) → finish_told (inode_of i.settings) file spot c b ≡ finish_told i file spot c b
-finish_is i file spot None b = refl
-finish_is i file spot (Some c) b = ap (λ (g : Grant). let t : Option Told = Some (told.Grant g) in t) (grant_is i file spot _ b)
+finish_is : (i : Inode) (file : ℕ) (placed : Placed) (c : Option Collection) (b : List Event) → finish_told (inode_of i.settings) file placed c b ≡ finish_told i file placed c b
+finish_is i file placed None b = refl
+finish_is i file placed (Some c) b = ap (λ (g : Grant). let t : Option Told = Some (told.Grant g) in t) (grant_is i file placed _ b)
 
-says_is : (i : Inode) (b : List Event) (spot : Placed) (d : Deed) → says (inode_of i.settings) b spot d ≡ says i b spot d
-says_is i b spot (deed.Take file) =
-    ap (λ (w : Integrity). unless_collecting w.collecting (take_told (inode_of i.settings) file spot w.force b)) (integrity_is i b)
-    ∙ ap (λ (t : Told). unless_collecting (integrity i b).collecting t) (take_is i file spot (force i b) b)
-says_is i b spot (deed.Chunk file) = ap (λ (w : Integrity). chunk_told (content b) w.collecting) (integrity_is i b)
-says_is i b spot (deed.CloseChunk file) = ap (λ (w : Integrity). chunk_told (content b) w.collecting) (integrity_is i b)
-says_is i b spot (deed.Finish file) =
-    ap (λ (w : Integrity). finish_told (inode_of i.settings) file spot w.collecting b) (integrity_is i b)
-    ∙ finish_is i file spot (integrity i b).collecting b
-says_is i b spot (deed.SetAttr name bytes admin) = ap answered (integrity_is i b) where
+says_is : (i : Inode) (b : List Event) (placed : Placed) (d : Deed) → says (inode_of i.settings) b placed d ≡ says i b placed d
+says_is i b placed (deed.Take file) =
+    ap (λ (w : Integrity). unless_collecting w.collecting (take_told (inode_of i.settings) file placed w.digests b)) (integrity_is i b)
+    ∙ ap (λ (t : Told). unless_collecting (integrity i b).collecting t) (take_is i file placed (in_force i b) b)
+says_is i b placed (deed.Chunk file) = ap (λ (w : Integrity). chunk_told (content b) w.collecting) (integrity_is i b)
+says_is i b placed (deed.CloseChunk file) = ap (λ (w : Integrity). chunk_told (content b) w.collecting) (integrity_is i b)
+says_is i b placed (deed.Finish file) =
+    ap (λ (w : Integrity). finish_told (inode_of i.settings) file placed w.collecting b) (integrity_is i b)
+    ∙ finish_is i file placed (integrity i b).collecting b
+says_is i b placed (deed.SetAttr name bytes admin) = ap answered (integrity_is i b) where
   answered : Integrity → Option Told
   answered w =
       unless_collecting w.collecting
@@ -133,17 +133,17 @@ says_is i b spot (deed.SetAttr name bytes admin) = ap answered (integrity_is i b
       (cond (bytes_eq name ima_name && is_no_label bytes) told.Invalid
       (cond (is_none bytes && is_none (value name w.attributes)) told.NoData
       (status_told (may_change i.settings.evm name w.attributes (metadata b) (new b)))))))))
-says_is i b spot (deed.SetMeta change) = ap answered (integrity_is i b) where
+says_is i b placed (deed.SetMeta change) = ap answered (integrity_is i b) where
   answered : Integrity → Option Told
   answered w = unless_collecting w.collecting (cond (not (present b)) told.NotFound (status_told (may_set_meta i.settings.evm w.attributes (metadata b))))
-says_is i b spot (deed.CloseTake file) = ap answered (integrity_is i b) where
+says_is i b placed (deed.CloseTake file) = ap answered (integrity_is i b) where
   answered : Integrity → Option Told
   answered w =
       unless_collecting w.collecting
-      (close_take_told (update b && not (is_signature (read_label (label_in w.attributes) i.settings.hash)) && (new b || not (versions b) || is_written (span b))) (writers b))
-says_is i b spot d = refl
+      (close_take_told (update b && not (is_signature (read_label (label_in w.attributes) i.settings.hash)) && (new b || not (versions b) || modified_in (span b))) (writers b))
+says_is i b placed d = refl
 
-pub any_inode : {E : Type 0} (r : Result (Option Told) E) (settings : Settings) (b : List Event) (spot : Placed) (d : Deed)
-    → IfOk r (λ t. t ≡ says (inode_of settings) b spot d) → IfOk r (λ t. (i : Inode) → i.settings ≡ settings → t ≡ says i b spot d)
-any_inode (Ok t) settings b spot d h = λ i q. h ∙ ap (λ (s : Settings). says (inode_of s) b spot d) (sym q) ∙ says_is i b spot d
-any_inode (Err e) settings b spot d h = h
+pub any_inode : {E : Type 0} (r : Result (Option Told) E) (settings : Settings) (b : List Event) (placed : Placed) (d : Deed)
+    → IfOk r (λ t. t ≡ says (inode_of settings) b placed d) → IfOk r (λ t. (i : Inode) → i.settings ≡ settings → t ≡ says i b placed d)
+any_inode (Ok t) settings b placed d h = λ i q. h ∙ ap (λ (s : Settings). says (inode_of s) b placed d) (sym q) ∙ says_is i b placed d
+any_inode (Err e) settings b placed d h = h

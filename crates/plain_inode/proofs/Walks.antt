@@ -5,7 +5,7 @@ use Rattle.std.proofs.lemmas.List.{length-reverse}
 use Rattle.std.proofs.lemmas.Bool.{cond-true, cond-false, eqb-true, ne_eqb}
 use Rattle.inode_events.specs.Files.{counted, dropped, files, find_file, held, holds, less_file, tally, with_file, without_file}
 use Rattle.inode_events.specs.Past.{past, past_more}
-use Rattle.inode_events.specs.State.{is_write, written_since}
+use Rattle.inode_events.specs.State.{modifies, modified_since}
 use Rattle.inode_events.specs.declared.deed.Deed.{Deed}
 use Rattle.inode_events.specs.declared.deed.Deed.TheVariants as deed
 use Rattle.inode_events.specs.declared.deed.How.{How}
@@ -153,6 +153,6 @@ tally_bound k (e ∷ p) =
 -- ---- writes
 
 pub since_walk : (j b : List Event) (e : Event) (place : ℕ) → past j ≡ e ∷ past b
-    → ((is_write e.deed e.told && nat_le place (length b)) || written_since place (past b)) ≡ written_since place (past j)
+    → ((modifies e.deed e.told && nat_le place (length b)) || modified_since place (past b)) ≡ modified_since place (past j)
 since_walk j b e place h =
-    ap (λ (n : ℕ). (is_write e.deed e.told && nat_le place n) || written_since place (past b)) (sym (length-past b)) ∙ sym (ap (written_since place) h)
+    ap (λ (n : ℕ). (modifies e.deed e.told && nat_le place n) || modified_since place (past b)) (sym (length-past b)) ∙ sym (ap (modified_since place) h)

@@ -6,7 +6,7 @@ use Rattle.inode_events.specs.Verdicts as verdicts
 use Rattle.inode_events.specs.declared.image.Image.{Image}
 use Rattle.inode_events.specs.declared.settings.Settings.{Settings}
 use Rattle.plain_inode.specs.declared.integrity.Collection.{Collection}
-use Rattle.plain_inode.specs.declared.integrity.Force.{Force}
+use Rattle.plain_inode.specs.declared.integrity.Digests.{Digests}
 use Rattle.plain_inode.specs.declared.integrity.Kept.{Kept}
 use Rattle.plain_inode.specs.declared.keys.Key.{Key}
 
@@ -35,22 +35,22 @@ collection_seen c = record {
   complete = c.complete;
 }
 
-abbrev pub force_seen : Force → kept.Force
-force_seen f = record { digest = f.digest; sha1 = f.sha1; begin = f.begin }
+abbrev pub digests_seen : Digests → kept.Digests
+digests_seen f = record { digest = f.digest; sha1 = f.sha1; begin = f.begin }
 
 abbrev pub collecting_seen : Option Collection → Option kept.Collection
 collecting_seen None = None
 collecting_seen (Some c) = Some (collection_seen c)
 
-abbrev pub in_force_seen : Option Force → Option kept.Force
+abbrev pub in_force_seen : Option Digests → Option kept.Digests
 in_force_seen None = None
-in_force_seen (Some f) = Some (force_seen f)
+in_force_seen (Some f) = Some (digests_seen f)
 
 abbrev pub integrity_seen : Kept → kept.Integrity
 integrity_seen i = record {
   attributes = i.attributes;
   collecting = collecting_seen i.collecting;
-  force = in_force_seen i.force;
+  digests = in_force_seen i.digests;
 }
 
 -- the pieces that the open collection took

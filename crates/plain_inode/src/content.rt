@@ -1,6 +1,6 @@
 ghost use Rattle.std.specs.Prelude.{◌≡◌, ◌+◌, IfOk, drop};
 ghost use Rattle.inode_events.specs.Past.{past};
-ghost use Rattle.inode_events.specs.Content.{bytes_at, is_last_piece, piece_at, resized, with_zeros_to, written};
+ghost use Rattle.inode_events.specs.Content.{bytes_at, is_last_piece, piece_at, resized, with_zeros_to, overwritten};
 ghost use Rattle.inode_events.specs.State.{content, content_after};
 
 use crate::walk::newest;
@@ -57,8 +57,13 @@ fn behind(content: &[u8], from: u64, len: u64) -> &[u8]
     }
 }
 
-fn written(alloc: Global, content: &[u8], from: u64, bytes: &[u8]) -> Result<Vec<u8>, OutOfMemory>
-    ensures { IfOk result (λ v. v.items ≡ written content.now from bytes.now) }
+fn overwritten(
+    alloc: Global,
+    content: &[u8],
+    from: u64,
+    bytes: &[u8],
+) -> Result<Vec<u8>, OutOfMemory>
+    ensures { IfOk result (λ v. v.items ≡ overwritten content.now from bytes.now) }
 {
     let mut new = with_zeros_to(alloc, from, content)?;
     new.truncate(from as usize);
@@ -81,7 +86,7 @@ fn content_after(alloc: Global, e: &Event, old: Vec<u8>) -> Result<Vec<u8>, OutO
     match (&e.deed, &e.told) {
         (Deed::Birth, Told::Image(image)) => Vec::from_slice(alloc, image.content.as_slice()),
         (Deed::Write { from, bytes, .. }, Told::Done) => {
-            written(alloc, old.as_slice(), *from, bytes.as_slice())
+            overwritten(alloc, old.as_slice(), *from, bytes.as_slice())
         }
         (Deed::Trunc { len, .. }, Told::Done) => resized(alloc, old.as_slice(), *len),
         _ => Ok(old),

@@ -1,7 +1,7 @@
 ghost use Rattle.std.specs.Prelude.{◌≡◌, IfOk};
 ghost use Rattle.inode_events.specs.Past.{past};
 ghost use Rattle.inode_events.specs.Checks.{appraises};
-ghost use Rattle.inode_events.specs.Grants.{admits, grant_of, is_mend, labels, mend_of, placed_for, verdict_for};
+ghost use Rattle.inode_events.specs.Grants.{admits, grant_of, is_mend, mends, mend_of, placed_if_measured, verdict_for};
 ghost use Rattle.plain_inode.specs.Asked.{check_seen};
 ghost use Rattle.plain_inode.specs.Views.{inode_of};
 
@@ -22,10 +22,10 @@ use policy_text::{Action, Func};
 use std::alloc::Global;
 use xattr_store::OutOfMemory;
 
-fn placed_for(action: Action, spot: Placed) -> Option<Placed>
-    ensures { result ≡ placed_for action spot }
+fn placed_if_measured(action: Action, placed: Placed) -> Option<Placed>
+    ensures { result ≡ placed_if_measured action placed }
 {
-    if action.measure { Some(spot) } else { None }
+    if action.measure { Some(placed) } else { None }
 }
 
 fn appraises(settings: &Settings, action: Action) -> bool
@@ -99,7 +99,7 @@ fn mend_of(
 }
 
 // Mode fix mends the attributes.
-fn labels(
+fn mends(
     alloc: Global,
     settings: &Settings,
     action: Action,
@@ -107,7 +107,7 @@ fn labels(
     verdict: Option<Verdict>,
     journal: &[Event],
 ) -> Result<bool, OutOfMemory>
-    ensures { IfOk result (λ b. b ≡ labels (inode_of settings.now) action digest.now verdict (past journal.now)) }
+    ensures { IfOk result (λ b. b ≡ mends (inode_of settings.now) action digest.now verdict (past journal.now)) }
 {
     match verdict {
         None => Ok(false),
@@ -123,19 +123,19 @@ pub fn grant_of(
     alloc: Global,
     settings: &Settings,
     file: u64,
-    spot: Placed,
+    placed: Placed,
     digest: &Digest,
     journal: &[Event],
 ) -> Result<Grant, OutOfMemory>
-    ensures { IfOk result (λ g. g ≡ grant_of (inode_of settings.now) file spot digest.now (past journal.now)) }
+    ensures { IfOk result (λ g. g ≡ grant_of (inode_of settings.now) file placed digest.now (past journal.now)) }
 {
     let check = last_check(journal, file);
     let action = check.1;
     let verdict = verdict_for(alloc, settings, check, digest, journal)?;
     Ok(Grant {
-        placed: placed_for(action, spot),
+        placed: placed_if_measured(action, placed),
         verdict,
         admitted: admits(settings.mode, verdict),
-        labelled: labels(alloc, settings, action, digest, verdict, journal)?,
+        labelled: mends(alloc, settings, action, digest, verdict, journal)?,
     })
 }

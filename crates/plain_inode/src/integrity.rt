@@ -2,8 +2,8 @@ ghost use Rattle.std.specs.Prelude.{◌≡◌, ◌+◌, ◌^◌, ◌++◌, ◌<�
 ghost use Rattle.hash_algos.specs.Digest.{digest_of};
 ghost use Rattle.inode_events.specs.Past.{past};
 ghost use Rattle.inode_events.specs.State.{content};
-ghost use Rattle.inode_events.specs.Integrity.{attributes_after, collected_more, collecting, collecting_after, collection_of, digest_from, force_after, force_from, force_given, integrity, integrity_after};
-ghost use Rattle.plain_inode.specs.Views.{collecting_seen, collection_seen, force_seen, in_force_seen, inode_of, integrity_seen, pieces};
+ghost use Rattle.inode_events.specs.Integrity.{attributes_after, collected_more, collecting, collecting_after, collection_of, digest_from, digests_after, digests_of, digests_given, integrity, integrity_after};
+ghost use Rattle.plain_inode.specs.Views.{collecting_seen, collection_seen, digests_seen, in_force_seen, inode_of, integrity_seen, pieces};
 
 use crate::attributes::{attr_set, fixed_by, label_in, labelled_by, renewed};
 use crate::content::{content, piece_at};
@@ -30,7 +30,7 @@ pub struct Collection {
 
 // A digest in force.
 #[derive(Drop)]
-pub struct Force {
+pub struct Digests {
     pub digest: Digest,
     pub sha1: Digest,
     pub begin: u64,
@@ -41,7 +41,7 @@ pub struct Force {
 pub struct Kept {
     pub attributes: Attrs,
     pub collecting: Option<Collection>,
-    pub force: Option<Force>,
+    pub digests: Option<Digests>,
 }
 
 // ---- collections
@@ -62,10 +62,10 @@ pub fn digest_from(c: &Collection) -> Digest
     digest_of(c.algo, c.bytes.as_slice())
 }
 
-fn force_from(c: &Collection) -> Force
-    ensures { force_seen result ≡ force_from (collection_seen c.now) }
+fn digests_of(c: &Collection) -> Digests
+    ensures { digests_seen result ≡ digests_of (collection_seen c.now) }
 {
-    Force {
+    Digests {
         digest: digest_from(c),
         sha1: digest_of(Algo::Sha1, c.bytes.as_slice()),
         begin: c.begin,
@@ -200,12 +200,12 @@ fn collected_digest(old: &Option<Collection>) -> Option<Digest>
     }
 }
 
-fn digest_in_force(old: &Option<Force>) -> Option<Digest>
+fn digest_in_force(old: &Option<Digests>) -> Option<Digest>
     ensures { result ≡ option_map (λ f. f.digest) (in_force_seen old.now) }
 {
     match old {
         None => None,
-        Some(force) => Some(force.digest),
+        Some(digests) => Some(digests.digest),
     }
 }
 
@@ -229,7 +229,7 @@ fn attributes_after(
             fixed_by(
                 settings,
                 grant.labelled,
-                digest_in_force(&old.force),
+                digest_in_force(&old.digests),
                 &meta,
                 attrs,
             )
@@ -250,44 +250,44 @@ fn attributes_after(
     }
 }
 
-fn force_same(old: &Option<Force>) -> Option<Force>
+fn digests_same(old: &Option<Digests>) -> Option<Digests>
     ensures { in_force_seen result ≡ in_force_seen old.now }
 {
     match old {
         None => None,
-        Some(force) => Some(Force {
-            digest: force.digest,
-            sha1: force.sha1,
-            begin: force.begin,
+        Some(digests) => Some(Digests {
+            digest: digests.digest,
+            sha1: digests.sha1,
+            begin: digests.begin,
         }),
     }
 }
 
-fn force_collected(old: &Option<Collection>) -> Option<Force>
-    ensures { in_force_seen result ≡ option_map force_from (collecting_seen old.now) }
+fn digests_collected(old: &Option<Collection>) -> Option<Digests>
+    ensures { in_force_seen result ≡ option_map digests_of (collecting_seen old.now) }
 {
     match old {
         None => None,
-        Some(c) => Some(force_from(c)),
+        Some(c) => Some(digests_of(c)),
     }
 }
 
-fn force_given(e: &Event, old: &Kept) -> Option<Force>
-    ensures { in_force_seen result ≡ force_given e.now.deed e.now.told (integrity_seen old.now) }
+fn digests_given(e: &Event, old: &Kept) -> Option<Digests>
+    ensures { in_force_seen result ≡ digests_given e.now.deed e.now.told (integrity_seen old.now) }
 {
     match (&e.deed, &e.told) {
-        (Deed::Finish { .. }, Told::Grant(_)) => force_collected(&old.collecting),
-        _ => force_same(&old.force),
+        (Deed::Finish { .. }, Told::Grant(_)) => digests_collected(&old.collecting),
+        _ => digests_same(&old.digests),
     }
 }
 
-fn force_after(e: &Event, before: &[Event], old: &Kept) -> Option<Force>
-    ensures { in_force_seen result ≡ force_after e.now.deed e.now.told (past before.now) (integrity_seen old.now) }
+fn digests_after(e: &Event, before: &[Event], old: &Kept) -> Option<Digests>
+    ensures { in_force_seen result ≡ digests_after e.now.deed e.now.told (past before.now) (integrity_seen old.now) }
 {
-    if voids_digest(e, before, &old.force) {
+    if voids_digest(e, before, &old.digests) {
         None
     } else {
-        force_given(e, old)
+        digests_given(e, old)
     }
 }
 
@@ -304,7 +304,7 @@ fn integrity_after(
     Ok(Kept {
         attributes: attributes_after(settings, e, before, old)?,
         collecting: collecting_after(alloc, settings, e, before, old)?,
-        force: force_after(e, before, old),
+        digests: digests_after(e, before, old),
     })
 }
 
@@ -317,7 +317,7 @@ pub fn integrity(alloc: Global, settings: &Settings, journal: &[Event]) -> Resul
         None => Ok(Kept {
             attributes: Attrs::new(alloc),
             collecting: None,
-            force: None,
+            digests: None,
         }),
         Some((e, before)) => {
             let old = integrity(alloc, settings, before)?;

@@ -1,9 +1,9 @@
 ghost use Rattle.std.specs.Prelude.{◌≡◌, IfOk};
 ghost use Rattle.inode_events.specs.Past.{past};
-ghost use Rattle.inode_events.specs.Integrity.{attributes, collecting, force};
+ghost use Rattle.inode_events.specs.Integrity.{attributes, collecting, in_force};
 ghost use Rattle.plain_inode.specs.Views.{collecting_seen, in_force_seen, inode_of};
 
-use crate::integrity::{Collection, Force, Kept, integrity};
+use crate::integrity::{Collection, Digests, Kept, integrity};
 use inode_events::{Event, Settings};
 use std::alloc::Global;
 use xattr_store::{Attrs, OutOfMemory};
@@ -33,13 +33,13 @@ pub fn collecting(
 }
 
 // The digest in force.
-pub fn force(
+pub fn in_force(
     alloc: Global,
     settings: &Settings,
     journal: &[Event],
-) -> Result<Option<Force>, OutOfMemory>
-    ensures { IfOk result (λ f. in_force_seen f ≡ force (inode_of settings.now) (past journal.now)) }
+) -> Result<Option<Digests>, OutOfMemory>
+    ensures { IfOk result (λ f. in_force_seen f ≡ in_force (inode_of settings.now) (past journal.now)) }
 {
-    let Kept { force, .. } = integrity(alloc, settings, journal)?;
-    Ok(force)
+    let Kept { digests, .. } = integrity(alloc, settings, journal)?;
+    Ok(digests)
 }

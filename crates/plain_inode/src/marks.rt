@@ -6,7 +6,7 @@ ghost use Rattle.plain_inode.specs.Views.{inode_of};
 use crate::attributes::label_in;
 use crate::files::{Kind, is_held_as};
 use crate::kept::attributes;
-use crate::state::{is_last_drop, new, versions, written_in_span};
+use crate::state::{is_last_drop, modified_in_span, new, versions};
 use crate::walk::newest;
 use inode_events::{Deed, Event, Grant, Settings, Told};
 use label_values::{Label, Verdict, read_label};
@@ -78,6 +78,6 @@ pub fn is_label_due(
         read_label(label_in(&attrs), settings.hash),
         Label::Signature
     );
-    let is_changed = new(journal) || !versions(journal) || written_in_span(journal);
+    let is_changed = new(journal) || !versions(journal) || modified_in_span(journal);
     Ok(update(journal) && !is_signed && is_changed)
 }

@@ -25,10 +25,10 @@ const SIZE_LIMIT: u64 = 262_144;
 const LAST_TYPE: u8 = 6;
 
 // The place in the measurement list.
-pub fn place_of(spot: Placed) -> u64
-    ensures { result ≡ place_of spot }
+pub fn place_of(placed: Placed) -> u64
+    ensures { result ≡ place_of placed }
 {
-    match spot {
+    match placed {
         Placed::Added(place) | Placed::Already(place) => place,
     }
 }

@@ -11,7 +11,7 @@ ghost use Rattle.plain_inode.specs.Views.{inode_of};
 
 use crate::content::{bytes_at, content};
 use crate::files::{Kind, is_held_as, tally};
-use crate::kept::{collecting, force};
+use crate::kept::{collecting, in_force};
 use crate::marks::{is_label_due, must_measure};
 use crate::requests::{
     check_told, count_told, place_of, read_told, set_attr_told, set_meta_told, trunc_told,
@@ -27,8 +27,8 @@ use policy_text::Action;
 use std::alloc::Global;
 use xattr_store::{Bytes, OutOfMemory};
 
-fn says_check(journal: &[Event], spot: Placed, file: u64, action: &Action) -> Told
-    ensures { result ≡ check_told (is_writing file (past journal.now)) action.now.measure (readers (past journal.now)) (writers (past journal.now)) (must_measure (past journal.now)) (place_of spot) }
+fn says_check(journal: &[Event], placed: Placed, file: u64, action: &Action) -> Told
+    ensures { result ≡ check_told (is_writing file (past journal.now)) action.now.measure (readers (past journal.now)) (writers (past journal.now)) (must_measure (past journal.now)) (place_of placed) }
 {
     check_told(
         is_held_as(journal, Kind::Writer, file),
@@ -36,7 +36,7 @@ fn says_check(journal: &[Event], spot: Placed, file: u64, action: &Action) -> To
         tally(journal, Kind::Reader),
         tally(journal, Kind::Writer),
         must_measure(journal),
-        place_of(spot),
+        place_of(placed),
     )
 }
 
@@ -44,13 +44,13 @@ fn says_take(
     alloc: Global,
     settings: &Settings,
     journal: &[Event],
-    spot: Placed,
+    placed: Placed,
     file: u64,
 ) -> Result<Option<Told>, OutOfMemory>
-    ensures { IfOk result (λ told. told ≡ says (inode_of settings.now) (past journal.now) spot (Deed.Take file)) }
+    ensures { IfOk result (λ told. told ≡ says (inode_of settings.now) (past journal.now) placed (Deed.Take file)) }
 {
-    let force = force(alloc, settings, journal)?;
-    let told = take_told(alloc, settings, file, spot, &force, journal)?;
+    let digests = in_force(alloc, settings, journal)?;
+    let told = take_told(alloc, settings, file, placed, &digests, journal)?;
     Ok(unless_collecting(&collecting(alloc, settings, journal)?, told))
 }
 
@@ -69,13 +69,13 @@ fn says_finish(
     alloc: Global,
     settings: &Settings,
     journal: &[Event],
-    spot: Placed,
+    placed: Placed,
     file: u64,
 ) -> Result<Option<Told>, OutOfMemory>
-    ensures { IfOk result (λ told. told ≡ says (inode_of settings.now) (past journal.now) spot (Deed.Finish file)) }
+    ensures { IfOk result (λ told. told ≡ says (inode_of settings.now) (past journal.now) placed (Deed.Finish file)) }
 {
     let collecting = collecting(alloc, settings, journal)?;
-    finish_told(alloc, settings, file, spot, &collecting, journal)
+    finish_told(alloc, settings, file, placed, &collecting, journal)
 }
 
 fn says_read(alloc: Global, journal: &[Event], from: u64, len: u64) -> Result<Told, OutOfMemory>
@@ -127,23 +127,23 @@ fn says(
     alloc: Global,
     settings: &Settings,
     journal: &[Event],
-    spot: Placed,
+    placed: Placed,
     deed: &Deed,
 ) -> Result<Option<Told>, OutOfMemory>
-    ensures { IfOk result (λ told. told ≡ says (inode_of settings.now) (past journal.now) spot deed.now) }
+    ensures { IfOk result (λ told. told ≡ says (inode_of settings.now) (past journal.now) placed deed.now) }
 {
     match deed {
-        Deed::Birth | Deed::Post { .. } | Deed::Wait { .. } => Ok(None),
+        Deed::Birth | Deed::Post(_) | Deed::Wait(_) => Ok(None),
         Deed::Count { how } => Ok(Some(count_told(
             *how,
             present(journal),
             tally(journal, Kind::Writer),
             tally(journal, Kind::Execution),
         ))),
-        Deed::Check { file, action, .. } => Ok(Some(says_check(journal, spot, *file, action))),
-        Deed::Take { file } => says_take(alloc, settings, journal, spot, *file),
+        Deed::Check { file, action, .. } => Ok(Some(says_check(journal, placed, *file, action))),
+        Deed::Take { file } => says_take(alloc, settings, journal, placed, *file),
         Deed::Chunk { .. } | Deed::CloseChunk { .. } => says_chunk(alloc, settings, journal),
-        Deed::Finish { file } => says_finish(alloc, settings, journal, spot, *file),
+        Deed::Finish { file } => says_finish(alloc, settings, journal, placed, *file),
         Deed::Read { from, len, .. } => Ok(Some(says_read(alloc, journal, *from, *len)?)),
         Deed::Write { from, bytes, .. } => {
             Ok(Some(write_told(*from, bytes.as_slice().len() as u64)))
@@ -159,7 +159,7 @@ fn says(
     }
 }
 
-/// What the next event of an inode is told, where `journal` stands before it, oldest event first, and `spot` is the place in the
+/// What the next event of an inode is told, where `journal` stands before it, oldest event first, and `placed` is the place in the
 /// measurement list. `None` is no event: the task is blocked, or the deed is none that may stand there (a birth, a piece or the
 /// end of a collection that isn't open, a step of a semaphore). It reads of the inode nothing but its journal.
 ///
@@ -170,10 +170,10 @@ pub fn outcome(
     alloc: Global,
     settings: &Settings,
     journal: &[Event],
-    spot: Placed,
+    placed: Placed,
     deed: &Deed,
 ) -> Result<Option<Told>, OutOfMemory>
-    ensures { IfOk result (λ told. (i : Inode) → i.settings ≡ settings.now → told ≡ says i (past journal.now) spot deed.now) }
+    ensures { IfOk result (λ told. (i : Inode) → i.settings ≡ settings.now → told ≡ says i (past journal.now) placed deed.now) }
 {
-    says(alloc, settings, journal, spot, deed)
+    says(alloc, settings, journal, placed, deed)
 }

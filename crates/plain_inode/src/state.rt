@@ -1,9 +1,9 @@
 ghost use Rattle.std.specs.Prelude.{◌≡◌, ◌&&◌, ◌||◌, nat_le};
 ghost use Rattle.inode_events.specs.Past.{past};
-ghost use Rattle.inode_events.specs.State.{changed, is_last_drop, is_write, is_written, metadata, metadata_after, new, new_after, present, present_after, raises_writers, span, versions, versions_after, written_since};
+ghost use Rattle.inode_events.specs.State.{changed, is_last_drop, modifies, modified_in, metadata, metadata_after, new, new_after, present, present_after, raises_writers, span, versions, versions_after, modified_since};
 
 use crate::files::{Kind, counts_as, tally};
-use crate::walk::{counted, drops_writer, is_write, newest};
+use crate::walk::{counted, drops_writer, modifies, newest};
 use inode_events::{Change, Deed, Event, Told};
 use inode_meta::Meta;
 
@@ -111,22 +111,22 @@ fn either(a: bool, b: bool) -> bool
 }
 
 // The event is a write or truncation, at this place or after it.
-fn is_write_since(e: &Event, at: u64, place: u64) -> bool
-    ensures { result ≡ (is_write e.now.deed e.now.told && nat_le place at) }
+fn modifies_since(e: &Event, at: u64, place: u64) -> bool
+    ensures { result ≡ (modifies e.now.deed e.now.told && nat_le place at) }
 {
-    is_write(e) && place <= at
+    modifies(e) && place <= at
 }
 
 // A write or truncation stands at this place or after it.
-pub fn written_since(journal: &[Event], place: u64) -> bool
-    ensures { result ≡ written_since place (past journal.now) }
+pub fn modified_since(journal: &[Event], place: u64) -> bool
+    ensures { result ≡ modified_since place (past journal.now) }
 {
     match newest(journal) {
         None => false,
         Some((e, before)) => {
             either(
-                is_write_since(e, before.len() as u64, place),
-                written_since(before, place),
+                modifies_since(e, before.len() as u64, place),
+                modified_since(before, place),
             )
         }
     }
@@ -142,8 +142,8 @@ fn raises_writers(e: &Event, before: &[Event]) -> bool
 }
 
 // A write or truncation stands among the events since the number of writers last rose from 0.
-pub fn written_in_span(journal: &[Event]) -> bool
-    ensures { result ≡ is_written (span (past journal.now)) }
+pub fn modified_in_span(journal: &[Event]) -> bool
+    ensures { result ≡ modified_in (span (past journal.now)) }
 {
     match newest(journal) {
         None => false,
@@ -151,7 +151,7 @@ pub fn written_in_span(journal: &[Event]) -> bool
             if raises_writers(e, before) {
                 false
             } else {
-                either(is_write(e), written_in_span(before))
+                either(modifies(e), modified_in_span(before))
             }
         }
     }

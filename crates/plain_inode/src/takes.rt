@@ -5,7 +5,7 @@ ghost use Rattle.plain_inode.specs.Views.{collecting_seen, in_force_seen, inode_
 
 use crate::content::is_last_piece;
 use crate::grants::grant_of;
-use crate::integrity::{Collection, Force, digest_from};
+use crate::integrity::{Collection, Digests, digest_from};
 use ima_templates::Placed;
 use inode_events::{Event, Settings, Told};
 use std::alloc::Global;
@@ -16,20 +16,20 @@ pub fn take_told(
     alloc: Global,
     settings: &Settings,
     file: u64,
-    spot: Placed,
-    force: &Option<Force>,
+    placed: Placed,
+    digests: &Option<Digests>,
     journal: &[Event],
 ) -> Result<Told, OutOfMemory>
-    ensures { IfOk result (λ t. t ≡ take_told (inode_of settings.now) file spot (in_force_seen force.now) (past journal.now)) }
+    ensures { IfOk result (λ t. t ≡ take_told (inode_of settings.now) file placed (in_force_seen digests.now) (past journal.now)) }
 {
-    match force {
+    match digests {
         None => Ok(Told::Begun),
-        Some(force) => Ok(Told::Grant(grant_of(
+        Some(digests) => Ok(Told::Grant(grant_of(
             alloc,
             settings,
             file,
-            spot,
-            &force.digest,
+            placed,
+            &digests.digest,
             journal,
         )?)),
     }
@@ -56,16 +56,16 @@ pub fn finish_told(
     alloc: Global,
     settings: &Settings,
     file: u64,
-    spot: Placed,
+    placed: Placed,
     collecting: &Option<Collection>,
     journal: &[Event],
 ) -> Result<Option<Told>, OutOfMemory>
-    ensures { IfOk result (λ t. t ≡ finish_told (inode_of settings.now) file spot (collecting_seen collecting.now) (past journal.now)) }
+    ensures { IfOk result (λ t. t ≡ finish_told (inode_of settings.now) file placed (collecting_seen collecting.now) (past journal.now)) }
 {
     match collecting {
         None => Ok(None),
         Some(c) => {
-            let grant = grant_of(alloc, settings, file, spot, &digest_from(c), journal)?;
+            let grant = grant_of(alloc, settings, file, placed, &digest_from(c), journal)?;
             Ok(Some(Told::Grant(grant)))
         }
     }

@@ -6,7 +6,7 @@ ghost use Rattle.plain_inode.specs.Views.{inode_of, key_seen};
 use crate::attributes::label_in;
 use crate::checks::last_check;
 use crate::content::content;
-use crate::kept::{attributes, force};
+use crate::kept::{attributes, in_force};
 use crate::keys::{Key, key_of, same_key};
 use crate::state::{metadata, new};
 use crate::voids::voids_verdicts;
@@ -62,8 +62,8 @@ pub fn verdict_in_force(
         None => Ok(None),
         Some((e, before)) => {
             let old = verdict_in_force(alloc, settings, key, before)?;
-            let force = force(alloc, settings, before)?;
-            if voids_verdicts(e, before, &force) {
+            let digests = in_force(alloc, settings, before)?;
+            if voids_verdicts(e, before, &digests) {
                 Ok(None)
             } else {
                 Ok(verdict_given(e, before, key, old))

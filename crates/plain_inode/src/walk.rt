@@ -1,6 +1,6 @@
 ghost use Rattle.std.specs.Prelude.{◌≡◌, ◌+◌, ◌∷◌, [], length, MatchOption};
 ghost use Rattle.inode_events.specs.Past.{past};
-ghost use Rattle.inode_events.specs.State.{drops_writer, is_write};
+ghost use Rattle.inode_events.specs.State.{drops_writer, modifies};
 ghost use Rattle.inode_events.specs.Files.{counted, dropped};
 
 use inode_events::{Deed, Event, How, Told};
@@ -16,8 +16,8 @@ pub fn newest(journal: &[Event]) -> Option<(&Event, &[Event])>
 }
 
 // A write or truncation was done.
-pub fn is_write(e: &Event) -> bool
-    ensures { result ≡ is_write e.now.deed e.now.told }
+pub fn modifies(e: &Event) -> bool
+    ensures { result ≡ modifies e.now.deed e.now.told }
 {
     match &e.deed {
         Deed::Write { .. } | Deed::Trunc { .. } => matches!(e.told, Told::Done),

@@ -23,7 +23,7 @@ fn event(deed: Deed, told: Told) -> Event {
 }
 
 // What the list has for the deed: the place that the table gives it.
-fn spot(expected: Answer) -> Placed {
+fn placed(expected: Answer) -> Placed {
     match expected {
         Answer::Added(place) | Answer::OpenWriters(place) | Answer::ToMToU(place) => {
             Placed::Added(place)
@@ -42,7 +42,7 @@ fn goes_on(
     row: (Step, Answer),
 ) -> Result<(), OutOfMemory> {
     let deed = deed(alloc, row.0)?;
-    match outcome(alloc, settings, journal, spot(row.1), &deed)? {
+    match outcome(alloc, settings, journal, placed(row.1), &deed)? {
         None => assert_eq!(rt; Answer::Blocked, row.1, "after {} events", journal.len()),
         Some(told) => {
             assert_eq!(rt; shown(&told), row.1, "after {} events", journal.len());

@@ -140,7 +140,7 @@ pub fn deed(alloc: Global, step: Step) -> Result<Deed, OutOfMemory> {
         Step::CloseTake(file) => Ok(Deed::CloseTake { file }),
         Step::CloseChunk(file) => Ok(Deed::CloseChunk { file }),
         Step::CloseFinish(file) => Ok(Deed::CloseFinish { file }),
-        Step::Post => Ok(Deed::Post { sem: 0 }),
-        Step::Wait => Ok(Deed::Wait { sem: 0 }),
+        Step::Post => Ok(Deed::Post(0)),
+        Step::Wait => Ok(Deed::Wait(0)),
     }
 }
