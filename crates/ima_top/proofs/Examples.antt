@@ -1,12 +1,16 @@
 -- Texts and words, each with what it is.
-use Rattle.std.proofs.Common.{◌≡◌, true, false, [], ◌∷◌, Some, None, Ok, Err, refl}
+use Rattle.std.proofs.Common.{◌≡◌, ℕ, true, false, List, [], ◌∷◌, Option, Some, None, refl}
 use Rattle.std.specs.Prelude.{codes, replicate}
-use Rattle.ima_top.specs.declared.command.Command.TheVariants as command
-use Rattle.ima_top.specs.Failure.{told_of}
-use Rattle.ima_top.specs.ListAnswer.{boot_entry, list_answer, measured}
+use Rattle.ima_top.specs.declared.commands.Command.TheVariants as command
+use Rattle.ima_top.specs.commands.List.{boot_entry, list_refusal, measured}
 use Rattle.ima_top.specs.PlainList.{is_path, plain_list_of}
-use Rattle.ima_top.specs.PolicyAnswer.{policy_answer}
+use Rattle.ima_top.specs.commands.Policy.{policy_refusal}
+use Rattle.ima_top.specs.Served.{Serves}
 use Rattle.ima_top.specs.Words.{command_of}
+use Rattle.ima_top.specs.commands.Table.{IsOutput, reads}
+use Rattle.ima_top.specs.declared.commands.Command.{Command}
+use Rattle.ima_top.specs.declared.status.TheConstants.{DONE, USAGE, REFUSED, STUCK, READ_FAULT, WRITE_FAULT, TOO_LONG, OUT_OF_MEMORY}
+use Rattle.ima_top.specs.declared.top.TheConstants.{MOST_INPUT}
 
 two_files : plain_list_of (codes "imalist 1\nfile /a txt:abc\nfile /e txt:\nend\n")
     ≡ Some (record { path = codes "/a"; content = codes "abc" } ∷ record { path = codes "/e"; content = [] } ∷ [])
@@ -45,13 +49,34 @@ commands = (refl, refl, refl, refl, refl)
 boot_alone : measured [] ≡ boot_entry ∷ []
 boot_alone = refl
 
-no_list : list_answer [] ≡ Err (codes "not a plain list\n")
-unfolding list_answer
+no_list : list_refusal [] ≡ Some (codes "not a plain list\n")
+unfolding list_refusal
 no_list = refl
 
-no_rule : policy_answer [] ≡ Ok []
-unfolding policy_answer
+no_rule : policy_refusal [] ≡ None
+unfolding policy_refusal
 no_rule = refl
 
-usage_line : told_of 1 ≡ codes "usage: imakern list | policy\n"
-usage_line = refl
+both_read : (reads command.List ≡ true) × (reads command.Policy ≡ true)
+unfolding reads
+both_read = (refl, refl)
+
+-- ---- the limit and the statuses, which the contracts cite by name
+
+limit : MOST_INPUT ≡ 4194304
+limit = refl
+
+statuses : (DONE ≡ 0) × (USAGE ≡ 1) × (REFUSED ≡ 2) × (STUCK ≡ 3) × (READ_FAULT ≡ 4) × (WRITE_FAULT ≡ 5) × (TOO_LONG ≡ 6) × (OUT_OF_MEMORY ≡ 7)
+statuses = (refl, refl, refl, refl, refl, refl, refl, refl)
+
+-- neither command has a stuck run
+never_stuck : (command : Command) (input output : List ℕ) → IsOutput command input true output → ⊥
+unfolding IsOutput
+never_stuck command.List input output h = absurd (cc (h.0))
+never_stuck command.Policy input output h = absurd (cc (h.0))
+
+-- so the status of a stuck run doesn't come yet
+no_stuck_status : (command : Command) (input : List ℕ) (status : ℕ) (old new : Option (List ℕ)) (told : List ℕ → Type 0)
+    → Serves command input status old new told → status ≡ STUCK → ⊥
+no_stuck_status command input status old new told serves is =
+    let (output, is_output, written) = serves.written_stuck is in never_stuck command input output is_output

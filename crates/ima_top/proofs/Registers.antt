@@ -9,7 +9,7 @@ use Rattle.ima_templates.specs.declared.entry.Entry.{Entry}
 use Rattle.ima_templates.specs.Replay.{banks_of, replay}
 use Rattle.ima_templates.proofs.ReplayLemmas.{register-banks_of}
 use Rattle.list_format.specs.Line.{ascii_line}
-use Rattle.ima_top.specs.ListAnswer.{list_text, register_line}
+use Rattle.ima_top.specs.commands.List.{list_text, register_line}
 
 value_is : (list : List Entry) (banks : Banks) (bank : Bank) (value : List ℕ) → banks ≡ banks_of list → value ≡ register banks bank 10 → value ≡ replay list bank 10
 value_is list banks bank value made read = read ∙ ap (λ (b : Banks). register b bank 10) made ∙ register-banks_of list bank 10 (lit< tt)

@@ -1,9 +1,11 @@
-use Rattle.std.specs.Prelude.{◌≡◌, ℕ, List, Vec, Result, Ok, Err, ⊤}
-use Rattle.ima_top.specs.declared.failure.AnswerErr.{AnswerErr}
-use Rattle.ima_top.specs.declared.failure.AnswerErr.TheVariants.{Refused, OutOfMemory}
+-- What a command's own call answers.
+use Rattle.std.specs.Prelude.{◌≡◌, ℕ, List, Result, Ok, Err, Option, Some, None, ⊤}
+use Rattle.ima_top.specs.declared.not_done.NotDone.{NotDone}
+use Rattle.ima_top.specs.declared.not_done.NotDone.TheVariants.{Refused, OutOfMemory}
 
--- the call answers this, unless it wants memory
-abbrev pub Answers : {A : Type 0} → Result (Vec ℕ A) AnswerErr → Result (List ℕ) (List ℕ) → Type 0
-Answers (Ok output) answer = answer ≡ Ok output.items
-Answers (Err (Refused line)) answer = answer ≡ Err line.items
-Answers (Err OutOfMemory) answer = ⊤
+-- an output, where nothing refuses the input; the line that refuses it; or memory ran out
+abbrev pub Answers : {A : Type 0} → Result A NotDone → Option (List ℕ) → (A → Type 0) → Type 0
+Answers (Ok answer) refusal IsOutput = (refusal ≡ None) × IsOutput answer
+Answers (Err (Refused line)) refusal IsOutput = refusal ≡ Some line.items
+Answers (Err OutOfMemory) refusal IsOutput = ⊤
+Answers (Err _) refusal IsOutput = ⊥

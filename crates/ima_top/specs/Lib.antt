@@ -2,10 +2,8 @@ pub mod Line
 pub mod PlainList
 pub mod Spelling
 pub mod FileView
-pub mod ListAnswer
-pub mod PolicyAnswer
+pub mod commands
 pub mod Words
-pub mod Failure
-pub mod Answer
+pub mod NotDone
 pub mod Answered
 pub mod Served

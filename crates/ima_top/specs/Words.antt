@@ -1,8 +1,14 @@
 -- The words of the command line.
-use Rattle.std.specs.Prelude.{ℕ, List, [], ◌∷◌, codes, Option, Some, None, if◌then◌else◌}
+use Rattle.std.specs.Prelude.{ℕ, Bool, false, List, [], ◌∷◌, codes, Option, Some, None, if◌then◌else◌}
 use Rattle.std.specs.Str.{bytes_eq}
-use Rattle.ima_top.specs.declared.command.Command.{Command}
-use Rattle.ima_top.specs.declared.command.Command.TheVariants as command
+use Rattle.ima_top.specs.declared.commands.Command.{Command}
+use Rattle.ima_top.specs.declared.commands.Command.TheVariants as command
+use Rattle.ima_top.specs.commands.Table.{reads}
+use Rattle.ima_top.specs.Line.{with_newline}
+
+-- the line that is told where the words are no command
+abbrev pub usage_line : List ℕ
+usage_line = with_newline (codes "usage: imakern list | policy")
 
 -- the command that a lone word names
 abbrev pub command_named : List ℕ → Option Command
@@ -16,3 +22,8 @@ abbrev pub command_of : List (List ℕ) → Option Command
 command_of [] = None
 command_of (word ∷ []) = command_named word
 command_of (word ∷ more ∷ others) = None
+
+-- the words are a command that reads its input
+abbrev pub reads_input : Option Command → Bool
+reads_input None = false
+reads_input (Some command) = reads command

@@ -2,24 +2,22 @@
 //! the output and the exit status.
 //!
 //! [`serve`] is generic over the outside, so its contract speaks of the bytes that a source gives and that
-//! sinks take. Each command is a function from its input to its output, or to the line that tells why the
-//! input is refused: `answer_of` in `specs/Answer.antt`. A new command is one arm there, one in `answer.rt`
-//! and one in `command.rt`.
+//! sinks take. It speaks of every command by the same words: whether it reads, what refuses an input, and what
+//! is an output for it (`specs/commands/Table.antt`). A command has a file `src/commands/NAME.rt` with its
+//! definitions beside it in `specs/commands/Name.antt`, and a row in each table of `src/commands.rt`,
+//! `specs/commands/Table.antt` and `specs/Words.antt`.
 #![tactic(auto)]
 
-mod answer;
-mod command;
-mod failure;
+mod commands;
 mod file_line;
 mod list_text;
-mod listing;
-mod rules;
+mod not_done;
 mod status;
 mod top;
 
-pub use command::Command;
-pub use status::{DONE, OUT_OF_MEMORY, READ_FAULT, REFUSED, TOO_LONG, USAGE, WRITE_FAULT};
-pub use top::serve;
+pub use commands::Command;
+pub use status::{DONE, OUT_OF_MEMORY, READ_FAULT, REFUSED, STUCK, TOO_LONG, USAGE, WRITE_FAULT};
+pub use top::{MOST_INPUT, serve};
 
 #[cfg(test)]
 mod tests;

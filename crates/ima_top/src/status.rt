@@ -1,22 +1,25 @@
 // The exit statuses.
 
-/// The input was read to its end and the output was written whole.
+/// The command's input was read to its end and the output was written whole.
 pub const DONE: u8 = 0;
 
 /// The words are no command. Nothing was read.
 pub const USAGE: u8 = 1;
 
-/// The input isn't in the command's grammar.
+/// The input isn't in the command's grammar. Nothing was written.
 pub const REFUSED: u8 = 2;
 
-/// The source of the input failed.
+/// The output was written whole, but the run that it reports is stuck. No command of today runs tasks.
+pub const STUCK: u8 = 3;
+
+/// The source of the input failed. Nothing was written.
 pub const READ_FAULT: u8 = 4;
 
-/// The sink of the output failed. A front of the output that is shorter than the output was written.
+/// The sink of the output failed. A prefix of the output that is shorter than the output was written.
 pub const WRITE_FAULT: u8 = 5;
 
-/// The source gave more than 4,194,304 bytes.
+/// The source gave more bytes than an input may have. Nothing was written.
 pub const TOO_LONG: u8 = 6;
 
-/// Memory ran out.
+/// Memory ran out. Nothing was written.
 pub const OUT_OF_MEMORY: u8 = 7;

@@ -1,4 +1,5 @@
 // The commands over sources and sinks in memory. The digests come from Python's hashlib.
+use crate::commands::USAGE_LINE;
 use crate::serve;
 use ima_io::{FreeGate, MemSink, MemSource};
 use std::alloc::{AllocError, Global};
@@ -202,12 +203,11 @@ fn a_policy_has_at_most_1024_rules(rt: HostRuntime) -> Result<(), Fail> {
 
 #[test]
 fn other_words_are_usage(rt: HostRuntime) -> Result<(), Fail> {
-    let usage = "usage: imakern list | policy\n";
     for word in ["", "lists", "-list", "help", "run"] {
-        assert!(rt;
-            answer(rt.alloc(), word, b"imalist 1\nend\n")?.is(1, "", usage),
-            "at {word}"
-        );
+        let got = answer(rt.alloc(), word, b"imalist 1\nend\n")?;
+        assert_eq!(rt; got.status, 1, "at {word}");
+        assert!(rt; got.out.is_empty(), "at {word}");
+        assert_eq!(rt; got.note.as_slice(), USAGE_LINE, "at {word}");
     }
     Ok(())
 }
@@ -235,10 +235,11 @@ fn faults_have_their_statuses(rt: HostRuntime) -> Result<(), Fail> {
         let got = served(rt.alloc(), "list", &mut script, 1000, 100)?;
         assert!(rt; got.is(4, "", "read fault\n"), "call {call}");
     }
-    // An output with too little room, and a note with none.
+    // An output with too little room, and notes with too little.
     for (room, note, told) in [
         (0, 100, "write fault\n"),
         (380, 100, "write fault\n"),
+        (0, 5, "write"),
         (0, 0, ""),
     ] {
         let input = ONE_FILE_LIST.as_bytes().to_vec(rt.alloc())?;

@@ -1,5 +1,5 @@
--- What `list` answers: the measurement list of a plain list's files, and the registers that it extends.
-use Rattle.std.specs.Prelude.{ℕ, List, [], ◌∷◌, ◌++◌, codes, map, flat_map, Option, Some, None, Result, Ok, Err}
+-- The command `list`: the measurement list of a plain list's files, and the registers that it extends.
+use Rattle.std.specs.Prelude.{◌≡◌, ℕ, List, [], ◌∷◌, ◌++◌, codes, map, flat_map, Option, Some, None, IsSomeAnd}
 use Rattle.std.specs.List.{fold}
 use Rattle.hex.specs.Hex.{encode_lower}
 use Rattle.hash_algos.specs.declared.algo.Algo.TheVariants as algo
@@ -37,9 +37,14 @@ abbrev pub list_text : List Entry → List ℕ
 list_text list =
     (flat_map ascii_line list ++ register_line bank.Sha1 (replay list bank.Sha1 10)) ++ register_line bank.Sha256 (replay list bank.Sha256 10)
 
-abbrev pub answer_of_files : Option (List File) → Result (List ℕ) (List ℕ)
-answer_of_files None = Err (with_newline (codes "not a plain list"))
-answer_of_files (Some files) = Ok (list_text (measured files))
+abbrev pub refusal_of_files : Option (List File) → Option (List ℕ)
+refusal_of_files None = Some (with_newline (codes "not a plain list"))
+refusal_of_files (Some files) = None
 
-unfoldable pub list_answer : List ℕ → Result (List ℕ) (List ℕ)
-list_answer input = answer_of_files (plain_list_of input)
+-- the line that is told of an input that isn't a plain list
+unfoldable pub list_refusal : List ℕ → Option (List ℕ)
+list_refusal input = refusal_of_files (plain_list_of input)
+
+-- the output for a plain list is the text of its files' measurement list
+unfoldable pub IsListOutput : List ℕ → List ℕ → Type 0
+IsListOutput input output = IsSomeAnd (plain_list_of input) (λ files. output ≡ list_text (measured files))

@@ -1,4 +1,4 @@
-// The command `list`: the measurement list of the files of a list text, and the registers that it extends.
+// The command `list`: the measurement list of the files of a plain list, and the registers that it extends.
 ghost use Rattle.std.specs.Prelude.{◌≡◌, ◌∷◌, [], ◌++◌, map, flat_map, IfOk, OnOk};
 ghost use Rattle.hash_algos.specs.Digest.{digest_of};
 ghost use Rattle.ima_templates.specs.Replay.{banks_of};
@@ -6,11 +6,11 @@ ghost use Rattle.ima_templates.specs.Same.{add, place_of_same};
 ghost use Rattle.list_format.specs.Line.{ascii_line};
 ghost use Rattle.ima_top.specs.Answered.{Answers};
 ghost use Rattle.ima_top.specs.FileView.{file_view};
-ghost use Rattle.ima_top.specs.ListAnswer.{boot_entry, file_entry, list_answer, list_text, measured, register_line};
+ghost use Rattle.ima_top.specs.commands.List.{boot_entry, file_entry, list_refusal, IsListOutput, list_text, measured, register_line};
 
-use crate::failure::AnswerErr;
 use crate::file_line::FileLine;
 use crate::list_text::plain_list;
+use crate::not_done::NotDone;
 use hash_algos::{Algo, Digest, Running};
 use ima_io::OutOfMemory;
 use ima_templates::{Entry, build};
@@ -19,13 +19,13 @@ use list_format::ascii;
 use pcr_bank::Banks;
 use std::alloc::Global;
 
-/// The measurement list of the files, or the line that tells that the input is no plain list.
-#[tactic(auto, unfolding(crate::specs::ListAnswer::list_answer))]
-pub fn list_answer(alloc: Global, input: &[u8]) -> Result<Vec<u8>, AnswerErr>
-    ensures { Answers result (list_answer input.now) }
+/// The measurement list of the files, or the line that says that the input isn't a plain list.
+#[tactic(auto, unfolding(crate::specs::commands::List::list_refusal, crate::specs::commands::List::IsListOutput))]
+pub fn answer(alloc: Global, input: &[u8]) -> Result<Vec<u8>, NotDone>
+    ensures { Answers result (list_refusal input.now) (λ output. IsListOutput input.now output.items) }
 {
     let Some(files) = plain_list(alloc, input)? else {
-        return Err(AnswerErr::Refused(Vec::from_slice(alloc, b"not a plain list\n")?));
+        return Err(NotDone::Refused(Vec::from_slice(alloc, b"not a plain list\n")?));
     };
     let list = measured(alloc, &files)?;
     Ok(list_text(alloc, &list)?)

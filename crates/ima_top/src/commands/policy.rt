@@ -1,23 +1,24 @@
 // The command `policy`: a policy's rules in their canonical text.
 ghost use Rattle.std.specs.Prelude.{◌≡◌, ◌≤◌, length, IfOk};
 ghost use Rattle.ima_top.specs.Answered.{Answers};
-ghost use Rattle.ima_top.specs.PolicyAnswer.{fault_line, policy_answer};
+ghost use Rattle.ima_top.specs.declared.top.TheConstants.{MOST_INPUT};
+ghost use Rattle.ima_top.specs.commands.Policy.{fault_line, policy_refusal, IsPolicyOutput};
 
-use crate::failure::AnswerErr;
+use crate::not_done::NotDone;
 use ima_io::OutOfMemory;
 use policy_text::{Fault, PolicyErr, parse, print};
 use std::alloc::Global;
 
 /// The canonical text of the policy, or the line that tells its first bad line.
-#[tactic(auto, unfolding(crate::specs::PolicyAnswer::policy_answer))]
-pub fn policy_answer(alloc: Global, input: &[u8]) -> Result<Vec<u8>, AnswerErr>
-    requires { length input.now ≤ 4194304 }
-    ensures { Answers result (policy_answer input.now) }
+#[tactic(auto, unfolding(crate::specs::commands::Policy::policy_refusal, crate::specs::commands::Policy::IsPolicyOutput))]
+pub fn answer(alloc: Global, input: &[u8]) -> Result<Vec<u8>, NotDone>
+    requires { length input.now ≤ MOST_INPUT }
+    ensures { Answers result (policy_refusal input.now) (λ output. IsPolicyOutput input.now output.items) }
 {
     match parse(alloc, input) {
         Ok(policy) => Ok(print(alloc, &policy)?),
-        Err(PolicyErr::Refused(fault)) => Err(AnswerErr::Refused(fault_line(alloc, fault)?)),
-        Err(PolicyErr::OutOfMemory) => Err(AnswerErr::OutOfMemory),
+        Err(PolicyErr::Refused(fault)) => Err(NotDone::Refused(fault_line(alloc, fault)?)),
+        Err(PolicyErr::OutOfMemory) => Err(NotDone::OutOfMemory),
     }
 }
 

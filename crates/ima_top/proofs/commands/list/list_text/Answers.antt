@@ -1,5 +1,5 @@
 use Rattle.ima_top.proofs.Registers.{text_is}
-use Rattle.ima_top.proofs.listing.list_text.Goals as goal
+use Rattle.ima_top.proofs.commands.list.list_text.Goals as goal
 
 pub returns : goal.returns
 returns c =

@@ -1,0 +1,4 @@
+-- The commands: what is said of all of them, and each in its own file.
+pub mod List
+pub mod Policy
+pub mod Table
