@@ -1,9 +1,9 @@
 -- Texts and words, each with what it is.
 use Rattle.std.proofs.Common.{◌≡◌, ℕ, true, false, List, [], ◌∷◌, Option, Some, None, refl}
-use Rattle.std.specs.Prelude.{codes, replicate}
+use Rattle.std.specs.Prelude.{codes}
 use Rattle.ima_top.specs.declared.commands.Command.TheVariants as command
 use Rattle.ima_top.specs.commands.List.{boot_entry, list_refusal, measured}
-use Rattle.ima_top.specs.PlainList.{is_path, plain_list_of}
+use Rattle.ima_top.specs.PlainList.{plain_list_of}
 use Rattle.ima_top.specs.commands.Policy.{policy_refusal}
 use Rattle.ima_top.specs.Served.{Serves}
 use Rattle.ima_top.specs.Words.{command_of}
@@ -33,13 +33,6 @@ no_last_newline = refl
 
 more_behind_the_end : plain_list_of (codes "imalist 1\nend\n\n") ≡ None
 more_behind_the_end = refl
-
-paths : (is_path (codes "/a") ≡ true) × (is_path (codes "/usr/bin/cat") ≡ true) × (is_path (codes "/") ≡ false) × (is_path (codes "a/b") ≡ false)
-    × (is_path (codes "/a/") ≡ false) × (is_path (codes "/a//b") ≡ false)
-paths = (refl, refl, refl, refl, refl, refl)
-
-longest_component : (is_path (47 ∷ replicate 255 97) ≡ true) × (is_path (47 ∷ replicate 256 97) ≡ false)
-longest_component = (refl, refl)
 
 commands : (command_of (codes "list" ∷ []) ≡ Some command.List) × (command_of (codes "policy" ∷ []) ≡ Some command.Policy) × (command_of [] ≡ None)
     × (command_of (codes "list" ∷ codes "list" ∷ []) ≡ None) × (command_of (codes "lists" ∷ []) ≡ None)

@@ -4,10 +4,10 @@ use Rattle.std.specs.Prelude.{nat_le}
 use Rattle.std.specs.List.{slice_split, onto_first, list_all, All}
 use Rattle.std.proofs.lemmas.Bool.Decides.{nat_tests}
 use Rattle.inode_meta.specs.declared.measurement.Template.TheVariants.{ImaNg}
+use Rattle.text_forms.specs.Paths.{is_path}
 use Rattle.text_forms.specs.Words.{is_word, is_visible}
 use Rattle.text_forms.specs.Tokens.{is_filled}
 use Rattle.ima_templates.specs.Path.{IsMeasuredPath, IsGraphic}
-use Rattle.ima_top.specs.PlainList.{is_path}
 
 and_left : (a b : Bool) → (a && b) ≡ true → a ≡ true
 and_left true b h = refl

@@ -1,8 +1,8 @@
 -- The plain list: `imalist 1`, then files, each with its path and its content, then `end`.
 use Rattle.std.specs.Prelude.{ℕ, Bool, false, not, ◌==◌, ◌&&◌, ◌||◌, nat_le, List, [], ◌∷◌, length, take, drop, codes, Option, Some, None, option_map, if◌then◌else◌}
-use Rattle.std.specs.List.{slice_split, list_all}
 use Rattle.std.specs.Str.{bytes_eq}
 use Rattle.text_forms.specs.Lines.{lines}
+use Rattle.text_forms.specs.Paths.{is_path}
 use Rattle.text_forms.specs.Tokens.{is_filled}
 use Rattle.text_forms.specs.Words.{is_word}
 
@@ -10,12 +10,6 @@ use Rattle.text_forms.specs.Words.{is_word}
 pub record File : Type 0 where
   pub path : List ℕ
   pub content : List ℕ
-
--- a slash, and then components of 1 to 255 visible bytes, parted by slashes; at most 1,024 bytes in all
-abbrev pub is_path : List ℕ → Bool
-is_path [] = false
-is_path (b ∷ parts) =
-    b == 47 && nat_le (length (b ∷ parts)) 1024 && list_all (is_word 255) (slice_split (λ c. c == 47) parts)
 
 -- at most 262,144 visible bytes
 abbrev pub is_content : List ℕ → Bool

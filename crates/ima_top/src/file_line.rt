@@ -1,5 +1,5 @@
 ghost use Rattle.std.specs.Prelude.{IsTrue};
-ghost use Rattle.ima_top.specs.PlainList.{is_path};
+ghost use Rattle.text_forms.specs.Paths.{is_path};
 
 /// A file of a list: slices of the list's text. It keeps that its path is one that a list may hold.
 #[derive(Drop)]

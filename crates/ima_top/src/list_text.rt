@@ -1,9 +1,8 @@
 // The reader of a plain list.
 ghost use Rattle.std.specs.Prelude.{◌≡◌, ◌==◌, ◌<◌, [], ◌∷◌, length, map, IfOk, IfSome, MatchOption, option_map};
-ghost use Rattle.std.specs.List.{slice_split, list_all};
+ghost use Rattle.std.specs.List.{slice_split};
 ghost use Rattle.text_forms.specs.Lines.{lines};
-ghost use Rattle.text_forms.specs.Words.{is_word};
-ghost use Rattle.ima_top.specs.PlainList.{cut, is_path, is_content, file_of, files_of, plain_list_of};
+ghost use Rattle.ima_top.specs.PlainList.{cut, is_content, file_of, files_of, plain_list_of};
 ghost use Rattle.ima_top.specs.FileView.{file_view};
 ghost use Rattle.ima_top.specs.Spelling.{spelled};
 
@@ -11,7 +10,7 @@ use crate::file_line::FileLine;
 use ima_io::OutOfMemory;
 use memchr::memchr;
 use std::alloc::Global;
-use text_forms::is_word;
+use text_forms::{is_path, is_word};
 
 // What stands before the first separator, and what stands behind it.
 fn cut(text: &[u8], separator: u8) -> Option<(&[u8], &[u8])>
@@ -22,28 +21,6 @@ fn cut(text: &[u8], separator: u8) -> Option<(&[u8], &[u8])>
 {
     let at = memchr(separator, text)?;
     Some((&text[..at], &text[at + 1..]))
-}
-
-fn is_path(path: &[u8]) -> bool
-    ensures { result ≡ is_path path.now }
-{
-    match path {
-        [b'/', parts @ ..] => path.len() <= 1024 && has_components(parts),
-        _ => false,
-    }
-}
-
-fn has_components(parts: &[u8]) -> bool
-    ensures { result ≡ list_all (is_word 255) (slice_split (λ c. c == 47) parts.now) }
-{
-    let mut rest = parts;
-    while let Some((part, after)) = cut(rest, b'/') {
-        if !is_word(part, 255) {
-            return false;
-        }
-        rest = after;
-    }
-    is_word(rest, 255)
 }
 
 fn is_content(bytes: &[u8]) -> bool

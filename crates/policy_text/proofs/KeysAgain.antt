@@ -9,11 +9,13 @@ use Rattle.inode_meta.specs.declared.appraisal.Need.{Need}
 use Rattle.inode_meta.specs.declared.appraisal.Need.TheVariants as need
 use Rattle.inode_meta.specs.declared.measurement.Template.{Template}
 use Rattle.inode_meta.specs.declared.measurement.Template.TheVariants as template
+use Rattle.text_forms.specs.FileSystems.{magic_text, uuid_text}
 use Rattle.text_forms.specs.Lines.{◌>>=◌}
 use Rattle.text_forms.specs.Numbers.{number_of}
 use Rattle.text_forms.specs.Tokens.{is_blank, is_inked, tokens}
 use Rattle.text_forms.specs.Words.{is_word, is_visible}
 use Rattle.text_forms.proofs.Cuts.{begins, tokens-word}
+use Rattle.text_forms.proofs.FileSystems.{magic_again, uuid_again}
 use Rattle.text_forms.proofs.Visible.{inked_from_visible}
 use Rattle.policy_text.specs.declared.fault.RuleCause.{RuleCause}
 use Rattle.policy_text.specs.declared.rule.Func.{Func}
@@ -22,9 +24,9 @@ use Rattle.policy_text.specs.declared.rule.IdTest.TheVariants as id
 use Rattle.policy_text.specs.declared.rule.MaskTest.{MaskTest}
 use Rattle.policy_text.specs.Grammar.{with_token, with_tokens}
 use Rattle.policy_text.specs.RuleValue.{RuleValue, if_there, is_mask_bit, is_id, is_any, is_appraise, is_measure, has_algos, is_named_template}
-use Rattle.policy_text.specs.Spelling.{keyed, flagged, func_word, mask_text, magic_text, uuid_text, id_text, algos_text}
+use Rattle.policy_text.specs.Spelling.{keyed, flagged, func_word, mask_text, id_text, algos_text}
 use Rattle.policy_text.proofs.AlgosAgain.{algos_again}
-use Rattle.policy_text.proofs.ValuesAgain.{func_again, mask_again, magic_again, uuid_again, number_again, template_again}
+use Rattle.policy_text.proofs.ValuesAgain.{func_again, mask_again, number_again, template_again}
 
 -- a token behind one space
 took : (r s : RuleValue) (c : ℕ) (w rest : List ℕ) → list_all is_inked (c ∷ w) ≡ true → begins is_blank rest ≡ true → with_token r (c ∷ w) ≡ Ok s
@@ -72,10 +74,10 @@ module _ (r : RuleValue) where
       took r (record r { mask = Some x }) 109 (codes "ask=" ++ mask_text x) rest (inked_from_visible (mask_text x) (mask_again x h).0) b (rw (e, (mask_again x h).1) refl)
 
   pub adds_magic : (o : Option ℕ) (rest : List ℕ) → r.fsmagic ≡ None → if_there (λ n. nat_le n 0xffff_ffff_ffff_ffff) o ≡ true → begins is_blank rest ≡ true
-      → with_tokens r (tokens (keyed (codes " fsmagic=0x") magic_text o ++ rest)) ≡ with_tokens (record r { fsmagic = o }) (tokens rest)
+      → with_tokens r (tokens (keyed (codes " fsmagic=") magic_text o ++ rest)) ≡ with_tokens (record r { fsmagic = o }) (tokens rest)
   adds_magic None rest e h b = ap (λ (o : Option ℕ). with_tokens (record r { fsmagic = o }) (tokens rest)) e
   adds_magic (Some x) rest e h b =
-      took r (record r { fsmagic = Some x }) 102 (codes "smagic=0x" ++ magic_text x) rest (inked_from_visible (magic_text x) (magic_again x (leb-true _ _ h)).0) b (rw (e, (magic_again x (leb-true _ _ h)).1) refl)
+      took r (record r { fsmagic = Some x }) 102 (codes "smagic=" ++ magic_text x) rest (inked_from_visible (magic_text x) (magic_again x (leb-true _ _ h)).0) b (rw (e, (magic_again x (leb-true _ _ h)).1) refl)
 
   pub adds_uuid : (o : Option ℕ) (rest : List ℕ) → r.fsuuid ≡ None → if_there (λ n. nat_lt n (2 ^ 128)) o ≡ true → begins is_blank rest ≡ true
       → with_tokens r (tokens (keyed (codes " fsuuid=") uuid_text o ++ rest)) ≡ with_tokens (record r { fsuuid = o }) (tokens rest)

@@ -7,17 +7,19 @@ use Rattle.std.proofs.lemmas.Bool.Decides.{nat_tests}
 use Rattle.std.proofs.lemmas.List.{append-nil}
 use Rattle.std.proofs.lemmas.List.Folds.{list_all-append}
 use Rattle.inode_meta.specs.Words.{template_word}
+use Rattle.text_forms.specs.FileSystems.{magic_text, uuid_text}
 use Rattle.text_forms.specs.Lines.{lines, from_lines}
 use Rattle.text_forms.specs.Words.{is_visible, is_word}
+use Rattle.text_forms.proofs.FileSystems.{magic_again, uuid_again}
 use Rattle.text_forms.proofs.Tells.{line_split}
 use Rattle.text_forms.proofs.Visible.{flat_from_visible}
 use Rattle.policy_text.specs.Grammar.{fault_at, with_line, policy_of}
 use Rattle.policy_text.specs.RuleValue.{RuleValue, IsRule, if_there, is_any, is_id, is_mask_bit, has_algos, is_named_template}
-use Rattle.policy_text.specs.Spelling.{act_word, keyed, flagged, func_word, mask_text, magic_text, uuid_text, id_text, algos_text, place_text, ids_text, options_text, rule_text, policy_text}
+use Rattle.policy_text.specs.Spelling.{act_word, keyed, flagged, func_word, mask_text, id_text, algos_text, place_text, ids_text, options_text, rule_text, policy_text}
 use Rattle.policy_text.proofs.AlgosAgain.{algos_again}
 use Rattle.policy_text.proofs.KeysAgain.{id_visible, word_visible}
 use Rattle.policy_text.proofs.RulesAgain.{rule_again, rule_stands}
-use Rattle.policy_text.proofs.ValuesAgain.{act_again, func_again, mask_again, magic_again, uuid_again, number_again, template_again}
+use Rattle.policy_text.proofs.ValuesAgain.{act_again, func_again, mask_again, number_again, template_again}
 
 -- no byte is a newline
 record Flat (text : List ℕ) : Type 0 where
@@ -48,7 +50,7 @@ module _ (r : RuleValue) (ok : IsRule r) where
       flat-append (flat-append (flat-append (flat-append
       (flat_keyed (λ f. true) (codes " func=") func_word r.func refl (any_func r.func) (λ f h. (func_again f).0))
       (flat_keyed (λ m. is_mask_bit m.bits) (codes " mask=") mask_text r.mask refl ok.mask (λ m h. (mask_again m h).0)))
-      (flat_keyed (λ n. nat_le n 0xffff_ffff_ffff_ffff) (codes " fsmagic=0x") magic_text r.fsmagic refl ok.fsmagic (λ n h. (magic_again n (leb-true _ _ h)).0)))
+      (flat_keyed (λ n. nat_le n 0xffff_ffff_ffff_ffff) (codes " fsmagic=") magic_text r.fsmagic refl ok.fsmagic (λ n h. (magic_again n (leb-true _ _ h)).0)))
       (flat_keyed (λ n. nat_lt n (2 ^ 128)) (codes " fsuuid=") uuid_text r.fsuuid refl ok.fsuuid (λ n h. (uuid_again n (ltb-true _ _ h)).0)))
       (flat_keyed (is_word 255) (codes " fsname=") (λ n. n) r.fsname refl ok.fsname (λ n h. word_visible n h))
 

@@ -1,14 +1,11 @@
 -- Reading values.
-use Rattle.std.proofs.Common.{◌≡◌, ℕ, ◌+◌, ◌≤◌, Bool, true, false, ◌||◌, List, ◌∷◌, length, drop, Option, Some, None, Result, Err, IsOk, ◌↔◌, refl}
-use Rattle.std.specs.Int.{w128, from_be_bytes}
-use Rattle.std.specs.Option.{option_map}
+use Rattle.std.proofs.Common.{◌≡◌, ℕ, ◌+◌, ◌≤◌, Bool, true, false, ◌||◌, List, ◌∷◌, length, drop, Option, Some, None, Result, refl}
 use Rattle.std.proofs.Math.ListN.{drop_of_length-le}
 use Rattle.hash_algos.specs.declared.algo.Algo.{Algo}
 use Rattle.hash_algos.specs.declared.algo.Algo.TheVariants as algo
 use Rattle.hash_algos.specs.declared.algo_set.AlgoSet.{AlgoSet}
 use Rattle.hash_algos.specs.Algo.{algo_by_name}
 use Rattle.hash_algos.specs.AlgoSet.{with_algo, holds_algo}
-use Rattle.uuid.specs.Text.{parsed, parsed_hyphenated}
 use Rattle.text_forms.specs.Lines.{from_lines}
 use Rattle.text_forms.proofs.Steps.{stops}
 use Rattle.policy_text.specs.declared.fault.Fault.{Fault}
@@ -17,18 +14,7 @@ use Rattle.policy_text.specs.declared.fault.LineErr.TheVariants as err
 use Rattle.policy_text.specs.Gives.{LineFails, Fails, err_at}
 use Rattle.policy_text.specs.Grammar.{fault_at, with_line}
 use Rattle.policy_text.specs.RuleValue.{RuleValue, has_algos}
-use Rattle.policy_text.specs.Values.{algos_from, uuid_of}
-
--- a text of 36 bytes is read in the hyphenated form alone
-parsed_at_36 : (s : List ℕ) → length s ≡ 36 → parsed s ≡ parsed_hyphenated s
-parsed_at_36 s len = rw len refl
-
-some_uuid : {E : Type 0} (e : E) (s : List ℕ) (o : Option (List ℕ)) → parsed s ≡ o → (IsOk {T = List ℕ} (Err e) ↔ ((u : List ℕ) × (parsed s ≡ Some u))) → None ≡ option_map (from_be_bytes w128) o
-some_uuid e s None is h = refl
-some_uuid e s (Some u) is h = absurd (cc (h.1 (u, is)))
-
-pub uuid_none : {E : Type 0} (e : E) (s : List ℕ) → length s ≡ 36 → (IsOk {T = List ℕ} (Err e) ↔ ((u : List ℕ) × (parsed s ≡ Some u))) → None ≡ uuid_of s
-uuid_none e s len h = some_uuid e s (parsed_hyphenated s) (parsed_at_36 s len) h
+use Rattle.policy_text.specs.Values.{algos_from}
 
 after : {b : Bool} (a : Bool) → b ≡ true → (a || b) ≡ true
 after true e = refl

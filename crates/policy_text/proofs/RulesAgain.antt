@@ -3,6 +3,7 @@ use Rattle.std.proofs.Common.{◌≡◌, ℕ, true, false, not, List, [], ◌∷
 use Rattle.std.specs.Fmt.{decimal}
 use Rattle.std.proofs.lemmas.List.{append-nil}
 use Rattle.inode_meta.specs.Words.{template_word}
+use Rattle.text_forms.specs.FileSystems.{magic_text, uuid_text}
 use Rattle.text_forms.specs.Tokens.{is_blank, is_filled, tokens}
 use Rattle.text_forms.proofs.Cuts.{begins, first_token}
 use Rattle.text_forms.proofs.Visible.{inked_from_visible}
@@ -10,7 +11,7 @@ use Rattle.policy_text.specs.declared.rule.Act.{Act}
 use Rattle.policy_text.specs.declared.rule.Act.TheVariants as act
 use Rattle.policy_text.specs.Grammar.{plain_rule, with_tokens, rule_of, rule_of_tokens, is_skipped}
 use Rattle.policy_text.specs.RuleValue.{RuleValue, IsRule, is_any}
-use Rattle.policy_text.specs.Spelling.{act_word, keyed, flagged, func_word, mask_text, magic_text, uuid_text, id_text, algos_text, rule_text}
+use Rattle.policy_text.specs.Spelling.{act_word, keyed, flagged, func_word, mask_text, id_text, algos_text, rule_text}
 use Rattle.policy_text.proofs.KeysAgain.{begins_keyed, begins_flagged, adds_func, adds_mask, adds_magic, adds_uuid, adds_name, adds_uid, adds_euid, adds_gid, adds_egid, adds_fowner, adds_fgroup, adds_type, adds_flag, adds_algos, adds_directio, adds_pcr, adds_template}
 use Rattle.policy_text.proofs.ValuesAgain.{act_again}
 
@@ -64,7 +65,7 @@ module _ (r : RuleValue) (ok : IsRule r) where
   rest_4 = keyed (codes " fsuuid=") uuid_text r.fsuuid ++ rest_5
 
   abbrev rest_3 : List ℕ
-  rest_3 = keyed (codes " fsmagic=0x") magic_text r.fsmagic ++ rest_4
+  rest_3 = keyed (codes " fsmagic=") magic_text r.fsmagic ++ rest_4
 
   abbrev rest_2 : List ℕ
   rest_2 = keyed (codes " mask=") mask_text r.mask ++ rest_3
@@ -115,7 +116,7 @@ module _ (r : RuleValue) (ok : IsRule r) where
   begins_4 = begins_keyed (codes "fsuuid=") uuid_text r.fsuuid rest_5 begins_5
 
   begins_3 : begins is_blank rest_3 ≡ true
-  begins_3 = begins_keyed (codes "fsmagic=0x") magic_text r.fsmagic rest_4 begins_4
+  begins_3 = begins_keyed (codes "fsmagic=") magic_text r.fsmagic rest_4 begins_4
 
   begins_2 : begins is_blank rest_2 ≡ true
   begins_2 = begins_keyed (codes "mask=") mask_text r.mask rest_3 begins_3
@@ -223,7 +224,7 @@ module _ (r : RuleValue) (ok : IsRule r) where
       ap tokens (regroup (act_word r.act)
       (keyed (codes " func=") func_word r.func)
       (keyed (codes " mask=") mask_text r.mask)
-      (keyed (codes " fsmagic=0x") magic_text r.fsmagic)
+      (keyed (codes " fsmagic=") magic_text r.fsmagic)
       (keyed (codes " fsuuid=") uuid_text r.fsuuid)
       (keyed (codes " fsname=") (λ n. n) r.fsname)
       (keyed (codes " uid") id_text r.uid)

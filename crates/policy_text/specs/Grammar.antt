@@ -3,6 +3,7 @@ use Rattle.std.specs.Prelude.{ℕ, Bool, true, false, not, ◌==◌, List, [], �
 use Rattle.std.specs.Option.{option_map}
 use Rattle.std.specs.Str.{bytes_eq}
 use Rattle.inode_meta.specs.declared.appraisal.Need.TheVariants as need
+use Rattle.text_forms.specs.FileSystems.{magic_of, uuid_of}
 use Rattle.text_forms.specs.Lines.{◌>>=◌, lines, from_lines}
 use Rattle.text_forms.specs.Numbers.{number_of}
 use Rattle.text_forms.specs.Tokens.{tokens}
@@ -18,7 +19,7 @@ use Rattle.policy_text.specs.declared.rule.Act.{Act}
 use Rattle.policy_text.specs.declared.rule.IdTest.{IdTest}
 use Rattle.policy_text.specs.Key.{belongs, is_unsupported_key, key_of}
 use Rattle.policy_text.specs.RuleValue.{RuleValue, is_any}
-use Rattle.policy_text.specs.Values.{act_of, func_of, mask_of, magic_of, uuid_of, id_test, algos_of, template_of, is_unsupported_type, is_unsupported_template}
+use Rattle.policy_text.specs.Values.{act_of, func_of, mask_of, id_test, algos_of, template_of, is_unsupported_type, is_unsupported_template}
 
 -- an action without conditions and options
 abbrev pub plain_rule : Act → RuleValue

@@ -1,13 +1,12 @@
 -- The canonical text of rules, and the words of the causes.
-use Rattle.std.specs.Prelude.{ℕ, Bool, false, ◌==◌, List, [], ◌∷◌, ◌++◌, codes, Option, Some, None, map, filter, not, if◌then◌else◌}
-use Rattle.std.specs.Fmt.{decimal, digits}
-use Rattle.std.specs.Int.{w128, to_be_bytes}
+use Rattle.std.specs.Prelude.{ℕ, Bool, ◌==◌, List, [], ◌∷◌, ◌++◌, codes, Option, Some, None, map, filter, not, if◌then◌else◌}
+use Rattle.std.specs.Fmt.{decimal}
 use Rattle.std.specs.List.{flat_map, join_with_byte}
 use Rattle.hash_algos.specs.declared.algo_set.AlgoSet.{AlgoSet}
 use Rattle.hash_algos.specs.Algo.{algos, algo_name}
 use Rattle.hash_algos.specs.AlgoSet.{holds_algo}
 use Rattle.inode_meta.specs.Words.{template_word}
-use Rattle.uuid.specs.Text.{hyphenated_text, lower}
+use Rattle.text_forms.specs.FileSystems.{magic_text, uuid_text}
 use Rattle.policy_text.specs.declared.fault.RuleCause.{RuleCause}
 use Rattle.policy_text.specs.declared.fault.RuleCause.TheVariants as cause
 use Rattle.policy_text.specs.declared.rule.Act.{Act}
@@ -61,12 +60,6 @@ mask_bits_word bits =
 abbrev pub mask_text : MaskTest → List ℕ
 mask_text m = (if m.exact then [] else codes "^") ++ mask_bits_word m.bits
 
-abbrev pub magic_text : ℕ → List ℕ
-magic_text n = digits 16 false n
-
-abbrev pub uuid_text : ℕ → List ℕ
-uuid_text n = hyphenated_text lower (to_be_bytes w128 n)
-
 abbrev pub id_text : IdTest → List ℕ
 id_text (id.Is n) = codes "=" ++ decimal n
 id_text (id.Above n) = codes ">" ++ decimal n
@@ -86,7 +79,7 @@ flagged text b = if b then text else []
 
 abbrev pub place_text : RuleValue → List ℕ
 place_text r =
-    keyed (codes " func=") func_word r.func ++ keyed (codes " mask=") mask_text r.mask ++ keyed (codes " fsmagic=0x") magic_text r.fsmagic
+    keyed (codes " func=") func_word r.func ++ keyed (codes " mask=") mask_text r.mask ++ keyed (codes " fsmagic=") magic_text r.fsmagic
     ++ keyed (codes " fsuuid=") uuid_text r.fsuuid ++ keyed (codes " fsname=") (λ n. n) r.fsname
 
 abbrev pub ids_text : RuleValue → List ℕ

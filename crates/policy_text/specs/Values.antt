@@ -1,6 +1,5 @@
 -- The values of the keys.
-use Rattle.std.specs.Prelude.{ℕ, Bool, true, false, ◌==◌, ◌&&◌, ◌||◌, nat_le, List, [], ◌∷◌, length, codes, Option, Some, None, if◌then◌else◌}
-use Rattle.std.specs.Int.{w128, from_be_bytes}
+use Rattle.std.specs.Prelude.{ℕ, Bool, true, false, ◌==◌, ◌||◌, List, [], ◌∷◌, codes, Option, Some, None, if◌then◌else◌}
 use Rattle.std.specs.List.{slice_split}
 use Rattle.std.specs.Option.{option_map}
 use Rattle.std.specs.Str.{bytes_eq}
@@ -9,8 +8,6 @@ use Rattle.hash_algos.specs.Algo.{algo_by_name}
 use Rattle.hash_algos.specs.AlgoSet.{no_algos, with_algo}
 use Rattle.inode_meta.specs.declared.measurement.Template.{Template}
 use Rattle.inode_meta.specs.declared.measurement.Template.TheVariants as template
-use Rattle.text_forms.specs.Numbers.{number_of}
-use Rattle.uuid.specs.Text.{parsed_hyphenated}
 use Rattle.policy_text.specs.declared.key.Sign.{Sign}
 use Rattle.policy_text.specs.declared.key.Sign.TheVariants as sign
 use Rattle.policy_text.specs.declared.rule.Act.{Act}
@@ -56,19 +53,6 @@ mask_of [] = None
 mask_of (c ∷ cs) =
     if c == 94 then option_map (λ b. record { exact = false; bits = b }) (mask_bits_of cs)
     else option_map (λ b. record { exact = true; bits = b }) (mask_bits_of (c ∷ cs))
-
-abbrev pub without_0x : List ℕ → List ℕ
-without_0x [] = []
-without_0x (c ∷ []) = c ∷ []
-without_0x (c ∷ d ∷ digits) = if (c == 48) && ((d == 120) || (d == 88)) then digits else c ∷ d ∷ digits
-
--- `0x` or `0X` or neither, then 1 to 16 hexadecimal digits
-abbrev pub magic_of : List ℕ → Option ℕ
-magic_of text = if nat_le (length (without_0x text)) 16 then number_of 16 0xffff_ffff_ffff_ffff (without_0x text) else None
-
--- the hyphenated form of RFC 9562, in either case
-abbrev pub uuid_of : List ℕ → Option ℕ
-uuid_of text = option_map (from_be_bytes w128) (parsed_hyphenated text)
 
 abbrev pub id_test : Sign → ℕ → IdTest
 id_test sign.Is n = id.Is n

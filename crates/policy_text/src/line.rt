@@ -14,13 +14,12 @@ use crate::fault::{LineErr, RuleCause};
 use crate::key::{Key, Sign, Subject, is_unsupported_key, key_of};
 use crate::rule::{Act, IdTest, MaskTest, Rule};
 use crate::values::{
-    act_of, algos_of, func_of, is_unsupported_template, is_unsupported_type, magic_of, mask_of,
-    template_of, uuid_of,
+    act_of, algos_of, func_of, is_unsupported_template, is_unsupported_type, mask_of, template_of,
 };
 use hash_algos::AlgoSet;
 use inode_meta::{Need, Template};
 use std::alloc::Global;
-use text_forms::{Tokens, is_word, number_of};
+use text_forms::{Tokens, is_word, magic_of, number_of, uuid_of};
 use xattr_store::Bytes;
 
 /// The rule of a line; a blank line and a comment are no rule.

@@ -1,13 +1,11 @@
 ghost use Rattle.std.specs.Prelude.{◌≡◌, IfSome, IsTrue};
 ghost use Rattle.std.specs.Option.{option_map};
 ghost use Rattle.policy_text.specs.RuleValue.{has_algos, is_mask_bit, is_named_template};
-ghost use Rattle.policy_text.specs.Values.{act_of, algos_of, func_of, is_unsupported_template, is_unsupported_type, magic_of, mask_bits_of, mask_of, template_of, uuid_of, without_0x};
+ghost use Rattle.policy_text.specs.Values.{act_of, algos_of, func_of, is_unsupported_template, is_unsupported_type, mask_bits_of, mask_of, template_of};
 
 use crate::rule::{Act, Func, MaskTest};
 use hash_algos::{AlgoSet, by_name};
 use inode_meta::Template;
-use text_forms::number_of;
-use uuid::Uuid;
 
 /// The action that the word names.
 pub fn act_of(word: &[u8]) -> Option<Act>
@@ -106,41 +104,6 @@ pub fn mask_of(text: &[u8]) -> Option<MaskTest>
             let bits = mask_bits_of(text)?;
             Some(MaskTest { exact: true, bits })
         }
-    }
-}
-
-fn without_0x(text: &[u8]) -> &[u8]
-    ensures { result.now ≡ without_0x text.now }
-{
-    match text {
-        [b'0', b'x' | b'X', digits @ ..] => digits,
-        _ => text,
-    }
-}
-
-/// The magic number of a file system: `0x`, `0X` or neither, then 1 to 16 hexadecimal digits.
-pub fn magic_of(text: &[u8]) -> Option<u64>
-    ensures { result ≡ magic_of text.now }
-{
-    let digits = without_0x(text);
-    if digits.len() <= 16 {
-        number_of(digits, 16, u64::MAX)
-    } else {
-        None
-    }
-}
-
-/// The UUID of a file system, whose first byte is the most significant: the hyphenated form of
-/// RFC 9562, in either case.
-pub fn uuid_of(text: &[u8]) -> Option<u128>
-    ensures { result ≡ uuid_of text.now }
-{
-    if text.len() != 36 {
-        return None;
-    }
-    match Uuid::try_parse_ascii(text) {
-        Ok(uuid) => Some(uuid.as_u128()),
-        Err(_) => None,
     }
 }
 

@@ -3,9 +3,10 @@
 ghost use Rattle.std.specs.Prelude.{◌≡◌, [], ◌∷◌, ◌++◌, codes, not, Ok, IfOk, OnOk, OnErr};
 ghost use Rattle.std.specs.Fmt.{decimal};
 ghost use Rattle.inode_meta.specs.Words.{template_word};
+ghost use Rattle.text_forms.specs.FileSystems.{magic_text, uuid_text};
 ghost use Rattle.policy_text.specs.Grammar.{policy_of, rule_of};
 ghost use Rattle.policy_text.specs.RuleValue.{IsRule, is_any};
-ghost use Rattle.policy_text.specs.Spelling.{algos_text, flagged, func_word, id_text, ids_text, keyed, magic_text, mask_text, options_text, place_text, policy_text, rule_text, uuid_text};
+ghost use Rattle.policy_text.specs.Spelling.{algos_text, flagged, func_word, id_text, ids_text, keyed, mask_text, options_text, place_text, policy_text, rule_text};
 
 use crate::fault::OutOfMemory;
 use crate::policy::Policy;
@@ -15,7 +16,7 @@ use hash_algos::{Algo, AlgoSet};
 use inode_meta::{Need, Template};
 use std::alloc::{AllocError, Global};
 use std::io::{self, Write};
-use uuid::Uuid;
+use text_forms::{FsUuid, Magic};
 use xattr_store::Bytes;
 
 /// The canonical text of a policy, one line a rule, which is read as the same policy.
@@ -134,10 +135,10 @@ fn push_mask(out: &mut Vec<u8>, mask: Option<MaskTest>) -> io::Result<()>
 }
 
 fn push_magic(out: &mut Vec<u8>, magic: Option<u64>) -> io::Result<()>
-    ensures { OnOk result (out.new.items ≡ out.old.items ++ keyed (codes " fsmagic=0x") magic_text magic) }
+    ensures { OnOk result (out.new.items ≡ out.old.items ++ keyed (codes " fsmagic=") magic_text magic) }
 {
     match magic {
-        Some(magic) => write!(out, " fsmagic=0x{magic:x}"),
+        Some(magic) => write!(out, " fsmagic={}", Magic(magic)),
         None => Ok(()),
     }
 }
@@ -146,11 +147,7 @@ fn push_uuid(out: &mut Vec<u8>, uuid: Option<u128>) -> io::Result<()>
     ensures { OnOk result (out.new.items ≡ out.old.items ++ keyed (codes " fsuuid=") uuid_text uuid) }
 {
     match uuid {
-        Some(uuid) => {
-            let mut buffer = Uuid::encode_buffer();
-            let uuid = Uuid::from_u128(uuid).hyphenated().encode_lower(&mut buffer);
-            write!(out, " fsuuid={uuid}")
-        }
+        Some(uuid) => write!(out, " fsuuid={}", FsUuid(uuid)),
         None => Ok(()),
     }
 }

@@ -1,4 +1,6 @@
+pub mod FileSystems
 pub mod Lines
 pub mod Numbers
+pub mod Paths
 pub mod Tokens
 pub mod Words

@@ -20,6 +20,10 @@ is_short [] = true
 is_short (c ∷ []) = true
 is_short (c ∷ d ∷ more) = not (c == 48)
 
--- the number, of digits without a leading zero but in `0`
+-- one digit or more without a leading zero but in `0`: the form of a number, whatever its value
+abbrev pub is_short_numeral : ℕ → List ℕ → Bool
+is_short_numeral radix digits = is_short digits && is_numeral radix digits
+
+-- the number, of digits without a leading zero but in `0`, where it is at most `most`
 abbrev pub short_number_of : ℕ → ℕ → List ℕ → Option ℕ
 short_number_of radix most digits = if is_short digits then number_of radix most digits else None

@@ -5,10 +5,14 @@
 //! `specs/`, and `proofs/` has the lemmas that what is printed can be read back.
 #![tactic(auto)]
 
+mod file_system;
 mod numbers;
+mod path;
 mod tokens;
 mod word;
 
-pub use numbers::{number_of, short_number_of};
+pub use file_system::{FsUuid, Magic, magic_of, uuid_of};
+pub use numbers::{is_short_numeral, number_of, short_number_of};
+pub use path::is_path;
 pub use tokens::Tokens;
 pub use word::{is_word, words};

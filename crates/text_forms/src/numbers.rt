@@ -1,5 +1,7 @@
 ghost use Rattle.std.specs.Prelude.{◌≡◌, ◌≤◌};
-ghost use Rattle.text_forms.specs.Numbers.{number_of, short_number_of};
+ghost use Rattle.std.specs.Char.{is_digit};
+ghost use Rattle.std.specs.List.{list_all};
+ghost use Rattle.text_forms.specs.Numbers.{is_short_numeral, number_of, short_number_of};
 
 /// The number that the digits stand for in the radix, with letters in either case.
 ///
@@ -32,4 +34,25 @@ pub fn short_number_of(digits: &[u8], radix: u32, most: u64) -> Option<u64>
         [b'0', _, ..] => None,
         _ => number_of(digits, radix, most),
     }
+}
+
+/// Whether the text has the form that [`short_number_of`] reads, however large its value: one digit
+/// or more, and no zero in front of another.
+pub fn is_short_numeral(text: &[u8], radix: u32) -> bool
+    requires lowest { 2 ≤ radix }
+    requires highest { radix ≤ 36 }
+    ensures { result ≡ is_short_numeral radix text.now }
+{
+    match text {
+        [] | [b'0', _, ..] => false,
+        _ => is_all_digits(text, radix),
+    }
+}
+
+fn is_all_digits(text: &[u8], radix: u32) -> bool
+    requires lowest { 2 ≤ radix }
+    requires highest { radix ≤ 36 }
+    ensures { result ≡ list_all (λ c. is_digit c radix) text.now }
+{
+    text.iter().all(|b| char::from(*b).is_digit(radix))
 }
