@@ -26,8 +26,8 @@ use Rattle.call_steps.specs.declared.held.Name.{Name}
 use Rattle.call_steps.specs.declared.held.Name.TheVariants as name
 use Rattle.call_steps.specs.declared.reply.Reply.{Reply}
 use Rattle.call_steps.specs.declared.reply.Reply.TheVariants as reply
-use Rattle.call_steps.specs.declared.stage.Next.{Next}
-use Rattle.call_steps.specs.declared.stage.Next.TheVariants.{On, Over}
+use Rattle.call_steps.specs.declared.due.Next.{Next}
+use Rattle.call_steps.specs.declared.due.Next.TheVariants.{On, Over}
 
 -- what a step is told, and of a check the action
 abbrev Heard : Type 0

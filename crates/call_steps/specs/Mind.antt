@@ -19,13 +19,13 @@ use Rattle.call_steps.specs.declared.held.Held.{Held}
 use Rattle.call_steps.specs.declared.held.Name.{Name}
 use Rattle.call_steps.specs.declared.reply.Reply.{Reply}
 use Rattle.call_steps.specs.declared.reply.Reply.TheVariants as reply
-use Rattle.call_steps.specs.declared.stage.Next.{Next}
-use Rattle.call_steps.specs.declared.stage.Next.TheVariants.{On, Over}
-use Rattle.call_steps.specs.declared.stage.Stage.{Stage}
+use Rattle.call_steps.specs.declared.due.Next.{Next}
+use Rattle.call_steps.specs.declared.due.Next.TheVariants.{On, Over}
+use Rattle.call_steps.specs.declared.due.Due.{Due}
 
 -- a call in progress: its next step with the step's number, and the file that its steps act on
 pub record Progress : Type 0 where
-  pub stage : Stage
+  pub due : Due
   pub step : ℕ
   pub inode : ℕ
   pub file : ℕ
@@ -65,7 +65,7 @@ how_held c None = how_of (course_of c)
 abbrev pub begun : Bool → List Handle → Call → Progress
 begun admin hs c =
     let hand = hand_of admin hs c in
-    record { stage = first c hand; step = 0; inode = inode_of c hand.held; file = file_of hand.held; how = how_held c hand.held }
+    record { due = first c hand; step = 0; inode = inode_of c hand.held; file = file_of hand.held; how = how_held c hand.held }
 
 -- how far the call is
 abbrev pub progress_of : Bool → Call → Mind → Progress
@@ -115,7 +115,7 @@ step_by admin c g ask.Plain = plain_step admin c
 
 -- the step that the task makes next in its call
 abbrev pub ask_of : Bool → Call → Mind → Step
-ask_of admin c m = let g = progress_of admin c m in step_by admin c g g.stage.ask
+ask_of admin c m = let g = progress_of admin c m in step_by admin c g g.due.ask
 
 -- its number within the call
 abbrev pub number_of : Bool → Call → Mind → ℕ
@@ -147,11 +147,11 @@ handles_after c g r hs = if is_done r then handles_left (name_ended c) hs ++ han
 
 abbrev pub moved : Call → Mind → Progress → ℕ → Next → Mind × Option Reply
 moved c m g place (On s) =
-    (record m { progress = Some (record g { stage = s; step = g.step + 1; file = file_after g.stage.ask place g.file }) }, None)
+    (record m { progress = Some (record g { due = s; step = g.step + 1; file = file_after g.due.ask place g.file }) }, None)
 moved c m g place (Over r) = (record { at = m.at + 1; progress = None; handles = handles_after c g r m.handles }, Some r)
 
 -- the task after its next step: by the place of the event, by what it was told, and after a check by its action. At the call's last
 -- step there is a reply
 abbrev pub after_of : Mode → Bool → Call → Mind → ℕ → Told → Action → Mind × Option Reply
 after_of mode admin c m place t action =
-    let g = progress_of admin c m in moved c m g place (next mode c g.stage t action)
+    let g = progress_of admin c m in moved c m g place (next mode c g.due t action)

@@ -26,16 +26,16 @@ use Rattle.call_steps.specs.declared.held.Held.{Held}
 use Rattle.call_steps.specs.declared.plan.Plan.{Plan}
 use Rattle.call_steps.specs.declared.reply.Reply.{Reply}
 use Rattle.call_steps.specs.declared.reply.Reply.TheVariants as reply
-use Rattle.call_steps.specs.declared.stage.Next.{Next}
-use Rattle.call_steps.specs.declared.stage.Next.TheVariants.{On, Over}
-use Rattle.call_steps.specs.declared.stage.Stage.{Stage}
+use Rattle.call_steps.specs.declared.due.Next.{Next}
+use Rattle.call_steps.specs.declared.due.Next.TheVariants.{On, Over}
+use Rattle.call_steps.specs.declared.due.Due.{Due}
 
 -- a further step, and the reply that comes with the call's last one unless a step to come decides another
-abbrev pub stage : Ask → Reply → Stage
-stage a r = record { ask = a; reply = r }
+abbrev pub due : Ask → Reply → Due
+due a r = record { ask = a; reply = r }
 
 abbrev pub goes : Ask → Reply → Next
-goes a r = On (stage a r)
+goes a r = On (due a r)
 
 -- ---- the access of an open, a mapping, an execution or a read by the kernel
 
@@ -90,52 +90,52 @@ close h = if is_writer h then ask.CloseTake else ask.Close
 -- ---- the first step
 
 -- one step without an event answers the call
-abbrev pub at_once : Reply → Stage
-at_once r = stage ask.Plain r
+abbrev pub at_once : Reply → Due
+at_once r = due ask.Plain r
 
 -- `EBADF` comes before all else: here where the name is made anew while it is there
-abbrev pub if_free : Bool → Stage → Stage
+abbrev pub if_free : Bool → Due → Due
 if_free true s = s
 if_free false s = at_once reply.BadFile
 
 -- and here where the file isn't there, or can't be read
-abbrev pub if_readable : Option Held → Stage → Stage
+abbrev pub if_readable : Option Held → Due → Due
 if_readable None s = at_once reply.BadFile
 if_readable (Some h) s = if can_read h.how then s else at_once reply.BadFile
 
 -- or can't be written
-abbrev pub if_writable : Option Held → Stage → Stage
+abbrev pub if_writable : Option Held → Due → Due
 if_writable None s = at_once reply.BadFile
 if_writable (Some h) s = if is_writer h.how then s else at_once reply.BadFile
 
 -- the file is closed with its last name
-abbrev pub close_held : Option Held → Stage
+abbrev pub close_held : Option Held → Due
 close_held None = at_once reply.BadFile
-close_held (Some h) = if h.last then stage (close h.how) reply.Done else at_once reply.Done
+close_held (Some h) = if h.last then due (close h.how) reply.Done else at_once reply.Done
 
 -- a mapping counts nothing, and only one for execution is checked
-abbrev pub map_held : Bool → Hand → Stage
+abbrev pub map_held : Bool → Hand → Due
 map_held exec hand =
-    if_free hand.free (if_readable hand.held (if exec then stage (check course.Mmap) reply.Done else at_once reply.Done))
+    if_free hand.free (if_readable hand.held (if exec then due (check course.Mmap) reply.Done else at_once reply.Done))
 
-abbrev pub first : Call → Hand → Stage
-first (call.Open fd inode h trunc) hand = if_free hand.free (stage ask.Count reply.Done)
-first (call.Read fd from len) hand = if_readable hand.held (stage (ask.Read from len) reply.Done)
-first (call.Write fd from bytes) hand = if_writable hand.held (stage ask.Write reply.Done)
-first (call.Ftruncate fd len) hand = if_writable hand.held (stage (ask.Trunc len) reply.Done)
+abbrev pub first : Call → Hand → Due
+first (call.Open fd inode h trunc) hand = if_free hand.free (due ask.Count reply.Done)
+first (call.Read fd from len) hand = if_readable hand.held (due (ask.Read from len) reply.Done)
+first (call.Write fd from bytes) hand = if_writable hand.held (due ask.Write reply.Done)
+first (call.Ftruncate fd len) hand = if_writable hand.held (due (ask.Trunc len) reply.Done)
 first (call.Close fd) hand = close_held hand.held
 first (call.Mmap map fd exec) hand = map_held exec hand
-first (call.Mread map from len) hand = if_readable hand.held (stage (ask.Read from len) reply.Done)
+first (call.Mread map from len) hand = if_readable hand.held (due (ask.Read from len) reply.Done)
 first (call.Munmap map) hand = close_held hand.held
-first (call.Exec run inode) hand = if_free hand.free (stage ask.Count reply.Done)
+first (call.Exec run inode) hand = if_free hand.free (due ask.Count reply.Done)
 first (call.Endexec run) hand = close_held hand.held
-first (call.SetAttr inode name value) hand = stage ask.SetAttr reply.Done
-first (call.SetMeta inode change) hand = stage ask.SetMeta reply.Done
+first (call.SetAttr inode name value) hand = due ask.SetAttr reply.Done
+first (call.SetMeta inode change) hand = due ask.SetMeta reply.Done
 first (call.Post sem) hand = at_once reply.Done
 first (call.Wait sem) hand = at_once reply.Done
 first (call.AddRule rule) hand = at_once (if hand.admin then reply.Done else reply.NotAdmin)
-first (call.Module inode) hand = stage ask.Count reply.Done
-first (call.Firmware inode) hand = stage ask.Count reply.Done
+first (call.Module inode) hand = due ask.Count reply.Done
+first (call.Firmware inode) hand = due ask.Count reply.Done
 
 -- ---- the steps after it
 
@@ -227,16 +227,16 @@ next_by mode c ask.CloseChunk r t action = after_chunk ask.CloseChunk ask.CloseF
 next_by mode c ask.CloseFinish r t action = Over r
 next_by mode c ask.Plain r t action = Over r
 
-abbrev pub next : Mode → Call → Stage → Told → Action → Next
+abbrev pub next : Mode → Call → Due → Told → Action → Next
 next mode c s t action = next_by mode (course_of c) s.ask s.reply t action
 
 -- ---- the same of a plan
 
-abbrev pub plan_of : Mode → Call → Stage → Plan
-plan_of mode c s = record { course = course_of c; mode = mode; stage = s }
+abbrev pub plan_of : Mode → Call → Due → Plan
+plan_of mode c s = record { course = course_of c; mode = mode; due = s }
 
 abbrev pub moved_by : Plan → Next → Plan × Option Reply
-moved_by p (On s) = (record p { stage = s }, None)
+moved_by p (On s) = (record p { due = s }, None)
 moved_by p (Over r) = (p, Some r)
 
 -- only a check has an action
@@ -244,4 +244,4 @@ abbrev pub given : Option Action → Action
 given action = unwrap_or action no_action
 
 abbrev pub told_of : Plan → Told → Option Action → Plan × Option Reply
-told_of p t action = moved_by p (next_by p.mode p.course p.stage.ask p.stage.reply t (given action))
+told_of p t action = moved_by p (next_by p.mode p.course p.due.ask p.due.reply t (given action))

@@ -7,95 +7,95 @@ ghost use Rattle.call_steps.specs.Steps.{at_once, close, close_held, first, if_f
 use crate::ask::Ask;
 use crate::call::Call;
 use crate::course::Course;
+use crate::due::Due;
 use crate::held::{Hand, Held};
 use crate::reply::Reply;
-use crate::stage::Stage;
 use inode_events::How;
 
 /// The first step of the call, by what the task holds.
-pub fn first(call: &Call, hand: Hand) -> Stage
+pub fn first(call: &Call, hand: Hand) -> Due
     ensures { result ≡ first call.now hand }
 {
     match call {
-        Call::Open { .. } | Call::Exec { .. } => if_free(hand.free, stage(Ask::Count)),
+        Call::Open { .. } | Call::Exec { .. } => if_free(hand.free, due(Ask::Count)),
         Call::Read { from, len, .. } | Call::Mread { from, len, .. } => {
             let (from, len) = (*from, *len);
-            if_readable(hand.held, stage(Ask::Read { from, len }))
+            if_readable(hand.held, due(Ask::Read { from, len }))
         }
-        Call::Write { .. } => if_writable(hand.held, stage(Ask::Write)),
-        Call::Ftruncate { len, .. } => if_writable(hand.held, stage(Ask::Trunc { len: *len })),
+        Call::Write { .. } => if_writable(hand.held, due(Ask::Write)),
+        Call::Ftruncate { len, .. } => if_writable(hand.held, due(Ask::Trunc { len: *len })),
         Call::Close { .. } | Call::Munmap { .. } | Call::Endexec { .. } => close_held(hand.held),
         Call::Mmap { exec, .. } => map_held(*exec, hand),
-        Call::SetAttr { .. } => stage(Ask::SetAttr),
-        Call::SetMeta { .. } => stage(Ask::SetMeta),
+        Call::SetAttr { .. } => due(Ask::SetAttr),
+        Call::SetMeta { .. } => due(Ask::SetMeta),
         Call::Post { .. } | Call::Wait { .. } => at_once(Reply::Done),
         Call::AddRule { .. } => at_once(if hand.admin {
             Reply::Done
         } else {
             Reply::NotAdmin
         }),
-        Call::Module { .. } | Call::Firmware { .. } => stage(Ask::Count),
+        Call::Module { .. } | Call::Firmware { .. } => due(Ask::Count),
     }
 }
 
 // The step, and the reply of a call that nothing stops.
-fn stage(ask: Ask) -> Stage
+fn due(ask: Ask) -> Due
     ensures { result ≡ record { ask = ask; reply = Reply.Done } }
 {
-    Stage {
+    Due {
         ask,
         reply: Reply::Done,
     }
 }
 
-fn at_once(reply: Reply) -> Stage
+fn at_once(reply: Reply) -> Due
     ensures { result ≡ at_once reply }
 {
-    Stage {
+    Due {
         ask: Ask::Plain,
         reply,
     }
 }
 
-fn if_free(free: bool, stage: Stage) -> Stage
-    ensures { result ≡ if_free free stage }
+fn if_free(free: bool, due: Due) -> Due
+    ensures { result ≡ if_free free due }
 {
-    if free { stage } else { at_once(Reply::BadFile) }
+    if free { due } else { at_once(Reply::BadFile) }
 }
 
-fn if_readable(held: Option<Held>, stage: Stage) -> Stage
-    ensures { result ≡ if_readable held stage }
+fn if_readable(held: Option<Held>, due: Due) -> Due
+    ensures { result ≡ if_readable held due }
 {
     match held {
-        Some(held) if can_read(held.how) => stage,
+        Some(held) if can_read(held.how) => due,
         _ => at_once(Reply::BadFile),
     }
 }
 
-fn if_writable(held: Option<Held>, stage: Stage) -> Stage
-    ensures { result ≡ if_writable held stage }
+fn if_writable(held: Option<Held>, due: Due) -> Due
+    ensures { result ≡ if_writable held due }
 {
     match held {
-        Some(held) if is_writer(held.how) => stage,
+        Some(held) if is_writer(held.how) => due,
         _ => at_once(Reply::BadFile),
     }
 }
 
-fn close_held(held: Option<Held>) -> Stage
+fn close_held(held: Option<Held>) -> Due
     ensures { result ≡ close_held held }
 {
     match held {
-        Some(held) if held.last => stage(close(held.how)),
+        Some(held) if held.last => due(close(held.how)),
         Some(_) => at_once(Reply::Done),
         None => at_once(Reply::BadFile),
     }
 }
 
-fn map_held(exec: bool, hand: Hand) -> Stage
+fn map_held(exec: bool, hand: Hand) -> Due
     ensures { result ≡ map_held exec hand }
 {
     let mapped = if exec {
-        stage(Course::Mmap.check())
+        due(Course::Mmap.check())
     } else {
         at_once(Reply::Done)
     };

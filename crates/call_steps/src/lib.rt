@@ -10,19 +10,21 @@
 mod ask;
 mod call;
 mod course;
+mod due;
+mod ending;
 mod first;
 mod held;
 mod next;
 mod plan;
 mod reply;
-mod stage;
 #[cfg(test)]
 mod tests;
 
 pub use ask::Ask;
 pub use call::Call;
 pub use course::Course;
+pub use due::{Due, Next};
+pub use ending::{Ending, Turns};
 pub use held::{Hand, Handle, Held, Name};
 pub use plan::Plan;
 pub use reply::Reply;
-pub use stage::{Next, Stage};

@@ -7,9 +7,9 @@ ghost use Rattle.call_steps.specs.Steps.{given, admitted, after_check, after_chu
 
 use crate::ask::Ask;
 use crate::course::Course;
+use crate::due::{Due, Next};
 use crate::first::close;
 use crate::reply::Reply;
-use crate::stage::{Next, Stage};
 use inode_events::{Grant, Told};
 use inode_meta::Mode;
 use label_values::{Cause, Verdict};
@@ -46,7 +46,7 @@ pub fn next_by(
 fn goes(ask: Ask, reply: Reply) -> Next
     ensures { result ≡ goes ask reply }
 {
-    Next::On(Stage { ask, reply })
+    Next::On(Due { ask, reply })
 }
 
 fn after_count(course: Course, reply: Reply, told: &Told) -> Next

@@ -5,11 +5,11 @@ ghost use Rattle.call_steps.specs.Steps.{first, plan_of, told_of};
 use crate::ask::Ask;
 use crate::call::Call;
 use crate::course::Course;
+use crate::due::{Due, Next};
 use crate::first::first;
 use crate::held::Hand;
 use crate::next::next_by;
 use crate::reply::Reply;
-use crate::stage::{Next, Stage};
 use inode_events::Told;
 use inode_meta::Mode;
 use policy_text::Action;
@@ -22,7 +22,7 @@ pub struct Plan {
     /// The appraisal mode of the run.
     pub mode: Mode,
     /// Where the call stands.
-    pub stage: Stage,
+    pub due: Due,
 }
 
 impl Plan {
@@ -33,15 +33,15 @@ impl Plan {
         Plan {
             course: Course::of(call),
             mode,
-            stage: first(call, hand),
+            due: first(call, hand),
         }
     }
 
     /// The next step.
     pub fn next(&self) -> Ask
-        ensures { result ≡ self.now.stage.ask }
+        ensures { result ≡ self.now.due.ask }
     {
-        self.stage.ask
+        self.due.ask
     }
 
     /// Takes what the step was told, and of a check the action. The call's reply comes exactly with
@@ -49,10 +49,10 @@ impl Plan {
     pub fn told(&mut self, t: &Told, action: Option<&Action>) -> Option<Reply>
         ensures { (self.new, result) ≡ told_of self.old t.now (option_copied action.entry) }
     {
-        let Stage { ask, reply } = self.stage;
+        let Due { ask, reply } = self.due;
         match next_by(self.mode, self.course, ask, reply, t, action) {
-            Next::On(stage) => {
-                self.stage = stage;
+            Next::On(due) => {
+                self.due = due;
                 None
             }
             Next::Over(reply) => Some(reply),

@@ -3,7 +3,7 @@ use crate::reply::Reply;
 
 /// A call before its next step.
 #[derive(Clone, Copy, Debug, PartialEq, Eq)]
-pub struct Stage {
+pub struct Due {
     /// The next step.
     pub ask: Ask,
     /// The reply that comes with the call's last step, unless a step to come decides another.
@@ -14,7 +14,7 @@ pub struct Stage {
 #[derive(Clone, Copy, Debug, PartialEq, Eq)]
 pub enum Next {
     /// A further step comes.
-    On(Stage),
+    On(Due),
     /// The call is answered.
     Over(Reply),
 }

@@ -1,0 +1,42 @@
+ghost use Rattle.std.specs.Prelude.{◌≡◌, ℕ, List};
+
+use std::marker::Model;
+
+/// The numbers of the tasks that get one turn each, in order. Contracts see the list of numbers.
+#[derive(Debug, Drop)]
+pub struct Turns {
+    tasks: Vec<u32>,
+}
+
+impl Model for Turns {
+    ghost Value = { List ℕ };
+
+    ghost view = { λ turns. turns.tasks.items };
+}
+
+impl Turns {
+    /// The turns of these tasks, by a vector that is taken over.
+    pub fn from_vec(tasks: Vec<u32>) -> Turns
+        ensures { result ≡ tasks.items }
+    {
+        Turns { tasks }
+    }
+
+    /// The numbers of the tasks.
+    pub fn as_slice(&self) -> &[u32]
+        ensures { result.now ≡ self.now }
+    {
+        self.tasks.as_slice()
+    }
+}
+
+/// How a script has its tasks run.
+#[derive(Debug, Drop)]
+pub enum Ending {
+    /// One turn of each task that is named, in order. The run may stop anywhere.
+    Schedule(Turns),
+    /// Rounds of one turn of each task, until a round moves none.
+    Rounds,
+    /// So many threads, from 1 to 16, until no task can move.
+    Threads(u32),
+}

@@ -1,0 +1,4 @@
+pub mod Rows
+pub mod Still
+pub mod PlacedAsTold
+pub mod Listed

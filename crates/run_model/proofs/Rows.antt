@@ -1,0 +1,484 @@
+-- Two whole runs, turn by turn from the start. Digests stay as they are written.
+use Rattle.std.proofs.Common.{◌≡◌, ℕ, Bool, true, false, List, [], ◌∷◌, codes, Option, Some, None, zero, suc, arith, refl, ap, subst, lit<, sym, ◌∙◌}
+use Rattle.std.specs.Prelude.{All, ◌≤◌, ◌<◌, ◌&&◌, leb, slice_get}
+use Rattle.std.proofs.lemmas.Bool.{and_parts, leb-true}
+use Rattle.std.proofs.lemmas.List.Elements.{All-cons, All-nil}
+use Rattle.std.proofs.lemmas.Option.{none-some, same_Some}
+use Rattle.hash_algos.specs.Digest.{digest_of, zero_digest}
+use Rattle.hash_algos.specs.declared.algo.Algo.TheVariants.{Sha1, Sha256}
+use Rattle.ima_templates.specs.Entries.{entry_of, violation_of}
+use Rattle.ima_templates.specs.Same.{add_by, place_of_same, placed_by, same}
+use Rattle.ima_templates.specs.declared.entry.Entry.{Entry}
+use Rattle.ima_templates.specs.declared.entry.Placed.{Placed}
+use Rattle.ima_templates.specs.declared.entry.Placed.TheVariants.{Added}
+use Rattle.inode_meta.specs.declared.appraisal.Mode.TheVariants.{Off}
+use Rattle.inode_meta.specs.declared.appraisal.Need.TheVariants.{Any}
+use Rattle.inode_meta.specs.declared.identity.Cred.{Cred}
+use Rattle.inode_meta.specs.declared.measurement.Template.TheVariants.{ImaNg}
+use Rattle.inode_meta.specs.declared.step.Who.{Who}
+use Rattle.policy_text.specs.RuleValue.{RuleValue}
+use Rattle.policy_text.specs.declared.access.Action.{Action}
+use Rattle.policy_text.specs.declared.rule.Act.TheVariants as act
+use Rattle.policy_text.specs.declared.rule.Func.TheVariants.{FileCheck}
+use Rattle.inode_events.specs.Callers.{caller_of}
+use Rattle.inode_events.specs.Checks.{no_action}
+use Rattle.inode_events.specs.Inode.{nobody}
+use Rattle.inode_events.specs.Past.{past}
+use Rattle.inode_events.specs.declared.deed.Deed.{Deed}
+use Rattle.inode_events.specs.declared.deed.Deed.TheVariants as deed
+use Rattle.inode_events.specs.declared.deed.How.TheVariants as how
+use Rattle.inode_events.specs.declared.image.Image.{Image}
+use Rattle.inode_events.specs.declared.settings.Settings.{Settings}
+use Rattle.inode_events.specs.declared.told.Event.{Event}
+use Rattle.inode_events.specs.declared.told.Told.{Told}
+use Rattle.inode_events.specs.declared.told.Told.TheVariants as told
+use Rattle.call_steps.specs.declared.ask.Ask.TheVariants as ask
+use Rattle.call_steps.specs.declared.call.Call.{Call}
+use Rattle.call_steps.specs.declared.call.Call.TheVariants as call
+use Rattle.call_steps.specs.declared.held.Handle.{Handle}
+use Rattle.call_steps.specs.declared.held.Name.TheVariants.{Descriptor}
+use Rattle.call_steps.specs.declared.reply.Reply.TheVariants as reply
+use Rattle.run_model.specs.History.{Answer, Thought, own, plain_answer, start}
+use Rattle.run_model.specs.Rounds.{IsRunOf, round_moves, rounds}
+use Rattle.call_steps.specs.declared.ending.Ending.TheVariants as ending
+use Rattle.run_model.specs.Scene.{Program, Scene, Station}
+use Rattle.run_model.specs.Served.{IsDecided, IsServed, RulesRise, Run, Served, events_of}
+use Rattle.run_model.specs.Turns.{Moment, run_at, start_of, turn, turns_of}
+
+-- ---- the script
+
+abbrev pub settings : Settings
+settings = record {
+  hash = Sha256;
+  template = ImaNg;
+  mode = Off;
+  evm = record { key = None; added = []; format = 1 };
+  for_files = refl;
+}
+
+abbrev pub image : Image
+image = record {
+  present = true;
+  content = 97 ∷ 98 ∷ 99 ∷ [];
+  attrs = [];
+  meta = record { ino = 12; generation = 1; uid = 0; gid = 0; mode = 33188; place = 1 };
+  versions = true;
+}
+
+abbrev pub station : Station
+station = record {
+  path = 47 ∷ 97 ∷ [];
+  birth = image;
+  place = record { magic = 0xef53; uuid = 1; name = codes "ext4"; versions = true };
+}
+
+-- `measure func=FILE_CHECK mask=MAY_READ`
+abbrev pub rule : RuleValue
+rule = record {
+  act = act.Measure;
+  func = Some FileCheck;
+  mask = Some (record { exact = true; bits = 4 });
+  fsmagic = None;
+  fsuuid = None;
+  fsname = None;
+  uid = None;
+  euid = None;
+  gid = None;
+  egid = None;
+  fowner = None;
+  fgroup = None;
+  need = Any;
+  blacklist = false;
+  algos = None;
+  directio = false;
+  pcr = None;
+  template = None;
+}
+
+abbrev pub boot : Entry
+boot = record {
+  pcr = 10;
+  template = ImaNg;
+  digest = zero_digest Sha256;
+  name = codes "boot_aggregate";
+  sig = [];
+  violation = false;
+}
+
+abbrev pub root : Cred
+root = record { uid = 0; euid = 0; gid = 0; egid = 0; admin = false }
+
+abbrev pub scene_with : List Program → Scene
+scene_with programs =
+    record {
+      settings = settings;
+      boot = boot;
+      stations = station ∷ [];
+      rules = rule
+          ∷ [];
+      programs = programs;
+    }
+
+abbrev pub reading : Call
+reading = call.Open 0 0 (how.Read false) false
+
+abbrev pub reader : Program
+reader = record { cred = root; calls = reading ∷ call.Read 0 0 3 ∷ call.Close 0 ∷ [] }
+
+-- ---- what happens
+
+abbrev pub who : ℕ → ℕ → ℕ → Who
+who task call step = record { task = task; call = call; step = step }
+
+abbrev pub did : Who → Deed → Told → Event
+did who d t = record { who = who; deed = d; told = t }
+
+abbrev pub measure : Action
+measure = record {
+  measure = true;
+  pcr = 10;
+  template = None;
+  appraise = false;
+  need = Any;
+  algos = None;
+  audit = false;
+  hash = false;
+}
+
+abbrev pub entry : Entry
+entry = entry_of 10 ImaNg (digest_of Sha256 image.content)
+    (digest_of Sha1 image.content) station.path []
+
+abbrev pub granted : Placed → Told
+granted placed =
+    told.Grant (record { placed = Some placed; verdict = None; admitted = true; labelled = false })
+
+-- up to the finish of the first collection
+abbrev pub hashed : List Event
+hashed =
+    did nobody deed.Birth (told.Image image)
+    ∷ did (who 0 0 0) (deed.Count (how.Read false)) told.Held
+    ∷ did (who 0 0 1) (deed.Check 1 FileCheck measure 1) told.Quiet
+    ∷ did (who 0 0 2) (deed.Take 1) told.Begun
+    ∷ did (who 0 0 3) (deed.Chunk 1) told.Last
+    ∷ []
+
+abbrev pub opened : Placed → List Event
+opened placed =
+    did nobody deed.Birth (told.Image image)
+    ∷ did (who 0 0 0) (deed.Count (how.Read false)) told.Held
+    ∷ did (who 0 0 1) (deed.Check 1 FileCheck measure 1) told.Quiet
+    ∷ did (who 0 0 2) (deed.Take 1) told.Begun
+    ∷ did (who 0 0 3) (deed.Chunk 1) told.Last
+    ∷ did (who 0 0 4) (deed.Finish 1) (granted placed)
+    ∷ []
+
+abbrev pub handle : Handle
+handle = record { name = Descriptor 0; inode = 0; file = 1; how = how.Read false }
+
+abbrev pub has_opened : Thought
+has_opened =
+    record {
+      mind = record { at = 1; progress = None; handles = handle ∷ [] };
+      replies = reply.Done
+          ∷ [];
+    }
+
+abbrev pub finishing : Thought
+finishing = record {
+  mind = record {
+    at = 0;
+    progress = Some (record {
+      due = record { ask = ask.Finish; reply = reply.Done };
+      step = 4;
+      inode = 0;
+      file = 1;
+      how = how.Read false;
+    });
+    handles = [];
+  };
+  replies = [];
+}
+
+abbrev pub moment : List Event → List Entry → List Thought → Moment
+moment journal list thoughts =
+    record {
+      state = record { journals = journal ∷ []; list = list; signals = []; added = [] };
+      thoughts = thoughts;
+    }
+
+-- ---- a task opens, reads and closes
+
+abbrev pub one : Scene
+one = scene_with (reader ∷ [])
+
+one_hashes : turns_of one (start_of one) (0 ∷ 0 ∷ 0 ∷ 0 ∷ [])
+    ≡ moment hashed (boot ∷ []) (finishing ∷ [])
+unfolding past
+one_hashes = refl
+
+-- the finish, by where the entry stands
+abbrev one_finished : Option ℕ → Moment
+one_finished at = moment (opened (placed_by at 1)) (add_by at (boot ∷ []) entry) (has_opened ∷ [])
+
+one_finishes : turn one (moment hashed (boot ∷ []) (finishing ∷ [])) 0
+    ≡ one_finished (place_of_same (boot ∷ []) entry)
+unfolding past
+one_finishes = refl
+
+abbrev pub read : List Event
+read =
+    did nobody deed.Birth (told.Image image)
+    ∷ did (who 0 0 0) (deed.Count (how.Read false)) told.Held
+    ∷ did (who 0 0 1) (deed.Check 1 FileCheck measure 1) told.Quiet
+    ∷ did (who 0 0 2) (deed.Take 1) told.Begun
+    ∷ did (who 0 0 3) (deed.Chunk 1) told.Last
+    ∷ did (who 0 0 4) (deed.Finish 1) (granted (Added 1))
+    ∷ did (who 0 1 0) (deed.Read 1 0 3) (told.Read 3 (digest_of Sha256 image.content))
+    ∷ did (who 0 2 0) (deed.Close 1) told.Dropped
+    ∷ []
+
+abbrev pub has_closed : Thought
+has_closed = record {
+  mind = record { at = 3; progress = None; handles = [] };
+  replies = reply.Done ∷ reply.Bytes 3 (digest_of Sha256 image.content) ∷ reply.Done ∷ [];
+}
+
+abbrev pub one_end : Moment
+one_end = moment read (boot ∷ entry ∷ []) (has_closed ∷ [])
+
+one_ends : turns_of one (one_finished None) (0 ∷ 0 ∷ []) ≡ one_end
+unfolding past
+one_ends = refl
+
+-- the seven turns, where the entry isn't the boot aggregate
+pub one_runs : place_of_same (boot ∷ []) entry ≡ None
+    → turns_of one (start_of one) (0 ∷ 0 ∷ 0 ∷ 0 ∷ 0 ∷ 0 ∷ 0 ∷ []) ≡ one_end
+one_runs differs =
+    ap (λ m. turns_of one m (0 ∷ 0 ∷ 0 ∷ [])) one_hashes
+    ∙ ap (λ m. turns_of one m (0 ∷ 0 ∷ [])) (one_finishes ∙ ap one_finished differs) ∙ one_ends
+
+-- its round moves nobody
+pub one_is_still : round_moves one one_end ≡ false
+one_is_still = refl
+
+abbrev pub one_run : Run
+one_run = run_at one_end
+
+-- the history of the task, newest answer first
+abbrev pub answers : List Answer
+answers =
+    plain_answer 7 told.Dropped ∷ plain_answer 6 (told.Read 3 (digest_of Sha256 image.content))
+    ∷ plain_answer 5 (granted (Added 1))
+    ∷ plain_answer 4 told.Last ∷ plain_answer 3 told.Begun
+    ∷ record { place = 2; told = told.Quiet; action = measure; rules = 1 }
+    ∷ plain_answer 1 told.Held ∷ []
+
+-- the check was decided by the script's rule
+one_is_decided : IsDecided one one_run reader 1
+    (record { place = 2; told = told.Quiet; action = measure; rules = 1 }) 0 FileCheck 4
+unfolding past
+one_is_decided = record {
+  station = station;
+  journal = read;
+  at = refl;
+  journal_at = refl;
+  known_rules = omega arith;
+  final = omega arith;
+  action = refl;
+}
+
+one_events : (i : ℕ) (journal : List Event) → slice_get (read ∷ []) i ≡ Some journal
+    → events_of 0 journal ≡ own Off 0 reader i answers
+one_events zero journal e =
+    subst (λ j. events_of 0 j ≡ own Off 0 reader 0 answers) (same_Some read journal e) refl
+one_events (suc i) journal e = absurd (none-some journal e)
+
+one_is_served : IsServed one one_run 0 reader has_closed
+unfolding past
+one_is_served = record {
+  history = answers;
+  stands = refl;
+  suited = (
+    (lit< tt, refl),
+    (
+      (lit< tt, refl),
+      (
+        (lit< tt, refl),
+        (
+          (lit< tt, refl),
+          (
+            (lit< tt, refl),
+            (one_is_decided, ((lit< tt, refl), tt)),
+          ),
+        ),
+      ),
+    ),
+  );
+  events = one_events;
+  rules = refl;
+}
+
+one_tasks : (n : ℕ) (p : Program) (t : Thought) → slice_get (reader ∷ []) n ≡ Some p
+    → slice_get (has_closed ∷ []) n ≡ Some t → IsServed one one_run n p t
+one_tasks zero p t e f =
+    subst (λ q. IsServed one one_run 0 q t) (same_Some reader p e)
+    (subst (λ u. IsServed one one_run 0 reader u) (same_Some has_closed t f) one_is_served)
+one_tasks (suc n) p t e f = absurd (none-some p e)
+
+-- each event is the birth, or the task's
+abbrev IsOfOne : Event → Type 0
+IsOfOne e = caller_of e ≤ 1
+
+abbrev are_of_one : List Event → Bool
+are_of_one [] = true
+are_of_one (e ∷ es) = leb (caller_of e) 1 && are_of_one es
+
+all_of_one : (es : List Event) → are_of_one es ≡ true → All IsOfOne es
+all_of_one [] is = All-nil IsOfOne
+all_of_one (e ∷ es) is =
+    All-cons IsOfOne e es (leb-true (caller_of e) 1
+    (and_parts (leb (caller_of e) 1) (are_of_one es) is).0)
+    (all_of_one es (and_parts (leb (caller_of e) 1) (are_of_one es) is).1)
+
+read_by : All IsOfOne read
+read_by = all_of_one read refl
+
+read_rises : RulesRise 1 (past read)
+unfolding past
+read_rises = (
+  omega arith,
+  (
+    omega arith,
+    (
+      omega arith,
+      (omega arith, (omega arith, (omega arith, (omega arith, (omega arith, tt))))),
+    ),
+  ),
+)
+
+-- that run is served
+pub one_run_is_served : Served one one_run
+unfolding past
+one_run_is_served = record {
+  journals = refl;
+  thoughts = refl;
+  tasks = one_tasks;
+  no_other_events = All-cons (All IsOfOne) read [] read_by (All-nil (All IsOfOne));
+  no_other_rules = All-nil (λ r. r.who.task < 1);
+  rules_rise =
+      All-cons (λ j. RulesRise 1 (past j)) read [] read_rises (All-nil (λ j. RulesRise 1 (past j)));
+}
+
+-- ---- by rounds
+
+five_turns : place_of_same (boot ∷ []) entry ≡ None
+    → turns_of one (start_of one) (0 ∷ 0 ∷ 0 ∷ 0 ∷ 0 ∷ []) ≡ one_finished None
+five_turns differs =
+    ap (λ m. turns_of one m (0 ∷ [])) one_hashes ∙ one_finishes ∙ ap one_finished differs
+
+fifth_moves : round_moves one (one_finished None) ≡ true
+unfolding past
+fifth_moves = refl
+
+sixth_moves : round_moves one (turns_of one (one_finished None) (0 ∷ [])) ≡ true
+unfolding past
+sixth_moves = refl
+
+each_moves : place_of_same (boot ∷ []) entry ≡ None → (k : ℕ) → k < 7
+    → round_moves one (rounds one k (start_of one)) ≡ true
+unfolding past
+each_moves differs zero below = refl
+each_moves differs (suc zero) below = refl
+each_moves differs (suc (suc zero)) below = refl
+each_moves differs (suc (suc (suc zero))) below = refl
+each_moves differs (suc (suc (suc (suc zero)))) below = refl
+each_moves differs (suc (suc (suc (suc (suc zero))))) below =
+    subst (λ m. round_moves one m ≡ true) (sym (five_turns differs)) fifth_moves
+each_moves differs (suc (suc (suc (suc (suc (suc zero)))))) below =
+    subst (λ m. round_moves one (turns_of one m (0 ∷ [])) ≡ true)
+    (sym (five_turns differs)) sixth_moves
+each_moves differs (suc (suc (suc (suc (suc (suc (suc k))))))) below = absurd (too_many k below)
+  where
+    too_many : (k : ℕ) → suc (suc (suc (suc (suc (suc (suc k)))))) < 7 → ⊥
+    too_many k below = omega arith
+
+-- it is the run of the script
+pub one_is_run : place_of_same (boot ∷ []) entry ≡ None → IsRunOf one ending.Rounds one_run
+one_is_run differs = (
+  one_end,
+  (
+    record {
+      count = 7;
+      ends = sym (one_runs differs);
+      still = one_is_still;
+      before = each_moves differs;
+    },
+    refl,
+  ),
+)
+
+-- ---- a reader opens, and then a writer: two entries and a violation
+
+abbrev pub writing : Call
+writing = call.Open 0 0 (how.Write false false) false
+
+abbrev pub two : Scene
+two = scene_with (record { cred = root; calls = reading ∷ [] }
+    ∷ record { cred = root; calls = writing ∷ [] } ∷ [])
+
+two_hash : turns_of two (start_of two) (0 ∷ 0 ∷ 0 ∷ 0 ∷ [])
+    ≡ moment hashed (boot ∷ []) (finishing ∷ start ∷ [])
+unfolding past
+two_hash = refl
+
+abbrev two_finished : Option ℕ → Moment
+two_finished at =
+    moment (opened (placed_by at 1)) (add_by at (boot ∷ []) entry) (has_opened ∷ start ∷ [])
+
+two_finish : turn two (moment hashed (boot ∷ []) (finishing ∷ start ∷ [])) 0
+    ≡ two_finished (place_of_same (boot ∷ []) entry)
+unfolding past
+two_finish = refl
+
+abbrev pub met : List Event
+met =
+    did nobody deed.Birth (told.Image image)
+    ∷ did (who 0 0 0) (deed.Count (how.Read false)) told.Held
+    ∷ did (who 0 0 1) (deed.Check 1 FileCheck measure 1) told.Quiet
+    ∷ did (who 0 0 2) (deed.Take 1) told.Begun
+    ∷ did (who 0 0 3) (deed.Chunk 1) told.Last
+    ∷ did (who 0 0 4) (deed.Finish 1) (granted (Added 1))
+    ∷ did (who 1 0 0) (deed.Count (how.Write false false)) told.Held
+    ∷ did (who 1 0 1) (deed.Check 6 FileCheck no_action 1) (told.ToMToU 2)
+    ∷ []
+
+abbrev pub has_written : Thought
+has_written = record {
+  mind = record {
+    at = 1;
+    progress = None;
+    handles = record {
+      name = Descriptor 0;
+      inode = 0;
+      file = 6;
+      how = how.Write false false;
+    } ∷ [];
+  };
+  replies = reply.Done ∷ [];
+}
+
+abbrev pub two_end : Moment
+two_end = moment met (boot ∷ entry ∷ violation_of ImaNg Sha256 station.path ∷ [])
+    (has_opened ∷ has_written ∷ [])
+
+two_end_so : turns_of two (two_finished None) (1 ∷ 1 ∷ []) ≡ two_end
+unfolding past same
+two_end_so = refl
+
+-- the seven turns of the schedule
+pub two_run : place_of_same (boot ∷ []) entry ≡ None
+    → turns_of two (start_of two) (0 ∷ 0 ∷ 0 ∷ 0 ∷ 0 ∷ 1 ∷ 1 ∷ []) ≡ two_end
+two_run differs =
+    ap (λ m. turns_of two m (0 ∷ 1 ∷ 1 ∷ [])) two_hash
+    ∙ ap (λ m. turns_of two m (1 ∷ 1 ∷ [])) (two_finish ∙ ap two_finished differs) ∙ two_end_so

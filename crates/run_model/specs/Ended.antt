@@ -1,0 +1,85 @@
+-- How a run may stand at its end.
+use Rattle.std.specs.Prelude.{◌≡◌, ℕ, ◌+◌, ◌-◌, ◌≤◌, ◌==◌, Bool, true, false, ◌&&◌, ◌||◌, not, List, [], ◌∷◌, length, take, Option, Some, slice_get, if◌then◌else◌}
+use Rattle.call_steps.specs.declared.call.Call.{Call}
+use Rattle.call_steps.specs.declared.call.Call.TheVariants as call
+use Rattle.run_model.specs.History.{Thought}
+use Rattle.run_model.specs.Scene.{Program}
+use Rattle.call_steps.specs.declared.ending.Ending.{Ending}
+use Rattle.call_steps.specs.declared.ending.Ending.TheVariants as ending
+
+-- ---- the semaphores, by the replies
+
+abbrev pub posts_to : ℕ → Call → Bool
+posts_to sem (call.Post other) = other == sem
+posts_to sem _ = false
+
+abbrev pub waits_for : ℕ → Call → Bool
+waits_for sem (call.Wait other) = other == sem
+waits_for sem _ = false
+
+abbrev pub how_many : (Call → Bool) → List Call → ℕ
+how_many test [] = 0
+how_many test (c ∷ cs) = if test c then 1 + how_many test cs else how_many test cs
+
+-- the calls of the task that are answered
+abbrev pub answered : Program → Thought → List Call
+answered p t = take (length t.replies) p.calls
+
+-- so many answered calls of all tasks pass the test
+abbrev pub answered_by : (Call → Bool) → List Program → List Thought → ℕ
+answered_by test [] thoughts = 0
+answered_by test (p ∷ ps) [] = 0
+answered_by test (p ∷ ps) (t ∷ ts) = how_many test (answered p t) + answered_by test ps ts
+
+abbrev pub posted : ℕ → List Program → List Thought → ℕ
+posted sem programs thoughts = answered_by (posts_to sem) programs thoughts
+
+abbrev pub waited : ℕ → List Program → List Thought → ℕ
+waited sem programs thoughts = answered_by (waits_for sem) programs thoughts
+
+-- what is left of a semaphore: its answered posts less its answered waits
+abbrev pub left : ℕ → List Program → List Thought → ℕ
+left sem programs thoughts = posted sem programs thoughts - waited sem programs thoughts
+
+-- ---- done and stuck
+
+-- each call is answered
+abbrev pub is_done : Program → Thought → Bool
+is_done p t = length t.replies == length p.calls
+
+abbrev pub all_done : List Program → List Thought → Bool
+all_done [] thoughts = true
+all_done (p ∷ ps) [] = true
+all_done (p ∷ ps) (t ∷ ts) = is_done p t && all_done ps ts
+
+-- the next call is a wait of which nothing is left
+abbrev pub waits_in_vain : (ℕ → ℕ) → Option Call → Bool
+waits_in_vain left_of (Some (call.Wait sem)) = left_of sem == 0
+waits_in_vain left_of _ = false
+
+abbrev pub all_wait : (ℕ → ℕ) → List Program → List Thought → Bool
+all_wait left_of [] thoughts = true
+all_wait left_of (p ∷ ps) [] = true
+all_wait left_of (p ∷ ps) (t ∷ ts) =
+    (is_done p t || waits_in_vain left_of (slice_get p.calls (length t.replies)))
+    && all_wait left_of ps ts
+
+-- some task isn't done, and each that isn't done waits in vain
+abbrev pub is_stuck : List Program → List Thought → Bool
+is_stuck programs thoughts =
+    not (all_done programs thoughts) && all_wait
+    (λ sem. left sem programs thoughts) programs thoughts
+
+-- ---- the end
+
+-- a schedule may stop anywhere; rounds and threads go on until each task is done or the run is
+-- stuck
+abbrev pub IsThrough : Ending → Bool → Type 0
+IsThrough (ending.Schedule turns) over = Unit {0}
+IsThrough _ over = over ≡ true
+
+pub record IsEnded (ending : Ending) (programs : List Program) (thoughts : List Thought)
+    : Type 0 where
+  -- nobody took from a semaphore what wasn't there
+  pub paid : (sem : ℕ) → waited sem programs thoughts ≤ posted sem programs thoughts
+  pub through : IsThrough ending (all_done programs thoughts || is_stuck programs thoughts)

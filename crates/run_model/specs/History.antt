@@ -1,0 +1,124 @@
+-- The history of a task: what each of its steps was told, newest first. From the program and the
+-- history alone come where the task stands, its replies, and the events that it made.
+use Rattle.std.specs.Prelude.{ℕ, ◌==◌, List, [], ◌∷◌, ◌++◌, Option, Some, None, slice_get, if◌then◌else◌}
+use Rattle.inode_meta.specs.declared.appraisal.Mode.{Mode}
+use Rattle.inode_meta.specs.declared.step.Who.{Who}
+use Rattle.policy_text.specs.declared.access.Action.{Action}
+use Rattle.inode_events.specs.Checks.{no_action}
+use Rattle.inode_events.specs.declared.deed.Deed.{Deed}
+use Rattle.inode_events.specs.declared.deed.Deed.TheVariants as deed
+use Rattle.inode_events.specs.declared.told.Event.{Event}
+use Rattle.inode_events.specs.declared.told.Told.{Told}
+use Rattle.call_steps.specs.Mind.{Mind, Step, after_of, ask_of, fresh, number_of}
+use Rattle.call_steps.specs.Mind.{Does, Checks, Signals, Appends}
+use Rattle.call_steps.specs.declared.call.Call.{Call}
+use Rattle.call_steps.specs.declared.reply.Reply.{Reply}
+use Rattle.run_model.specs.Scene.{Program}
+use Rattle.run_model.specs.declared.RuleEntry.{RuleEntry}
+
+-- what one step was told: the place where its event or its rule stands, the outcome, and of a check
+-- the action and the number of rules by which it was decided
+pub record Answer : Type 0 where
+  pub place : ℕ
+  pub told : Told
+  pub action : Action
+  pub rules : ℕ
+
+-- the answer to a step that is no check
+abbrev pub plain_answer : ℕ → Told → Answer
+plain_answer place t = record { place = place; told = t; action = no_action; rules = 0 }
+
+-- where a task stands, with its replies so far
+pub record Thought : Type 0 where
+  pub mind : Mind
+  pub replies : List Reply
+
+abbrev pub start : Thought
+start = record { mind = fresh; replies = [] }
+
+abbrev pub replied : List Reply → Option Reply → List Reply
+replied replies None = replies
+replied replies (Some r) = replies ++ r ∷ []
+
+abbrev pub thought_with : Thought → Mind × Option Reply → Thought
+thought_with t after = record { mind = after.0; replies = replied t.replies after.1 }
+
+-- the task hears what the step of its call was told; a task whose program is over hears nothing
+abbrev pub hear_in : Mode → Program → Option Call → Thought → Answer → Thought
+hear_in mode p None t a = t
+hear_in mode p (Some c) t a =
+    thought_with t (after_of mode p.cred.admin c t.mind a.place a.told a.action)
+
+abbrev pub call_at : Program → Mind → Option Call
+call_at p m = slice_get p.calls m.at
+
+abbrev pub hear : Mode → Program → Thought → Answer → Thought
+hear mode p t a = hear_in mode p (call_at p t.mind) t a
+
+-- where the task stands after the steps of the history
+abbrev pub thought : Mode → Program → List Answer → Thought
+thought mode p [] = start
+thought mode p (a ∷ before) = hear mode p (thought mode p before) a
+
+-- ---- the steps
+
+abbrev pub step_in : Program → Option Call → Mind → Option Step
+step_in p None m = None
+step_in p (Some c) m = Some (ask_of p.cred.admin c m)
+
+-- the step that the task makes next, if its program isn't over
+abbrev pub step_at : Program → Mind → Option Step
+step_at p m = step_in p (call_at p m) m
+
+abbrev pub who_in : ℕ → Program → Option Call → Mind → Who
+who_in n p None m = record { task = n; call = m.at; step = 0 }
+who_in n p (Some c) m = record { task = n; call = m.at; step = number_of p.cred.admin c m }
+
+-- its Who, of the task n
+abbrev pub who_at : ℕ → Program → Mind → Who
+who_at n p m = who_in n p (call_at p m) m
+
+abbrev pub event : Who → Deed → Told → Event
+event who d t = record { who = who; deed = d; told = t }
+
+-- the event of a step in the journal i, with its place
+abbrev pub event_in : ℕ → Who → Option Step → Answer → List (ℕ × Event)
+event_in i who (Some (Does inode d)) a =
+    if inode == i then (a.place, event who d a.told) ∷ [] else []
+event_in i who (Some (Checks inode file func mask)) a =
+    if inode == i then (a.place, event who (deed.Check file func a.action a.rules) a.told)
+    ∷ [] else []
+event_in i who _ a = []
+
+-- the rule that a step appends, with its place
+abbrev pub rule_in : Who → Option Step → Answer → List (ℕ × RuleEntry)
+rule_in who (Some (Appends rule)) a = (a.place, record { who = who; rule = rule }) ∷ []
+rule_in who _ a = []
+
+-- the deed of a step on the semaphores, with its place
+abbrev pub signal_in : Who → Option Step → Answer → List (ℕ × Event)
+signal_in who (Some (Signals d)) a = (a.place, event who d a.told) ∷ []
+signal_in who _ a = []
+
+-- ---- what the task made, oldest first
+
+-- its events in the journal i
+abbrev pub own : Mode → ℕ → Program → ℕ → List Answer → List (ℕ × Event)
+own mode n p i [] = []
+own mode n p i (a ∷ before) =
+    let m = (thought mode p before).mind in
+    own mode n p i before ++ event_in i (who_at n p m) (step_at p m) a
+
+-- the rules that it appended
+abbrev pub own_rules : Mode → ℕ → Program → List Answer → List (ℕ × RuleEntry)
+own_rules mode n p [] = []
+own_rules mode n p (a ∷ before) =
+    let m = (thought mode p before).mind in
+    own_rules mode n p before ++ rule_in (who_at n p m) (step_at p m) a
+
+-- its posts and waits
+abbrev pub own_signals : Mode → ℕ → Program → List Answer → List (ℕ × Event)
+own_signals mode n p [] = []
+own_signals mode n p (a ∷ before) =
+    let m = (thought mode p before).mind in
+    own_signals mode n p before ++ signal_in (who_at n p m) (step_at p m) a

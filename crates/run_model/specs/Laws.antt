@@ -1,0 +1,60 @@
+-- The laws of runs.
+use Rattle.std.specs.Prelude.{◌≡◌, ℕ, false, List, [], ◌∷◌, ◌++◌, length, Option, Some, None}
+use Rattle.ima_templates.specs.Same.{place_of_same}
+use Rattle.ima_templates.specs.declared.entry.Entry.{Entry}
+use Rattle.ima_templates.specs.declared.entry.Placed.{Placed}
+use Rattle.inode_events.specs.Asked.{asked, list_after, outcome}
+use Rattle.inode_events.specs.Inode.{Inode}
+use Rattle.inode_events.specs.Listing.{Listed, adds, finds}
+use Rattle.inode_events.specs.Says.{says, placed_in}
+use Rattle.inode_events.specs.declared.deed.Deed.{Deed}
+use Rattle.inode_events.specs.declared.told.Event.{Event}
+use Rattle.inode_events.specs.declared.told.Told.{Told}
+use Rattle.run_model.specs.History.{Thought}
+use Rattle.run_model.specs.Rounds.{RoundsTo, all_tasks, is_moved, round_moves}
+use Rattle.run_model.specs.Scene.{Program, Scene}
+use Rattle.run_model.specs.Turns.{Moment, State, go, turns_of}
+
+-- a turn that doesn't move, blocked or done, changes nothing
+abbrev pub StillTurn : Type 0
+StillTurn = (scene : Scene) (n : ℕ) (p : Program) (s : State) (t : Thought)
+    → is_moved (go scene n p s t).turn ≡ false
+    → ((go scene n p s t).state ≡ s) × ((go scene n p s t).thought ≡ t)
+
+-- a round that moves none changes nothing
+abbrev pub StillRound : Type 0
+StillRound =
+    (scene : Scene) (m : Moment) → round_moves scene m ≡ false
+    → turns_of scene m (all_tasks scene) ≡ m
+
+-- rounds have one end
+abbrev pub OneEnd : Type 0
+OneEnd = (scene : Scene) (start a b : Moment) → RoundsTo scene start a → RoundsTo scene start b
+    → a ≡ b
+
+-- what a step is told with a place of the list is what the journal says with the place that was
+-- told
+abbrev pub PlacedIsTold : Type 0
+PlacedIsTold =
+    (i : Inode) (p : List Event) (placed : Placed) (d : Deed) (t : Told)
+    → says i p placed d ≡ Some t → says i p (placed_in t) d ≡ Some t
+
+-- the list after a step: as it was, or with the entry that the event adds at its end, which no
+-- earlier one is the same as
+abbrev pub IsAdded : List Entry → List Entry → Option Listed → Type 0
+IsAdded list after None = after ≡ list
+IsAdded list after (Some added) =
+    (added.0 ≡ length list) × (place_of_same list added.1 ≡ None) × (after ≡ list ++ added.1 ∷ [])
+
+-- the entry that the event finds stands there first
+abbrev pub IsFound : List Entry → Option Listed → Type 0
+IsFound list None = Unit {0}
+IsFound list (Some found) = place_of_same list found.1 ≡ Some found.0
+
+-- what a step leaves of the list is what its event says of it
+abbrev pub StepIsListed : Type 0
+StepIsListed =
+    (i : Inode) (list : List Entry) (d : Deed) (p : List Event) (t : Told)
+    → outcome i list d p ≡ Some t
+    → IsAdded list (list_after list (asked i d p) (Some t)) (adds i d t p)
+    × IsFound list (finds i d t p)

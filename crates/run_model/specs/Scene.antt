@@ -1,0 +1,63 @@
+-- What a script sets up: its scene, and what never changes while it runs.
+use Rattle.std.specs.Prelude.{ℕ, List, ◌++◌, map}
+use Rattle.ima_templates.specs.declared.entry.Entry.{Entry}
+use Rattle.inode_meta.specs.declared.appraisal.Mode.{Mode}
+use Rattle.inode_meta.specs.declared.identity.Cred.{Cred}
+use Rattle.inode_meta.specs.declared.identity.Meta.{Meta}
+use Rattle.policy_text.specs.ActionValue.{ActionValue}
+use Rattle.policy_text.specs.RuleValue.{RuleValue}
+use Rattle.policy_text.specs.declared.access.Access.{Access}
+use Rattle.policy_text.specs.declared.access.Super.{Super}
+use Rattle.policy_text.specs.declared.rule.Func.{Func}
+use Rattle.rule_match.specs.Decision.{decide_of}
+use Rattle.inode_events.specs.Inode.{Inode}
+use Rattle.inode_events.specs.declared.image.Image.{Image}
+use Rattle.inode_events.specs.declared.settings.Settings.{Settings}
+use Rattle.call_steps.specs.declared.call.Call.{Call}
+use Rattle.run_model.specs.declared.RuleEntry.{RuleEntry}
+
+-- a file of the script: its path, the inode as it comes into being, and the file system on which it
+-- lies
+pub record Station : Type 0 where
+  pub path : List ℕ
+  pub birth : Image
+  pub place : Super
+
+-- a task: its credentials and its calls
+pub record Program : Type 0 where
+  pub cred : Cred
+  pub calls : List Call
+
+pub record Scene : Type 0 where
+  pub settings : Settings
+  -- the first entry of the measurement list
+  pub boot : Entry
+  pub stations : List Station
+  -- the rules of the script; tasks may append others
+  pub rules : List RuleValue
+  pub programs : List Program
+
+abbrev pub inode_of : Scene → Station → Inode
+inode_of scene s = record { path = s.path; settings = scene.settings; birth = s.birth }
+
+abbrev pub mode_of : Scene → Mode
+mode_of scene = scene.settings.mode
+
+-- the rules in force: the script's, and behind them the appended ones
+abbrev pub rules_with : Scene → List RuleEntry → List RuleValue
+rules_with scene added = scene.rules ++ map (λ (r : RuleEntry). r.rule) added
+
+-- a task's access to a file, whose owner is that of the metadata
+abbrev pub access_of : Cred → Super → Meta → Func → ℕ → Access
+access_of cred place meta func mask = record {
+  func = func;
+  mask = mask;
+  cred = record { ref_ptr = (0, 0); now = cred };
+  owner = meta.uid;
+  group = meta.gid;
+  place = record { ref_ptr = (0, 0); now = place };
+}
+
+-- the action that the rules give it
+abbrev pub decided : List RuleValue → Cred → Super → Meta → Func → ℕ → ActionValue
+decided rules cred place meta func mask = decide_of rules (access_of cred place meta func mask)

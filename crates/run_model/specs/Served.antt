@@ -1,0 +1,128 @@
+-- When journals, appended rules and replies are those of the tasks' calls.
+use Rattle.std.specs.Prelude.{◌≡◌, ℕ, ◌+◌, ◌<◌, ◌≤◌, All, List, [], ◌∷◌, length, map, max, Option, Some, None, slice_get, take}
+use Rattle.grow_list.specs.Entries.{entries_of}
+use Rattle.policy_text.specs.RuleValue.{RuleValue}
+use Rattle.policy_text.specs.declared.rule.Func.{Func}
+use Rattle.inode_events.specs.Callers.{caller_of}
+use Rattle.inode_events.specs.Past.{past}
+use Rattle.inode_events.specs.State.{metadata}
+use Rattle.inode_events.specs.declared.deed.Deed.{Deed}
+use Rattle.inode_events.specs.declared.deed.Deed.TheVariants as deed
+use Rattle.inode_events.specs.declared.told.Event.{Event}
+use Rattle.inode_events.specs.declared.told.Told.TheVariants as told
+use Rattle.ima_templates.specs.declared.entry.Entry.{Entry}
+use Rattle.call_steps.specs.Mind.{Step}
+use Rattle.call_steps.specs.Mind.{Nothing, Does, Checks, Signals, Appends}
+use Rattle.run_model.specs.History.{Answer, Thought, own, own_rules, plain_answer, step_at, thought}
+use Rattle.run_model.specs.Scene.{Program, Scene, Station, decided, mode_of, rules_with}
+use Rattle.run_model.specs.declared.RuleEntry.{RuleEntry}
+
+-- a run as it is shown: the journal of each inode, oldest event first, the measurement list, the
+-- appended rules, and where each task stands
+pub record Run : Type 0 where
+  pub journals : List (List Event)
+  pub list : List Entry
+  pub added : List RuleEntry
+  pub thoughts : List Thought
+
+abbrev pub final_rules : Scene → Run → List RuleValue
+final_rules scene run = rules_with scene run.added
+
+-- ---- whose the entries are
+
+-- the events of the task n in a journal, each with its place
+abbrev pub events_of : ℕ → List Event → List (ℕ × Event)
+events_of n journal = entries_of (n + 1) (map caller_of journal) journal
+
+-- the rules that the task n appended, each with its place
+abbrev pub rules_of : ℕ → List RuleEntry → List (ℕ × RuleEntry)
+rules_of n added = entries_of n (map (λ (r : RuleEntry). r.who.task) added) added
+
+-- ---- the checks
+
+abbrev pub known_after : ℕ → Option Step → Answer → ℕ → ℕ
+known_after base (Some (Checks inode file func mask)) a old = a.rules
+known_after base (Some (Appends rule)) a old = max old (base + a.place + 1)
+known_after base _ a old = old
+
+-- How many rules the task knows of: the script's, those that its last check counted, and those up
+-- to the last one that it appended. Its next check counts as many at least
+abbrev pub rules_known : Scene → Program → List Answer → ℕ
+rules_known scene p [] = length scene.rules
+rules_known scene p (a ∷ before) =
+    known_after (length scene.rules) (step_at p (thought (mode_of scene) p before).mind) a
+    (rules_known scene p before)
+
+-- A check is decided by so many first rules of the final ones, for the task's credentials, the file
+-- system of the inode, and the metadata at that check
+pub record IsDecided (scene : Scene) (run : Run) (p : Program) (known : ℕ) (a : Answer) (inode : ℕ)
+    (func : Func) (mask : ℕ) : Type 0 where
+  pub station : Station
+  pub journal : List Event
+  pub at : slice_get scene.stations inode ≡ Some station
+  pub journal_at : slice_get run.journals inode ≡ Some journal
+  pub known_rules : known ≤ a.rules
+  pub final : a.rules ≤ length (final_rules scene run)
+  pub action : a.action ≡ decided (take a.rules (final_rules scene run)) p.cred station.place
+      (metadata (past (take a.place journal))) func mask
+
+-- an answer suits its step: it has no more than the step asks for, on an inode that is there
+abbrev pub Suits : Scene → Run → Program → ℕ → Option Step → Answer → Type 0
+Suits scene run p known None a = ⊥
+Suits scene run p known (Some Nothing) a = a ≡ plain_answer 0 told.Nothing
+Suits scene run p known (Some (Does inode d)) a =
+    (inode < length scene.stations) × (a ≡ plain_answer a.place a.told)
+Suits scene run p known (Some (Checks inode file func mask)) a =
+    IsDecided scene run p known a inode func mask
+Suits scene run p known (Some (Signals d)) a = a ≡ plain_answer a.place told.Done
+Suits scene run p known (Some (Appends rule)) a = a ≡ plain_answer a.place told.Done
+
+abbrev pub AreSuited : Scene → Run → Program → List Answer → Type 0
+AreSuited scene run p [] = Unit {0}
+AreSuited scene run p (a ∷ before) =
+    Suits scene run p (rules_known scene p before)
+    (step_at p (thought (mode_of scene) p before).mind) a × AreSuited scene run p before
+
+-- the number of rules that the journal's last check counted
+abbrev pub counted_by : Deed → ℕ → ℕ
+counted_by (deed.Check file func action rules) old = rules
+counted_by _ old = old
+
+abbrev pub last_counted : ℕ → List Event → ℕ
+last_counted base [] = base
+last_counted base (e ∷ before) = counted_by e.deed (last_counted base before)
+
+-- along a journal, read from its newest event back, this number never falls
+abbrev pub RulesRise : ℕ → List Event → Type 0
+RulesRise base [] = Unit {0}
+RulesRise base (e ∷ before) =
+    (last_counted base before ≤ counted_by e.deed (last_counted base before))
+    × RulesRise base before
+
+-- ---- the tasks
+
+-- The task n has made its steps: there is a history of them, by which it stands where it stands,
+-- with its replies. Each step that is an event stands under its Who in the journal of its inode, in
+-- order, and so stands each rule that it appended; no others of its number stand there. Its calls
+-- are answered from the first on, and a prefix of the steps of the next one may stand
+pub record IsServed (scene : Scene) (run : Run) (n : ℕ) (p : Program) (t : Thought) : Type 0 where
+  pub history : List Answer
+  pub stands : thought (mode_of scene) p history ≡ t
+  pub suited : AreSuited scene run p history
+  pub events : (i : ℕ) (journal : List Event) → slice_get run.journals i ≡ Some journal
+      → events_of n journal ≡ own (mode_of scene) n p i history
+  pub rules : rules_of n run.added ≡ own_rules (mode_of scene) n p history
+
+pub record Served (scene : Scene) (run : Run) : Type 0 where
+  -- one journal for each inode, and one thought for each task
+  pub journals : length run.journals ≡ length scene.stations
+  pub thoughts : length run.thoughts ≡ length scene.programs
+  pub tasks : (n : ℕ) (p : Program) (t : Thought) → slice_get scene.programs n ≡ Some p
+      → slice_get run.thoughts n ≡ Some t → IsServed scene run n p t
+  -- no other events stand but the births, and no other rules but the script's
+  pub no_other_events : All (λ (journal : List Event). All
+      (λ (e : Event). caller_of e ≤ length scene.programs) journal) run.journals
+  pub no_other_rules : All (λ (r : RuleEntry). r.who.task < length scene.programs) run.added
+  -- along a journal's checks the number of rules never falls
+  pub rules_rise : All (λ (journal : List Event). RulesRise (length scene.rules)
+      (past journal)) run.journals

@@ -1,0 +1,176 @@
+-- One turn of a task on plain lists, and schedules of turns.
+use Rattle.std.specs.Prelude.{ℕ, List, [], ◌∷◌, ◌++◌, length, map, Option, Some, None, slice_get, slice_set, get_or}
+use Rattle.ima_templates.specs.declared.entry.Entry.{Entry}
+use Rattle.inode_meta.specs.declared.appraisal.Mode.{Mode}
+use Rattle.inode_meta.specs.declared.step.Who.{Who}
+use Rattle.policy_text.specs.declared.access.Action.{Action}
+use Rattle.policy_text.specs.declared.rule.Func.{Func}
+use Rattle.inode_events.specs.Asked.{asked, list_after, made, outcome}
+use Rattle.inode_events.specs.Checks.{no_action}
+use Rattle.inode_events.specs.Inode.{Inode, nobody}
+use Rattle.inode_events.specs.Past.{past}
+use Rattle.inode_events.specs.Semaphores.{semaphore_says}
+use Rattle.inode_events.specs.State.{metadata}
+use Rattle.inode_events.specs.declared.deed.Deed.{Deed}
+use Rattle.inode_events.specs.declared.deed.Deed.TheVariants as deed
+use Rattle.inode_events.specs.declared.told.Event.{Event}
+use Rattle.inode_events.specs.declared.told.Told.{Told}
+use Rattle.inode_events.specs.declared.told.Told.TheVariants as told
+use Rattle.call_steps.specs.Mind.{Step}
+use Rattle.call_steps.specs.Mind.{Nothing, Does, Checks, Signals, Appends}
+use Rattle.run_model.specs.History.{Thought, event, hear, plain_answer, start, step_at, who_at}
+use Rattle.run_model.specs.Served.{Run}
+use Rattle.run_model.specs.Scene.{Program, Scene, Station, decided, inode_of, mode_of, rules_with}
+use Rattle.run_model.specs.declared.RuleEntry.{RuleEntry}
+use Rattle.run_model.specs.declared.Turn.{Turn}
+use Rattle.run_model.specs.declared.Turn.TheVariants as turns
+
+-- the lists of a world: the journals, the measurement list, the posts and waits, and the appended
+-- rules
+pub record State : Type 0 where
+  pub journals : List (List Event)
+  pub list : List Entry
+  pub signals : List Event
+  pub added : List RuleEntry
+
+-- what a turn leaves of the lists and of its task
+pub record Turned : Type 0 where
+  pub state : State
+  pub thought : Thought
+  pub turn : Turn
+
+-- ---- a step that can be blocked: `None` is blocked, and changes nothing
+
+abbrev pub turn_of : Option Told → Turn
+turn_of None = turns.Blocked
+turn_of (Some t) = turns.Moved
+
+abbrev pub hear_told : Mode → Program → Thought → ℕ → Action → ℕ → Option Told → Thought
+hear_told mode p t place action rules None = t
+hear_told mode p t place action rules (Some o) =
+    hear mode p t (record { place = place; told = o; action = action; rules = rules })
+
+-- ---- a step on an inode
+
+abbrev pub journal_at : State → ℕ → List Event
+journal_at s i = get_or s.journals i []
+
+-- the lists after it
+abbrev pub state_on : State → ℕ → Inode → Who → Deed → Option Told → State
+state_on s i inode who d o = record s {
+  journals = slice_set s.journals i (journal_at s i ++ made who d o);
+  list = list_after s.list (asked inode d (past (journal_at s i))) o;
+}
+
+-- `action` and `rules` are those of a check
+abbrev pub go_event : Scene → ℕ → Program → State → Thought → ℕ → Inode → Deed → Action → ℕ → Turned
+go_event scene n p s t i inode d action rules =
+    let o = outcome inode s.list d (past (journal_at s i)) in
+    record {
+      state = state_on s i inode (who_at n p t.mind) d o;
+      thought = hear_told (mode_of scene) p t (length (journal_at s i)) action rules o;
+      turn = turn_of o;
+    }
+
+abbrev pub stays : State → Thought → Turned
+stays s t = record { state = s; thought = t; turn = turns.Blocked }
+
+-- an inode that isn't there, which no script names, blocks
+abbrev pub go_does : Scene → ℕ → Program → State → Thought → ℕ → Option Station → Deed → Turned
+go_does scene n p s t i None d = stays s t
+go_does scene n p s t i (Some station) d =
+    go_event scene n p s t i (inode_of scene station) d no_action 0
+
+-- a check is decided by all rules in force, for the metadata as it is
+abbrev pub go_check : Scene → ℕ → Program → State → Thought → ℕ → Option Station → ℕ → Func → ℕ
+    → Turned
+go_check scene n p s t i None file func mask = stays s t
+go_check scene n p s t i (Some station) file func mask =
+    let rules = rules_with scene s.added in
+    let action = decided rules p.cred station.place (metadata (past (journal_at s i))) func mask in
+    go_event scene n p s t i (inode_of scene station)
+    (deed.Check file func action (length rules)) action (length rules)
+
+-- ---- a step on the semaphores
+
+abbrev pub go_signal : Scene → ℕ → Program → State → Thought → Deed → Option Told → Turned
+go_signal scene n p s t d o = record {
+  state = record s { signals = s.signals ++ made (who_at n p t.mind) d o };
+  thought = hear_told (mode_of scene) p t (length s.signals) no_action 0 o;
+  turn = turn_of o;
+}
+
+-- ---- any step
+
+abbrev pub go_step : Scene → ℕ → Program → State → Thought → Option Step → Turned
+go_step scene n p s t None = record { state = s; thought = t; turn = turns.Done }
+go_step scene n p s t (Some Nothing) =
+    record {
+      state = s;
+      thought = hear (mode_of scene) p t (plain_answer 0 told.Nothing);
+      turn = turns.Moved;
+    }
+go_step scene n p s t (Some (Does i d)) = go_does scene n p s t i (slice_get scene.stations i) d
+go_step scene n p s t (Some (Checks i file func mask)) =
+    go_check scene n p s t i (slice_get scene.stations i) file func mask
+go_step scene n p s t (Some (Signals d)) =
+    go_signal scene n p s t d (semaphore_says (past s.signals) d)
+go_step scene n p s t (Some (Appends rule)) = record {
+  state = record s { added = s.added ++ record { who = who_at n p t.mind; rule = rule } ∷ [] };
+  thought = hear (mode_of scene) p t (plain_answer (length s.added) told.Done);
+  turn = turns.Moved;
+}
+
+-- one step of the task n
+abbrev pub go : Scene → ℕ → Program → State → Thought → Turned
+go scene n p s t = go_step scene n p s t (step_at p t.mind)
+
+-- ---- a moment of a run, and turns from there
+
+pub record Moment : Type 0 where
+  pub state : State
+  pub thoughts : List Thought
+
+abbrev pub turned : Scene → Moment → ℕ → Option Program → Option Thought → Moment
+turned scene m n (Some p) (Some t) =
+    let after = go scene n p m.state t in record {
+      state = after.state;
+      thoughts = slice_set m.thoughts n after.thought;
+    }
+turned scene m n _ _ = m
+
+-- a turn of the task n
+abbrev pub turn : Scene → Moment → ℕ → Moment
+turn scene m n = turned scene m n (slice_get scene.programs n) (slice_get m.thoughts n)
+
+-- one turn of each task that is named, in order
+abbrev pub turns_of : Scene → Moment → List ℕ → Moment
+turns_of scene m [] = m
+turns_of scene m (n ∷ ns) = turns_of scene (turn scene m n) ns
+
+-- ---- the start and the end
+
+-- the journal of an inode that was just born
+abbrev pub newborn : Station → List Event
+newborn station = event nobody deed.Birth (told.Image station.birth) ∷ []
+
+abbrev pub start_of : Scene → Moment
+start_of scene = record {
+  state = record {
+    journals = map newborn scene.stations;
+    list = scene.boot
+        ∷ [];
+    signals = [];
+    added = [];
+  };
+  thoughts = map (λ (p : Program). start) scene.programs;
+}
+
+-- the run as it is shown when it stops at this moment
+abbrev pub run_at : Moment → Run
+run_at m = record {
+  journals = m.state.journals;
+  list = m.state.list;
+  added = m.state.added;
+  thoughts = m.thoughts;
+}
