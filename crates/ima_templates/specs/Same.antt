@@ -1,5 +1,5 @@
 -- When two entries are the same, and what adding an entry to a list does.
-use Rattle.std.specs.Prelude.{◌≡◌, ℕ, ◌==◌, Bool, true, false, not, ◌&&◌, List, [], ◌∷◌, ◌++◌, length, Option, Some, None}
+use Rattle.std.specs.Prelude.{◌≡◌, ℕ, ◌<◌, ◌==◌, slice_get, Bool, true, false, not, ◌&&◌, List, [], ◌∷◌, ◌++◌, length, Option, Some, None}
 use Rattle.std.specs.List.{position}
 use Rattle.std.specs.Str.{bytes_eq}
 use Rattle.inode_meta.specs.declared.measurement.Template.{Template}
@@ -47,3 +47,12 @@ add_by None list e = list ++ e ∷ []
 
 abbrev pub add : List Entry → Entry → List Entry
 add list e = add_by (place_of_same list e) list e
+
+-- what the list got of the entry, with its place: nothing where the entry stands there already
+abbrev pub gained : Placed → Entry → List (ℕ × Entry)
+gained (Added place) e = (place, e) ∷ []
+gained (Already place) e = []
+
+-- no entry is the same as an earlier one
+abbrev pub IsDistinct : List Entry → Type 0
+IsDistinct list = (a b : ℕ) (x y : Entry) → a < b → slice_get list a ≡ Some x → slice_get list b ≡ Some y → same x y ≡ false

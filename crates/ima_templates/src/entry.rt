@@ -55,12 +55,14 @@ pub enum Placed {
 
 impl Entry {
     ghost use Rattle.ima_templates.specs.Digests.{template_digest};
+    ghost use Rattle.ima_templates.specs.IsEntry.{IsEntry};
     ghost use Rattle.ima_templates.specs.Replay.{extended_by};
     ghost use Rattle.ima_templates.specs.Same.{same, same_data, SameFields};
 
     /// The template digest: the bank's hash of the template data, and zeros for a violation.
     pub fn sum(&self, bank: Bank) -> Digest
-        ensures { result ≡ template_digest self.now bank }
+        ensures digest { result ≡ template_digest self.now bank }
+        ensures entry { IsEntry self.now }
     {
         let algo = algo_of(bank);
         if self.violation {

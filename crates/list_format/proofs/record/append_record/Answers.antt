@@ -15,7 +15,7 @@ unfolding binary_record
 returns-clause-ok c =
     let pcr_is : c.e.inside.pcr ≡ c.args.e.now.pcr = ap (λ (x : Entry). x.pcr) c.e.view_is in
     let sum_is : c.as_slice.result.now ≡ (template_digest c.args.e.now Sha1).bytes =
-    c.as_slice.ensures.bytes ∙ ap (λ d. d.bytes) c.sum.ensures in
+    c.as_slice.ensures.bytes ∙ ap (λ d. d.bytes) c.sum.ensures.digest in
     let word_is : c.as_bytes.result.now ≡ template_word c.args.e.now.template =
     c.as_bytes.ensures.value ∙ c.word.ensures ∙ ap (λ (x : Entry). template_word x.template) c.e.view_is in
     let parts : List ℕ → List ℕ → ℕ → List ℕ = λ sum word pcr.

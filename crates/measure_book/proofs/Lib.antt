@@ -1,0 +1,5 @@
+pub mod Below
+pub mod Tables
+pub mod Finding
+pub mod Own
+pub mod Keeping

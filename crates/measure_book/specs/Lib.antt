@@ -1,0 +1,5 @@
+pub mod Book
+pub mod Key
+pub mod Places
+pub mod PlacesFields
+pub mod BookFields
