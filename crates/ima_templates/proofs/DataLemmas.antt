@@ -124,8 +124,23 @@ length-d_ng-fits : (digest : Digest) → HasDigestSize digest → length (d_ng d
 length-d_ng-fits digest size =
     omega (arith, size, algo_size-le digest.algo, length-algo_name-le digest.algo, length-d_ng digest)
 
+-- what an entry keeps of its digest and its name. This is enough for both to be read off the template data
+pub record IsNamed (e : Entry) : Type 0 where
+  pub digest_size : HasDigestSize e.digest
+  pub digest_of_ima : e.template ≡ Ima → e.digest.algo ≡ Sha1
+  pub name_at_most : length e.name ≤ 1024
+  pub name_graphic : All IsGraphic e.name
+
+pub entry_named : (e : Entry) → IsEntry e → IsNamed e
+entry_named e kept = record {
+  digest_size = kept.digest_size;
+  digest_of_ima = kept.digest_of_ima;
+  name_at_most = kept.name_at_most;
+  name_graphic = kept.name_graphic;
+}
+
 -- the fields of all templates but `ima`, with what follows them
-ng_fields : (a b : Entry) (us vs : List ℕ) → IsEntry a → IsEntry b
+ng_fields : (a b : Entry) (us vs : List ℕ) → IsNamed a → IsNamed b
     → (sized (d_ng a.digest) ++ sized (n_ng a.name)) ++ us ≡ (sized (d_ng b.digest) ++ sized (n_ng b.name)) ++ vs
     → (a.digest ≡ b.digest) × (a.name ≡ b.name) × (us ≡ vs)
 ng_fields a b us vs kept_a kept_b same =
@@ -143,15 +158,15 @@ sig_fields : (a b : Entry) → IsEntry a → IsEntry b
     → (sized (d_ng a.digest) ++ sized (n_ng a.name)) ++ sized a.sig ≡ (sized (d_ng b.digest) ++ sized (n_ng b.name)) ++ sized b.sig
     → SameFields a b
 sig_fields a b kept_a kept_b same =
-    let fields = ng_fields a b (sized a.sig) (sized b.sig) kept_a kept_b same in
+    let fields = ng_fields a b (sized a.sig) (sized b.sig) (entry_named a kept_a) (entry_named b kept_b) same in
     let fits_a : length a.sig < 2 ^ 32 = omega (arith, kept_a.sig_at_most) in
     let fits_b : length b.sig < 2 ^ 32 = omega (arith, kept_b.sig_at_most) in
     let sigs = sized-apart a.sig b.sig [] [] fits_a fits_b (ap (λ l. l ++ []) fields.2) in
     (fields.0, fields.1, sigs.0)
 
 -- the fields of `ima`
-ima_fields : (a b : Entry) → IsEntry a → IsEntry b → a.template ≡ Ima → b.template ≡ Ima
-    → a.digest.bytes ++ n_padded a.name ≡ b.digest.bytes ++ n_padded b.name → SameFields a b
+ima_fields : (a b : Entry) → IsNamed a → IsNamed b → a.template ≡ Ima → b.template ≡ Ima
+    → a.digest.bytes ++ n_padded a.name ≡ b.digest.bytes ++ n_padded b.name → (a.digest ≡ b.digest) × (a.name ≡ b.name)
 ima_fields a b kept_a kept_b is_a is_b same =
     let algo_a : a.digest.algo ≡ Sha1 = kept_a.digest_of_ima is_a in
     let algo_b : b.digest.algo ≡ Sha1 = kept_b.digest_of_ima is_b in
@@ -160,14 +175,15 @@ ima_fields a b kept_a kept_b is_a is_b same =
     let cut = append_apart a.digest.bytes b.digest.bytes (n_padded a.name) (n_padded b.name) sizes same in (
       λ i. record { algo = (algo_a ∙ sym algo_b) i; bytes = cut.0 i },
       filled-apart a.name b.name _ _ kept_a.name_graphic kept_b.name_graphic cut.1,
-      kept_a.sig_of_ima is_a ∙ sym (kept_b.sig_of_ima is_b),
     )
 
 fields_at : (a b : Entry) (t : Template) → IsEntry a → IsEntry b → a.template ≡ t → b.template ≡ t
     → data_by t a.digest a.name a.sig ≡ data_by t b.digest b.name b.sig → SameFields a b
-fields_at a b Ima kept_a kept_b is_a is_b same = ima_fields a b kept_a kept_b is_a is_b same
+fields_at a b Ima kept_a kept_b is_a is_b same =
+    let fields = ima_fields a b (entry_named a kept_a) (entry_named b kept_b) is_a is_b same in
+    (fields.0, fields.1, kept_a.sig_of_ima is_a ∙ sym (kept_b.sig_of_ima is_b))
 fields_at a b ImaNg kept_a kept_b is_a is_b same =
-    let fields = ng_fields a b [] [] kept_a kept_b (ap (λ l. l ++ []) same) in
+    let fields = ng_fields a b [] [] (entry_named a kept_a) (entry_named b kept_b) (ap (λ l. l ++ []) same) in
     (fields.0, fields.1, kept_a.sig_of_ima_ng is_a ∙ sym (kept_b.sig_of_ima_ng is_b))
 fields_at a b ImaSig kept_a kept_b is_a is_b same = sig_fields a b kept_a kept_b same
 fields_at a b ImaBuf kept_a kept_b is_a is_b same = sig_fields a b kept_a kept_b same
@@ -178,6 +194,24 @@ pub template_data-apart : (a b : Entry) → IsEntry a → IsEntry b → a.templa
 unfolding template_data
 template_data-apart a b kept_a kept_b templates same =
     fields_at a b a.template kept_a kept_b refl (sym templates)
+    (same ∙ ap (λ (t : Template). data_by t b.digest b.name b.sig) (sym templates))
+
+named_at : (a b : Entry) (t : Template) → IsNamed a → IsNamed b → a.template ≡ t → b.template ≡ t
+    → data_by t a.digest a.name a.sig ≡ data_by t b.digest b.name b.sig → (a.digest ≡ b.digest) × (a.name ≡ b.name)
+named_at a b Ima named_a named_b is_a is_b same = ima_fields a b named_a named_b is_a is_b same
+named_at a b ImaNg named_a named_b is_a is_b same =
+    let fields = ng_fields a b [] [] named_a named_b (ap (λ l. l ++ []) same) in (fields.0, fields.1)
+named_at a b ImaSig named_a named_b is_a is_b same =
+    let fields = ng_fields a b (sized a.sig) (sized b.sig) named_a named_b same in (fields.0, fields.1)
+named_at a b ImaBuf named_a named_b is_a is_b same =
+    let fields = ng_fields a b (sized a.sig) (sized b.sig) named_a named_b same in (fields.0, fields.1)
+
+-- the same for the digest and the name alone, whatever stands in the third field
+pub template_data-named : (a b : Entry) → IsNamed a → IsNamed b → a.template ≡ b.template → template_data a ≡ template_data b
+    → (a.digest ≡ b.digest) × (a.name ≡ b.name)
+unfolding template_data
+template_data-named a b named_a named_b templates same =
+    named_at a b a.template named_a named_b refl (sym templates)
     (same ∙ ap (λ (t : Template). data_by t b.digest b.name b.sig) (sym templates))
 
 -- and the fields make the template data

@@ -1,35 +1,40 @@
 -- Which journals are legal: the first event is the birth, each later one may be made where it stands, and each is told what the
 -- journal before it says.
-use Rattle.std.specs.Prelude.{◌≡◌, ◌<◌, true, false, List, [], ◌∷◌, length, Some}
+use Rattle.std.specs.Prelude.{◌≡◌, ◌<◌, ℕ, true, false, List, [], ◌∷◌, length, Option, Some}
 use Rattle.inode_meta.specs.declared.step.Who.{Who}
-use Rattle.inode_events.specs.Files.{can_read, held, holds, is_writing}
+use Rattle.inode_events.specs.Files.{can_read, held, holds, is_writer}
 use Rattle.inode_events.specs.Inode.{Inode, nobody}
-use Rattle.inode_events.specs.Stage.{stage, may_check}
+use Rattle.inode_events.specs.Stage.{Stage, stage, may_check}
 use Rattle.inode_events.specs.Stage.{Asked, CloseCollected, CloseCollecting, Collected, Collecting, Settled}
 use Rattle.inode_events.specs.Says.{says, placed_in}
 use Rattle.inode_events.specs.declared.deed.Deed.{Deed}
 use Rattle.inode_events.specs.declared.deed.Deed.TheVariants as deed
+use Rattle.inode_events.specs.declared.deed.How.{How}
 use Rattle.inode_events.specs.declared.told.Event.{Event}
 use Rattle.inode_events.specs.declared.told.Told.{Told}
 use Rattle.inode_events.specs.declared.told.Told.TheVariants as told
 
--- what has to hold before the deed is done: the condition of its call
+-- what has to hold before the deed is done, by the stage of its file and how the file is held: the condition of its call
+abbrev pub MayAt : (ℕ → Stage) → (ℕ → Option How) → Deed → Type 0
+MayAt stages hows (deed.Count how) = Unit {0}
+MayAt stages hows (deed.Check file func action rules) = may_check (stages file) ≡ true
+MayAt stages hows (deed.Take file) = stages file ≡ Asked
+MayAt stages hows (deed.Chunk file) = stages file ≡ Collecting
+MayAt stages hows (deed.Finish file) = stages file ≡ Collected
+MayAt stages hows (deed.Read file from len) = (stages file ≡ Settled) × (holds can_read (hows file) ≡ true)
+MayAt stages hows (deed.Write file from bytes) = (stages file ≡ Settled) × (holds is_writer (hows file) ≡ true) × (0 < length bytes)
+MayAt stages hows (deed.Trunc file len) = (stages file ≡ Settled) × (holds is_writer (hows file) ≡ true)
+MayAt stages hows (deed.SetAttr name bytes admin) = Unit {0}
+MayAt stages hows (deed.SetMeta change) = Unit {0}
+MayAt stages hows (deed.Close file) = (stages file ≡ Settled) × (holds is_writer (hows file) ≡ false)
+MayAt stages hows (deed.CloseTake file) = (stages file ≡ Settled) × (holds is_writer (hows file) ≡ true)
+MayAt stages hows (deed.CloseChunk file) = stages file ≡ CloseCollecting
+MayAt stages hows (deed.CloseFinish file) = stages file ≡ CloseCollected
+MayAt stages hows _ = ⊥
+
+-- the same by the whole journal
 abbrev pub May : Inode → List Event → Deed → Type 0
-May inode before (deed.Count how) = Unit {0}
-May inode before (deed.Check file func action rules) = may_check (stage inode file before) ≡ true
-May inode before (deed.Take file) = stage inode file before ≡ Asked
-May inode before (deed.Chunk file) = stage inode file before ≡ Collecting
-May inode before (deed.Finish file) = stage inode file before ≡ Collected
-May inode before (deed.Read file from len) = (stage inode file before ≡ Settled) × (holds can_read (held file before) ≡ true)
-May inode before (deed.Write file from bytes) = (stage inode file before ≡ Settled) × (is_writing file before ≡ true) × (0 < length bytes)
-May inode before (deed.Trunc file len) = (stage inode file before ≡ Settled) × (is_writing file before ≡ true)
-May inode before (deed.SetAttr name bytes admin) = Unit {0}
-May inode before (deed.SetMeta change) = Unit {0}
-May inode before (deed.Close file) = (stage inode file before ≡ Settled) × (is_writing file before ≡ false)
-May inode before (deed.CloseTake file) = (stage inode file before ≡ Settled) × (is_writing file before ≡ true)
-May inode before (deed.CloseChunk file) = stage inode file before ≡ CloseCollecting
-May inode before (deed.CloseFinish file) = stage inode file before ≡ CloseCollected
-May inode before _ = ⊥
+May inode before d = MayAt (λ file. stage inode file before) (λ file. held file before) d
 
 -- the inode has come into being: an event stands there
 abbrev pub IsBorn : List Event → Type 0

@@ -5,8 +5,10 @@ use Rattle.std.proofs.lemmas.Bool.{and_parts, cond-true, cond-false, eqb-true, l
 use Rattle.hash_algos.specs.Digest.{digest_of}
 use Rattle.hash_algos.specs.declared.algo.Algo.TheVariants.{Sha1}
 use Rattle.ima_templates.specs.IsEntry.{IsEntry}
+use Rattle.ima_templates.specs.Path.{IsMeasuredPath}
 use Rattle.ima_templates.specs.declared.entry.Entry.{Entry}
 use Rattle.ima_templates.specs.declared.entry.Placed.{Placed}
+use Rattle.inode_meta.specs.declared.measurement.Template.TheVariants.{Ima}
 use Rattle.inode_meta.specs.declared.step.Who.{Who}
 use Rattle.inode_events.specs.Checks.{last_check}
 use Rattle.inode_events.specs.Coverage.{IsAnswered, ShowsContent, ShowsViolation, grant_places, is_measuring, places_granted, places_violated, violation_places}
@@ -17,7 +19,7 @@ use Rattle.inode_events.specs.Integrity.{Collection, Digests, chosen_algo, colle
 use Rattle.inode_events.specs.Legal.{EachFollows, Follows}
 use Rattle.inode_events.specs.Stage.{stage, is_gone}
 use Rattle.inode_events.specs.Stage.{Settled}
-use Rattle.inode_events.specs.Listing.{FindsEntries, IsFirstIn, IsListed, Listed, StandsIn, added_at, adds, finds, found_at, violated}
+use Rattle.inode_events.specs.Listing.{IsFirstIn, IsListed, Listed, StandsIn, added_at, adds, finds, found_at, violated}
 use Rattle.inode_events.specs.Says.{check_told, place_of, placed_in}
 use Rattle.inode_events.specs.State.{content, modified_since}
 use Rattle.inode_events.specs.declared.deed.Deed.{Deed}
@@ -86,9 +88,9 @@ walk_any i f b (e ∷ later) h l p =
 
 take_shows : (i : Inode) (list : List Entry) (f g : ℕ) (p : List Event) (bytes : List ℕ) (who : Who) (grant : Grant) (placed : Placed)
     → Follows i p who (deed.Take g) (told.Grant grant) → Fresh i p → Guarded i bytes p
-    → StandsIn list (adds i (deed.Take g) (told.Grant grant) p) → IsFirstIn list (finds i (deed.Take g) (told.Grant grant) p) → All IsEntry list
-    → ((found : Listed) → finds i (deed.Take g) (told.Grant grant) p ≡ Some found → IsEntry found.1) → grant.placed ≡ Some placed → ShowsContent i list bytes (place_of placed)
-take_shows i list f g p bytes who grant placed h fr gu st fi kept entry names_it =
+    → StandsIn list (adds i (deed.Take g) (told.Grant grant) p) → IsFirstIn list (finds i (deed.Take g) (told.Grant grant) p) → IsMeasuredPath Ima i.path → All IsEntry list
+    → grant.placed ≡ Some placed → ShowsContent i list bytes (place_of placed)
+take_shows i list f g p bytes who grant placed h fr gu st fi path kept names_it =
     let made : (x : Digests) × ((in_force i p ≡ Some x) × (grant_of i g (placed_in (told.Grant grant)) x.digest p ≡ grant)) =
     take_grants i p g (placed_in (told.Grant grant)) grant (collecting i p) (in_force i p) h.2 in
     at made.0 made.1.0 where
@@ -102,14 +104,13 @@ take_shows i list f g p bytes who grant placed h fr gu st fi kept entry names_it
           ap (λ (o : Option Placed). found_at o (in_force i p) i g p) names_it ∙ ap (λ (o : Option Digests). found_at (Some placed) o i g p) e in
           shows_listed i list g p x (chosen_algo i p) bytes placed
           ((fi'.2 clean).0 ∙ ap (digest_of (chosen_algo i p)) gu.same) ((fi'.2 clean).1 ∙ ap (digest_of Sha1) gu.same)
-          (subst (λ (o : Option Listed). StandsIn list o) ats st) (subst (λ (o : Option Listed). IsFirstIn list o) founds fi) kept
-          (λ found z. entry found (founds ∙ z))
+          (subst (λ (o : Option Listed). StandsIn list o) ats st) (subst (λ (o : Option Listed). IsFirstIn list o) founds fi) path kept
 
 finish_shows : (i : Inode) (list : List Entry) (f g : ℕ) (p : List Event) (bytes : List ℕ) (who : Who) (grant : Grant) (placed : Placed)
     → Follows i p who (deed.Finish g) (told.Grant grant) → Stages i p → Fresh i p → Guarded i bytes p
-    → StandsIn list (adds i (deed.Finish g) (told.Grant grant) p) → IsFirstIn list (finds i (deed.Finish g) (told.Grant grant) p) → All IsEntry list
-    → ((found : Listed) → finds i (deed.Finish g) (told.Grant grant) p ≡ Some found → IsEntry found.1) → grant.placed ≡ Some placed → ShowsContent i list bytes (place_of placed)
-finish_shows i list f g p bytes who grant placed h s fr gu st fi kept entry names_it =
+    → StandsIn list (adds i (deed.Finish g) (told.Grant grant) p) → IsFirstIn list (finds i (deed.Finish g) (told.Grant grant) p) → IsMeasuredPath Ima i.path → All IsEntry list
+    → grant.placed ≡ Some placed → ShowsContent i list bytes (place_of placed)
+finish_shows i list f g p bytes who grant placed h s fr gu st fi path kept names_it =
     let made : (c : Collection) × ((collecting i p ≡ Some c) × (grant_of i g (placed_in (told.Grant grant)) (digest_from c) p ≡ grant)) =
     finish_grants i p g (placed_in (told.Grant grant)) grant (collecting i p) h.2 in
     at made.0 made.1.0 where
@@ -126,20 +127,18 @@ finish_shows i list f g p bytes who grant placed h s fr gu st fi kept entry name
           shows_listed i list g p (digests_of c) (chosen_algo i p) bytes placed
           (collected_fresh i p c ci ends.2 clean ends.1 ∙ ap (digest_of (chosen_algo i p)) gu.same)
           (ap (digest_of Sha1) ((ci.2 clean).1 ends.2) ∙ ap (digest_of Sha1) gu.same)
-          (subst (λ (o : Option Listed). StandsIn list o) ats st) (subst (λ (o : Option Listed). IsFirstIn list o) founds fi) kept
-          (λ found z. entry found (founds ∙ z))
+          (subst (λ (o : Option Listed). StandsIn list o) ats st) (subst (λ (o : Option Listed). IsFirstIn list o) founds fi) path kept
 
 event_shows : (i : Inode) (list : List Entry) (f : ℕ) (p : List Event) (bytes : List ℕ) (who : Who) (d : Deed) (t : Told) (grant : Grant) (placed : Placed)
-    → Follows i p who d t → Stages i p → Fresh i p → Guarded i bytes p → StandsIn list (adds i d t p) → IsFirstIn list (finds i d t p) → All IsEntry list
-    → ((found : Listed) → finds i d t p ≡ Some found → IsEntry found.1)
+    → Follows i p who d t → Stages i p → Fresh i p → Guarded i bytes p → StandsIn list (adds i d t p) → IsFirstIn list (finds i d t p) → IsMeasuredPath Ima i.path → All IsEntry list
     → t ≡ told.Grant grant → grant_places f d t ≡ place_of placed ∷ [] → grant.placed ≡ Some placed → ShowsContent i list bytes (place_of placed)
-event_shows i list f p bytes who (deed.Take g) (told.Grant gr) grant placed h s fr gu st fi kept entry e named names_it =
+event_shows i list f p bytes who (deed.Take g) (told.Grant gr) grant placed h s fr gu st fi path kept e named names_it =
     let same : gr ≡ grant = cc in
-    take_shows i list f g p bytes who gr placed h fr gu st fi kept entry (ap (λ (x : Grant). x.placed) same ∙ names_it)
-event_shows i list f p bytes who (deed.Finish g) (told.Grant gr) grant placed h s fr gu st fi kept entry e named names_it =
+    take_shows i list f g p bytes who gr placed h fr gu st fi path kept (ap (λ (x : Grant). x.placed) same ∙ names_it)
+event_shows i list f p bytes who (deed.Finish g) (told.Grant gr) grant placed h s fr gu st fi path kept e named names_it =
     let same : gr ≡ grant = cc in
-    finish_shows i list f g p bytes who gr placed h s fr gu st fi kept entry (ap (λ (x : Grant). x.placed) same ∙ names_it)
-event_shows i list f p bytes who d t grant placed h s fr gu st fi kept entry e named names_it = cc
+    finish_shows i list f g p bytes who gr placed h s fr gu st fi path kept (ap (λ (x : Grant). x.placed) same ∙ names_it)
+event_shows i list f p bytes who d t grant placed h s fr gu st fi path kept e named names_it = cc
 
 nil_parts : (xs ys : List ℕ) → xs ++ ys ≡ [] → (xs ≡ []) × (ys ≡ [])
 nil_parts [] ys h = (refl, h)
@@ -148,13 +147,13 @@ nil_parts (x ∷ xs) ys h = cc
 walk_guarded : (i : Inode) (list : List Entry) (f : ℕ) (check : Event) (before : List Event) (bytes : List ℕ) (later : List Event)
     → EachFollows i (later ++ check ∷ before) → f < length (check ∷ before) → places_violated (later ++ check ∷ []) ≡ []
     → is_gone (stage i f (later ++ check ∷ before)) ≡ false → holds is_reader (held f (later ++ check ∷ before)) ≡ true
-    → IsListed i list (later ++ check ∷ before) → FindsEntries i (later ++ check ∷ before) → All IsEntry list
+    → IsListed i list (later ++ check ∷ before) → IsMeasuredPath Ima i.path → All IsEntry list
     → (violation_places check.deed check.told ≡ [] → holds is_reader (held f (check ∷ before)) ≡ true → Guarded i bytes (check ∷ before))
     → Progress (ShowsContent i list bytes) i f (check ∷ before) []
     → Guarded i bytes (later ++ check ∷ before) × Progress (ShowsContent i list bytes) i f (later ++ check ∷ before) (places_granted f later)
-walk_guarded i list f check before bytes [] h l v alive reads listed entries kept base p =
+walk_guarded i list f check before bytes [] h l v alive reads listed path kept base p =
     (base (nil_parts (violation_places check.deed check.told) [] v).0 reads, p)
-walk_guarded i list f check before bytes (e ∷ later) h l v alive reads listed entries kept base p =
+walk_guarded i list f check before bytes (e ∷ later) h l v alive reads listed path kept base p =
     let lt : f < length (later ++ check ∷ before) = longer f later (check ∷ before) l in
     let was : is_gone (stage i f (later ++ check ∷ before)) ≡ false = alive_before i (later ++ check ∷ before) e.who e.deed e.told h.0 f lt alive in
     let reading : holds is_reader (held f (later ++ check ∷ before)) ≡ true =
@@ -162,11 +161,11 @@ walk_guarded i list f check before bytes (e ∷ later) h l v alive reads listed 
     let parts : (violation_places e.deed e.told ≡ []) × (places_violated (later ++ check ∷ []) ≡ []) =
     nil_parts (violation_places e.deed e.told) (places_violated (later ++ check ∷ [])) v in
     let ih : Guarded i bytes (later ++ check ∷ before) × Progress (ShowsContent i list bytes) i f (later ++ check ∷ before) (places_granted f later) =
-    walk_guarded i list f check before bytes later h.1 l parts.1 was reading listed.2 entries.1 kept base p in (
+    walk_guarded i list f check before bytes later h.1 l parts.1 was reading listed.2 path kept base p in (
       guard_step i bytes (later ++ check ∷ before) e.who e.deed e.told f h.0 (stages i (later ++ check ∷ before) h.1) reading parts.0 ih.0,
       step (ShowsContent i list bytes) i f (later ++ check ∷ before) e.who e.deed e.told (places_granted f later) h.0 lt
           (λ grant placed a n names_it k. event_shows i list f (later ++ check ∷ before) bytes e.who e.deed e.told grant placed h.0 (stages i (later ++ check ∷ before) h.1)
-          (freshness_lem i (later ++ check ∷ before) h.1) ih.0 listed.0 listed.1 kept entries.0 a n names_it) ih.1,
+          (freshness_lem i (later ++ check ∷ before) h.1) ih.0 listed.0 listed.1 path kept a n names_it) ih.1,
     )
 
 -- ---- at the check
@@ -238,7 +237,7 @@ base i p who d t f e h fr v reads = cc
 
 -- ---- the law
 
-follows_at : (i : Inode) (later : List Event) (b : List Event) → EachFollows i (later ++ b) → EachFollows i b
+pub follows_at : (i : Inode) (later : List Event) (b : List Event) → EachFollows i (later ++ b) → EachFollows i b
 follows_at i [] b h = h
 follows_at i (e ∷ later) b h = follows_at i later b h.1
 
@@ -248,9 +247,9 @@ settled P i f p places e (inr g) = g
 
 answered : (i : Inode) (list : List Entry) (f : ℕ) (later : List Event) (check : Event) (before : List Event) → EachFollows i (later ++ check ∷ before)
     → stage i f (later ++ check ∷ before) ≡ Settled → holds is_reader (held f (later ++ check ∷ before)) ≡ true → is_measuring f check.deed ≡ true
-    → IsListed i list (later ++ check ∷ before) → All IsEntry list → FindsEntries i (later ++ check ∷ before)
+    → IsListed i list (later ++ check ∷ before) → IsMeasuredPath Ima i.path → All IsEntry list
     → IsAnswered i list f (content (later ++ check ∷ before)) later check
-answered i list f later check before h s reads m listed kept entries = at (places_violated (later ++ check ∷ [])) refl where
+answered i list f later check before h s reads m listed path kept = at (places_violated (later ++ check ∷ [])) refl where
   here : EachFollows i (check ∷ before)
   here = follows_at i later (check ∷ before) h
 
@@ -264,7 +263,7 @@ answered i list f later check before h s reads m listed kept entries = at (place
   at [] e =
       let walked : Guarded i (content (check ∷ before)) (later ++ check ∷ before)
       × Progress (ShowsContent i list (content (check ∷ before))) i f (later ++ check ∷ before) (places_granted f later) =
-      walk_guarded i list f check before (content (check ∷ before)) later h low e (ap is_gone s) reads listed entries kept
+      walk_guarded i list f check before (content (check ∷ before)) later h low e (ap is_gone s) reads listed path kept
       (λ v r. base i before check.who check.deed check.told f m here.0 (freshness_lem i before here.1) v r) (inl (asked.0, asked.1)) in
       let got : (q : ℕ) × (Contains (places_granted f later) q × ShowsContent i list (content (check ∷ before)) q) =
       settled (ShowsContent i list (content (check ∷ before))) i f (later ++ check ∷ before) (places_granted f later) s walked.1 in
@@ -278,9 +277,8 @@ answered i list f later check before h s reads m listed kept entries = at (place
       (got.0, (got.1.0, inr (v, (has, violations_shown i list later check before v listed has))))
 
 pub covered : (i : Inode) (list : List Entry) (p : List Event) (file : ℕ) → EachFollows i p → stage i file p ≡ Settled → holds is_reader (held file p) ≡ true
-    → IsListed i list p → All IsEntry list → FindsEntries i p → IsCovered i list file p
-covered i list p file h s reads listed kept entries = λ later check before e m.
+    → IsListed i list p → IsMeasuredPath Ima i.path → All IsEntry list → IsCovered i list file p
+covered i list p file h s reads listed path kept = λ later check before e m.
     subst (λ (x : List Event). IsAnswered i list file (content x) later check) (sym e)
     (answered i list file later check before (subst (λ (x : List Event). EachFollows i x) e h) (subst (λ (x : List Event). stage i file x ≡ Settled) e s)
-    (subst (λ (x : List Event). holds is_reader (held file x) ≡ true) e reads) m (subst (λ (x : List Event). IsListed i list x) e listed) kept
-    (subst (λ (x : List Event). FindsEntries i x) e entries))
+    (subst (λ (x : List Event). holds is_reader (held file x) ≡ true) e reads) m (subst (λ (x : List Event). IsListed i list x) e listed) path kept)

@@ -1,20 +1,22 @@
 -- A check that measures is answered by a later grant of its file.
 use Rattle.std.proofs.Common.{◌≡◌, ℕ, ◌<◌, Bool, true, false, ◌&&◌, not, cond, List, [], ◌∷◌, ◌++◌, length, get_or, Option, Some, None, refl, sym, ◌∙◌, ap, subst, arith, inl, inr}
-use Rattle.std.specs.Prelude.{◌⊎◌, ◌==◌, All, Contains, slice_get}
+use Rattle.std.specs.Prelude.{◌≤◌, nat_le, ◌⊎◌, ◌==◌, All, Contains, slice_get}
 use Rattle.std.specs.Str.{bytes_eq}
 use Rattle.std.proofs.lemmas.Bool.{and_parts, cond-true, eqb-true, not-true, or_left}
-use Rattle.std.proofs.lemmas.List.Elements.{All-get_or, Contains-append_left, Contains-append_right}
+use Rattle.std.proofs.lemmas.List.Elements.{All-drop, All-get_or, Contains-append_left, Contains-append_right}
 use Rattle.std.proofs.lemmas.List.Quantifiers.{position-Some}
 use Rattle.std.proofs.lemmas.Option.{slice_get-get_or}
 use Rattle.std.proofs.lemmas.Slice.Eq.{bytes_eq-Decides}
-use Rattle.hash_algos.specs.Digest.{digest_of}
+use Rattle.hash_algos.specs.Digest.{HasDigestSize, digest_of}
+use Rattle.hash_algos.proofs.HashLemmas.{length-hash}
 use Rattle.hash_algos.specs.declared.algo.Algo.{Algo}
 use Rattle.hash_algos.specs.declared.algo.Algo.TheVariants.{Sha1}
 use Rattle.hash_algos.specs.declared.digest.Digest.{Digest}
-use Rattle.ima_templates.proofs.DataLemmas.{template_data-apart}
+use Rattle.ima_templates.proofs.DataLemmas.{IsNamed, entry_named, template_data-named}
 use Rattle.ima_templates.specs.Data.{template_data}
 use Rattle.ima_templates.specs.IsEntry.{IsEntry}
-use Rattle.ima_templates.specs.Same.{SameFields, place_of_same, same, same_data, same_template}
+use Rattle.ima_templates.specs.Path.{IsGraphic, IsMeasuredPath, last_component}
+use Rattle.ima_templates.specs.Same.{place_of_same, same, same_data, same_template}
 use Rattle.ima_templates.specs.Shown.{shown_digest, shown_name}
 use Rattle.ima_templates.specs.declared.entry.Entry.{Entry}
 use Rattle.ima_templates.specs.declared.entry.Placed.{Placed}
@@ -30,7 +32,7 @@ use Rattle.inode_events.specs.Integrity.{Collection, Digests, collecting, digest
 use Rattle.inode_events.specs.Legal.{Follows}
 use Rattle.inode_events.specs.Stage.{Stage, stage, next_stage, may_check, touches, is_gone}
 use Rattle.inode_events.specs.Stage.{Gone, Counted, Asked, Collecting, Collected, Settled, CloseCollecting, CloseCollected}
-use Rattle.inode_events.specs.Listing.{IsFirstIn, Listed, StandsIn, added_at, found_at, measured, template_for}
+use Rattle.inode_events.specs.Listing.{IsFirstIn, StandsIn, added_at, found_at, measured, template_for}
 use Rattle.inode_events.specs.Says.{place_of, placed_in}
 use Rattle.inode_events.specs.declared.deed.Deed.{Deed}
 use Rattle.inode_events.specs.declared.deed.Deed.TheVariants as deed
@@ -52,15 +54,16 @@ template_true ImaBuf ImaBuf e = refl
 template_true _ _ e = cc
 
 -- an entry that is the same as one shows the same digest and name
-same_shows : (x e : Entry) → same x e ≡ true → IsEntry x → IsEntry e → (x.violation ≡ false) × (x.template ≡ e.template) × SameFields x e
+same_shows : (x e : Entry) → same x e ≡ true → IsEntry x → IsNamed e
+    → (x.violation ≡ false) × (x.template ≡ e.template) × ((x.digest ≡ e.digest) × (x.name ≡ e.name))
 unfolding same
-same_shows x e s kept_x kept_e =
+same_shows x e s kept_x named_e =
     let a : ((not x.violation && not e.violation && x.pcr == e.pcr) ≡ true) × (same_data x e ≡ true) = and_parts _ _ s in
     let b : ((not x.violation && not e.violation) ≡ true) × ((x.pcr == e.pcr) ≡ true) = and_parts _ _ a.0 in
     let c : (not x.violation ≡ true) × (not e.violation ≡ true) = and_parts _ _ b.0 in
     let d : (same_template x.template e.template ≡ true) × (bytes_eq (template_data x) (template_data e) ≡ true) = and_parts _ _ a.1 in
     let t : x.template ≡ e.template = template_true x.template e.template d.0 in
-    (not-true x.violation c.0, t, template_data-apart x e kept_x kept_e t ((bytes_eq-Decides (template_data x) (template_data e)).0 d.1))
+    (not-true x.violation c.0, t, template_data-named x e (entry_named x kept_x) named_e t ((bytes_eq-Decides (template_data x) (template_data e)).0 d.1))
 
 shown_of : (t : Template) (algo : Algo) (bytes : List ℕ) → shown_digest t (digest_of algo bytes) (digest_of Sha1 bytes) ≡ digest_of (shown_digest t (digest_of algo bytes) (digest_of Sha1 bytes)).algo bytes
 shown_of Ima algo bytes = refl
@@ -78,6 +81,43 @@ measured_digest i f x p algo bytes d s =
     ∙ ap (λ (y : Digest). shown_digest (template_for i (last_check f p).action) (digest_of algo bytes) y) s in
     e ∙ shown_of (template_for i (last_check f p).action) algo bytes ∙ sym (ap (λ (y : Digest). digest_of y.algo bytes) e)
 
+-- what a template shows of a path
+graphic_shown : (t : Template) (path : List ℕ) → All IsGraphic path → All IsGraphic (shown_name t path)
+graphic_shown Ima path h = at (nat_le (length path) 255) where
+  at : (b : Bool) → All IsGraphic (cond b path (last_component path))
+  at true = h
+  at false = All-drop IsGraphic _ path h
+graphic_shown ImaNg path h = h
+graphic_shown ImaSig path h = h
+graphic_shown ImaBuf path h = h
+
+short_shown : (t : Template) (path : List ℕ) → length path ≤ 1024 → length (last_component path) ≤ 255 → length (shown_name t path) ≤ 1024
+short_shown Ima path h l = at (nat_le (length path) 255) where
+  at : (b : Bool) → length (cond b path (last_component path)) ≤ 1024
+  at true = h
+  at false = omega arith
+short_shown ImaNg path h l = h
+short_shown ImaSig path h l = h
+short_shown ImaBuf path h l = h
+
+-- the entry of a measurement has a digest of its algorithm's size, and a name that the path gives
+measured_named : (i : Inode) (f : ℕ) (x : Digests) (p : List Event) (algo : Algo) (bytes : List ℕ) → x.digest ≡ digest_of algo bytes
+    → x.sha1 ≡ digest_of Sha1 bytes → IsMeasuredPath Ima i.path → IsNamed (measured i f x p)
+measured_named i f x p algo bytes d s path = record {
+  digest_size = size (template_for i (last_check f p).action);
+  digest_of_ima = λ is. ap (λ (t : Template). (shown_digest t x.digest x.sha1).algo) is ∙ ap (λ (y : Digest). y.algo) s;
+  name_at_most = short_shown (template_for i (last_check f p).action) i.path path.at_most (path.component refl).1;
+  name_graphic = graphic_shown (template_for i (last_check f p).action) i.path path.graphic;
+} where
+  hashed : (y : Digest) (a : Algo) → y ≡ digest_of a bytes → HasDigestSize y
+  hashed y a e = subst HasDigestSize (sym e) (length-hash a bytes)
+
+  size : (t : Template) → HasDigestSize (shown_digest t x.digest x.sha1)
+  size Ima = hashed x.sha1 Sha1 s
+  size ImaNg = hashed x.digest algo d
+  size ImaSig = hashed x.digest algo d
+  size ImaBuf = hashed x.digest algo d
+
 pub first_shows : (list : List Entry) (e : Entry) (place : ℕ) → place_of_same list e ≡ Some place
     → (slice_get list place ≡ Some (get_or list place e)) × (same (get_or list place e) e ≡ true) × (place < length list)
 first_shows list e place h =
@@ -88,16 +128,15 @@ first_shows list e place h =
 pub shows_listed : (i : Inode) (list : List Entry) (f : ℕ) (p : List Event) (x : Digests) (algo : Algo) (bytes : List ℕ) (placed : Placed)
     → x.digest ≡ digest_of algo bytes → x.sha1 ≡ digest_of Sha1 bytes
     → StandsIn list (added_at (Some placed) (Some x) i f p) → IsFirstIn list (found_at (Some placed) (Some x) i f p)
-    → All IsEntry list → ((found : Listed) → found_at (Some placed) (Some x) i f p ≡ Some found → IsEntry found.1)
-    → ShowsContent i list bytes (place_of placed)
-shows_listed i list f p x algo bytes (Added place) d s st fi kept entry = (measured i f x p, (st, refl, refl, measured_digest i f x p algo bytes d s))
-shows_listed i list f p x algo bytes (Already place) d s st fi kept entry =
+    → IsMeasuredPath Ima i.path → All IsEntry list → ShowsContent i list bytes (place_of placed)
+shows_listed i list f p x algo bytes (Added place) d s st fi path kept = (measured i f x p, (st, refl, refl, measured_digest i f x p algo bytes d s))
+shows_listed i list f p x algo bytes (Already place) d s st fi path kept =
     let e : Entry = measured i f x p in
     let at : (slice_get list place ≡ Some (get_or list place (measured i f x p))) × (same (get_or list place (measured i f x p)) (measured i f x p) ≡ true) × (place < length list) =
     first_shows list (measured i f x p) place fi in
     let is : ((get_or list place (measured i f x p)).violation ≡ false) × ((get_or list place (measured i f x p)).template ≡ (measured i f x p).template)
-    × SameFields (get_or list place (measured i f x p)) (measured i f x p) =
-    same_shows (get_or list place (measured i f x p)) (measured i f x p) at.1 (All-get_or IsEntry list place (measured i f x p) at.2 kept) (entry (place, measured i f x p) refl) in (
+    × (((get_or list place (measured i f x p)).digest ≡ (measured i f x p).digest) × ((get_or list place (measured i f x p)).name ≡ (measured i f x p).name)) =
+    same_shows (get_or list place (measured i f x p)) (measured i f x p) at.1 (All-get_or IsEntry list place (measured i f x p) at.2 kept) (measured_named i f x p algo bytes d s path) in (
       get_or list place (measured i f x p),
       (
         at.0,

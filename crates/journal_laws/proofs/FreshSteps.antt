@@ -33,7 +33,8 @@ use Rattle.inode_events.specs.declared.told.Told.TheVariants as told
 use Rattle.journal_laws.proofs.Labels.{label-renewed}
 use Rattle.journal_laws.proofs.Lives.{Lives, lives}
 use Rattle.journal_laws.proofs.Small.{event, or_none}
-use Rattle.journal_laws.proofs.Stages.{Busy, Stages, StageIs, free_at, stage_busy, collecting_stage, stages}
+use Rattle.journal_laws.specs.Standing.{collecting_stage}
+use Rattle.journal_laws.proofs.Stages.{Busy, Stages, StageIs, free_at, stage_busy, stages}
 use Rattle.journal_laws.proofs.Tallies.{tally-less}
 use Rattle.journal_laws.proofs.Fresh.{CollectionIs, DigestsIs, Fresh, FreshUnless, Still, VerdictIs, digest_same, finish_grants, digests_still, fresh_unless, given_fresh, kept_fresh, last_told, leaves_fresh, piece_taken, take_begins, take_grants, unmodified, void_fresh, write_fresh}
 use Rattle.inode_events.specs.Integrity.{fixed_by, is_stale}

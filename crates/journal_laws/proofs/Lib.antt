@@ -10,5 +10,6 @@ pub mod Admitting
 pub mod Closings
 pub mod Counting
 pub mod Guards
+pub mod Holding
 pub mod Covering
 pub mod Covered

@@ -1,8 +1,9 @@
 -- A file that isn't gone was counted before, and its inode is there.
-use Rattle.std.proofs.Common.{◌≡◌, ℕ, ◌<◌, suc, Bool, true, false, cond, List, [], ◌∷◌, length, refl, ◌∙◌, ap, subst, arith}
+use Rattle.std.proofs.Common.{◌≡◌, ℕ, ◌<◌, suc, Bool, true, false, cond, List, [], ◌∷◌, length, None, refl, ◌∙◌, ap, subst, arith}
 use Rattle.std.specs.Prelude.{◌==◌}
 use Rattle.std.proofs.lemmas.Bool.{eqb-true}
 use Rattle.inode_meta.specs.declared.step.Who.{Who}
+use Rattle.inode_events.specs.Files.{counted}
 use Rattle.inode_events.specs.Inode.{Inode}
 use Rattle.inode_events.specs.Legal.{EachFollows, Follows}
 use Rattle.inode_events.specs.Stage.{Stage, stage, next_stage, may_check, is_gone}
@@ -50,56 +51,47 @@ count_lives f place old p e h false q a = (omega (arith, (h a).0), refl)
 no_stage : (i : Inode) (p : List Event) (f : ℕ) → p ≡ [] → is_gone (stage i f p) ≡ false → ⊥
 no_stage i p f e a = let z : is_gone (stage i f []) ≡ false = subst (λ (q : List Event). is_gone (stage i f q) ≡ false) e a in cc
 
--- a file that was counted before the event and isn't gone after it wasn't gone before it
 apart_count : (f : ℕ) (p : List Event) (old : Stage) → f < length p → is_gone (cond (length p == f) Counted old) ≡ false → is_gone old ≡ false
 apart_count f p old b a = at (length p == f) refl a where
   at : (x : Bool) → (length p == f) ≡ x → is_gone (cond x Counted old) ≡ false → is_gone old ≡ false
   at true q h = let s : length p ≡ f = eqb-true (length p) f q in absurd (omega arith)
   at false q h = h
 
+-- the event counts no file: what isn't gone after it wasn't gone before it
+pub alive_kept : (i : Inode) (p : List Event) (who : Who) (d : Deed) (t : Told) → Follows i p who d t → counted d t ≡ None → (f : ℕ)
+    → is_gone (next_stage i f (length p) d t (stage i f p)) ≡ false → is_gone (stage i f p) ≡ false
+alive_kept i p who deed.Birth t h n f a = a
+alive_kept i p who (deed.Count how) told.Held h n f a = absurd (cc)
+alive_kept i p who (deed.Count how) t h n f a = was_same (length p == f) (stage i f p) a
+alive_kept i p who (deed.Check g func action rules) t h n f a =
+    was (g == f) _ (stage i f p) (named i p g f (stage i g p) refl (check_alive (stage i g p) h.1)) a
+alive_kept i p who (deed.Take g) t h n f a = was (g == f) _ (stage i f p) (named i p g f Asked h.1 refl) a
+alive_kept i p who (deed.Chunk g) t h n f a = was (g == f) _ (stage i f p) (named i p g f Collecting h.1 refl) a
+alive_kept i p who (deed.Finish g) t h n f a = was (g == f) _ (stage i f p) (named i p g f Collected h.1 refl) a
+alive_kept i p who (deed.Read g from len) t h n f a = was (g == f) _ (stage i f p) (named i p g f Settled h.1.0 refl) a
+alive_kept i p who (deed.Write g from bytes) t h n f a = was (g == f) _ (stage i f p) (named i p g f Settled h.1.0 refl) a
+alive_kept i p who (deed.Trunc g len) t h n f a = was (g == f) _ (stage i f p) (named i p g f Settled h.1.0 refl) a
+alive_kept i p who (deed.SetAttr name bytes admin) t h n f a = a
+alive_kept i p who (deed.SetMeta change) t h n f a = a
+alive_kept i p who (deed.Close g) t h n f a = was (g == f) _ (stage i f p) (named i p g f Settled h.1.0 refl) a
+alive_kept i p who (deed.CloseTake g) t h n f a = was (g == f) _ (stage i f p) (named i p g f Settled h.1.0 refl) a
+alive_kept i p who (deed.CloseChunk g) t h n f a = was (g == f) _ (stage i f p) (named i p g f CloseCollecting h.1 refl) a
+alive_kept i p who (deed.CloseFinish g) t h n f a = was (g == f) _ (stage i f p) (named i p g f CloseCollected h.1 refl) a
+alive_kept i p who (deed.Post sem) t h n f a = absurd h.1
+alive_kept i p who (deed.Wait sem) t h n f a = absurd h.1
+
+-- a file that was counted before the event and isn't gone after it wasn't gone before it
 pub alive_before : (i : Inode) (p : List Event) (who : Who) (d : Deed) (t : Told) → Follows i p who d t → (f : ℕ) → f < length p
     → is_gone (next_stage i f (length p) d t (stage i f p)) ≡ false → is_gone (stage i f p) ≡ false
-alive_before i p who deed.Birth t h f b a = a
 alive_before i p who (deed.Count how) told.Held h f b a = apart_count f p (stage i f p) b a
-alive_before i p who (deed.Count how) t h f b a = was_same (length p == f) (stage i f p) a
-alive_before i p who (deed.Check g func action rules) t h f b a =
-    was (g == f) _ (stage i f p) (named i p g f (stage i g p) refl (check_alive (stage i g p) h.1)) a
-alive_before i p who (deed.Take g) t h f b a = was (g == f) _ (stage i f p) (named i p g f Asked h.1 refl) a
-alive_before i p who (deed.Chunk g) t h f b a = was (g == f) _ (stage i f p) (named i p g f Collecting h.1 refl) a
-alive_before i p who (deed.Finish g) t h f b a = was (g == f) _ (stage i f p) (named i p g f Collected h.1 refl) a
-alive_before i p who (deed.Read g from len) t h f b a = was (g == f) _ (stage i f p) (named i p g f Settled h.1.0 refl) a
-alive_before i p who (deed.Write g from bytes) t h f b a = was (g == f) _ (stage i f p) (named i p g f Settled h.1.0 refl) a
-alive_before i p who (deed.Trunc g len) t h f b a = was (g == f) _ (stage i f p) (named i p g f Settled h.1.0 refl) a
-alive_before i p who (deed.SetAttr name bytes admin) t h f b a = a
-alive_before i p who (deed.SetMeta change) t h f b a = a
-alive_before i p who (deed.Close g) t h f b a = was (g == f) _ (stage i f p) (named i p g f Settled h.1.0 refl) a
-alive_before i p who (deed.CloseTake g) t h f b a = was (g == f) _ (stage i f p) (named i p g f Settled h.1.0 refl) a
-alive_before i p who (deed.CloseChunk g) t h f b a = was (g == f) _ (stage i f p) (named i p g f CloseCollecting h.1 refl) a
-alive_before i p who (deed.CloseFinish g) t h f b a = was (g == f) _ (stage i f p) (named i p g f CloseCollected h.1 refl) a
-alive_before i p who (deed.Post sem) t h f b a = absurd h.1
-alive_before i p who (deed.Wait sem) t h f b a = absurd h.1
+alive_before i p who d t h f b a = alive_kept i p who d t h refl f a
 
+-- only a count adds a file
 step : (i : Inode) (p : List Event) (who : Who) (d : Deed) (t : Told) → Follows i p who d t → Lives i p → (f : ℕ)
     → is_gone (next_stage i f (length p) d t (stage i f p)) ≡ false → (f < suc (length p)) × (present_after d t (present p) ≡ true)
 step i p who deed.Birth t h v f a = absurd (no_stage i p f h.0 a)
 step i p who (deed.Count how) told.Held h v f a = count_lives f (length p) (stage i f p) p refl (v f) (length p == f) refl a
-step i p who (deed.Count how) t h v f a = later f p (v f (was_same (length p == f) (stage i f p) a))
-step i p who (deed.Check g func action rules) t h v f a =
-    later f p (v f (was (g == f) _ (stage i f p) (named i p g f (stage i g p) refl (check_alive (stage i g p) h.1)) a))
-step i p who (deed.Take g) t h v f a = later f p (v f (was (g == f) _ (stage i f p) (named i p g f Asked h.1 refl) a))
-step i p who (deed.Chunk g) t h v f a = later f p (v f (was (g == f) _ (stage i f p) (named i p g f Collecting h.1 refl) a))
-step i p who (deed.Finish g) t h v f a = later f p (v f (was (g == f) _ (stage i f p) (named i p g f Collected h.1 refl) a))
-step i p who (deed.Read g from len) t h v f a = later f p (v f (was (g == f) _ (stage i f p) (named i p g f Settled h.1.0 refl) a))
-step i p who (deed.Write g from bytes) t h v f a = later f p (v f (was (g == f) _ (stage i f p) (named i p g f Settled h.1.0 refl) a))
-step i p who (deed.Trunc g len) t h v f a = later f p (v f (was (g == f) _ (stage i f p) (named i p g f Settled h.1.0 refl) a))
-step i p who (deed.SetAttr name bytes admin) t h v f a = later f p (v f a)
-step i p who (deed.SetMeta change) t h v f a = later f p (v f a)
-step i p who (deed.Close g) t h v f a = later f p (v f (was (g == f) _ (stage i f p) (named i p g f Settled h.1.0 refl) a))
-step i p who (deed.CloseTake g) t h v f a = later f p (v f (was (g == f) _ (stage i f p) (named i p g f Settled h.1.0 refl) a))
-step i p who (deed.CloseChunk g) t h v f a = later f p (v f (was (g == f) _ (stage i f p) (named i p g f CloseCollecting h.1 refl) a))
-step i p who (deed.CloseFinish g) t h v f a = later f p (v f (was (g == f) _ (stage i f p) (named i p g f CloseCollected h.1 refl) a))
-step i p who (deed.Post sem) t h v f a = absurd h.1
-step i p who (deed.Wait sem) t h v f a = absurd h.1
+step i p who d t h v f a = later f p (v f (alive_kept i p who d t h refl f a))
 
 pub lives : (i : Inode) (p : List Event) → EachFollows i p → Lives i p
 lives i [] h f a = cc

@@ -18,16 +18,10 @@ use Rattle.inode_events.specs.declared.deed.How.{How}
 use Rattle.inode_events.specs.declared.told.Event.{Event}
 use Rattle.inode_events.specs.declared.told.Told.{Told}
 use Rattle.inode_events.specs.declared.told.Told.TheVariants as told
+use Rattle.journal_laws.specs.Standing.{collecting_stage}
 use Rattle.journal_laws.proofs.Lives.{Lives, lives}
 use Rattle.journal_laws.proofs.Small.{cond_same, event}
 use Rattle.journal_laws.proofs.Tallies.{find-less}
-
--- the stage of the file of a collection: of a close or not, with its last piece taken or not
-abbrev pub collecting_stage : Bool → Bool → Stage
-collecting_stage false false = Collecting
-collecting_stage false true = Collected
-collecting_stage true false = CloseCollecting
-collecting_stage true true = CloseCollected
 
 abbrev pub Collects : ℕ → Option Collection → Type 0
 Collects f None = ⊥
@@ -248,3 +242,15 @@ step i p who d t h v s = kept i p (event who d t ∷ p) (calm_all i p _ (λ f. c
 pub stages : (i : Inode) (p : List Event) → EachFollows i p → Stages i p
 stages i [] h = ((λ f a. cc), tt)
 stages i (e ∷ before) h = step i before e.who e.deed e.told h.0 (lives i before h.1) (stages i before h.1)
+
+-- ---- the open collection and its file
+
+pub collection_stands : (i : Inode) (p : List Event) (c : Collection) → EachFollows i p → collecting i p ≡ Some c → StageIs i p (Some c)
+collection_stands i p c h e = subst (λ (o : Option Collection). StageIs i p o) e (stages i p h).1
+
+pub stage_collects : (i : Inode) (p : List Event) (f : ℕ) → EachFollows i p → is_collecting (stage i f p) ≡ true
+    → (c : Collection) × ((collecting i p ≡ Some c) × (c.file ≡ f))
+stage_collects i p f h b = at (collecting i p) refl ((stages i p h).0 f b) where
+  at : (o : Option Collection) → collecting i p ≡ o → Collects f o → (c : Collection) × ((collecting i p ≡ Some c) × (c.file ≡ f))
+  at None e m = absurd m
+  at (Some c) e m = (c, (e, m))

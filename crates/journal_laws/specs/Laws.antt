@@ -1,9 +1,10 @@
 -- The laws of journals, each for every legal journal. Since what lies before an event of a legal journal is legal too, a law
 -- holds at each place of it.
-use Rattle.std.specs.Prelude.{◌≡◌, ℕ, ◌+◌, ◌≤◌, true, All, List, [], ◌∷◌, Some}
+use Rattle.std.specs.Prelude.{◌≡◌, ℕ, ◌+◌, ◌≤◌, true, false, All, List, ◌∷◌, ◌++◌, Some}
 use Rattle.hash_algos.specs.Digest.{digest_of}
 use Rattle.hash_algos.specs.declared.algo.Algo.TheVariants.{Sha1}
 use Rattle.inode_meta.specs.declared.appraisal.Mode.TheVariants.{Enforce}
+use Rattle.inode_meta.specs.declared.measurement.Template.TheVariants.{Ima}
 use Rattle.inode_meta.specs.declared.step.Who.{Who}
 use Rattle.label_values.specs.Labels.{label_of}
 use Rattle.label_values.specs.declared.verdict.Verdict.{Verdict}
@@ -11,14 +12,16 @@ use Rattle.inode_events.specs.Admission.{fits, granted_file, granted_unmodified}
 use Rattle.inode_events.specs.Checks.{last_check}
 use Rattle.inode_events.specs.Counts.{takes_begun, times_voided_before_last}
 use Rattle.inode_events.specs.Coverage.{IsCovered}
-use Rattle.inode_events.specs.Files.{held, holds, is_reader, writers}
-use Rattle.inode_events.specs.Listing.{FindsEntries, IsListed}
+use Rattle.inode_events.specs.Files.{held, holds, is_reader, is_writing, writers}
+use Rattle.inode_events.specs.Listing.{IsListed}
 use Rattle.ima_templates.specs.IsEntry.{IsEntry}
+use Rattle.ima_templates.specs.Path.{IsMeasuredPath}
 use Rattle.ima_templates.specs.declared.entry.Entry.{Entry}
 use Rattle.inode_events.specs.declared.told.Told.{Told}
 use Rattle.inode_events.specs.Inode.{Inode}
-use Rattle.inode_events.specs.Integrity.{Digests, attributes, in_force, label, labelled_with}
-use Rattle.inode_events.specs.Legal.{Legal}
+use Rattle.inode_events.specs.Integrity.{Collection, Digests, attributes, collecting, in_force, label, labelled_with}
+use Rattle.inode_events.specs.Legal.{IsBorn, Legal}
+use Rattle.inode_events.specs.Stage.{is_collecting, is_gone, stage}
 use Rattle.inode_events.specs.Marks.{is_passed}
 use Rattle.inode_events.specs.State.{content, metadata}
 use Rattle.inode_events.specs.Verdicts.{Key, fresh_digest, fresh_verdict, verdict_in_force}
@@ -27,6 +30,29 @@ use Rattle.inode_events.specs.declared.deed.Deed.TheVariants as deed
 use Rattle.inode_events.specs.declared.told.Event.{Event}
 use Rattle.inode_events.specs.declared.told.Grant.{Grant}
 use Rattle.inode_events.specs.declared.told.Told.TheVariants as told
+use Rattle.journal_laws.specs.Standing.{IsHeldAsCounted, collecting_stage}
+
+-- ---- where files stand
+
+-- Every earlier part of a legal journal is legal.
+abbrev pub EarlierLegal : Type 0
+EarlierLegal = (i : Inode) (later p : List Event) → Legal i (later ++ p) → IsBorn p → Legal i p
+
+-- A file that isn't gone was counted, and is held as its count said.
+abbrev pub HeldAsCounted : Type 0
+HeldAsCounted = (i : Inode) (p : List Event) (file : ℕ) → Legal i p → is_gone (stage i file p) ≡ false → IsHeldAsCounted file p
+
+-- The file of the open collection is at a collecting stage, and for its close it is open for writing.
+abbrev pub CollectionStands : Type 0
+CollectionStands = (i : Inode) (p : List Event) (c : Collection) → Legal i p → collecting i p ≡ Some c
+    → (stage i c.file p ≡ collecting_stage c.closing c.complete) × (c.closing ≡ true → is_writing c.file p ≡ true)
+
+-- And a file at such a stage is that of the open collection.
+abbrev pub StageCollects : Type 0
+StageCollects = (i : Inode) (p : List Event) (file : ℕ) → Legal i p → is_collecting (stage i file p) ≡ true
+    → (c : Collection) × ((collecting i p ≡ Some c) × (c.file ≡ file))
+
+-- ---- what digests and verdicts say
 
 -- the digest in force is that of the content by the algorithm that the label names, and by SHA-1
 abbrev pub IsDigestFresh : Inode → List Event → Type 0
@@ -70,8 +96,8 @@ abbrev pub FewCollections : Type 0
 FewCollections = (i : Inode) (p : List Event) → Legal i p → takes_begun p ≤ times_voided_before_last i p + 1
 
 -- Coverage: each read of a read-only file is covered by every list in which the journal's events are listed. The last two
--- premises say what an `Entry` keeps by its type.
+-- premises say what a cell keeps of its path, and the list of its entries by their type.
 abbrev pub Coverage : Type 0
 Coverage = (i : Inode) (list : List Entry) (p : List Event) (who : Who) (file from len : ℕ) (t : Told)
     → Legal i (record { who = who; deed = deed.Read file from len; told = t } ∷ p) → holds is_reader (held file p) ≡ true
-    → IsListed i list p → All IsEntry list → FindsEntries i p → IsCovered i list file p
+    → IsListed i list p → IsMeasuredPath Ima i.path → All IsEntry list → IsCovered i list file p

@@ -3,7 +3,27 @@
 //! Each law is the contract of a function that does nothing. What a cell or a run keeps legal has them.
 #![tactic(auto)]
 
-ghost use Rattle.journal_laws.specs.Laws.{Admission, CloseLabel, Coverage, FewCollections, Freshness};
+ghost use Rattle.journal_laws.specs.Laws.{Admission, CloseLabel, CollectionStands, Coverage, EarlierLegal, FewCollections, Freshness, HeldAsCounted, StageCollects};
+
+/// Every earlier part of a legal journal is legal.
+pub fn earlier_legal()
+    ensures { EarlierLegal }
+{}
+
+/// A file that isn't gone was counted, and is held as its count said.
+pub fn held_as_counted()
+    ensures { HeldAsCounted }
+{}
+
+/// The file of the open collection is at a collecting stage, and for its close it is open for writing.
+pub fn collection_stands()
+    ensures { CollectionStands }
+{}
+
+/// A file at a collecting stage is that of the open collection.
+pub fn stage_collects()
+    ensures { StageCollects }
+{}
 
 /// Whenever no writer holds an inode, its digest and its verdicts in force are those computed anew.
 pub fn fresh_in_force()

@@ -1,0 +1,3 @@
+pub mod Prefixed
+pub mod Asking
+pub mod Keeping

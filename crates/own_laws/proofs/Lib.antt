@@ -1,0 +1,6 @@
+pub mod Bridge
+pub mod Owning
+pub mod Holding
+pub mod Doing
+pub mod Staying
+pub mod Seeing

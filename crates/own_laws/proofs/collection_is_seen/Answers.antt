@@ -1,0 +1,5 @@
+use Rattle.own_laws.proofs.Seeing.{collection_seen}
+use Rattle.own_laws.proofs.collection_is_seen.Goals as goal
+
+pub returns : goal.returns
+returns c = collection_seen
