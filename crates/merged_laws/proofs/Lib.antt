@@ -1,0 +1,8 @@
+pub mod Containing
+pub mod Counting
+pub mod Naming
+pub mod Ordering
+pub mod Rising
+pub mod Merging
+pub mod Logging
+pub mod Joining
