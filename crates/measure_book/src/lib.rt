@@ -7,3 +7,6 @@ mod places;
 
 pub use book::Book;
 pub use grow_list::{OutOfMemory, Pass};
+
+#[cfg(test)]
+mod tests;
