@@ -1,0 +1,59 @@
+-- The rules that a journal's checks count, by what the inode's pass of the appended rules has seen.
+use Rattle.std.specs.Prelude.{◌≡◌, ℕ, ◌+◌, ◌≤◌, All, List, [], ◌∷◌, ◌++◌, length, Option}
+use Rattle.std.specs.List.{AllZip}
+use mathlib.Core.List.{IsPrefix}
+use Rattle.grow_list.specs.Shown.{Passed}
+use Rattle.inode_meta.specs.declared.step.Who.{Who}
+use Rattle.inode_events.specs.Asked.{made}
+use Rattle.inode_events.specs.Past.{past}
+use Rattle.inode_events.specs.declared.deed.Deed.{Deed}
+use Rattle.inode_events.specs.declared.deed.Deed.TheVariants as deed
+use Rattle.inode_events.specs.declared.told.Event.{Event}
+use Rattle.inode_events.specs.declared.told.Told.{Told}
+use Rattle.run_model.specs.Served.{RulesRise, last_counted}
+use Rattle.run_model.specs.declared.RuleEntry.{RuleEntry}
+
+-- along the journal the number never falls, and the last one is at most the base rules and those
+-- that the pass has seen
+pub record StationRules (base : ℕ) (journal : List Event) (seen : List RuleEntry) : Type 0 where
+  pub rise : RulesRise base (past journal)
+  pub last : last_counted base (past journal) ≤ base + length seen
+
+-- a check counts between these
+abbrev pub CountsFrom : ℕ → ℕ → Deed → Type 0
+CountsFrom least most (deed.Check file func action rules) = (least ≤ rules) × (rules ≤ most)
+CountsFrom least most d = Unit {0}
+
+-- a check counts so many
+abbrev pub CountsAll : ℕ → Deed → Type 0
+CountsAll count (deed.Check file func action rules) = rules ≡ count
+CountsAll count d = Unit {0}
+
+abbrev pub RiseAtFirst : Type 0
+RiseAtFirst =
+    (base : ℕ) (e : Event) (seen : List RuleEntry) → e.deed ≡ deed.Birth
+    → StationRules base (e ∷ []) seen
+
+abbrev pub RiseByLook : Type 0
+RiseByLook =
+    (base : ℕ) (journal : List Event) (seen seen2 : List RuleEntry) → IsPrefix seen seen2
+    → StationRules base journal seen → StationRules base journal seen2
+
+abbrev pub RiseByEvent : Type 0
+RiseByEvent =
+    (base : ℕ) (journal : List Event) (seen : List RuleEntry) (e : Event)
+    → StationRules base journal seen
+    → CountsFrom (last_counted base (past journal)) (base + length seen) e.deed
+    → StationRules base (journal ++ e ∷ []) seen
+
+abbrev pub RiseByOutcome : Type 0
+RiseByOutcome =
+    (base : ℕ) (journal : List Event) (seen seen2 : List RuleEntry) (who : Who) (d : Deed)
+    (o : Option Told) → IsPrefix seen seen2 → StationRules base journal seen
+    → CountsAll (base + length seen2) d → StationRules base (journal ++ made who d o) seen2
+
+abbrev pub RiseForAll : Type 0
+RiseForAll =
+    (base : ℕ) (journals : List (List Event)) (passes : List (Passed RuleEntry))
+    → AllZip (λ journal q. StationRules base journal q.seen) journals passes
+    → All (λ (journal : List Event). RulesRise base (past journal)) journals
