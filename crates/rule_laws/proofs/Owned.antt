@@ -131,7 +131,8 @@ mine_after n s i inode who d o xs l w b h j journal g =
           (h i (journal_at s i) (slice_get-get_or s.journals i [] l))
           ∙ ap (λ (b : Bool). xs i ++ cond b (entered (length (journal_at s i)) who d o) [])
           (sym (eq-eqb i i refl))
-          ∙ ap (λ (k : ℕ). xs k ++ placed_in i k (entered (length (journal_at s i)) who d o)) (sym e.0)
+          ∙ ap (λ (k : ℕ). xs k ++ placed_in i k (entered (length (journal_at s i)) who d o))
+          (sym e.0)
       at (inr e) =
           h j journal e.1 ∙ sym (append-nil (xs j))
           ∙ ap (λ (b : Bool). xs j ++ cond b (entered (length (journal_at s i)) who d o) [])

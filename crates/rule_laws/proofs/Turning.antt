@@ -336,7 +336,8 @@ event_rises : (scene : Scene) (s : State) (i : ℕ) (inode : Inode) (who : Who) 
 event_rises scene s i inode who d o l c r k journal h =
     at (set_cases s.journals i k (journal_at s i ++ made who d o) journal h) where
       at : ((k ≡ i) × (journal ≡ journal_at s i ++ made who d o))
-          ⊎ (slice_get s.journals k ≡ Some journal) → StationRules (length scene.rules) journal s.added
+          ⊎ (slice_get s.journals k ≡ Some journal)
+          → StationRules (length scene.rules) journal s.added
       at (inl e) =
           subst (λ (x : List Event). StationRules (length scene.rules) x s.added) (sym e.1)
           (law_rise_by_outcome (length scene.rules) (journal_at s i) s.added s.added who d o

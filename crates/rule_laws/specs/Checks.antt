@@ -151,7 +151,8 @@ SeesByLook =
 abbrev pub SeesFromPasses : Type 0
 SeesFromPasses =
     (passes : List (Passed Event)) (rules : Passed RuleEntry) (run : Run)
-    → AllZip (λ (q : Passed Event) (journal : List Event). IsPrefix q.seen journal) passes run.journals
+    → AllZip (λ (q : Passed Event)
+    (journal : List Event). IsPrefix q.seen journal) passes run.journals
     → IsPrefix rules.seen run.added → SeesMore (seen_by passes rules) (seen_of run)
 
 -- the pass that has moved on has seen what the journal had before its step

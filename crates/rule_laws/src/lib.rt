@@ -21,7 +21,8 @@ pub fn fits_by_step()
     ensures { FitsByStep }
 {}
 
-/// A check that is decided by rules which the task's pass has seen keeps what the task has of its checks.
+/// A check that is decided by rules which the task's pass has seen keeps what the task has of its
+/// checks.
 pub fn fits_by_check()
     ensures { FitsByCheck }
 {}
@@ -41,12 +42,14 @@ pub fn rise_by_look()
     ensures { RiseByLook }
 {}
 
-/// An event keeps that the rules rise, where a check counts the rules between the last check's and those that the inode's pass has seen.
+/// An event keeps that the rules rise, where a check counts the rules between the last check's and
+/// those that the inode's pass has seen.
 pub fn rise_by_event()
     ensures { RiseByEvent }
 {}
 
-/// A step that is told or blocked keeps that the rules rise, where a check counts all rules that the inode's pass has seen.
+/// A step that is told or blocked keeps that the rules rise, where a check counts all rules that
+/// the inode's pass has seen.
 pub fn rise_by_outcome()
     ensures { RiseByOutcome }
 {}
@@ -86,7 +89,8 @@ pub fn turns_are_fit()
     ensures { TurnsAreFit }
 {}
 
-/// Where all tasks' checks are decided rightly, their answers suit the run that is shown, and along its journals the rules rise.
+/// Where all tasks' checks are decided rightly, their answers suit the run that is shown, and along
+/// its journals the rules rise.
 pub fn fit_is_suited()
     ensures { FitIsSuited }
 {}
