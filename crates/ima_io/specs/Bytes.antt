@@ -2,8 +2,9 @@
 use Rattle.std.specs.Prelude.{ℕ, ◌<◌, List, length, take, Option}
 use Rattle.std.specs.Io.KnownBytes.{Appends, Consumes}
 
--- A source that had `old` left and has `new` left gave bytes with this property. Where the source tells its bytes they
--- are what it has lost. Where it doesn't, as a stream of the system, all that is said is that there are such bytes.
+-- A source that had `old` left and has `new` left gave bytes with this property. Where the source
+-- tells its bytes they are what it has lost. Where it doesn't, as a stream of the system, all that
+-- is said is that there are such bytes.
 abbrev pub Gave : Option (List ℕ) → Option (List ℕ) → (List ℕ → Type 0) → Type 0
 Gave old new P = (given : List ℕ) × Consumes old new given × P given
 

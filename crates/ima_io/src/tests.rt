@@ -1,4 +1,5 @@
-// What no clause says: that the calls succeed with ample memory, and what becomes of a system's faults.
+// What no clause says: that the calls succeed with ample memory, and what becomes of a system's
+// faults.
 use crate::{
     Failed, FreeGate, Gate, MemSink, MemSource, ReadErr, Sink, Source, StdSink, StdSource, Who,
     read_all, write_all,
@@ -46,7 +47,8 @@ fn a_long_source_is_read_whole(rt: HostRuntime) -> Result<(), Fail> {
     Ok(())
 }
 
-// A sink of this room, with the numbers of the calls that fail, and whether a piece of seven bytes goes in whole, and what was taken.
+// A sink of this room, with the numbers of the calls that fail, and whether a piece of seven bytes
+// goes in whole, and what was taken.
 #[test]
 fn a_piece_is_written_whole(rt: HostRuntime) -> Result<(), Fail> {
     let writes: [(usize, usize, &[u64], Result<(), Failed>, &[u8]); 5] = [

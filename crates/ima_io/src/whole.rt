@@ -8,7 +8,8 @@ ghost use Rattle.ima_io.specs.declared.whole.ReadErr.TheVariants.{Fault, OutOfMe
 use crate::outside::{Failed, OutOfMemory, Sink, Source};
 use std::alloc::{AllocError, Global};
 
-/// Why a source was not read to its end.
+/// Why [`read_all`] didn't read a source to its end. Writing has no such enum: [`write_all`] can
+/// only be [`Failed`].
 #[derive(Clone, Copy, Debug, PartialEq, Eq)]
 pub enum ReadErr {
     /// The source failed.
@@ -61,21 +62,24 @@ fn read_some<S: Source>(source: &mut S, chunk: &mut [u8], most: usize) -> Result
 
 /// The bytes of the source up to its end.
 ///
-/// `Fault` comes only where the source's count of faults rose in this call, `TooLong` exactly where the
-/// source gave more than `limit` bytes. At most one byte more than `limit` is asked of it.
+/// `Fault` comes only where the source's count of faults rose in this call, `TooLong` exactly where
+/// the source gave more than `limit` bytes. At most one byte more than `limit` is asked of it.
 pub fn read_all<S: Source>(alloc: Global, source: &mut S, limit: usize) -> Result<Vec<u8>, ReadErr>
     // At `Ok` these are all the bytes, and none is left.
-    ensures all { IfOk result (λ bytes. Consumes (S.left source.old) (S.left source.new) bytes.items) }
+    ensures all { IfOk result
+        (λ bytes. Consumes (S.left source.old) (S.left source.new) bytes.items) }
     ensures end { OnOk result (IsAtEnd (S.left source.new)) }
     ensures short { IfOk result (λ bytes. length bytes.items ≤ limit) }
 
-    // Whatever the answer: what the source gave, of which at most one byte more than `limit` is asked.
+    // Whatever the answer: what the source gave, of which at most one byte more than `limit` is
+    // asked.
     ensures given { Gave (S.left source.old) (S.left source.new) (λ given.
         (length given ≤ limit + 1) × (IsErrOf result ReadErr.TooLong ↔ (limit < length given))
         × IfOk result (λ bytes. bytes.items ≡ given)) }
 
     ensures count { S.faults source.old ≤ S.faults source.new }
-    ensures cause { IsErrOf result ReadErr.Fault → Rose (S.faults source.old) (S.faults source.new) }
+    ensures cause { IsErrOf result ReadErr.Fault
+        → Rose (S.faults source.old) (S.faults source.new) }
 {
     let mut bytes = Vec::new(alloc);
     let mut chunk = new_chunk(alloc)?;
@@ -92,8 +96,8 @@ pub fn read_all<S: Source>(alloc: Global, source: &mut S, limit: usize) -> Resul
     }
 }
 
-/// Writes the piece whole. `Failed` comes only where the sink's count of faults rose in this call; what was
-/// taken is then a prefix of the piece that is shorter than the piece. It takes no memory.
+/// Writes the piece whole. `Failed` comes only where the sink's count of faults rose in this call;
+/// what was taken is then a prefix of the piece that is shorter than the piece. It takes no memory.
 pub fn write_all<K: Sink>(sink: &mut K, piece: &[u8]) -> Result<(), Failed>
     ensures whole { OnOk result (Appends (K.taken sink.old) (K.taken sink.new) piece.now) }
     ensures part { OnErr result (TookPart (K.taken sink.old) (K.taken sink.new) piece.now) }

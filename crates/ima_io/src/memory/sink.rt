@@ -7,9 +7,9 @@ use crate::outside::{Failed, OutOfMemory, Sink};
 use std::alloc::Global;
 use std::marker::Model;
 
-/// A sink into memory of a fixed room. It takes at most `piece` bytes in one call. The calls whose numbers
-/// stand in `fails`, counted from 0, fail, and so does a call with a piece that isn't empty once the room is
-/// full.
+/// A sink into memory of a fixed room. It takes at most `piece` bytes in one call. The calls whose
+/// numbers stand in `fails`, counted from 0, fail, and so does a call with a piece that isn't empty
+/// once the room is full.
 #[derive(Drop)]
 pub struct MemSink {
     taken: Vec<u8>,
@@ -26,14 +26,22 @@ impl Model for MemSink {
 
     ghost Value = { Store };
 
-    ghost view = { λ s. record { taken = s.taken.items; room = s.room; piece = s.piece; fails = s.fails.items; call = s.call; faults = s.faults } };
+    ghost view = { λ s. record {
+      taken = s.taken.items;
+      room = s.room;
+      piece = s.piece;
+      fails = s.fails.items;
+      call = s.call;
+      faults = s.faults;
+    } };
 
-    ghost invariant = { λ s. (vec_len s.taken ≤ s.room) × (s.room ≤ vec_capacity s.taken) × (0 < s.piece) };
+    ghost invariant = { λ s. (vec_len s.taken ≤ s.room) × (s.room ≤ vec_capacity s.taken)
+        × (0 < s.piece) };
 }
 
 impl MemSink {
-    /// The sink before its first call. Its room is reserved at once, so no write wants memory. `piece` is at
-    /// least 1.
+    /// The sink before its first call. Its room is reserved at once, so no write takes memory.
+    /// `piece` is at least 1.
     pub fn new(
         alloc: Global,
         room: usize,
@@ -41,7 +49,14 @@ impl MemSink {
         fails: Vec<u64>,
     ) -> Result<MemSink, OutOfMemory>
         requires { 0 < piece }
-        ensures { IfOk result (λ sink. sink ≡ record { taken = []; room = room; piece = piece; fails = fails.items; call = 0; faults = 0 }) }
+        ensures { IfOk result (λ sink. sink ≡ record {
+          taken = [];
+          room = room;
+          piece = piece;
+          fails = fails.items;
+          call = 0;
+          faults = 0;
+        }) }
     {
         Ok(MemSink {
             taken: Vec::with_capacity(alloc, room)?,
@@ -73,10 +88,13 @@ impl Sink for MemSink {
         ensures count { self.old.faults ≤ self.new.faults }
         ensures cause { OnErr result (Rose self.old.faults self.new.faults) }
 
-        // It fails exactly at the calls of those numbers and where no room is left for a byte, and else takes as much as it may.
+        // It fails exactly at the calls of those numbers and where no room is left for a byte, and
+        // else takes as much as it may.
         ensures failed { is_err result ≡ (fails_at self.old.fails self.old.call
             || (self.old.room == length self.old.taken && nat_lt 0 (length piece.now))) }
-        ensures took { IfOk result (λ n. n ≡ min (min (length piece.now) self.old.piece) (self.old.room - length self.old.taken)) }
+        ensures took { IfOk result
+            (λ n. n ≡ min (min (length piece.now) self.old.piece)
+            (self.old.room - length self.old.taken)) }
         ensures after { self.new ≡ record self.old {
           taken = self.new.taken;
           call = counted_on self.old.call;

@@ -6,8 +6,8 @@ ghost use Rattle.ima_io.specs.Memory.{fails_at};
 use crate::outside::{Failed, Source};
 use std::marker::Model;
 
-/// A source over bytes in memory. It gives at most `piece` bytes in one call, and the calls whose numbers
-/// stand in `fails`, counted from 0, fail.
+/// A source over bytes in memory. It gives at most `piece` bytes in one call, and the calls whose
+/// numbers stand in `fails`, counted from 0, fail.
 #[derive(Drop)]
 pub struct MemSource {
     bytes: Vec<u8>,
@@ -24,7 +24,13 @@ impl Model for MemSource {
 
     ghost Value = { Feed };
 
-    ghost view = { λ s. record { left = drop s.given s.bytes.items; piece = s.piece; fails = s.fails.items; call = s.call; faults = s.faults } };
+    ghost view = { λ s. record {
+      left = drop s.given s.bytes.items;
+      piece = s.piece;
+      fails = s.fails.items;
+      call = s.call;
+      faults = s.faults;
+    } };
 
     ghost invariant = { λ s. (s.given ≤ length s.bytes.items) × (0 < s.piece) };
 }
@@ -33,7 +39,13 @@ impl MemSource {
     /// The source of these bytes, before its first call. `piece` is at least 1.
     pub fn new(bytes: Vec<u8>, piece: usize, fails: Vec<u64>) -> MemSource
         requires { 0 < piece }
-        ensures { result ≡ record { left = bytes.items; piece = piece; fails = fails.items; call = 0; faults = 0 } }
+        ensures { result ≡ record {
+          left = bytes.items;
+          piece = piece;
+          fails = fails.items;
+          call = 0;
+          faults = 0;
+        } }
     {
         MemSource {
             bytes,
@@ -59,7 +71,8 @@ impl Source for MemSource {
 
         // It fails exactly at the calls of those numbers, and else gives as much as it may.
         ensures failed { is_err result ≡ fails_at self.old.fails self.old.call }
-        ensures given { IfOk result (λ n. n ≡ min (min (length buf.old) self.old.piece) (length self.old.left)) }
+        ensures given { IfOk result
+            (λ n. n ≡ min (min (length buf.old) self.old.piece) (length self.old.left)) }
         ensures after { self.new ≡ record self.old {
           left = self.new.left;
           call = counted_on self.old.call;

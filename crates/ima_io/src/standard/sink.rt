@@ -3,9 +3,9 @@ ghost use Rattle.std.specs.Prelude.{◌≡◌};
 use crate::outside::{Failed, Sink};
 use std::io::Write;
 
-/// A writer as a sink. It tells the bytes that the writer tells, so none at a stream of the system. Its count
-/// of faults has 64 bits, rises at each `Err` of the writer and at each write that takes nothing of a piece
-/// that isn't empty, and stays at its last value.
+/// A writer as a sink. It tells the bytes that the writer tells, so none at a stream of the system.
+/// Its count of faults has 64 bits, rises at each `Err` of the writer and at each write that takes
+/// nothing of a piece that isn't empty, and stays at its last value.
 #[derive(Drop)]
 pub struct StdSink<W> {
     writer: W,

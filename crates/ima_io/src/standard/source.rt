@@ -3,8 +3,9 @@ ghost use Rattle.std.specs.Prelude.{◌≡◌};
 use crate::outside::{Failed, Source};
 use std::io::Read;
 
-/// A reader as a source. It tells the bytes that the reader tells, so none at a stream of the system. Its
-/// count of faults has 64 bits, rises at each `Err` of the reader, and stays at its last value.
+/// A reader as a source. It tells the bytes that the reader tells, so none at a stream of the
+/// system. Its count of faults has 64 bits, rises at each `Err` of the reader, and stays at its
+/// last value.
 #[derive(Drop)]
 pub struct StdSource<R> {
     reader: R,

@@ -8,7 +8,8 @@ pub returns-in_err-n-clause-part : goal.returns-in_err-n-clause-part
 returns-in_err-n-clause-part g c =
     let p = err_from_is_err_and c.from_residual.result c.from_residual.ensures.1 in
     let before = c.loop-rest.invariant in
-    rw (p.1) (TookPart-of_rest _ _ _ before.done c.loop-rest.rest.now before.parts (search rules) (Appends-kept _ _ _ _ before.taken c.in_err-n.ensures.bytes))
+    rw (p.1) (TookPart-of_rest _ _ _ before.done c.loop-rest.rest.now before.parts (search rules)
+    (Appends-kept _ _ _ _ before.taken c.in_err-n.ensures.bytes))
 
 pub loop-rest-preserved : goal.loop-rest-preserved
 loop-rest-preserved g c =
