@@ -13,7 +13,10 @@ use Rattle.ima_top.specs.declared.status.TheConstants.{DONE, USAGE, REFUSED, STU
 use Rattle.ima_top.specs.declared.top.TheConstants.{MOST_INPUT}
 
 two_files : plain_list_of (codes "imalist 1\nfile /a txt:abc\nfile /e txt:\nend\n")
-    ≡ Some (record { path = codes "/a"; content = codes "abc" } ∷ record { path = codes "/e"; content = [] } ∷ [])
+    ≡ Some (record { path = codes "/a"; content = codes "abc" } ∷ record {
+      path = codes "/e";
+      content = [];
+    } ∷ [])
 two_files = refl
 
 no_file : plain_list_of (codes "imalist 1\nend\n") ≡ Some []
@@ -34,8 +37,10 @@ no_last_newline = refl
 more_behind_the_end : plain_list_of (codes "imalist 1\nend\n\n") ≡ None
 more_behind_the_end = refl
 
-commands : (command_of (codes "list" ∷ []) ≡ Some command.List) × (command_of (codes "policy" ∷ []) ≡ Some command.Policy) × (command_of [] ≡ None)
-    × (command_of (codes "list" ∷ codes "list" ∷ []) ≡ None) × (command_of (codes "lists" ∷ []) ≡ None)
+commands : (command_of (codes "list" ∷ []) ≡ Some command.List)
+    × (command_of (codes "policy" ∷ []) ≡ Some command.Policy) × (command_of [] ≡ None)
+    × (command_of (codes "list" ∷ codes "list" ∷ []) ≡ None)
+    × (command_of (codes "lists" ∷ []) ≡ None)
 commands = (refl, refl, refl, refl, refl)
 
 -- no file is measured: the list is the boot aggregate alone
@@ -59,7 +64,8 @@ both_read = (refl, refl)
 limit : MOST_INPUT ≡ 4194304
 limit = refl
 
-statuses : (DONE ≡ 0) × (USAGE ≡ 1) × (REFUSED ≡ 2) × (STUCK ≡ 3) × (READ_FAULT ≡ 4) × (WRITE_FAULT ≡ 5) × (TOO_LONG ≡ 6) × (OUT_OF_MEMORY ≡ 7)
+statuses : (DONE ≡ 0) × (USAGE ≡ 1) × (REFUSED ≡ 2) × (STUCK ≡ 3) × (READ_FAULT ≡ 4)
+    × (WRITE_FAULT ≡ 5) × (TOO_LONG ≡ 6) × (OUT_OF_MEMORY ≡ 7)
 statuses = (refl, refl, refl, refl, refl, refl, refl, refl)
 
 -- neither command has a stuck run
@@ -69,7 +75,12 @@ never_stuck command.List input output h = absurd (cc (h.0))
 never_stuck command.Policy input output h = absurd (cc (h.0))
 
 -- so the status of a stuck run doesn't come yet
-no_stuck_status : (command : Command) (input : List ℕ) (status : ℕ) (old new : Option (List ℕ)) (told : List ℕ → Type 0)
+no_stuck_status : (command : Command) (input : List ℕ) (status : ℕ) (old new : Option (List ℕ))
+    (told : List ℕ → Type 0)
     → Serves command input status old new told → status ≡ STUCK → ⊥
 no_stuck_status command input status old new told serves is =
-    let (output, is_output, written) = serves.written_stuck is in never_stuck command input output is_output
+    let (
+      output,
+      is_output,
+      written,
+    ) = serves.written_stuck is in never_stuck command input output is_output

@@ -35,8 +35,10 @@ more_than_nothing [] h = absurd (cc)
 more_than_nothing (b ∷ bs) h = over_lines (b ∷ bs)
 
 -- where something follows `end`, the text is refused
-pub more_behind_end : (front : List File) (rest line after name : List ℕ) (whole : Option (List File)) → lines rest ≡ line ∷ lines after
-    → bytes_eq line name ≡ true → name ≡ codes "end" → (length after == 0) ≡ false → in_front front (files_of (lines rest)) ≡ whole → None ≡ whole
+pub more_behind_end : (front : List File) (rest line after name : List ℕ)
+    (whole : Option (List File)) → lines rest ≡ line ∷ lines after
+    → bytes_eq line name ≡ true → name ≡ codes "end" → (length after == 0) ≡ false
+    → in_front front (files_of (lines rest)) ≡ whole → None ≡ whole
 more_behind_end front rest line after name whole parts ends named more so_far =
     let ends' : bytes_eq line (codes "end") ≡ true = rw named at ends in
     let over = more_than_nothing after more in

@@ -40,25 +40,33 @@ abbrev parts_of : List ℕ → List (List ℕ)
 parts_of bs = slice_split (λ c. c == 47) bs
 
 -- components are visible
-words_visible : (parts : List (List ℕ)) → list_all (is_word 255) parts ≡ true → list_all visible parts ≡ true
+words_visible : (parts : List (List ℕ)) → list_all (is_word 255) parts ≡ true
+    → list_all visible parts ≡ true
 words_visible [] h = refl
 words_visible (part ∷ parts) h =
-    let here : visible part ≡ true = and_right (is_filled part && nat_le (length part) 255) (visible part) (and_left (is_word 255 part) _ h) in
+    let here : visible part ≡ true =
+    and_right (is_filled part && nat_le (length part) 255) (visible part)
+    (and_left (is_word 255 part) _ h) in
     let rest = words_visible parts (and_right (is_word 255 part) _ h) in
     rw (here, rest) refl
 
-onto_visible : (b : ℕ) (parts : List (List ℕ)) → list_all visible (onto_first b parts) ≡ true → (is_visible b ≡ true) × (list_all visible parts ≡ true)
+onto_visible : (b : ℕ) (parts : List (List ℕ)) → list_all visible (onto_first b parts) ≡ true
+    → (is_visible b ≡ true) × (list_all visible parts ≡ true)
 onto_visible b [] h = (and_left (is_visible b) true (and_left (is_visible b && true) true h), refl)
 onto_visible b (part ∷ parts) h =
     let here = and_left (is_visible b && visible part) (list_all visible parts) h in
-    let rest = and_right (is_visible b && visible part) (list_all visible parts) h in
-    (and_left (is_visible b) (visible part) here, rw (and_right (is_visible b) (visible part) here, rest) refl)
+    let rest = and_right (is_visible b && visible part) (list_all visible parts) h in (
+      and_left (is_visible b) (visible part) here,
+      rw (and_right (is_visible b) (visible part) here, rest) refl,
+    )
 
 slash_is_graphic : (b : ℕ) → (b == 47) ≡ true → IsGraphic b
 slash_is_graphic b h = (grind (arith, nat_tests), grind (arith, nat_tests))
 
-parts_step : (b : ℕ) (bs : List ℕ) (slash : Bool) → (b == 47) ≡ slash → (list_all visible (parts_of bs) ≡ true → AllGraphic bs)
-    → list_all visible (cond slash ([] ∷ parts_of bs) (onto_first b (parts_of bs))) ≡ true → IsGraphic b × AllGraphic bs
+parts_step : (b : ℕ) (bs : List ℕ) (slash : Bool) → (b == 47) ≡ slash
+    → (list_all visible (parts_of bs) ≡ true → AllGraphic bs)
+    → list_all visible (cond slash ([] ∷ parts_of bs) (onto_first b (parts_of bs))) ≡ true
+    → IsGraphic b × AllGraphic bs
 parts_step b bs true e more h = (slash_is_graphic b e, more h)
 parts_step b bs false e more h =
     let both = onto_visible b (parts_of bs) h in
@@ -73,13 +81,19 @@ parts_graphic (b ∷ bs) h = parts_step b bs (b == 47) refl (parts_graphic bs) h
 pub measured_path : (path : List ℕ) → is_path path ≡ true → IsMeasuredPath ImaNg path
 measured_path [] h = absurd (cc)
 measured_path (b ∷ parts) h =
-    let front = and_left (b == 47 && nat_le (length (b ∷ parts)) 1024) (list_all (is_word 255) (parts_of parts)) h in
-    let words = and_right (b == 47 && nat_le (length (b ∷ parts)) 1024) (list_all (is_word 255) (parts_of parts)) h in
+    let front = and_left (b == 47 && nat_le (length (b ∷ parts)) 1024)
+    (list_all (is_word 255) (parts_of parts)) h in
+    let words = and_right (b == 47 && nat_le (length (b ∷ parts)) 1024)
+    (list_all (is_word 255) (parts_of parts)) h in
     let slash = and_left (b == 47) (nat_le (length (b ∷ parts)) 1024) front in
-    let short : nat_le (length (b ∷ parts)) 1024 ≡ true = and_right (b == 47) (nat_le (length (b ∷ parts)) 1024) front in
+    let short : nat_le (length (b ∷ parts)) 1024 ≡ true =
+    and_right (b == 47) (nat_le (length (b ∷ parts)) 1024) front in
     record {
       not_empty = omega arith;
       at_most = at_most_by (length (b ∷ parts)) 1024 short;
-      graphic = all_graphic (b ∷ parts) (slash_is_graphic b slash, parts_graphic parts (words_visible (parts_of parts) words));
+      graphic = all_graphic (b ∷ parts) (
+        slash_is_graphic b slash,
+        parts_graphic parts (words_visible (parts_of parts) words),
+      );
       component = λ e. absurd (cc e);
     }

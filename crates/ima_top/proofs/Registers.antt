@@ -11,14 +11,20 @@ use Rattle.ima_templates.proofs.ReplayLemmas.{register-banks_of}
 use Rattle.list_format.specs.Line.{ascii_line}
 use Rattle.ima_top.specs.commands.List.{list_text, register_line}
 
-value_is : (list : List Entry) (banks : Banks) (bank : Bank) (value : List ℕ) → banks ≡ banks_of list → value ≡ register banks bank 10 → value ≡ replay list bank 10
-value_is list banks bank value made read = read ∙ ap (λ (b : Banks). register b bank 10) made ∙ register-banks_of list bank 10 (lit< tt)
+value_is : (list : List Entry) (banks : Banks) (bank : Bank) (value : List ℕ)
+    → banks ≡ banks_of list → value ≡ register banks bank 10 → value ≡ replay list bank 10
+value_is list banks bank value made read = read ∙ ap (λ (b : Banks). register b bank 10) made
+    ∙ register-banks_of list bank 10 (lit< tt)
 
-pub text_is : (list : List Entry) (banks : Banks) (lines one two sha1 sha256 : List ℕ) → banks ≡ banks_of list → lines ≡ flat_map ascii_line list
+pub text_is : (list : List Entry) (banks : Banks) (lines one two sha1 sha256 : List ℕ)
+    → banks ≡ banks_of list → lines ≡ flat_map ascii_line list
     → sha1 ≡ register banks Sha1 10 → one ≡ lines ++ register_line Sha1 sha1
     → sha256 ≡ register banks Sha256 10 → two ≡ one ++ register_line Sha256 sha256
     → two ≡ list_text list
 text_is list banks lines one two sha1 sha256 made front read_sha1 then read_sha256 last =
     last ∙ ap (λ (t : List ℕ). t ++ register_line Sha256 sha256)
-    (then ∙ ap (λ (t : List ℕ). t ++ register_line Sha1 sha1) front ∙ ap (λ (v : List ℕ). flat_map ascii_line list ++ register_line Sha1 v) (value_is list banks Sha1 sha1 made read_sha1))
-    ∙ ap (λ (v : List ℕ). (flat_map ascii_line list ++ register_line Sha1 (replay list Sha1 10)) ++ register_line Sha256 v) (value_is list banks Sha256 sha256 made read_sha256)
+    (then ∙ ap (λ (t : List ℕ). t ++ register_line Sha1 sha1) front
+    ∙ ap (λ (v : List ℕ). flat_map ascii_line list ++ register_line Sha1 v)
+    (value_is list banks Sha1 sha1 made read_sha1))
+    ∙ ap (λ (v : List ℕ). (flat_map ascii_line list ++ register_line Sha1 (replay list Sha1 10))
+    ++ register_line Sha256 v) (value_is list banks Sha256 sha256 made read_sha256)

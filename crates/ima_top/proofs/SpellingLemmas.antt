@@ -12,7 +12,8 @@ use Rattle.text_forms.specs.Tokens.{is_filled}
 use Rattle.ima_top.specs.PlainList.{File, behind, cut, few, file_at, file_of, files_of, is_content, is_over, list_of, onto, plain_list_of, ◌>>=◌}
 use Rattle.ima_top.specs.Spelling.{file_line, file_text, spelled}
 
-bind_some : {A B : Type 0} (o : Option A) (f : A → Option B) (y : B) → (o >>= f) ≡ Some y → (x : A) × (o ≡ Some x) × (f x ≡ Some y)
+bind_some : {A B : Type 0} (o : Option A) (f : A → Option B) (y : B) → (o >>= f) ≡ Some y → (x : A)
+    × (o ≡ Some x) × (f x ≡ Some y)
 bind_some None f y h = absurd (cc)
 bind_some (Some x) f y h = (x, refl, h)
 
@@ -28,11 +29,16 @@ text_is a b h = same_text a b (sym h)
 
 behind_some : (prefix text rest : List ℕ) → behind prefix text ≡ Some rest → text ≡ prefix ++ rest
 behind_some prefix text rest h =
-    let (begins, is) = if_some (bytes_eq (take (length prefix) text) prefix) (drop (length prefix) text) rest h in
-    sym (take-append-drop (length prefix) text) ∙ ap (λ (p : List ℕ). p ++ drop (length prefix) text) (text_is (take (length prefix) text) prefix begins) ∙ ap (λ (r : List ℕ). prefix ++ r) is
+    let (begins, is) = if_some (bytes_eq (take (length prefix) text) prefix)
+    (drop (length prefix) text) rest h in
+    sym (take-append-drop (length prefix) text)
+    ∙ ap (λ (p : List ℕ). p ++ drop (length prefix) text)
+    (text_is (take (length prefix) text) prefix begins) ∙ ap (λ (r : List ℕ). prefix ++ r) is
 
-cut_step : (c x : ℕ) (xs : List ℕ) (r : Option (List ℕ × List ℕ)) (a b : List ℕ) → ((u v : List ℕ) → r ≡ Some (u, v) → xs ≡ u ++ c ∷ v)
-    → option_map {T = List ℕ × List ℕ} {U = List ℕ × List ℕ} (λ p. (x ∷ p.0, p.1)) r ≡ Some (a, b) → x ∷ xs ≡ a ++ c ∷ b
+cut_step : (c x : ℕ) (xs : List ℕ) (r : Option (List ℕ × List ℕ)) (a b : List ℕ)
+    → ((u v : List ℕ) → r ≡ Some (u, v) → xs ≡ u ++ c ∷ v)
+    → option_map {T = List ℕ × List ℕ} {U = List ℕ × List ℕ} (λ p. (x ∷ p.0, p.1)) r ≡ Some (a, b)
+    → x ∷ xs ≡ a ++ c ∷ b
 cut_step c x xs None a b more h = absurd (cc)
 cut_step c x xs (Some p) a b more h =
     let whole = pair_is (x ∷ p.0, p.1) (a, b) h in
@@ -40,8 +46,11 @@ cut_step c x xs (Some p) a b more h =
     let back : p.1 ≡ b = ap (λ (q : List ℕ × List ℕ). q.1) whole in
     rw (← front, ← back) (ap (λ (ys : List ℕ). x ∷ ys) (more p.0 p.1 refl))
 
-cut_by : (c x : ℕ) (xs : List ℕ) (here : Bool) (a b : List ℕ) → (x == c) ≡ here → ((u v : List ℕ) → cut c xs ≡ Some (u, v) → xs ≡ u ++ c ∷ v)
-    → cond {A = Option (List ℕ × List ℕ)} here (Some ([], xs)) (option_map {T = List ℕ × List ℕ} {U = List ℕ × List ℕ} (λ p. (x ∷ p.0, p.1)) (cut c xs)) ≡ Some (a, b) → x ∷ xs ≡ a ++ c ∷ b
+cut_by : (c x : ℕ) (xs : List ℕ) (here : Bool) (a b : List ℕ) → (x == c) ≡ here
+    → ((u v : List ℕ) → cut c xs ≡ Some (u, v) → xs ≡ u ++ c ∷ v)
+    → cond {A = Option (List ℕ × List ℕ)} here (Some ([], xs)) (option_map {T = List ℕ
+    × List ℕ} {U = List ℕ × List ℕ} (λ p. (x ∷ p.0, p.1)) (cut c xs)) ≡ Some (a, b)
+    → x ∷ xs ≡ a ++ c ∷ b
 cut_by c x xs true a b e more h =
     let whole = pair_is ([], xs) (a, b) h in
     let front : ◌≡◌ {A = List ℕ} [] a = ap (λ (q : List ℕ × List ℕ). q.0) whole in
@@ -55,15 +64,27 @@ cut_some c (x ∷ xs) a b h = cut_by c x xs (x == c) a b refl (λ u v. cut_some 
 
 -- ---- a file's line
 
-file_at_some : (path content : List ℕ) (f : File) → file_at path content ≡ Some f → (path ≡ f.path) × (content ≡ f.content)
+file_at_some : (path content : List ℕ) (f : File) → file_at path content ≡ Some f → (path ≡ f.path)
+    × (content ≡ f.content)
 file_at_some path content f h =
     let is = (if_some _ _ f h).1 in (ap (λ (g : File). g.path) is, ap (λ (g : File). g.content) is)
 
 file_of_some : (line : List ℕ) (f : File) → file_of line ≡ Some f → line ≡ file_text f
 file_of_some line f h =
-    let (rest, is_rest, h1) = bind_some (behind (codes "file ") line) (λ rest. cut 32 rest >>= λ words. behind (codes "txt:") words.1 >>= file_at words.0) f h in
-    let (words, is_words, h2) = bind_some (cut 32 rest) (λ (words : List ℕ × List ℕ). behind (codes "txt:") words.1 >>= file_at words.0) f h1 in
-    let (content, is_content, h3) = bind_some (behind (codes "txt:") words.1) (file_at words.0) f h2 in
+    let (rest, is_rest, h1) =
+    bind_some (behind (codes "file ") line)
+    (λ rest. cut 32 rest >>= λ words. behind (codes "txt:") words.1 >>= file_at words.0) f h in
+    let (
+      words,
+      is_words,
+      h2,
+    ) = bind_some (cut 32 rest) (λ (words : List ℕ
+    × List ℕ). behind (codes "txt:") words.1 >>= file_at words.0) f h1 in
+    let (
+      content,
+      is_content,
+      h3,
+    ) = bind_some (behind (codes "txt:") words.1) (file_at words.0) f h2 in
     let (path, bytes) = file_at_some words.0 content f h3 in
     behind_some (codes "file ") line rest is_rest
     ∙ ap (λ (r : List ℕ). codes "file " ++ r)
@@ -90,10 +111,17 @@ pub record Both (o : Option File) (os : Option (List File)) (fs : List File) : T
   pub are_others : os ≡ Some others
   pub whole : first ∷ others ≡ fs
 
-onto_some : (o : Option File) (os : Option (List File)) (fs : List File) → onto o os ≡ Some fs → Both o os fs
+onto_some : (o : Option File) (os : Option (List File)) (fs : List File) → onto o os ≡ Some fs
+    → Both o os fs
 onto_some None os fs h = absurd (cc)
 onto_some (Some f) None fs h = absurd (cc)
-onto_some (Some f) (Some gs) fs h = record { first = f; others = gs; is_first = refl; are_others = refl; whole = cc }
+onto_some (Some f) (Some gs) fs h = record {
+  first = f;
+  others = gs;
+  is_first = refl;
+  are_others = refl;
+  whole = cc;
+}
 
 join_cons : (line : List ℕ) (others : List (List ℕ)) (gs : List File) → files_of others ≡ Some gs
     → join_with_byte 10 (line ∷ others) ≡ line ++ 10 ∷ join_with_byte 10 others
@@ -103,9 +131,12 @@ join_cons line (more ∷ others) gs h = refl
 regroup : (a b c : List ℕ) → a ++ 10 ∷ (b ++ c) ≡ ((a ++ 10 ∷ []) ++ b) ++ c
 regroup a b c = simp append_assoc
 
-files_by : (line : List ℕ) (others : List (List ℕ)) (ends : Bool) (fs : List File) → bytes_eq line (codes "end") ≡ ends
-    → ((gs : List File) → files_of others ≡ Some gs → join_with_byte 10 others ≡ flat_map file_line gs ++ codes "end\n")
-    → cond ends (cond (is_over others) (Some []) None) (onto (file_of line) (files_of others)) ≡ Some fs
+files_by : (line : List ℕ) (others : List (List ℕ)) (ends : Bool) (fs : List File)
+    → bytes_eq line (codes "end") ≡ ends
+    → ((gs : List File) → files_of others ≡ Some gs
+    → join_with_byte 10 others ≡ flat_map file_line gs ++ codes "end\n")
+    → cond ends (cond (is_over others) (Some []) None) (onto (file_of line) (files_of others))
+    ≡ Some fs
     → join_with_byte 10 (line ∷ others) ≡ flat_map file_line fs ++ codes "end\n"
 files_by line others true fs e more h =
     let (over, none) = if_some (is_over others) [] fs h in
@@ -113,32 +144,41 @@ files_by line others true fs e more h =
 files_by line others false fs e more h =
     let both = onto_some (file_of line) (files_of others) fs h in
     join_cons line others both.others both.are_others
-    ∙ ap (λ (front : List ℕ). front ++ 10 ∷ join_with_byte 10 others) (file_of_some line both.first both.is_first)
+    ∙ ap (λ (front : List ℕ). front ++ 10 ∷ join_with_byte 10 others)
+    (file_of_some line both.first both.is_first)
     ∙ ap (λ (rest : List ℕ). file_text both.first ++ 10 ∷ rest) (more both.others both.are_others)
     ∙ regroup (file_text both.first) (flat_map file_line both.others) (codes "end\n")
     ∙ ap (λ (all : List File). flat_map file_line all ++ codes "end\n") both.whole
 
-files_some : (ls : List (List ℕ)) (fs : List File) → files_of ls ≡ Some fs → join_with_byte 10 ls ≡ flat_map file_line fs ++ codes "end\n"
+files_some : (ls : List (List ℕ)) (fs : List File) → files_of ls ≡ Some fs
+    → join_with_byte 10 ls ≡ flat_map file_line fs ++ codes "end\n"
 files_some [] fs h = absurd (cc)
-files_some (line ∷ others) fs h = files_by line others (bytes_eq line (codes "end")) fs refl (λ gs. files_some others gs) h
+files_some (line ∷ others) fs h =
+    files_by line others (bytes_eq line (codes "end")) fs refl (λ gs. files_some others gs) h
 
 few_some : (files fs : List File) → few files ≡ Some fs → files ≡ fs
 few_some files fs h = (if_some (nat_le (length files) 256) files fs h).1
 
-list_by : (line : List ℕ) (others : List (List ℕ)) (begins : Bool) (fs : List File) → bytes_eq line (codes "imalist 1") ≡ begins
-    → cond begins (files_of others >>= few) None ≡ Some fs → join_with_byte 10 (line ∷ others) ≡ spelled fs
+list_by : (line : List ℕ) (others : List (List ℕ)) (begins : Bool) (fs : List File)
+    → bytes_eq line (codes "imalist 1") ≡ begins
+    → cond begins (files_of others >>= few) None ≡ Some fs
+    → join_with_byte 10 (line ∷ others) ≡ spelled fs
 list_by line others true fs e h =
     let (files, are, few_are) = bind_some (files_of others) few fs h in
     join_cons line others files are
-    ∙ ap (λ (front : List ℕ). front ++ 10 ∷ join_with_byte 10 others) (text_is line (codes "imalist 1") e)
+    ∙ ap (λ (front : List ℕ). front ++ 10 ∷ join_with_byte 10 others)
+    (text_is line (codes "imalist 1") e)
     ∙ ap (λ (rest : List ℕ). codes "imalist 1\n" ++ rest) (files_some others files are)
     ∙ ap (λ (all : List File). spelled all) (few_some files fs few_are)
 list_by line others false fs e h = absurd (cc)
 
-list_some : (ls : List (List ℕ)) (fs : List File) → list_of ls ≡ Some fs → join_with_byte 10 ls ≡ spelled fs
+list_some : (ls : List (List ℕ)) (fs : List File) → list_of ls ≡ Some fs
+    → join_with_byte 10 ls ≡ spelled fs
 list_some [] fs h = absurd (cc)
 list_some (line ∷ others) fs h = list_by line others (bytes_eq line (codes "imalist 1")) fs refl h
 
 -- a text that is read as these files is spelled so
-pub plain_list-spelled : (text : List ℕ) (fs : List File) → plain_list_of text ≡ Some fs → text ≡ spelled fs
-plain_list-spelled text fs h = sym (join_with_byte-slice_split 10 text) ∙ list_some (lines text) fs h
+pub plain_list-spelled : (text : List ℕ) (fs : List File) → plain_list_of text ≡ Some fs
+    → text ≡ spelled fs
+plain_list-spelled text fs h = sym (join_with_byte-slice_split 10 text)
+    ∙ list_some (lines text) fs h

@@ -17,7 +17,8 @@ is_content bytes = not (is_filled bytes) || is_word 262144 bytes
 
 -- what stands behind a prefix
 abbrev pub behind : List ℕ → List ℕ → Option (List ℕ)
-behind prefix text = if bytes_eq (take (length prefix) text) prefix then Some (drop (length prefix) text) else None
+behind prefix text =
+    if bytes_eq (take (length prefix) text) prefix then Some (drop (length prefix) text) else None
 
 -- what stands before the first separator, and what stands behind it
 abbrev pub cut : ℕ → List ℕ → Option (List ℕ × List ℕ)
@@ -30,11 +31,15 @@ None >>= f = None
 (Some x) >>= f = f x
 
 abbrev pub file_at : List ℕ → List ℕ → Option File
-file_at path content = if is_path path && is_content content then Some (record { path = path; content = content }) else None
+file_at path content =
+    if is_path path && is_content content then Some (record { path = path; content = content })
+    else None
 
 -- `file PATH txt:BYTES`
 abbrev pub file_of : List ℕ → Option File
-file_of line = behind (codes "file ") line >>= λ rest. cut 32 rest >>= λ words. behind (codes "txt:") words.1 >>= file_at words.0
+file_of line =
+    behind (codes "file ") line >>= λ rest. cut 32 rest
+    >>= λ words. behind (codes "txt:") words.1 >>= file_at words.0
 
 abbrev pub onto : Option File → Option (List File) → Option (List File)
 onto None files = None
@@ -51,14 +56,16 @@ is_over (line ∷ more ∷ others) = false
 abbrev pub files_of : List (List ℕ) → Option (List File)
 files_of [] = None
 files_of (line ∷ others) =
-    if bytes_eq line (codes "end") then (if is_over others then Some [] else None) else onto (file_of line) (files_of others)
+    if bytes_eq line (codes "end") then (if is_over others then Some [] else None)
+    else onto (file_of line) (files_of others)
 
 abbrev pub few : List File → Option (List File)
 few files = if nat_le (length files) 256 then Some files else None
 
 abbrev pub list_of : List (List ℕ) → Option (List File)
 list_of [] = None
-list_of (line ∷ others) = if bytes_eq line (codes "imalist 1") then files_of others >>= few else None
+list_of (line ∷ others) =
+    if bytes_eq line (codes "imalist 1") then files_of others >>= few else None
 
 -- the files of a plain list, where the text is one
 abbrev pub plain_list_of : List ℕ → Option (List File)

@@ -14,42 +14,49 @@ use Rattle.ima_top.specs.commands.Table.{IsOutput, refusal}
 abbrev pub IsStatus : ℕ → Type 0
 IsStatus status =
     (status ≡ DONE) ⊎ (status ≡ USAGE) ⊎ (status ≡ REFUSED) ⊎ (status ≡ STUCK)
-    ⊎ (status ≡ READ_FAULT) ⊎ (status ≡ WRITE_FAULT) ⊎ (status ≡ TOO_LONG) ⊎ (status ≡ OUT_OF_MEMORY)
+    ⊎ (status ≡ READ_FAULT) ⊎ (status ≡ WRITE_FAULT)
+    ⊎ (status ≡ TOO_LONG) ⊎ (status ≡ OUT_OF_MEMORY)
 
 -- a status that comes only where the input was read to its end
 abbrev pub IsPastReading : ℕ → Type 0
-IsPastReading status = (status ≡ DONE) ⊎ (status ≡ REFUSED) ⊎ (status ≡ STUCK) ⊎ (status ≡ WRITE_FAULT)
+IsPastReading status =
+    (status ≡ DONE) ⊎ (status ≡ REFUSED) ⊎ (status ≡ STUCK) ⊎ (status ≡ WRITE_FAULT)
 
--- The input of a command that reads is what the source gave, and that of another is empty. A property of it, where the
--- source has `old` left before and `new` after.
+-- The input of a command that reads is what the source gave, and that of another is empty. A
+-- property of it, where the source has `old` left before and `new` after.
 pub record OnInput (reads : Bool) (old new : Option (List ℕ)) (P : List ℕ → Type 0) : Type 0 where
   pub input : List ℕ
   pub given : reads ≡ true → Consumes old new input
   pub unread : reads ≡ false → input ≡ []
   pub holds : P input
 
--- what a command will have as its input, where it is read to the end of a source that has these bytes left
+-- what a command will have as its input, where it is read to the end of a source that has these
+-- bytes left
 abbrev pub input_left : Bool → Option (List ℕ) → Option (List ℕ)
 input_left true left = left
 input_left false left = Some []
 
 -- an output for the input was written whole
 abbrev pub WroteWhole : Command → List ℕ → Bool → Option (List ℕ) → Option (List ℕ) → Type 0
-WroteWhole command input stuck old new = (output : List ℕ) × IsOutput command input stuck output × Appends old new output
+WroteWhole command input stuck old new =
+    (output : List ℕ) × IsOutput command input stuck output × Appends old new output
 
 -- of an output for the input a prefix was written that is shorter than the output
 abbrev pub WrotePart : Command → List ℕ → Option (List ℕ) → Option (List ℕ) → Type 0
 WrotePart command input old new =
-    (stuck : Bool) × ((output : List ℕ) × IsOutput command input stuck output × TookPart old new output)
+    (stuck : Bool) × ((output : List ℕ) × IsOutput command input stuck output
+    × TookPart old new output)
 
--- The status fits the input of the command, where the output's sink had taken `old` before and `new` after, and `told`
--- says of a line that the note has it.
-pub record Serves (command : Command) (input : List ℕ) (status : ℕ) (old new : Option (List ℕ)) (told : List ℕ → Type 0) : Type 0 where
+-- The status fits the input of the command, where the output's sink had taken `old` before and
+-- `new` after, and `told` says of a line that the note has it.
+pub record Serves (command : Command) (input : List ℕ) (status : ℕ) (old new : Option (List ℕ))
+    (told : List ℕ → Type 0) : Type 0 where
   -- at most one byte more than an input may have is asked of the source
   pub asked : length input ≤ MOST_INPUT + 1
   pub too_long : (status ≡ TOO_LONG) ↔ (MOST_INPUT < length input)
   -- the input is in the command's grammar or not
-  pub fits : (status ≡ DONE) ⊎ (status ≡ STUCK) ⊎ (status ≡ WRITE_FAULT) → refusal command input ≡ None
+  pub fits : (status ≡ DONE) ⊎ (status ≡ STUCK) ⊎ (status ≡ WRITE_FAULT)
+      → refusal command input ≡ None
   pub refused : status ≡ REFUSED → IsSome (refusal command input)
   -- what was written
   pub written : status ≡ DONE → WroteWhole command input false old new
@@ -59,10 +66,14 @@ pub record Serves (command : Command) (input : List ℕ) (status : ℕ) (old new
   pub told_cause : status ≡ REFUSED → IfSome (refusal command input) told
 
 -- the same by cases on what the command came to
-abbrev pub Performed : Command → List ℕ → Option (List ℕ) → Option (List ℕ) → Result (Unit {0}) NotDone → Type 0
-Performed command input old new (Ok _) = (refusal command input ≡ None) × WroteWhole command input false old new
-Performed command input old new (Err Stuck) = (refusal command input ≡ None) × WroteWhole command input true old new
-Performed command input old new (Err WriteFault) = (refusal command input ≡ None) × WrotePart command input old new
+abbrev pub Performed : Command → List ℕ → Option (List ℕ) → Option (List ℕ)
+    → Result (Unit {0}) NotDone → Type 0
+Performed command input old new (Ok _) =
+    (refusal command input ≡ None) × WroteWhole command input false old new
+Performed command input old new (Err Stuck) =
+    (refusal command input ≡ None) × WroteWhole command input true old new
+Performed command input old new (Err WriteFault) =
+    (refusal command input ≡ None) × WrotePart command input old new
 Performed command input old new (Err (Refused line)) = refusal command input ≡ Some line.items
 Performed command input old new (Err _) = ⊤
 

@@ -54,11 +54,13 @@ impl Command {
         }
     }
 
-    /// What the command answers to the input: `Refused` where the input isn't in its grammar, or `OutOfMemory`.
+    /// What the command answers to the input: `Refused` where the input isn't in its grammar, or
+    /// `OutOfMemory`.
     #[tactic(auto, unfolding(crate::specs::commands::Table::refusal, crate::specs::commands::Table::IsOutput))]
     pub fn answer(self, alloc: Global, input: &[u8]) -> Result<Answer, NotDone>
         requires { length input.now ≤ MOST_INPUT }
-        ensures { Answers result (refusal self input.now) (λ answer. IsOutput self input.now answer.stuck answer.output.items) }
+        ensures { Answers result (refusal self input.now)
+            (λ answer. IsOutput self input.now answer.stuck answer.output.items) }
     {
         match self {
             Command::List => Ok(Answer {

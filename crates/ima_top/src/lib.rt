@@ -1,11 +1,11 @@
-//! The top call of the program: from the words of the command line and the bytes of the input to the bytes of
-//! the output and the exit status.
+//! The top call of the program: from the words of the command line and the bytes of the input to
+//! the bytes of the output and the exit status.
 //!
-//! [`serve`] is generic over the outside, so its contract speaks of the bytes that a source gives and that
-//! sinks take. It speaks of every command by the same words: whether it reads, what refuses an input, and what
-//! is an output for it (`specs/commands/Table.antt`). A command has a file `src/commands/NAME.rt` with its
-//! definitions beside it in `specs/commands/Name.antt`, and a row in each table of `src/commands.rt`,
-//! `specs/commands/Table.antt` and `specs/Words.antt`.
+//! [`serve`] is generic over the outside, so its contract speaks of the bytes that a source gives
+//! and that sinks take. It speaks of every command by the same words: whether it reads, what
+//! refuses an input, and what is an output for it (`specs/commands/Table.antt`). A command has a
+//! file `src/commands/NAME.rt` with its definitions beside it in `specs/commands/Name.antt`, and a
+//! row in each table of `src/commands.rt`, `specs/commands/Table.antt` and `specs/Words.antt`.
 #![tactic(auto)]
 
 mod commands;

@@ -16,7 +16,8 @@ use text_forms::{is_path, is_word};
 fn cut(text: &[u8], separator: u8) -> Option<(&[u8], &[u8])>
     ensures value { option_map (λ p. (p.0.now, p.1.now)) result ≡ cut separator text.now }
     ensures parts { MatchOption result (slice_split (λ b. b == separator) text.now ≡ text.now ∷ [])
-        (λ p. slice_split (λ b. b == separator) text.now ≡ p.0.now ∷ slice_split (λ b. b == separator) p.1.now) }
+        (λ p. slice_split (λ b. b == separator) text.now
+        ≡ p.0.now ∷ slice_split (λ b. b == separator) p.1.now) }
     ensures shorter { IfSome result (λ p. length p.1.now < length text.now) }
 {
     let at = memchr(separator, text)?;
@@ -43,7 +44,8 @@ fn file_of(line: &[u8]) -> Option<FileLine<'_>>
 }
 
 fn files_of(alloc: Global, text: &[u8]) -> Result<Option<Vec<FileLine<'_>>>, OutOfMemory>
-    ensures { IfOk result (λ files. option_map (λ v. map file_view v.items) files ≡ files_of (lines text.now)) }
+    ensures { IfOk result
+        (λ files. option_map (λ v. map file_view v.items) files ≡ files_of (lines text.now)) }
 {
     let mut files = Vec::new(alloc);
     let mut rest = text;
@@ -65,10 +67,12 @@ fn files_of(alloc: Global, text: &[u8]) -> Result<Option<Vec<FileLine<'_>>>, Out
 
 /// The files of a plain list, or `None` exactly where the text is no plain list.
 pub fn plain_list(alloc: Global, text: &[u8]) -> Result<Option<Vec<FileLine<'_>>>, OutOfMemory>
-    ensures value { IfOk result (λ files. option_map (λ v. map file_view v.items) files ≡ plain_list_of text.now) }
+    ensures value { IfOk result
+        (λ files. option_map (λ v. map file_view v.items) files ≡ plain_list_of text.now) }
 
     // It is the text of these files, byte for byte.
-    ensures spelled { IfOk result (λ found. IfSome found (λ files. text.now ≡ spelled (map file_view files.items))) }
+    ensures spelled { IfOk result
+        (λ found. IfSome found (λ files. text.now ≡ spelled (map file_view files.items))) }
 {
     let Some((head, rest)) = cut(text, b'\n') else {
         return Ok(None);

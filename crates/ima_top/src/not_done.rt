@@ -8,9 +8,9 @@ use crate::status::{OUT_OF_MEMORY, READ_FAULT, REFUSED, STUCK, TOO_LONG, USAGE, 
 use ima_io::{Failed, ReadErr};
 use std::alloc::{AllocError, AllocFailed};
 
-/// Why a command was not done: one variant for each status but `DONE`. A command itself answers only `Refused`
-/// and `OutOfMemory`; the others are of the call around it, and take the place of `ReadErr` and `Failed`, which
-/// say no more than that reading or writing failed.
+/// Why a command was not done: one variant for each status but `DONE`. A command itself answers
+/// only `Refused` and `OutOfMemory`; the others are of the call around it, and take the place of
+/// `ReadErr` and `Failed`, which say no more than that reading or writing failed.
 #[derive(Debug, Drop)]
 pub enum NotDone {
     /// The words are no command.

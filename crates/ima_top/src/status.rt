@@ -9,13 +9,15 @@ pub const USAGE: u8 = 1;
 /// The input isn't in the command's grammar. Nothing was written.
 pub const REFUSED: u8 = 2;
 
-/// The output was written whole, but the run that it reports is stuck. No command of today runs tasks.
+/// The output was written whole, but the run that it reports is stuck. No command of today runs
+/// tasks.
 pub const STUCK: u8 = 3;
 
 /// The source of the input failed. Nothing was written.
 pub const READ_FAULT: u8 = 4;
 
-/// The sink of the output failed. A prefix of the output that is shorter than the output was written.
+/// The sink of the output failed. A prefix of the output that is shorter than the output was
+/// written.
 pub const WRITE_FAULT: u8 = 5;
 
 /// The source gave more bytes than an input may have. Nothing was written.

@@ -51,14 +51,18 @@ fn perform<S: Source, K: Sink>(
 ) -> Result<(), NotDone>
     ensures words { status_of result ≢ USAGE }
     ensures unread { reads command ≡ false → script.new ≡ script.old }
-    ensures whole_input { reads command ≡ true → IsPastReading (status_of result) → IsAtEnd (S.left script.new) }
-    ensures read_fault { status_of result ≡ READ_FAULT → Rose (S.faults script.old) (S.faults script.new) }
+    ensures whole_input { reads command ≡ true → IsPastReading (status_of result)
+        → IsAtEnd (S.left script.new) }
+    ensures read_fault { status_of result ≡ READ_FAULT
+        → Rose (S.faults script.old) (S.faults script.new) }
     ensures input { OnInput (reads command) (S.left script.old) (S.left script.new) (λ input.
-        (length input ≤ MOST_INPUT + 1) × ((status_of result ≡ TOO_LONG) ↔ (MOST_INPUT < length input))
+        (length input ≤ MOST_INPUT + 1)
+        × ((status_of result ≡ TOO_LONG) ↔ (MOST_INPUT < length input))
         × Performed command input (K.taken out.old) (K.taken out.new) result) }
-    ensures unwritten { status_of result ≢ DONE → status_of result ≢ STUCK → status_of result ≢ WRITE_FAULT →
-        out.new ≡ out.old }
-    ensures write_fault { status_of result ≡ WRITE_FAULT → Rose (K.faults out.old) (K.faults out.new) }
+    ensures unwritten { status_of result ≢ DONE → status_of result ≢ STUCK
+        → status_of result ≢ WRITE_FAULT → out.new ≡ out.old }
+    ensures write_fault { status_of result ≡ WRITE_FAULT
+        → Rose (K.faults out.old) (K.faults out.new) }
 {
     let input = read_input(alloc, command, script)?;
     let answer = command.answer(alloc, &input)?;
@@ -72,13 +76,15 @@ fn perform<S: Source, K: Sink>(
 
 // Writes the line to the note. What becomes of it changes no status.
 fn tell<N: Sink>(note: &mut N, line: &[u8])
-    ensures { Told (N.faults note.old) (N.faults note.new) (N.taken note.old) (N.taken note.new) line.now }
+    ensures { Told (N.faults note.old) (N.faults note.new)
+        (N.taken note.old) (N.taken note.new) line.now }
 {
     let _ = write_all(note, line);
 }
 
-/// Runs the command that the words are on the input that `script` gives, writes its output to `out`, and gives
-/// the exit status. What went wrong is told in one line on `note`; a fault of `note` changes no status.
+/// Runs the command that the words are on the input that `script` gives, writes its output to
+/// `out`, and gives the exit status. What went wrong is told in one line on `note`; a fault of
+/// `note` changes no status.
 ///
 /// The words don't hold the program's name. `gate` is passed before each turn of a task.
 pub fn serve<S: Source, K: Sink, N: Sink, G: Gate + Sync>(
@@ -91,16 +97,20 @@ pub fn serve<S: Source, K: Sink, N: Sink, G: Gate + Sync>(
 ) -> u8
     ensures statuses { IsStatus result }
 
-    // The words: `USAGE` comes exactly where they are no command. Then, and by a command that doesn't read, nothing is read.
+    // The words: `USAGE` comes exactly where they are no command. Then, and by a command that
+    // doesn't read, nothing is read.
     ensures usage { (result ≡ USAGE) ↔ IsNone (command_of (map string_bytes words.now)) }
-    ensures unread { reads_input (command_of (map string_bytes words.now)) ≡ false → script.new ≡ script.old }
+    ensures unread { reads_input (command_of (map string_bytes words.now)) ≡ false
+        → script.new ≡ script.old }
 
-    // The input: a command that reads it reads it to its end, but for `READ_FAULT`, `TOO_LONG` and `OUT_OF_MEMORY`.
-    ensures whole_input { reads_input (command_of (map string_bytes words.now)) ≡ true → IsPastReading result →
-        IsAtEnd (S.left script.new) }
+    // The input: a command that reads it reads it to its end, except at `READ_FAULT`, `TOO_LONG` and
+    // `OUT_OF_MEMORY`.
+    ensures whole_input { reads_input (command_of (map string_bytes words.now)) ≡ true
+        → IsPastReading result → IsAtEnd (S.left script.new) }
     ensures read_fault { result ≡ READ_FAULT → Rose (S.faults script.old) (S.faults script.new) }
 
-    // What the status says of the input, of the output that was written, and of the line that refuses the input.
+    // What the status says of the input, of the output that was written, and of the line that
+    // refuses the input.
     ensures served { IfSome (command_of (map string_bytes words.now)) (λ command.
         OnInput (reads command) (S.left script.old) (S.left script.new) (λ input.
         Serves command input result (K.taken out.old) (K.taken out.new)
@@ -113,14 +123,16 @@ pub fn serve<S: Source, K: Sink, N: Sink, G: Gate + Sync>(
     // The note: it takes the line of the status, or fails and takes a prefix of it.
     ensures untold { result ≡ DONE → note.new ≡ note.old }
     ensures told { result ≢ DONE → result ≢ REFUSED →
-        Told (N.faults note.old) (N.faults note.new) (N.taken note.old) (N.taken note.new) (told_of result) }
+        Told (N.faults note.old) (N.faults note.new)
+        (N.taken note.old) (N.taken note.new) (told_of result) }
 
     // Where nothing fails, an input in the command's grammar is answered, unless memory runs out.
     ensures complete { IfSome (command_of (map string_bytes words.now)) (λ command.
         IfSome (input_left (reads command) (S.left script.old)) (λ input.
         length input ≤ MOST_INPUT → refusal command input ≡ None →
         (result ≡ DONE) ⊎ (result ≡ STUCK) ⊎ (result ≡ OUT_OF_MEMORY)
-        ⊎ Rose (S.faults script.old) (S.faults script.new) ⊎ Rose (K.faults out.old) (K.faults out.new))) }
+        ⊎ Rose (S.faults script.old) (S.faults script.new)
+        ⊎ Rose (K.faults out.old) (K.faults out.new))) }
 {
     let _ = gate;
     let result = match command_of(words) {

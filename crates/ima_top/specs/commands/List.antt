@@ -1,4 +1,4 @@
--- The command `list`: the measurement list of a plain list's files, and the registers that it extends.
+-- The command `list`: the measurement list of a plain list's files, and its registers.
 use Rattle.std.specs.Prelude.{◌≡◌, ℕ, List, [], ◌∷◌, ◌++◌, codes, map, flat_map, Option, Some, None, IsSomeAnd}
 use Rattle.std.specs.List.{fold}
 use Rattle.hex.specs.Hex.{encode_lower}
@@ -18,11 +18,13 @@ use Rattle.ima_top.specs.PlainList.{File, plain_list_of}
 
 -- the first entry: nothing was measured before the kernel ran
 abbrev pub boot_entry : Entry
-boot_entry = entry_of 10 ImaNg (zero_digest algo.Sha256) (zero_digest algo.Sha1) (codes "boot_aggregate") []
+boot_entry =
+    entry_of 10 ImaNg (zero_digest algo.Sha256) (zero_digest algo.Sha1) (codes "boot_aggregate") []
 
 -- a file is measured by SHA-256 into register 10
 abbrev pub file_entry : File → Entry
-file_entry f = entry_of 10 ImaNg (digest_of algo.Sha256 f.content) (digest_of algo.Sha1 f.content) f.path []
+file_entry f =
+    entry_of 10 ImaNg (digest_of algo.Sha256 f.content) (digest_of algo.Sha1 f.content) f.path []
 
 -- the entries of the files are added in order; one that is in the list already isn't added
 abbrev pub measured : List File → List Entry
@@ -30,12 +32,14 @@ measured files = fold add (boot_entry ∷ []) (map file_entry files)
 
 -- `pcr BANK 10 HEX`
 abbrev pub register_line : Bank → List ℕ → List ℕ
-register_line b value = with_newline (codes "pcr " ++ bank_word b ++ codes " 10 " ++ encode_lower value)
+register_line b value =
+    with_newline (codes "pcr " ++ bank_word b ++ codes " 10 " ++ encode_lower value)
 
 -- a line for each entry, and register 10 of both banks
 abbrev pub list_text : List Entry → List ℕ
 list_text list =
-    (flat_map ascii_line list ++ register_line bank.Sha1 (replay list bank.Sha1 10)) ++ register_line bank.Sha256 (replay list bank.Sha256 10)
+    (flat_map ascii_line list ++ register_line bank.Sha1 (replay list bank.Sha1 10))
+    ++ register_line bank.Sha256 (replay list bank.Sha256 10)
 
 abbrev pub refusal_of_files : Option (List File) → Option (List ℕ)
 refusal_of_files None = Some (with_newline (codes "not a plain list"))
@@ -47,4 +51,5 @@ list_refusal input = refusal_of_files (plain_list_of input)
 
 -- the output for a plain list is the text of its files' measurement list
 unfoldable pub IsListOutput : List ℕ → List ℕ → Type 0
-IsListOutput input output = IsSomeAnd (plain_list_of input) (λ files. output ≡ list_text (measured files))
+IsListOutput input output =
+    IsSomeAnd (plain_list_of input) (λ files. output ≡ list_text (measured files))

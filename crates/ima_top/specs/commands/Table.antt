@@ -1,5 +1,5 @@
--- The commands: which of them read, what refuses an input, and what is an output for it. Each command is a row of each
--- table, and what the row says stands in the command's own file.
+-- The commands: which of them read, what refuses an input, and what is an output for it. Each
+-- command is a row of each table, and what the row says stands in the command's own file.
 use Rattle.std.specs.Prelude.{◌≡◌, ℕ, Bool, true, false, List, Option}
 use Rattle.ima_top.specs.declared.commands.Command.{Command}
 use Rattle.ima_top.specs.declared.commands.Command.TheVariants as command
@@ -16,8 +16,9 @@ unfoldable pub refusal : Command → List ℕ → Option (List ℕ)
 refusal command.List input = list_refusal input
 refusal command.Policy input = policy_refusal input
 
--- The bytes are an output for the input, of a run that is stuck or isn't. This is a relation and no function, since an
--- input whose tasks run on threads has several outputs. A command without tasks is never stuck.
+-- The bytes are an output for the input, of a run that is stuck or isn't. This is a relation and no
+-- function, since an input whose tasks run on threads has several outputs. A command without tasks
+-- is never stuck.
 unfoldable pub IsOutput : Command → List ℕ → Bool → List ℕ → Type 0
 IsOutput command.List input stuck output = (stuck ≡ false) × IsListOutput input output
 IsOutput command.Policy input stuck output = (stuck ≡ false) × IsPolicyOutput input output

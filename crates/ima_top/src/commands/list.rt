@@ -1,4 +1,4 @@
-// The command `list`: the measurement list of the files of a plain list, and the registers that it extends.
+// The command `list`: the measurement list of the files of a plain list, and its registers.
 ghost use Rattle.std.specs.Prelude.{◌≡◌, ◌∷◌, [], ◌++◌, map, flat_map, IfOk, OnOk};
 ghost use Rattle.hash_algos.specs.Digest.{digest_of};
 ghost use Rattle.ima_templates.specs.Replay.{banks_of};
@@ -22,7 +22,8 @@ use std::alloc::Global;
 /// The measurement list of the files, or the line that says that the input isn't a plain list.
 #[tactic(auto, unfolding(crate::specs::commands::List::list_refusal, crate::specs::commands::List::IsListOutput))]
 pub fn answer(alloc: Global, input: &[u8]) -> Result<Vec<u8>, NotDone>
-    ensures { Answers result (list_refusal input.now) (λ output. IsListOutput input.now output.items) }
+    ensures { Answers result (list_refusal input.now)
+        (λ output. IsListOutput input.now output.items) }
 {
     let Some(files) = plain_list(alloc, input)? else {
         return Err(NotDone::Refused(Vec::from_slice(alloc, b"not a plain list\n")?));

@@ -13,7 +13,8 @@ use std::alloc::Global;
 #[tactic(auto, unfolding(crate::specs::commands::Policy::policy_refusal, crate::specs::commands::Policy::IsPolicyOutput))]
 pub fn answer(alloc: Global, input: &[u8]) -> Result<Vec<u8>, NotDone>
     requires { length input.now ≤ MOST_INPUT }
-    ensures { Answers result (policy_refusal input.now) (λ output. IsPolicyOutput input.now output.items) }
+    ensures { Answers result (policy_refusal input.now)
+        (λ output. IsPolicyOutput input.now output.items) }
 {
     match parse(alloc, input) {
         Ok(policy) => Ok(print(alloc, &policy)?),

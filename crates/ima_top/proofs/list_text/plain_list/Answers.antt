@@ -7,5 +7,6 @@ use Rattle.ima_top.proofs.list_text.plain_list.Goals as goal
 
 pub returns-in-Some-2-clause-spelled : goal.returns-in-Some-2-clause-spelled
 returns-in-Some-2-clause-spelled c =
-    let is : Some (map file_view c.in-Some-2.files.items) ≡ plain_list_of c.args.text.now = grind (arith, common_steps) in
+    let is : Some (map file_view c.in-Some-2.files.items) ≡ plain_list_of c.args.text.now =
+    grind (arith, common_steps) in
     plain_list-spelled c.args.text.now (map file_view c.in-Some-2.files.items) (sym is)
