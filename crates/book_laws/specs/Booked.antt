@@ -1,4 +1,5 @@
--- What an inode's pass of the measurement list has of the inode's journal, which is read from its newest event back.
+-- What an inode's pass of the measurement list has of the inode's journal, which is read from its
+-- newest event back.
 use Rattle.std.specs.Prelude.{◌≡◌, ◌<◌, List, [], ◌∷◌, ◌++◌, length, take, All, Option, Some, None}
 use mathlib.Core.List.{IsPrefix}
 use Rattle.ima_templates.specs.Same.{add, place_of_same, placed}
@@ -21,15 +22,19 @@ abbrev pub IsNewIn : List Entry → Option Listed → Type 0
 IsNewIn list None = Unit {0}
 IsNewIn list (Some added) = place_of_same (take added.0 list) added.1 ≡ None
 
+-- the same of all that is added
 abbrev pub AreNewIn : List Entry → List Mention → Type 0
 AreNewIn list [] = Unit {0}
 AreNewIn list (m ∷ earlier) = IsNewIn list m.added × AreNewIn list earlier
 
+-- each entry that the journal adds is the same as no entry before it in the list
 abbrev pub AddsNew : Inode → List Entry → List Event → Type 0
 AddsNew inode list events = AreNewIn list (mentions inode events)
 
--- the pass has the entries that the journal adds, and the list that it has seen has what the journal says of it
-pub record IsBooked (inode : Inode) (events : List Event) (seen : List Entry) (mine : List Listed) : Type 0 where
+-- the pass has the entries that the journal adds, and the list that it has seen has what the
+-- journal says of it
+pub record IsBooked (inode : Inode) (events : List Event) (seen : List Entry)
+    (mine : List Listed) : Type 0 where
   -- its own entries are those that the journal adds
   pub mine_is : mine ≡ entries_added inode events
   -- what an event adds stands at its place, and what it finds stands there first
@@ -43,14 +48,17 @@ pub record IsBooked (inode : Inode) (events : List Event) (seen : List Entry) (m
 
 -- ---- what a step does to the pass
 
--- the entry is added to this list by the pass: what it has seen, and its own entries, before and then
-pub record BooksEntry (list : List Entry) (e : Entry) (old new : List Entry) (had has : List Listed) : Type 0 where
+-- the entry is added to this list by the pass: what it has seen, and its own entries, before and
+-- then
+pub record BooksEntry (list : List Entry) (e : Entry) (old new : List Entry)
+    (had has : List Listed) : Type 0 where
   pub before : IsPrefix old list
   pub seen : new ≡ add list e
   pub mine : has ≡ had ++ listed_in (added_by (placed list e) e)
 
 -- the same where the step asks for an entry, and nothing else
-abbrev pub Books : List Entry → Option Entry → List Entry → List Entry → List Listed → List Listed → Type 0
+abbrev pub Books : List Entry → Option Entry → List Entry → List Entry → List Listed → List Listed
+    → Type 0
 Books list None old new had has = (new ≡ old) × (has ≡ had)
 Books list (Some e) old new had has = BooksEntry list e old new had has
 
@@ -62,15 +70,19 @@ told_on who d t before = record { who = who; deed = d; told = t } ∷ before
 
 -- a birth adds and finds nothing
 abbrev pub KeptAtBirth : Type 0
-KeptAtBirth = (inode : Inode) (who : Who) (t : Told) → IsBooked inode (told_on who deed.Birth t []) [] []
+KeptAtBirth =
+    (inode : Inode) (who : Who) (t : Told) → IsBooked inode (told_on who deed.Birth t []) [] []
 
 -- a look of the pass keeps the facts
 abbrev pub KeptByLook : Type 0
-KeptByLook = (inode : Inode) (p : List Event) (seen seen2 : List Entry) (mine : List Listed) → IsPrefix seen seen2
+KeptByLook = (inode : Inode) (p : List Event) (seen seen2 : List Entry) (mine : List Listed)
+    → IsPrefix seen seen2
     → IsBooked inode p seen mine → IsBooked inode p seen2 mine
 
 -- any event that is told by the list keeps them
 abbrev pub KeptByOutcome : Type 0
-KeptByOutcome = (inode : Inode) (p : List Event) (who : Who) (d : Deed) (t : Told) (list seen seen2 : List Entry) (mine mine2 : List Listed)
-    → IsBooked inode p seen mine → Books list (asked inode d p) seen seen2 mine mine2 → outcome inode list d p ≡ Some t
+KeptByOutcome = (inode : Inode) (p : List Event) (who : Who) (d : Deed) (t : Told)
+    (list seen seen2 : List Entry) (mine mine2 : List Listed)
+    → IsBooked inode p seen mine → Books list (asked inode d p) seen seen2 mine mine2
+    → outcome inode list d p ≡ Some t
     → IsBooked inode (told_on who d t p) seen2 mine2

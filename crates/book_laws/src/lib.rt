@@ -1,4 +1,5 @@
-//! What the pass of the measurement list that an inode holds has of the inode's journal: kept by a look and by each event.
+//! What the pass of the measurement list that an inode holds has of the inode's journal: kept by a
+//! look and by each event.
 //!
 //! Each law is the contract of a function that does nothing.
 #![tactic(auto)]

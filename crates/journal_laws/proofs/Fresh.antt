@@ -1,4 +1,5 @@
--- Freshness: while nothing was written since its begin, a collection has taken the content as it is, and the digest and the
+-- Freshness: while nothing was written since its begin, a collection has taken the content as it
+-- is, and the digest and the
 -- verdicts in force are those computed anew. Where something was written, a writer is still there.
 use Rattle.std.proofs.Common.{◌≡◌, ℕ, ◌+◌, ◌*◌, ◌<◌, ◌≤◌, suc, Bool, true, false, cond, List, [], ◌∷◌, ◌++◌, length, take, drop, Option, Some, None, refl, sym, ◌∙◌, ap, subst, arith}
 use Rattle.std.specs.Prelude.{◌==◌}
@@ -41,7 +42,8 @@ CollectionIs i p None = Unit {0}
 CollectionIs i p (Some c) =
     (c.begin < length p)
     × (modified_since c.begin p ≡ true → cond c.closing 1 0 < writers p)
-    × (modified_since c.begin p ≡ false → (c.bytes ≡ take (4096 * c.pieces) (content p)) × (c.complete ≡ true → c.bytes ≡ content p))
+    × (modified_since c.begin p ≡ false → (c.bytes ≡ take (4096 * c.pieces) (content p))
+    × (c.complete ≡ true → c.bytes ≡ content p))
     × (c.algo ≡ cond c.closing i.settings.hash (chosen_algo i p))
     × (c.closing ≡ false → in_force i p ≡ None)
 
@@ -50,7 +52,8 @@ DigestsIs i p None = Unit {0}
 DigestsIs i p (Some f) =
     (f.begin < length p)
     × (modified_since f.begin p ≡ true → 0 < writers p)
-    × (modified_since f.begin p ≡ false → (f.digest ≡ fresh_digest i p) × (f.sha1 ≡ digest_of Sha1 (content p)))
+    × (modified_since f.begin p ≡ false → (f.digest ≡ fresh_digest i p)
+    × (f.sha1 ≡ digest_of Sha1 (content p)))
 
 abbrev pub FreshUnless : Inode → Key → List Event → Bool → Option Verdict → Type 0
 FreshUnless i k p stale None = Unit {0}
@@ -75,44 +78,63 @@ pub record Still (i : Inode) (p q : List Event) : Type 0 where
   pub content : content q ≡ content p
   pub label : label i q ≡ label i p
 
-pub digest_same : (i : Inode) (p q : List Event) → content q ≡ content p → label i q ≡ label i p → fresh_digest i q ≡ fresh_digest i p
+pub digest_same : (i : Inode) (p q : List Event) → content q ≡ content p → label i q ≡ label i p
+    → fresh_digest i q ≡ fresh_digest i p
 digest_same i p q c l =
-    ap (λ (x : List ℕ). digest_of (chosen_algo i q) x) c ∙ ap (λ (x : Option (List ℕ)). digest_of (collect_algo x i.settings.hash) (content p)) l
+    ap (λ (x : List ℕ). digest_of (chosen_algo i q) x) c
+    ∙ ap (λ (x : Option (List ℕ)). digest_of (collect_algo x i.settings.hash) (content p)) l
 
-pub collection_still : (i : Inode) (p q : List Event) → Still i p q → (in_force i p ≡ None → in_force i q ≡ None)
+pub collection_still : (i : Inode) (p q : List Event) → Still i p q
+    → (in_force i p ≡ None → in_force i q ≡ None)
     → (o : Option Collection) → CollectionIs i p o → CollectionIs i q o
 collection_still i p q still alone None h = tt
 collection_still i p q still alone (Some c) h = (
   omega (arith, h.0, still.longer),
-  (λ w. let a : cond c.closing 1 0 < writers p = h.1 (sym (still.since c.begin) ∙ w) in omega (arith, a, still.writers)),
-  (λ w. let a : (c.bytes ≡ take (4096 * c.pieces) (content p)) × (c.complete ≡ true → c.bytes ≡ content p) = h.2 (sym (still.since c.begin) ∙ w) in
-      (a.0 ∙ sym (ap (λ (x : List ℕ). take (4096 * c.pieces) x) still.content), (λ m. a.1 m ∙ sym still.content))),
-  h.3 ∙ ap (λ (x : Option (List ℕ)). cond c.closing i.settings.hash (collect_algo x i.settings.hash)) (sym still.label),
+  (λ w. let a : cond c.closing 1 0 < writers p = h.1 (sym (still.since c.begin) ∙ w) in
+      omega (arith, a, still.writers)),
+  (λ w. let a : (c.bytes ≡ take (4096 * c.pieces) (content p))
+      × (c.complete ≡ true → c.bytes ≡ content p) = h.2 (sym (still.since c.begin) ∙ w) in (
+        a.0 ∙ sym (ap (λ (x : List ℕ). take (4096 * c.pieces) x) still.content),
+        (λ m. a.1 m ∙ sym still.content),
+      )),
+  h.3 ∙ ap
+      (λ (x : Option (List ℕ)). cond c.closing i.settings.hash (collect_algo x i.settings.hash))
+      (sym still.label),
   (λ k. alone (h.4 k)),
 )
 
-pub digests_still : (i : Inode) (p q : List Event) → Still i p q → (o : Option Digests) → DigestsIs i p o → DigestsIs i q o
+pub digests_still : (i : Inode) (p q : List Event) → Still i p q → (o : Option Digests)
+    → DigestsIs i p o → DigestsIs i q o
 digests_still i p q still None h = tt
 digests_still i p q still (Some f) h = (
   omega (arith, h.0, still.longer),
-  (λ w. let a : 0 < writers p = h.1 (sym (still.since f.begin) ∙ w) in omega (arith, a, still.writers)),
-  (λ w. let a : (f.digest ≡ fresh_digest i p) × (f.sha1 ≡ digest_of Sha1 (content p)) = h.2 (sym (still.since f.begin) ∙ w) in
-      (a.0 ∙ sym (digest_same i p q still.content still.label), a.1 ∙ sym (ap (digest_of Sha1) still.content))),
+  (λ w. let a : 0 < writers p = h.1 (sym (still.since f.begin) ∙ w) in
+      omega (arith, a, still.writers)),
+  (λ w. let a : (f.digest ≡ fresh_digest i p) × (f.sha1 ≡ digest_of Sha1 (content p)) =
+      h.2 (sym (still.since f.begin) ∙ w) in (
+        a.0 ∙ sym (digest_same i p q still.content still.label),
+        a.1
+            ∙ sym (ap (digest_of Sha1) still.content),
+      )),
 )
 
 pub fresh_unless : (i : Inode) (k : Key) (p q : List Event) (s s' : Bool) → s' ≡ s
-    → ((need : Need) (algos : Option AlgoSet) → fresh_verdict i need algos q ≡ fresh_verdict i need algos p)
+    → ((need : Need) (algos : Option AlgoSet)
+    → fresh_verdict i need algos q ≡ fresh_verdict i need algos p)
     → (v : Option Verdict) → FreshUnless i k p s v → FreshUnless i k q s' v
 fresh_unless i k p q s s' e f None h = tt
 fresh_unless i k p q s s' e f (Some v) h = λ w. h (sym e ∙ w) ∙ sym (f k.need k.algos)
 
 pub verdict_still : (i : Inode) (k : Key) (p q : List Event) → Still i p q
-    → (present p ≡ true → (need : Need) (algos : Option AlgoSet) → fresh_verdict i need algos q ≡ fresh_verdict i need algos p)
-    → (v : Option Verdict) (o : Option Digests) → (present p ≡ false → o ≡ None) → VerdictIs i k p v o → VerdictIs i k q v o
+    → (present p ≡ true → (need : Need) (algos : Option AlgoSet)
+    → fresh_verdict i need algos q ≡ fresh_verdict i need algos p)
+    → (v : Option Verdict) (o : Option Digests) → (present p ≡ false → o ≡ None)
+    → VerdictIs i k p v o → VerdictIs i k q v o
 verdict_still i k p q still f v None a h = h
 verdict_still i k p q still f v (Some x) a h = at (present p) refl where
   at : (b : Bool) → present p ≡ b → FreshUnless i k q (modified_since x.begin q) v
-  at true e = fresh_unless i k p q (modified_since x.begin p) (modified_since x.begin q) (still.since x.begin) (f e) v h
+  at true e = fresh_unless i k p q (modified_since x.begin p) (modified_since x.begin q)
+      (still.since x.begin) (f e) v h
   at false e = let n : Some x ≡ None = a e in cc
 
 -- ---- kinds of event
@@ -121,76 +143,107 @@ verdict_still i k p q still f v (Some x) a h = at (present p) refl where
 pub unmodified : (place : ℕ) (p : List Event) → length p ≤ place → modified_since place p ≡ false
 unmodified place [] h = refl
 unmodified place (e ∷ before) h =
-    or_from _ _ (and_right _ _ (lt-leb place (length before) (omega arith))) (unmodified place before (omega arith))
+    or_from _ _ (and_right _ _ (lt-leb place (length before) (omega arith)))
+    (unmodified place before (omega arith))
 
 pub last_told : (content : List ℕ) (o : Option Collection) → chunk_told content o ≡ Some told.Last
     → (c : Collection) → o ≡ Some c → length content ≤ 4096 * (c.pieces + 1)
 last_told content None h c e = cc
 last_told content (Some d) h c e = at (is_last_piece content d.pieces) refl h where
-  at : (b : Bool) → is_last_piece content d.pieces ≡ b → Some (cond b told.Last told.More) ≡ Some told.Last → length content ≤ 4096 * (c.pieces + 1)
-  at true q g = let s : d ≡ c = cc in leb-true (length content) (4096 * (c.pieces + 1)) (sym (ap (λ (x : Collection). is_last_piece content x.pieces) s) ∙ q)
+  at : (b : Bool) → is_last_piece content d.pieces ≡ b
+      → Some (cond b told.Last told.More) ≡ Some told.Last → length content ≤ 4096 * (c.pieces + 1)
+  at true q g =
+      let s : d ≡ c = cc in
+      leb-true (length content) (4096 * (c.pieces + 1))
+      (sym (ap (λ (x : Collection). is_last_piece content x.pieces) s) ∙ q)
   at false q g = cc
 
-pieces_join : (n k : ℕ) (xs bytes : List ℕ) → bytes ≡ take (n * k) xs → (bytes ++ take n (drop (n * k) xs)) ≡ take (n * (k + 1)) xs
+pieces_join : (n k : ℕ) (xs bytes : List ℕ) → bytes ≡ take (n * k) xs
+    → (bytes ++ take n (drop (n * k) xs)) ≡ take (n * (k + 1)) xs
 pieces_join n k xs bytes e =
     let f : n * (k + 1) ≡ n * k + n = grind arith in
-    ap (λ (x : List ℕ). x ++ take n (drop (n * k) xs)) e ∙ sym (take-add (n * k) n xs) ∙ ap (λ (m : ℕ). take m xs) (sym f)
+    ap (λ (x : List ℕ). x ++ take n (drop (n * k) xs)) e ∙ sym (take-add (n * k) n xs)
+    ∙ ap (λ (m : ℕ). take m xs) (sym f)
 
 -- a collection takes its next piece
-pub piece_taken : (i : Inode) (p q : List Event) (complete : Bool) → Still i p q → (in_force i p ≡ None → in_force i q ≡ None)
-    → (o : Option Collection) → (complete ≡ true → (c : Collection) → o ≡ Some c → length (content p) ≤ 4096 * (c.pieces + 1))
+pub piece_taken : (i : Inode) (p q : List Event) (complete : Bool) → Still i p q
+    → (in_force i p ≡ None → in_force i q ≡ None)
+    → (o : Option Collection)
+    → (complete ≡ true → (c : Collection) → o ≡ Some c
+    → length (content p) ≤ 4096 * (c.pieces + 1))
     → CollectionIs i p o → CollectionIs i q (collected_more (content p) complete o)
 piece_taken i p q complete still alone None last h = tt
 piece_taken i p q complete still alone (Some c) last h =
     let old : CollectionIs i q (Some c) = collection_still i p q still alone (Some c) h in
     (old.0, old.1, (λ w. at w (old.2 w)), old.3, old.4) where
-      at : modified_since c.begin q ≡ false → (c.bytes ≡ take (4096 * c.pieces) (content q)) × (c.complete ≡ true → c.bytes ≡ content q)
-          → ((c.bytes ++ piece_at (content p) c.pieces) ≡ take (4096 * (c.pieces + 1)) (content q)) × (complete ≡ true → (c.bytes ++ piece_at (content p) c.pieces) ≡ content q)
+      at : modified_since c.begin q ≡ false → (c.bytes ≡ take (4096 * c.pieces) (content q))
+          × (c.complete ≡ true → c.bytes ≡ content q)
+          → ((c.bytes ++ piece_at (content p) c.pieces) ≡ take (4096 * (c.pieces + 1)) (content q))
+          × (complete ≡ true → (c.bytes ++ piece_at (content p) c.pieces) ≡ content q)
       at w a =
-          let joined : (c.bytes ++ piece_at (content p) c.pieces) ≡ take (4096 * (c.pieces + 1)) (content p) =
-          pieces_join 4096 c.pieces (content p) c.bytes (a.0 ∙ ap (λ (x : List ℕ). take (4096 * c.pieces) x) still.content) in (
+          let joined : (c.bytes ++ piece_at (content p) c.pieces) ≡ take (4096 * (c.pieces + 1))
+          (content p) =
+          pieces_join 4096 c.pieces (content p) c.bytes
+          (a.0 ∙ ap (λ (x : List ℕ). take (4096 * c.pieces) x) still.content) in (
             joined ∙ sym (ap (λ (x : List ℕ). take (4096 * (c.pieces + 1)) x) still.content),
-            (λ m. joined ∙ take_all (4096 * (c.pieces + 1)) (content p) (last m c refl) ∙ sym still.content),
+            (λ m. joined ∙ take_all (4096 * (c.pieces + 1)) (content p) (last m c refl)
+                ∙ sym still.content),
           )
 
 -- a write: the writer that made it is held
-pub collection_written : (i : Inode) (p q : List Event) (g : ℕ) → length q ≡ suc (length p) → ((place : ℕ) → place ≤ length p → modified_since place q ≡ true)
-    → writers q ≡ writers p → label i q ≡ label i p → in_force i q ≡ in_force i p → stage i g p ≡ Settled → is_writing g p ≡ true
+pub collection_written : (i : Inode) (p q : List Event) (g : ℕ) → length q ≡ suc (length p)
+    → ((place : ℕ) → place ≤ length p → modified_since place q ≡ true)
+    → writers q ≡ writers p → label i q ≡ label i p → in_force i q ≡ in_force i p
+    → stage i g p ≡ Settled → is_writing g p ≡ true
     → (o : Option Collection) → StageIs i p o → CollectionIs i p o → CollectionIs i q o
 collection_written i p q g longer since w l fo settled writing None s h = tt
 collection_written i p q g longer since w l fo settled writing (Some c) s h = (
   omega (arith, h.0, longer),
   (λ u. at c.closing refl (s.1)),
   (λ u. let v : modified_since c.begin q ≡ true = since c.begin (omega (arith, h.0)) in cc),
-  h.3 ∙ ap (λ (x : Option (List ℕ)). cond c.closing i.settings.hash (collect_algo x i.settings.hash)) (sym l),
+  h.3 ∙ ap
+      (λ (x : Option (List ℕ)). cond c.closing i.settings.hash (collect_algo x i.settings.hash))
+      (sym l),
   (λ k. fo ∙ h.4 k),
 ) where
   other : (x : Bool) → (g == c.file) ≡ x → x ≡ false
-  other true e = let z : stage i c.file p ≡ Settled = subst (λ (n : ℕ). stage i n p ≡ Settled) (eqb-true g c.file e) settled in
-      let b : is_collecting (stage i c.file p) ≡ true = ap is_collecting s.0 ∙ stage_busy c.closing c.complete in cc (ap is_collecting z)
+  other true e = let z : stage i c.file p ≡ Settled = subst (λ (n : ℕ). stage i n p ≡ Settled)
+      (eqb-true g c.file e) settled in
+      let b : is_collecting (stage i c.file p) ≡ true = ap is_collecting s.0
+      ∙ stage_busy c.closing c.complete in cc (ap is_collecting z)
   other false e = refl
 
-  at : (k : Bool) → c.closing ≡ k → (c.closing ≡ true → is_writing c.file p ≡ true) → cond k 1 0 < writers q
-  at true e f = let two : 1 < writers p = tally_two is_writer g c.file (files p) (other (g == c.file) refl) writing (f e) in omega (arith, two, w)
-  at false e f = let one : 0 < writers p = tally_held is_writer g (files p) writing in omega (arith, one, w)
+  at : (k : Bool) → c.closing ≡ k → (c.closing ≡ true → is_writing c.file p ≡ true)
+      → cond k 1 0 < writers q
+  at true e f = let two : 1 < writers p = tally_two is_writer g c.file (files p)
+      (other (g == c.file) refl) writing (f e) in omega (arith, two, w)
+  at false e f =
+      let one : 0 < writers p = tally_held is_writer g (files p) writing in omega (arith, one, w)
 
-digests_written : (i : Inode) (p q : List Event) (g : ℕ) → length q ≡ suc (length p) → ((place : ℕ) → place ≤ length p → modified_since place q ≡ true)
-    → writers q ≡ writers p → is_writing g p ≡ true → (o : Option Digests) → DigestsIs i p o → DigestsIs i q o
+digests_written : (i : Inode) (p q : List Event) (g : ℕ) → length q ≡ suc (length p)
+    → ((place : ℕ) → place ≤ length p → modified_since place q ≡ true)
+    → writers q ≡ writers p → is_writing g p ≡ true → (o : Option Digests) → DigestsIs i p o
+    → DigestsIs i q o
 digests_written i p q g longer since w writing None h = tt
 digests_written i p q g longer since w writing (Some f) h = (
   omega (arith, h.0, longer),
-  (λ u. let one : 0 < writers p = tally_held is_writer g (files p) writing in omega (arith, one, w)),
+  (λ u. let one : 0 < writers p = tally_held is_writer g (files p) writing in
+      omega (arith, one, w)),
   (λ u. let v : modified_since f.begin q ≡ true = since f.begin (omega (arith, h.0)) in cc),
 )
 
-stale_unless : (i : Inode) (k : Key) (q : List Event) (s : Bool) → s ≡ true → (v : Option Verdict) → FreshUnless i k q s v
+stale_unless : (i : Inode) (k : Key) (q : List Event) (s : Bool) → s ≡ true → (v : Option Verdict)
+    → FreshUnless i k q s v
 stale_unless i k q s e None = tt
 stale_unless i k q s e (Some v) = λ w. cc
 
-verdict_written : (i : Inode) (k : Key) (p q : List Event) → ((place : ℕ) → place ≤ length p → modified_since place q ≡ true)
-    → (v : Option Verdict) (o : Option Digests) → DigestsIs i p o → VerdictIs i k p v o → VerdictIs i k q v o
+verdict_written : (i : Inode) (k : Key) (p q : List Event)
+    → ((place : ℕ) → place ≤ length p → modified_since place q ≡ true)
+    → (v : Option Verdict) (o : Option Digests) → DigestsIs i p o → VerdictIs i k p v o
+    → VerdictIs i k q v o
 verdict_written i k p q since v None f h = h
-verdict_written i k p q since v (Some x) f h = stale_unless i k q (modified_since x.begin q) (since x.begin (omega (arith, f.0))) v
+verdict_written i k p q since v (Some x) f h =
+    stale_unless i k q (modified_since x.begin q) (since x.begin (omega (arith, f.0))) v
 
 pub record Written (i : Inode) (p q : List Event) (g : ℕ) : Type 0 where
   pub longer : length q ≡ suc (length p)
@@ -202,52 +255,67 @@ pub record Written (i : Inode) (p q : List Event) (g : ℕ) : Type 0 where
   pub verdict : (k : Key) → verdict_in_force i k q ≡ verdict_in_force i k p
   pub present : present q ≡ present p
 
-pub write_fresh : (i : Inode) (p q : List Event) (g : ℕ) → Written i p q g → stage i g p ≡ Settled → is_writing g p ≡ true
+pub write_fresh : (i : Inode) (p q : List Event) (g : ℕ) → Written i p q g → stage i g p ≡ Settled
+    → is_writing g p ≡ true
     → StageIs i p (collecting i p) → Fresh i p → Fresh i q
 write_fresh i p q g w settled writing s h = record {
   collection_is = subst (λ (o : Option Collection). CollectionIs i q o) (sym w.collecting)
-      (collection_written i p q g w.longer w.since w.writers w.label w.digests settled writing (collecting i p) s h.collection_is);
-  digests_is = subst (λ (o : Option Digests). DigestsIs i q o) (sym w.digests) (digests_written i p q g w.longer w.since w.writers writing (in_force i p) h.digests_is);
-  verdict_is = λ k. subst (λ (o : Option Digests). VerdictIs i k q (verdict_in_force i k q) o) (sym w.digests)
+      (collection_written i p q g w.longer w.since w.writers w.label w.digests settled writing
+      (collecting i p) s h.collection_is);
+  digests_is = subst (λ (o : Option Digests). DigestsIs i q o) (sym w.digests)
+      (digests_written i p q g w.longer w.since w.writers writing (in_force i p) h.digests_is);
+  verdict_is = λ k. subst (λ (o : Option Digests). VerdictIs i k q (verdict_in_force i k q) o)
+      (sym w.digests)
       (subst (λ (v : Option Verdict). VerdictIs i k q v (in_force i p)) (sym (w.verdict k))
-      (verdict_written i k p q w.since (verdict_in_force i k p) (in_force i p) h.digests_is (h.verdict_is k)));
+      (verdict_written i k p q w.since (verdict_in_force i k p) (in_force i p) h.digests_is
+      (h.verdict_is k)));
   absent = λ a. w.digests ∙ h.absent (sym w.present ∙ a);
 }
 
 -- an event that leaves the digest and the verdicts in force
 pub record Leaves (i : Inode) (p q : List Event) : Type 0 where
   pub still : Still i p q
-  pub fresh : present p ≡ true → (need : Need) (algos : Option AlgoSet) → fresh_verdict i need algos q ≡ fresh_verdict i need algos p
+  pub fresh : present p ≡ true → (need : Need) (algos : Option AlgoSet)
+      → fresh_verdict i need algos q ≡ fresh_verdict i need algos p
   pub digests : in_force i q ≡ in_force i p
   pub verdict : (k : Key) → verdict_in_force i k q ≡ verdict_in_force i k p
   pub present : present q ≡ false → present p ≡ false
 
-pub leaves_fresh : (i : Inode) (p q : List Event) → Leaves i p q → CollectionIs i q (collecting i q) → Fresh i p → Fresh i q
+pub leaves_fresh : (i : Inode) (p q : List Event) → Leaves i p q → CollectionIs i q (collecting i q)
+    → Fresh i p → Fresh i q
 leaves_fresh i p q w c h = record {
   collection_is = c;
-  digests_is = subst (λ (o : Option Digests). DigestsIs i q o) (sym w.digests) (digests_still i p q w.still (in_force i p) h.digests_is);
-  verdict_is = λ k. subst (λ (o : Option Digests). VerdictIs i k q (verdict_in_force i k q) o) (sym w.digests)
+  digests_is = subst (λ (o : Option Digests). DigestsIs i q o) (sym w.digests)
+      (digests_still i p q w.still (in_force i p) h.digests_is);
+  verdict_is = λ k. subst (λ (o : Option Digests). VerdictIs i k q (verdict_in_force i k q) o)
+      (sym w.digests)
       (subst (λ (v : Option Verdict). VerdictIs i k q v (in_force i p)) (sym (w.verdict k))
-      (verdict_still i k p q w.still w.fresh (verdict_in_force i k p) (in_force i p) h.absent (h.verdict_is k)));
+      (verdict_still i k p q w.still w.fresh (verdict_in_force i k p) (in_force i p) h.absent
+      (h.verdict_is k)));
   absent = λ a. w.digests ∙ h.absent (w.present a);
 }
 
-pub kept_fresh : (i : Inode) (p q : List Event) → Leaves i p q → collecting i q ≡ collecting i p → Fresh i p → Fresh i q
+pub kept_fresh : (i : Inode) (p q : List Event) → Leaves i p q → collecting i q ≡ collecting i p
+    → Fresh i p → Fresh i q
 kept_fresh i p q w c h = leaves_fresh i p q w
-    (subst (λ (o : Option Collection). CollectionIs i q o) (sym c) (collection_still i p q w.still (λ n. w.digests ∙ n) (collecting i p) h.collection_is)) h
+    (subst (λ (o : Option Collection). CollectionIs i q o) (sym c)
+    (collection_still i p q w.still (λ n. w.digests ∙ n) (collecting i p) h.collection_is)) h
 
 -- an event that voids both
-pub void_fresh : (i : Inode) (q : List Event) → in_force i q ≡ None → ((k : Key) → verdict_in_force i k q ≡ None) → CollectionIs i q (collecting i q) → Fresh i q
+pub void_fresh : (i : Inode) (q : List Event) → in_force i q ≡ None
+    → ((k : Key) → verdict_in_force i k q ≡ None) → CollectionIs i q (collecting i q) → Fresh i q
 void_fresh i q f v c = record {
   collection_is = c;
   digests_is = subst (λ (o : Option Digests). DigestsIs i q o) (sym f) tt;
-  verdict_is = λ k. subst (λ (o : Option Digests). VerdictIs i k q (verdict_in_force i k q) o) (sym f) (v k);
+  verdict_is =
+      λ k. subst (λ (o : Option Digests). VerdictIs i k q (verdict_in_force i k q) o) (sym f) (v k);
   absent = λ a. f;
 }
 
 -- ---- collections that begin
 
-pub take_begins : (i : Inode) (p : List Event) (g : ℕ) (placed : Placed) (o : Option Collection) (f : Option Digests)
+pub take_begins : (i : Inode) (p : List Event) (g : ℕ) (placed : Placed) (o : Option Collection)
+    (f : Option Digests)
     → unless_collecting o (take_told i g placed f p) ≡ Some told.Begun → f ≡ None
 take_begins i p g placed None None e = refl
 take_begins i p g placed None (Some f) e = cc
@@ -255,57 +323,79 @@ take_begins i p g placed (Some c) f e = cc
 
 -- ---- grants
 
-pub take_grants : (i : Inode) (p : List Event) (g : ℕ) (placed : Placed) (grant : Grant) (o : Option Collection) (f : Option Digests)
-    → unless_collecting o (take_told i g placed f p) ≡ Some (told.Grant grant) → (x : Digests) × ((f ≡ Some x) × (grant_of i g placed x.digest p ≡ grant))
+pub take_grants : (i : Inode) (p : List Event) (g : ℕ) (placed : Placed) (grant : Grant)
+    (o : Option Collection) (f : Option Digests)
+    → unless_collecting o (take_told i g placed f p) ≡ Some (told.Grant grant) → (x : Digests)
+    × ((f ≡ Some x) × (grant_of i g placed x.digest p ≡ grant))
 take_grants i p g placed grant None None e = cc
 take_grants i p g placed grant None (Some f) e = (f, (refl, cc))
 take_grants i p g placed grant (Some c) f e = cc
 
-pub finish_grants : (i : Inode) (p : List Event) (g : ℕ) (placed : Placed) (grant : Grant) (o : Option Collection)
-    → finish_told i g placed o p ≡ Some (told.Grant grant) → (c : Collection) × ((o ≡ Some c) × (grant_of i g placed (digest_from c) p ≡ grant))
+pub finish_grants : (i : Inode) (p : List Event) (g : ℕ) (placed : Placed) (grant : Grant)
+    (o : Option Collection)
+    → finish_told i g placed o p ≡ Some (told.Grant grant) → (c : Collection)
+    × ((o ≡ Some c) × (grant_of i g placed (digest_from c) p ≡ grant))
 finish_grants i p g placed grant None e = cc
 finish_grants i p g placed grant (Some c) e = (c, (refl, cc))
 
 -- a verdict that was in force, or was made from a fresh digest, is fresh
-pub verdict_fresh : (i : Inode) (p : List Event) (k : Key) (digest : Digest) (stale : Bool) → (stale ≡ false → digest ≡ fresh_digest i p)
+pub verdict_fresh : (i : Inode) (p : List Event) (k : Key) (digest : Digest) (stale : Bool)
+    → (stale ≡ false → digest ≡ fresh_digest i p)
     → (v : Option Verdict) → FreshUnless i k p stale v → stale ≡ false
     → unwrap_or v (judged i k.need k.algos digest p) ≡ fresh_verdict i k.need k.algos p
 verdict_fresh i p k digest stale d None h s = ap (λ (x : Digest). judged i k.need k.algos x p) (d s)
 verdict_fresh i p k digest stale d (Some v) h s = h s
 
 -- what a grant keeps under a key
-pub given_fresh : (i : Inode) (p : List Event) (k : Key) (check : Check) (digest : Digest) (stale : Bool) → (stale ≡ false → digest ≡ fresh_digest i p)
+pub given_fresh : (i : Inode) (p : List Event) (k : Key) (check : Check) (digest : Digest)
+    (stale : Bool) → (stale ≡ false → digest ≡ fresh_digest i p)
     → ((k : Key) → FreshUnless i k p stale (verdict_in_force i k p))
     → FreshUnless i k p stale
-    (cond (same_key k (key_of check)) (option_or (verdict_for i check digest p) (verdict_in_force i k p)) (verdict_in_force i k p))
-given_fresh i p k check digest stale d h = at (same_key k (key_of check)) refl (appraises i check.action) where
-  at : (b : Bool) → same_key k (key_of check) ≡ b → (a : Bool)
-      → FreshUnless i k p stale (cond b (option_or
-      (cond a (Some (unwrap_or (verdict_in_force i (key_of check) p) (judged i check.action.need check.action.algos digest p))) None)
-      (verdict_in_force i k p)) (verdict_in_force i k p))
-  at false e a = h k
-  at true e false = h k
-  at true e true = subst
-      (λ (x : Key). FreshUnless i x p stale (Some (unwrap_or (verdict_in_force i (key_of check) p) (judged i check.action.need check.action.algos digest p))))
-      (sym (same_key-true k (key_of check) e))
-      (λ s. verdict_fresh i p (key_of check) digest stale d (verdict_in_force i (key_of check) p) (h (key_of check)) s)
+    (cond (same_key k (key_of check))
+    (option_or (verdict_for i check digest p) (verdict_in_force i k p))
+    (verdict_in_force i k p))
+given_fresh i p k check digest stale d h =
+    at (same_key k (key_of check)) refl (appraises i check.action) where
+      at : (b : Bool) → same_key k (key_of check) ≡ b → (a : Bool)
+          → FreshUnless i k p stale (cond b (option_or
+          (cond a
+          (Some (unwrap_or (verdict_in_force i (key_of check) p)
+          (judged i check.action.need check.action.algos digest p))) None)
+          (verdict_in_force i k p)) (verdict_in_force i k p))
+      at false e a = h k
+      at true e false = h k
+      at true e true = subst
+          (λ (x : Key). FreshUnless i x p stale
+          (Some (unwrap_or (verdict_in_force i (key_of check) p)
+          (judged i check.action.need check.action.algos digest p))))
+          (sym (same_key-true k (key_of check) e))
+          (λ s. verdict_fresh i p (key_of check) digest stale d
+          (verdict_in_force i (key_of check) p)
+          (h (key_of check)) s)
 
 -- ---- where no writer holds the inode
 
-unwritten_now : (i : Inode) (p : List Event) (f : Digests) → DigestsIs i p (Some f) → writers p ≡ 0 → modified_since f.begin p ≡ false
+unwritten_now : (i : Inode) (p : List Event) (f : Digests) → DigestsIs i p (Some f) → writers p ≡ 0
+    → modified_since f.begin p ≡ false
 unwritten_now i p f h none = at (modified_since f.begin p) refl where
   at : (b : Bool) → modified_since f.begin p ≡ b → b ≡ false
   at true e = let some : 0 < writers p = h.1 e in absurd (omega arith)
   at false e = refl
 
-verdict_now : (i : Inode) (p : List Event) (k : Key) (w : Verdict) (v : Option Verdict) (o : Option Digests) → DigestsIs i p o → writers p ≡ 0
+verdict_now : (i : Inode) (p : List Event) (k : Key) (w : Verdict) (v : Option Verdict)
+    (o : Option Digests) → DigestsIs i p o → writers p ≡ 0
     → VerdictIs i k p v o → v ≡ Some w → w ≡ fresh_verdict i k.need k.algos p
 verdict_now i p k w v None f none h e = cc
 verdict_now i p k w None (Some x) f none h e = cc
-verdict_now i p k w (Some u) (Some x) f none h e = let same : u ≡ w = cc in sym same ∙ h (unwritten_now i p x f none)
+verdict_now i p k w (Some u) (Some x) f none h e =
+    let same : u ≡ w = cc in sym same ∙ h (unwritten_now i p x f none)
 
-pub fresh_at : (i : Inode) (p : List Event) → Fresh i p → writers p ≡ 0 → IsDigestFresh i p × AreVerdictsFresh i p
+pub fresh_at : (i : Inode) (p : List Event) → Fresh i p → writers p ≡ 0 → IsDigestFresh i p
+    × AreVerdictsFresh i p
 fresh_at i p h none = (
-  (λ f e. let fi : DigestsIs i p (Some f) = subst (λ (o : Option Digests). DigestsIs i p o) e h.digests_is in fi.2 (unwritten_now i p f fi none)),
-  (λ k w e. verdict_now i p k w (verdict_in_force i k p) (in_force i p) h.digests_is none (h.verdict_is k) e),
+  (λ f e. let fi : DigestsIs i p (Some f) =
+      subst (λ (o : Option Digests). DigestsIs i p o) e h.digests_is in
+      fi.2 (unwritten_now i p f fi none)),
+  (λ k w e. verdict_now i p k w (verdict_in_force i k p) (in_force i p) h.digests_is none
+      (h.verdict_is k) e),
 )

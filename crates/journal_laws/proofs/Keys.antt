@@ -27,11 +27,18 @@ bool_true false false e = refl
 
 set_true : (a b : AlgoSet) → same_set a b ≡ true → a ≡ b
 set_true a b e =
-    let h1 : (same_bool a.md5 b.md5 && same_bool a.sha1 b.sha1 && same_bool a.sha256 b.sha256 && same_bool a.sha384 b.sha384 && same_bool a.sha512 b.sha512 ≡ true) × (same_bool a.sha224 b.sha224 ≡ true) = and_parts _ _ e in
-    let h2 : (same_bool a.md5 b.md5 && same_bool a.sha1 b.sha1 && same_bool a.sha256 b.sha256 && same_bool a.sha384 b.sha384 ≡ true) × (same_bool a.sha512 b.sha512 ≡ true) = and_parts _ _ h1.0 in
-    let h3 : (same_bool a.md5 b.md5 && same_bool a.sha1 b.sha1 && same_bool a.sha256 b.sha256 ≡ true) × (same_bool a.sha384 b.sha384 ≡ true) = and_parts _ _ h2.0 in
-    let h4 : (same_bool a.md5 b.md5 && same_bool a.sha1 b.sha1 ≡ true) × (same_bool a.sha256 b.sha256 ≡ true) = and_parts _ _ h3.0 in
-    let h5 : (same_bool a.md5 b.md5 ≡ true) × (same_bool a.sha1 b.sha1 ≡ true) = and_parts _ _ h4.0 in
+    let h1 : (same_bool a.md5 b.md5 && same_bool a.sha1 b.sha1 && same_bool a.sha256 b.sha256 &&
+    same_bool a.sha384 b.sha384 && same_bool a.sha512 b.sha512 ≡ true)
+    × (same_bool a.sha224 b.sha224 ≡ true) = and_parts _ _ e in
+    let h2 : (same_bool a.md5 b.md5 && same_bool a.sha1 b.sha1 && same_bool a.sha256 b.sha256 &&
+    same_bool a.sha384 b.sha384 ≡ true) × (same_bool a.sha512 b.sha512 ≡ true) =
+    and_parts _ _ h1.0 in
+    let h3 : (same_bool a.md5 b.md5 && same_bool a.sha1 b.sha1 && same_bool a.sha256 b.sha256
+    ≡ true) × (same_bool a.sha384 b.sha384 ≡ true) = and_parts _ _ h2.0 in
+    let h4 : (same_bool a.md5 b.md5 && same_bool a.sha1 b.sha1 ≡ true)
+    × (same_bool a.sha256 b.sha256 ≡ true) = and_parts _ _ h3.0 in
+    let h5 : (same_bool a.md5 b.md5 ≡ true) × (same_bool a.sha1 b.sha1 ≡ true) =
+    and_parts _ _ h4.0 in
     λ i. record {
       md5 = bool_true a.md5 b.md5 h5.0 i;
       sha1 = bool_true a.sha1 b.sha1 h5.1 i;
@@ -49,6 +56,13 @@ algos_true (Some a) None e = cc
 
 pub same_key-true : (a b : Key) → same_key a b ≡ true → a ≡ b
 same_key-true a b e =
-    let h1 : (same_slot a.slot b.slot && same_need a.need b.need ≡ true) × (same_algos a.algos b.algos ≡ true) = and_parts _ _ e in
-    let h2 : (same_slot a.slot b.slot ≡ true) × (same_need a.need b.need ≡ true) = and_parts _ _ h1.0 in
-    λ i. record { slot = slot_true a.slot b.slot h2.0 i; need = need_true a.need b.need h2.1 i; algos = algos_true a.algos b.algos h1.1 i }
+    let h1 : (same_slot a.slot b.slot && same_need a.need b.need ≡ true)
+    × (same_algos a.algos b.algos ≡ true) = and_parts _ _ e in
+    let h2 : (same_slot a.slot b.slot ≡ true) × (same_need a.need b.need ≡ true) =
+    and_parts _ _ h1.0 in
+    λ i. record {
+      slot = slot_true a.slot b.slot h2.0 i;
+      need =
+          need_true a.need b.need h2.1 i;
+      algos = algos_true a.algos b.algos h1.1 i;
+    }

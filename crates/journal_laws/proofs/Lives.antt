@@ -29,7 +29,8 @@ abbrev pub Lives : Inode → List Event → Type 0
 Lives i p = (f : ℕ) → is_gone (stage i f p) ≡ false → (f < length p) × (present p ≡ true)
 
 -- a deed names no file that is gone
-was : (b : Bool) (after old : Stage) → (b ≡ true → is_gone old ≡ false) → is_gone (cond b after old) ≡ false → is_gone old ≡ false
+was : (b : Bool) (after old : Stage) → (b ≡ true → is_gone old ≡ false)
+    → is_gone (cond b after old) ≡ false → is_gone old ≡ false
 was true after old m a = m refl
 was false after old m a = a
 
@@ -37,60 +38,84 @@ was_same : (b : Bool) (x : Stage) → is_gone (cond b x x) ≡ false → is_gone
 was_same true x a = a
 was_same false x a = a
 
-pub named : (i : Inode) (p : List Event) (g f : ℕ) (l : Stage) → stage i g p ≡ l → is_gone l ≡ false → (g == f) ≡ true → is_gone (stage i f p) ≡ false
-named i p g f l e n h = subst (λ (x : ℕ). is_gone (stage i x p) ≡ false) (eqb-true g f h) (ap is_gone e ∙ n)
+pub named : (i : Inode) (p : List Event) (g f : ℕ) (l : Stage) → stage i g p ≡ l → is_gone l ≡ false
+    → (g == f) ≡ true → is_gone (stage i f p) ≡ false
+named i p g f l e n h =
+    subst (λ (x : ℕ). is_gone (stage i x p) ≡ false) (eqb-true g f h) (ap is_gone e ∙ n)
 
-later : (f : ℕ) (p : List Event) → (f < length p) × (present p ≡ true) → (f < suc (length p)) × (present p ≡ true)
+later : (f : ℕ) (p : List Event) → (f < length p) × (present p ≡ true) → (f < suc (length p))
+    × (present p ≡ true)
 later f p h = (omega (arith, h.0), h.1)
 
-count_lives : (f place : ℕ) (old : Stage) (p : List Event) → place ≡ length p → (is_gone old ≡ false → (f < length p) × (present p ≡ true))
-    → (b : Bool) → (place == f) ≡ b → is_gone (cond b Counted old) ≡ false → (f < suc (length p)) × (true ≡ true)
-count_lives f place old p e h true q a = let s : place ≡ f = eqb-true place f q in (omega arith, refl)
+count_lives : (f place : ℕ) (old : Stage) (p : List Event) → place ≡ length p
+    → (is_gone old ≡ false → (f < length p) × (present p ≡ true))
+    → (b : Bool) → (place == f) ≡ b → is_gone (cond b Counted old) ≡ false → (f < suc (length p))
+    × (true ≡ true)
+count_lives f place old p e h true q a =
+    let s : place ≡ f = eqb-true place f q in (omega arith, refl)
 count_lives f place old p e h false q a = (omega (arith, (h a).0), refl)
 
 no_stage : (i : Inode) (p : List Event) (f : ℕ) → p ≡ [] → is_gone (stage i f p) ≡ false → ⊥
-no_stage i p f e a = let z : is_gone (stage i f []) ≡ false = subst (λ (q : List Event). is_gone (stage i f q) ≡ false) e a in cc
+no_stage i p f e a = let z : is_gone (stage i f []) ≡ false =
+    subst (λ (q : List Event). is_gone (stage i f q) ≡ false) e a in cc
 
-apart_count : (f : ℕ) (p : List Event) (old : Stage) → f < length p → is_gone (cond (length p == f) Counted old) ≡ false → is_gone old ≡ false
+apart_count : (f : ℕ) (p : List Event) (old : Stage) → f < length p
+    → is_gone (cond (length p == f) Counted old) ≡ false → is_gone old ≡ false
 apart_count f p old b a = at (length p == f) refl a where
   at : (x : Bool) → (length p == f) ≡ x → is_gone (cond x Counted old) ≡ false → is_gone old ≡ false
   at true q h = let s : length p ≡ f = eqb-true (length p) f q in absurd (omega arith)
   at false q h = h
 
 -- the event counts no file: what isn't gone after it wasn't gone before it
-pub alive_kept : (i : Inode) (p : List Event) (who : Who) (d : Deed) (t : Told) → Follows i p who d t → counted d t ≡ None → (f : ℕ)
+pub alive_kept : (i : Inode) (p : List Event) (who : Who) (d : Deed) (t : Told)
+    → Follows i p who d t → counted d t ≡ None → (f : ℕ)
     → is_gone (next_stage i f (length p) d t (stage i f p)) ≡ false → is_gone (stage i f p) ≡ false
 alive_kept i p who deed.Birth t h n f a = a
 alive_kept i p who (deed.Count how) told.Held h n f a = absurd (cc)
 alive_kept i p who (deed.Count how) t h n f a = was_same (length p == f) (stage i f p) a
 alive_kept i p who (deed.Check g func action rules) t h n f a =
-    was (g == f) _ (stage i f p) (named i p g f (stage i g p) refl (check_alive (stage i g p) h.1)) a
-alive_kept i p who (deed.Take g) t h n f a = was (g == f) _ (stage i f p) (named i p g f Asked h.1 refl) a
-alive_kept i p who (deed.Chunk g) t h n f a = was (g == f) _ (stage i f p) (named i p g f Collecting h.1 refl) a
-alive_kept i p who (deed.Finish g) t h n f a = was (g == f) _ (stage i f p) (named i p g f Collected h.1 refl) a
-alive_kept i p who (deed.Read g from len) t h n f a = was (g == f) _ (stage i f p) (named i p g f Settled h.1.0 refl) a
-alive_kept i p who (deed.Write g from bytes) t h n f a = was (g == f) _ (stage i f p) (named i p g f Settled h.1.0 refl) a
-alive_kept i p who (deed.Trunc g len) t h n f a = was (g == f) _ (stage i f p) (named i p g f Settled h.1.0 refl) a
+    was (g == f) _ (stage i f p) (named i p g f (stage i g p) refl (check_alive (stage i g p) h.1))
+    a
+alive_kept i p who (deed.Take g) t h n f a =
+    was (g == f) _ (stage i f p) (named i p g f Asked h.1 refl) a
+alive_kept i p who (deed.Chunk g) t h n f a =
+    was (g == f) _ (stage i f p) (named i p g f Collecting h.1 refl) a
+alive_kept i p who (deed.Finish g) t h n f a =
+    was (g == f) _ (stage i f p) (named i p g f Collected h.1 refl) a
+alive_kept i p who (deed.Read g from len) t h n f a =
+    was (g == f) _ (stage i f p) (named i p g f Settled h.1.0 refl) a
+alive_kept i p who (deed.Write g from bytes) t h n f a =
+    was (g == f) _ (stage i f p) (named i p g f Settled h.1.0 refl) a
+alive_kept i p who (deed.Trunc g len) t h n f a =
+    was (g == f) _ (stage i f p) (named i p g f Settled h.1.0 refl) a
 alive_kept i p who (deed.SetAttr name bytes admin) t h n f a = a
 alive_kept i p who (deed.SetMeta change) t h n f a = a
-alive_kept i p who (deed.Close g) t h n f a = was (g == f) _ (stage i f p) (named i p g f Settled h.1.0 refl) a
-alive_kept i p who (deed.CloseTake g) t h n f a = was (g == f) _ (stage i f p) (named i p g f Settled h.1.0 refl) a
-alive_kept i p who (deed.CloseChunk g) t h n f a = was (g == f) _ (stage i f p) (named i p g f CloseCollecting h.1 refl) a
-alive_kept i p who (deed.CloseFinish g) t h n f a = was (g == f) _ (stage i f p) (named i p g f CloseCollected h.1 refl) a
+alive_kept i p who (deed.Close g) t h n f a =
+    was (g == f) _ (stage i f p) (named i p g f Settled h.1.0 refl) a
+alive_kept i p who (deed.CloseTake g) t h n f a =
+    was (g == f) _ (stage i f p) (named i p g f Settled h.1.0 refl) a
+alive_kept i p who (deed.CloseChunk g) t h n f a =
+    was (g == f) _ (stage i f p) (named i p g f CloseCollecting h.1 refl) a
+alive_kept i p who (deed.CloseFinish g) t h n f a =
+    was (g == f) _ (stage i f p) (named i p g f CloseCollected h.1 refl) a
 alive_kept i p who (deed.Post sem) t h n f a = absurd h.1
 alive_kept i p who (deed.Wait sem) t h n f a = absurd h.1
 
 -- a file that was counted before the event and isn't gone after it wasn't gone before it
-pub alive_before : (i : Inode) (p : List Event) (who : Who) (d : Deed) (t : Told) → Follows i p who d t → (f : ℕ) → f < length p
+pub alive_before : (i : Inode) (p : List Event) (who : Who) (d : Deed) (t : Told)
+    → Follows i p who d t → (f : ℕ) → f < length p
     → is_gone (next_stage i f (length p) d t (stage i f p)) ≡ false → is_gone (stage i f p) ≡ false
 alive_before i p who (deed.Count how) told.Held h f b a = apart_count f p (stage i f p) b a
 alive_before i p who d t h f b a = alive_kept i p who d t h refl f a
 
 -- only a count adds a file
-step : (i : Inode) (p : List Event) (who : Who) (d : Deed) (t : Told) → Follows i p who d t → Lives i p → (f : ℕ)
-    → is_gone (next_stage i f (length p) d t (stage i f p)) ≡ false → (f < suc (length p)) × (present_after d t (present p) ≡ true)
+step : (i : Inode) (p : List Event) (who : Who) (d : Deed) (t : Told) → Follows i p who d t
+    → Lives i p → (f : ℕ)
+    → is_gone (next_stage i f (length p) d t (stage i f p)) ≡ false → (f < suc (length p))
+    × (present_after d t (present p) ≡ true)
 step i p who deed.Birth t h v f a = absurd (no_stage i p f h.0 a)
-step i p who (deed.Count how) told.Held h v f a = count_lives f (length p) (stage i f p) p refl (v f) (length p == f) refl a
+step i p who (deed.Count how) told.Held h v f a =
+    count_lives f (length p) (stage i f p) p refl (v f) (length p == f) refl a
 step i p who d t h v f a = later f p (v f (alive_kept i p who d t h refl f a))
 
 pub lives : (i : Inode) (p : List Event) → EachFollows i p → Lives i p

@@ -1,4 +1,5 @@
--- The laws of merged runs: what tasks keep of the places of the measurement list, and how a run's journals and the list come
+-- The laws of merged runs: what tasks keep of the places of the measurement list, and how a run's
+-- journals and the list come
 -- together at its end.
 use Rattle.std.specs.Prelude.{◌≡◌, ℕ, ◌<◌, ◌==◌, All, List, [], ◌∷◌, ◌++◌, length, reverse, Some, slice_get, count_by, if◌then◌else◌}
 use Rattle.std.specs.List.{AllZip}
@@ -27,30 +28,39 @@ use Rattle.merged_laws.specs.Steps.{AreStepped, Made, OrderedBefore, RisesWithin
 
 -- a look of the task's pass of the list keeps that the places of its steps rise
 abbrev pub RisesByLook : Type 0
-RisesByLook = (steps : List Made) (seen seen2 : List Entry) → IsPrefix seen seen2 → RisesWithin steps seen → RisesWithin steps seen2
+RisesByLook = (steps : List Made) (seen seen2 : List Entry) → IsPrefix seen seen2
+    → RisesWithin steps seen → RisesWithin steps seen2
 
 -- and so does an event that is told by the list
 abbrev pub RisesByEvent : Type 0
-RisesByEvent = (steps : List Made) (seen list : List Entry) (inode : Inode) (p : List Event) (journal place : ℕ) (who : Who) (d : Deed) (t : Told)
+RisesByEvent = (steps : List Made) (seen list : List Entry) (inode : Inode) (p : List Event)
+    (journal place : ℕ) (who : Who) (d : Deed) (t : Told)
     → IsPrefix seen list → RisesWithin steps seen → outcome inode list d p ≡ Some t
-    → RisesWithin (made_of journal place who d t ∷ steps) (list_after list (asked inode d p) (Some t))
+    → RisesWithin (made_of journal place who d t ∷ steps)
+    (list_after list (asked inode d p) (Some t))
 
 -- the events of a history in one journal are the task's own there
 abbrev pub LogIsOwn : Type 0
-LogIsOwn = (mode : Mode) (n : ℕ) (p : Program) (i : ℕ) (h : List Answer) → own_in i (log mode n p h) ≡ own mode n p i h
+LogIsOwn = (mode : Mode) (n : ℕ) (p : Program) (i : ℕ) (h : List Answer)
+    → own_in i (log mode n p h) ≡ own mode n p i h
 
--- whatever the history, its steps stand in the order of their calls and numbers, before the one that is due
+-- whatever the history, its steps stand in the order of their calls and numbers, before the one
+-- that is due
 abbrev pub LogIsOrdered : Type 0
-LogIsOrdered = (mode : Mode) (n : ℕ) (p : Program) (h : List Answer) → OrderedBefore (log mode n p h) (who_at n p (thought mode p h).mind)
+LogIsOrdered = (mode : Mode) (n : ℕ) (p : Program) (h : List Answer)
+    → OrderedBefore (log mode n p h) (who_at n p (thought mode p h).mind)
 
 -- ---- the end
 
--- What the list's close gives of all passes but its own: the boot aggregate stands first and is none of theirs, each other place
+-- What the list's close gives of all passes but its own: the boot aggregate stands first and is
+-- none of theirs, each other place
 -- is one pass's, what each saw begins the list, and no entry is the same as an earlier one.
-pub record BookClosed (boot : Entry) (list : List Entry) (passes : List (Passed Entry)) : Type 0 where
+pub record BookClosed (boot : Entry) (list : List Entry) (passes : List (Passed Entry)) : Type
+    0 where
   pub first : slice_get list 0 ≡ Some boot
   pub seen : All (λ p. IsPrefix p.seen list) passes
-  pub places : (k : ℕ) → k < length list → count_by (λ p. has_place k p.mine) passes ≡ (if k == 0 then 0 else 1)
+  pub places : (k : ℕ) → k < length list → count_by (λ p. has_place k p.mine) passes ≡
+      (if k == 0 then 0 else 1)
   pub distinct : IsDistinct list
 
 -- what an inode's close gives of its journal and its pass of the list
@@ -59,18 +69,24 @@ InodeClosed j q = IsBooked j.inode j.events q.seen q.mine
 
 -- a loop that closes inode after inode, from the last, has at its end what they give in order
 abbrev pub ClosedTurned : Type 0
-ClosedTurned = (journals : List Journal) (passes : List (Passed Entry)) → AllZip InodeClosed journals passes
+ClosedTurned =
+    (journals : List Journal) (passes : List (Passed Entry)) → AllZip InodeClosed journals passes
     → AllZip InodeClosed (reverse journals) (reverse passes)
 
--- The closes make the merged run: the passes are those of the inodes and those of the tasks, which add nothing.
+-- The closes make the merged run: the passes are those of the inodes and those of the tasks, which
+-- add nothing.
 abbrev pub MergedFromCloses : Type 0
-MergedFromCloses = (boot : Entry) (list : List Entry) (journals : List Journal) (inodes tasks : List (Passed Entry))
-    → BookClosed boot list (inodes ++ tasks) → AllZip InodeClosed journals inodes → All (λ q. q.mine ≡ []) tasks
+MergedFromCloses = (boot : Entry) (list : List Entry) (journals : List Journal)
+    (inodes tasks : List (Passed Entry))
+    → BookClosed boot list (inodes ++ tasks) → AllZip InodeClosed journals inodes
+    → All (λ q. q.mine ≡ []) tasks
     → AreStepped (length tasks) journals → IsMerged boot list journals
 
 -- The same for a run that is served, where the places rise along each task's steps.
 abbrev pub MergedFromServed : Type 0
-MergedFromServed = (scene : Scene) (run : Run) (inodes tasks : List (Passed Entry)) → BookClosed scene.boot run.list (inodes ++ tasks)
-    → AllZip InodeClosed (journals_of scene scene.stations run.journals) inodes → All (λ q. q.mine ≡ []) tasks
+MergedFromServed = (scene : Scene) (run : Run) (inodes tasks : List (Passed Entry))
+    → BookClosed scene.boot run.list (inodes ++ tasks)
+    → AllZip InodeClosed (journals_of scene scene.stations run.journals) inodes
+    → All (λ q. q.mine ≡ []) tasks
     → length tasks ≡ length scene.programs → (s : Served scene run) → RiseServed scene run s
     → IsMerged scene.boot run.list (journals_of scene scene.stations run.journals)

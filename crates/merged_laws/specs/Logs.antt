@@ -13,7 +13,8 @@ use Rattle.merged_laws.specs.Steps.{Made, Rises, made_of}
 -- the event of a step, if it is one on an inode
 abbrev pub logged : Who → Option Step → Answer → List Made
 logged who (Some (Does i d)) a = made_of i a.place who d a.told ∷ []
-logged who (Some (Checks i file func mask)) a = made_of i a.place who (deed.Check file func a.action a.rules) a.told ∷ []
+logged who (Some (Checks i file func mask)) a =
+    made_of i a.place who (deed.Check file func a.action a.rules) a.told ∷ []
 logged who _ a = []
 
 -- the events of a history on all inodes, the newest first
@@ -25,5 +26,6 @@ log mode n p (a ∷ before) =
 
 -- along each task's steps the places rise
 abbrev pub RiseServed : (scene : Scene) (run : Run) → Served scene run → Type 0
-RiseServed scene run s = (n : ℕ) (p : Program) (t : Thought) (a : slice_get scene.programs n ≡ Some p) (b : slice_get run.thoughts n ≡ Some t)
+RiseServed scene run s = (n : ℕ) (p : Program) (t : Thought)
+    (a : slice_get scene.programs n ≡ Some p) (b : slice_get run.thoughts n ≡ Some t)
     → Rises (log (mode_of scene) n p (s.tasks n p t a b).history)

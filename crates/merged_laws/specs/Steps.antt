@@ -19,20 +19,25 @@ pub record Made : Type 0 where
   pub place : ℕ
   pub event : Event
 
+-- a step of its parts
 abbrev pub made_of : ℕ → ℕ → Who → Deed → Told → Made
-made_of journal place who d t = record { journal = journal; place = place; event = record { who = who; deed = d; told = t } }
+made_of journal place who d t =
+    record { journal = journal; place = place; event = record { who = who; deed = d; told = t } }
 
 -- ---- the places of the list that an event was told
 
+-- the place at which a grant adds its entry
 abbrev pub placed_added : Option Placed → Option ℕ
 placed_added (Some (Added place)) = Some place
 placed_added _ = None
 
+-- the place that a grant names
 abbrev pub placed_named : Option Placed → List ℕ
 placed_named (Some (Added place)) = place ∷ []
 placed_named (Some (Already place)) = place ∷ []
 placed_named None = []
 
+-- the place at which the event adds an entry
 abbrev pub told_added : Deed → Told → Option ℕ
 told_added (deed.Check file func action rules) (told.OpenWriters place) = Some place
 told_added (deed.Check file func action rules) (told.ToMToU place) = Some place
@@ -40,6 +45,7 @@ told_added (deed.Take file) (told.Grant grant) = placed_added grant.placed
 told_added (deed.Finish file) (told.Grant grant) = placed_added grant.placed
 told_added _ _ = None
 
+-- the places that the event names
 abbrev pub told_named : Deed → Told → List ℕ
 told_named (deed.Check file func action rules) (told.OpenWriters place) = place ∷ []
 told_named (deed.Check file func action rules) (told.ToMToU place) = place ∷ []
@@ -60,6 +66,7 @@ place_named e = told_named e.deed e.told
 abbrev pub NamesBelow : ℕ → Made → Type 0
 NamesBelow limit s = All (λ n. n < limit) (place_named s.event)
 
+-- an added place lies above all places named before
 abbrev pub Above : Option ℕ → List Made → Type 0
 Above None before = Unit {0}
 Above (Some place) before = All (NamesBelow place) before
@@ -77,7 +84,8 @@ pub record RisesWithin (steps : List Made) (seen : List Entry) : Type 0 where
 -- the steps stand in the order of their calls and numbers
 abbrev pub AreOrdered : List Made → Type 0
 AreOrdered [] = Unit {0}
-AreOrdered (s ∷ before) = All (λ b. is_earlier b.event.who s.event.who ≡ true) before × AreOrdered before
+AreOrdered (s ∷ before) =
+    All (λ b. is_earlier b.event.who s.event.who ≡ true) before × AreOrdered before
 
 -- the same, and all stand before the step that is due
 pub record OrderedBefore (steps : List Made) (due : Who) : Type 0 where
@@ -89,16 +97,19 @@ pub record OrderedBefore (steps : List Made) (due : Who) : Type 0 where
 -- the events in one journal, the oldest first
 abbrev pub own_in : ℕ → List Made → List (ℕ × Event)
 own_in i [] = []
-own_in i (s ∷ before) = if s.journal == i then own_in i before ++ (s.place, s.event) ∷ [] else own_in i before
+own_in i (s ∷ before) =
+    if s.journal == i then own_in i before ++ (s.place, s.event) ∷ [] else own_in i before
 
 -- the task has such steps: in each journal its events are theirs
 pub record Stepped (task : ℕ) (journals : List Journal) : Type 0 where
   pub steps : List Made
-  pub own_is : (i : ℕ) (j : Journal) → slice_get journals i ≡ Some j → own_past (task + 1) j.events ≡ reverse (own_in i steps)
+  pub own_is : (i : ℕ) (j : Journal) → slice_get journals i ≡ Some j
+      → own_past (task + 1) j.events ≡ reverse (own_in i steps)
   pub rises : Rises steps
   pub ordered : AreOrdered steps
 
 -- each event is the inode's own or of one of so many tasks, and each task has its steps
 pub record AreStepped (tasks : ℕ) (journals : List Journal) : Type 0 where
-  pub signed : (j : Journal) (e : Event) → Contains journals j → Contains j.events e → caller_of e < tasks + 1
+  pub signed : (j : Journal) (e : Event) → Contains journals j → Contains j.events e
+      → caller_of e < tasks + 1
   pub stepped : (k : ℕ) → k < tasks → Stepped k journals

@@ -1,4 +1,5 @@
-//! How the journals of all inodes and the measurement list come together: what each task keeps of the places that its steps were
+//! How the journals of all inodes and the measurement list come together: what each task keeps of
+//! the places that its steps were
 //! told, and that the closes of the list and of the inodes make a merged run.
 //!
 //! Each law is the contract of a function that does nothing.
@@ -6,7 +7,8 @@
 
 ghost use Rattle.merged_laws.specs.Laws.{ClosedTurned, LogIsOrdered, LogIsOwn, MergedFromCloses, MergedFromServed, RisesByEvent, RisesByLook};
 
-/// A look of a task's pass of the list keeps that the places of its steps rise, below what the pass has seen.
+/// A look of a task's pass of the list keeps that the places of its steps rise, below what the pass
+/// has seen.
 pub fn rises_by_look()
     ensures { RisesByLook }
 {}

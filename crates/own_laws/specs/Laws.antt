@@ -15,13 +15,16 @@ use Rattle.inode_events.specs.declared.told.Event.{Event}
 use Rattle.journal_laws.specs.Standing.{event_at}
 use Rattle.own_laws.specs.Own.{IsBy, IsOwned, MayByOwn, NoneOf, check_in, counter, how_in, own_past}
 
--- what a shared list has of one number is what the journal, read from the newest back, has of the caller
+-- what a shared list has of one number is what the journal, read from the newest back, has of the
+-- caller
 abbrev pub OwnIsOwn : Type 0
-OwnIsOwn = (n : ℕ) (list : List Event) → own_past n (past list) ≡ reverse (entries_of n (map caller_of list) list)
+OwnIsOwn = (n : ℕ) (list : List Event)
+    → own_past n (past list) ≡ reverse (entries_of n (map caller_of list) list)
 
 -- an own entry stands within the journal
 abbrev pub OwnIsWithin : Type 0
-OwnIsWithin = (n : ℕ) (list : List Event) → All (λ x. x.0 < length list) (entries_of n (map caller_of list) list)
+OwnIsWithin = (n : ℕ) (list : List Event)
+    → All (λ x. x.0 < length list) (entries_of n (map caller_of list) list)
 
 -- the event at a place is the entry of the list there
 abbrev pub EventIsAt : Type 0
@@ -29,7 +32,8 @@ EventIsAt = (place : ℕ) (list : List Event) → event_at place (past list) ≡
 
 -- a file that isn't gone by the entries of a caller is that caller's
 abbrev pub FileIsOwn : Type 0
-FileIsOwn = (inode : Inode) (n file : ℕ) (p : List Event) → IsOwned p → is_gone (stage_in inode file (own_past n p)) ≡ false
+FileIsOwn = (inode : Inode) (n file : ℕ) (p : List Event) → IsOwned p
+    → is_gone (stage_in inode file (own_past n p)) ≡ false
     → counter file p ≡ Some n
 
 -- the stage of a caller's file
@@ -39,31 +43,39 @@ StageIsOwn = (inode : Inode) (n file : ℕ) (p : List Event) → IsOwned p → c
 
 -- its last check
 abbrev pub CheckIsOwn : Type 0
-CheckIsOwn = (n file : ℕ) (p : List Event) → IsOwned p → counter file p ≡ Some n → last_check file p ≡ check_in file (own_past n p)
+CheckIsOwn = (n file : ℕ) (p : List Event) → IsOwned p → counter file p ≡ Some n
+    → last_check file p ≡ check_in file (own_past n p)
 
 -- how it is held, where it isn't gone
 abbrev pub HowIsOwn : Type 0
-HowIsOwn = (inode : Inode) (n file : ℕ) (p : List Event) → EachFollows inode p → counter file p ≡ Some n
+HowIsOwn = (inode : Inode) (n file : ℕ) (p : List Event) → EachFollows inode p
+    → counter file p ≡ Some n
     → is_gone (stage inode file p) ≡ false → held file p ≡ how_in file (own_past n p)
 
 -- what may be done by the entries of a caller may be done behind the journal, by that caller
 abbrev pub MayIsOwn : Type 0
-MayIsOwn = (inode : Inode) (n : ℕ) (p : List Event) (d : Deed) → EachFollows inode p → IsOwned p → MayByOwn inode (own_past n p) d
+MayIsOwn = (inode : Inode) (n : ℕ) (p : List Event) (d : Deed) → EachFollows inode p → IsOwned p
+    → MayByOwn inode (own_past n p) d
     → May inode p d × IsBy n d p
 
 -- events of others leave the collection of a caller's file
 abbrev pub CollectionStays : Type 0
-CollectionStays = (inode : Inode) (n file : ℕ) (later p : List Event) → EachFollows inode (later ++ p) → IsOwned (later ++ p)
+CollectionStays = (inode : Inode) (n file : ℕ) (later p : List Event)
+    → EachFollows inode (later ++ p) → IsOwned (later ++ p)
     → NoneOf n later → counter file p ≡ Some n → is_collecting (stage inode file p) ≡ true
-    → (stage inode file (later ++ p) ≡ stage inode file p) × (collecting inode (later ++ p) ≡ collecting inode p)
+    → (stage inode file (later ++ p) ≡ stage inode file p)
+    × (collecting inode (later ++ p) ≡ collecting inode p)
 
 -- where all entries of a caller stand within what it has seen, the rest of the journal has none
 abbrev pub NoneBeyond : Type 0
-NoneBeyond = (n : ℕ) (seen list : List Event) → IsPrefix seen list → All (λ x. x.0 < length seen) (entries_of n (map caller_of list) list)
+NoneBeyond = (n : ℕ) (seen list : List Event) → IsPrefix seen list
+    → All (λ x. x.0 < length seen) (entries_of n (map caller_of list) list)
     → (later : List Event) × (past list ≡ later ++ past seen) × NoneOf n later
 
 -- so the collection that is open by a caller's entries is as the caller has seen it last
 abbrev pub CollectionIsSeen : Type 0
-CollectionIsSeen = (inode : Inode) (n file : ℕ) (seen list : List Event) → EachFollows inode (past list) → IsOwned (past list)
+CollectionIsSeen = (inode : Inode) (n file : ℕ) (seen list : List Event)
+    → EachFollows inode (past list) → IsOwned (past list)
     → IsPrefix seen list → All (λ x. x.0 < length seen) (entries_of n (map caller_of list) list)
-    → is_collecting (stage_in inode file (own_past n (past list))) ≡ true → collecting inode (past list) ≡ collecting inode (past seen)
+    → is_collecting (stage_in inode file (own_past n (past list))) ≡ true
+    → collecting inode (past list) ≡ collecting inode (past seen)

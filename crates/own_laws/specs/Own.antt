@@ -1,4 +1,5 @@
--- What a caller knows of a journal by its own entries. The journal and the entries are read from the newest back.
+-- What a caller knows of a journal by its own entries. The journal and the entries are read from
+-- the newest back.
 use Rattle.std.specs.Prelude.{◌≡◌, ◌≢◌, ℕ, ◌==◌, Bool, true, false, List, [], ◌∷◌, length, Option, Some, None, option_map, if◌then◌else◌}
 use Rattle.policy_text.specs.declared.rule.Func.TheVariants as func
 use Rattle.inode_events.specs.Callers.{caller_of}
@@ -18,7 +19,8 @@ use Rattle.journal_laws.specs.Standing.{event_at}
 -- the events of the caller n, each with its place
 abbrev pub own_past : ℕ → List Event → List (ℕ × Event)
 own_past n [] = []
-own_past n (e ∷ before) = if n == caller_of e then (length before, e) ∷ own_past n before else own_past n before
+own_past n (e ∷ before) = if n == caller_of e then (length before, e) ∷ own_past n before else
+    own_past n before
 
 -- no event is the caller's
 abbrev pub NoneOf : ℕ → List Event → Type 0
@@ -39,7 +41,8 @@ names_file file d = touches file file d
 -- each event on a file is that of the caller who counted the file
 abbrev pub IsOwned : List Event → Type 0
 IsOwned [] = Unit {0}
-IsOwned (e ∷ before) = ((file : ℕ) → names_file file e.deed ≡ true → counter file before ≡ Some (caller_of e)) × IsOwned before
+IsOwned (e ∷ before) = ((file : ℕ) → names_file file e.deed ≡ true
+    → counter file before ≡ Some (caller_of e)) × IsOwned before
 
 -- ---- what entries with their places tell of a file
 
