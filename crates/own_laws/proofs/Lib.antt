@@ -4,3 +4,4 @@ pub mod Holding
 pub mod Doing
 pub mod Staying
 pub mod Seeing
+pub mod Looking

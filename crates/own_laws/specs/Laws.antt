@@ -13,7 +13,7 @@ use Rattle.inode_events.specs.Past.{past}
 use Rattle.inode_events.specs.declared.deed.Deed.{Deed}
 use Rattle.inode_events.specs.declared.told.Event.{Event}
 use Rattle.journal_laws.specs.Standing.{event_at}
-use Rattle.own_laws.specs.Own.{IsBy, IsOwned, MayByOwn, NoneOf, check_in, counter, how_in, own_past}
+use Rattle.own_laws.specs.Own.{IsBy, IsOwned, MayByMine, MayByOwn, NoneOf, check_in, counter, how_in, own_past}
 
 -- what a shared list has of one number is what the journal, read from the newest back, has of the
 -- caller
@@ -79,3 +79,23 @@ CollectionIsSeen = (inode : Inode) (n file : ℕ) (seen list : List Event)
     → IsPrefix seen list → All (λ x. x.0 < length seen) (entries_of n (map caller_of list) list)
     → is_collecting (stage_in inode file (own_past n (past list))) ≡ true
     → collecting inode (past list) ≡ collecting inode (past seen)
+
+-- ---- a look
+
+-- What the entries of a pass of the number n tell of the list: what may be done by them may be done
+-- by this caller, the last check of a file that isn't gone is theirs, and where all of them stand
+-- within what was seen before, the collection that is open by them is as it was then.
+pub record TellsByMine (inode : Inode) (n : ℕ) (seen list : List Event) (mine : List (ℕ × Event))
+    : Type 0 where
+  pub may : (d : Deed) → MayByMine inode mine d → May inode (past list) d × IsBy n d (past list)
+  pub check : (file : ℕ) → is_gone (stage_in inode file (reverse mine)) ≡ false
+      → last_check file (past list) ≡ check_in file (reverse mine)
+  pub collection : (file : ℕ) → All (λ x. x.0 < length seen) mine
+      → is_collecting (stage_in inode file (reverse mine)) ≡ true
+      → collecting inode (past list) ≡ collecting inode (past seen)
+
+-- the entries of a pass that has looked
+abbrev pub LookTells : Type 0
+LookTells = (inode : Inode) (n : ℕ) (seen list : List Event) (mine : List (ℕ × Event))
+    → EachFollows inode (past list) → IsOwned (past list) → IsPrefix seen list
+    → entries_of n (map caller_of list) list ≡ mine → TellsByMine inode n seen list mine

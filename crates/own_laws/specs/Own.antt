@@ -1,6 +1,6 @@
 -- What a caller knows of a journal by its own entries. The journal and the entries are read from
 -- the newest back.
-use Rattle.std.specs.Prelude.{◌≡◌, ◌≢◌, ℕ, ◌==◌, Bool, true, false, List, [], ◌∷◌, length, Option, Some, None, option_map, if◌then◌else◌}
+use Rattle.std.specs.Prelude.{◌≡◌, ◌≢◌, ℕ, ◌==◌, Bool, true, false, List, [], ◌∷◌, length, Option, Some, None, option_map, reverse, if◌then◌else◌}
 use Rattle.policy_text.specs.declared.rule.Func.TheVariants as func
 use Rattle.inode_events.specs.Callers.{caller_of}
 use Rattle.inode_events.specs.Checks.{Check, check_after, no_action}
@@ -19,8 +19,8 @@ use Rattle.journal_laws.specs.Standing.{event_at}
 -- the events of the caller n, each with its place
 abbrev pub own_past : ℕ → List Event → List (ℕ × Event)
 own_past n [] = []
-own_past n (e ∷ before) = if n == caller_of e then (length before, e) ∷ own_past n before else
-    own_past n before
+own_past n (e ∷ before) =
+    if n == caller_of e then (length before, e) ∷ own_past n before else own_past n before
 
 -- no event is the caller's
 abbrev pub NoneOf : ℕ → List Event → Type 0
@@ -38,11 +38,14 @@ abbrev pub names_file : ℕ → Deed → Bool
 names_file file (deed.Count how) = false
 names_file file d = touches file file d
 
+-- the files that the deed names are the caller's
+abbrev pub IsBy : ℕ → Deed → List Event → Type 0
+IsBy n d before = (file : ℕ) → names_file file d ≡ true → counter file before ≡ Some n
+
 -- each event on a file is that of the caller who counted the file
 abbrev pub IsOwned : List Event → Type 0
 IsOwned [] = Unit {0}
-IsOwned (e ∷ before) = ((file : ℕ) → names_file file e.deed ≡ true
-    → counter file before ≡ Some (caller_of e)) × IsOwned before
+IsOwned (e ∷ before) = IsBy (caller_of e) e.deed before × IsOwned before
 
 -- ---- what entries with their places tell of a file
 
@@ -60,6 +63,6 @@ how_in file (x ∷ xs) = if x.0 == file then counted x.1.deed x.1.told else how_
 abbrev pub MayByOwn : Inode → List (ℕ × Event) → Deed → Type 0
 MayByOwn inode own d = MayAt (λ file. stage_in inode file own) (λ file. how_in file own) d
 
--- the files that the deed names are the caller's
-abbrev pub IsBy : ℕ → Deed → List Event → Type 0
-IsBy n d before = (file : ℕ) → names_file file d ≡ true → counter file before ≡ Some n
+-- the same by the entries of a pass, which stand oldest first
+abbrev pub MayByMine : Inode → List (ℕ × Event) → Deed → Type 0
+MayByMine inode mine d = MayByOwn inode (reverse mine) d

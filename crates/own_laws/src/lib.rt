@@ -5,7 +5,7 @@
 //! Each law is the contract of a function that does nothing.
 #![tactic(auto)]
 
-ghost use Rattle.own_laws.specs.Laws.{CheckIsOwn, CollectionIsSeen, CollectionStays, EventIsAt, FileIsOwn, HowIsOwn, MayIsOwn, NoneBeyond, OwnIsOwn, OwnIsWithin, StageIsOwn};
+ghost use Rattle.own_laws.specs.Laws.{CheckIsOwn, CollectionIsSeen, CollectionStays, EventIsAt, FileIsOwn, HowIsOwn, LookTells, MayIsOwn, NoneBeyond, OwnIsOwn, OwnIsWithin, StageIsOwn};
 
 /// The entries of a pass, read from the newest back, are the journal's of its caller.
 pub fn own_is_own()
@@ -60,4 +60,9 @@ pub fn none_beyond()
 /// A collection that is open by a caller's own entries is as the caller has seen it last.
 pub fn collection_is_seen()
     ensures { CollectionIsSeen }
+{}
+
+/// What the entries of a pass that has looked tell of a journal, it says.
+pub fn look_tells()
+    ensures { LookTells }
 {}

@@ -1,0 +1,5 @@
+use Rattle.own_laws.proofs.Looking.{tells}
+use Rattle.own_laws.proofs.look_tells.Goals as goal
+
+pub returns : goal.returns
+returns c = tells
