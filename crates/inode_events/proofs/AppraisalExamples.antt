@@ -1,5 +1,5 @@
 -- Appraisal, labels at a close, and mode fix.
-use Rattle.std.proofs.Common.{◌≡◌, ℕ, true, false, List, [], ◌∷◌, Option, Some, None, refl, lit<}
+use Rattle.std.proofs.Common.{◌≡◌, ℕ, true, false, List, [], ◌∷◌, Option, Some, None, refl}
 use Rattle.std.specs.Prelude.{replicate}
 use Rattle.hash_algos.specs.Digest.{digest_of}
 use Rattle.hash_algos.specs.declared.algo.Algo.{Algo}
@@ -14,25 +14,31 @@ use Rattle.inode_events.specs.declared.deed.Deed.TheVariants as deed
 use Rattle.inode_events.specs.declared.deed.How.TheVariants as how
 use Rattle.inode_events.specs.declared.told.Told.TheVariants as told
 use Rattle.evm_verify.specs.Setup.{Setup}
-use Rattle.evm_verify.specs.Status.{evm_status}
+use Rattle.evm_verify.specs.Status.{evm_status, renewed}
 use Rattle.label_values.specs.Labels.{collect_algo, ends_in_zeros, label_of, plain_algo, read_label}
-use Rattle.label_values.specs.Verdicts.{is_pass, is_signature, judge, mend_for}
+use Rattle.label_values.specs.Verdicts.{is_old, is_pass, is_signature, judge, mend_for}
 use Rattle.label_values.specs.declared.verdict.Verdict.{Verdict}
 use Rattle.inode_meta.specs.declared.appraisal.EvmStatus.{EvmStatus}
-use Rattle.inode_meta.specs.declared.appraisal.Need.TheVariants.{Any}
+use Rattle.inode_meta.specs.declared.appraisal.Need.TheVariants.{Any, Signature}
+use Rattle.inode_meta.specs.declared.appraisal.Need.{Need}
+use Rattle.inode_meta.specs.declared.appraisal.Slot.{Slot}
+use Rattle.inode_meta.specs.declared.appraisal.Slot.TheVariants as slot
+use Rattle.hash_algos.specs.declared.algo_set.AlgoSet.{AlgoSet}
+use Rattle.inode_events.specs.Verdicts.{verdict_in_force}
 use Rattle.std.specs.Prelude.{◌⊎◌}
-use Rattle.std.proofs.Common.{inl, inr, Bool, suc, ◌&&◌, not, ap, subst, sym, ◌∙◌, length, take}
+use Rattle.std.proofs.Common.{if◌then◌else◌, inl, inr, Bool, suc, ◌&&◌, not, ap, subst, sym, ◌∙◌, length, take}
 use Rattle.std.specs.Str.{bytes_eq}
 use Rattle.std.proofs.Math.Seq.{take-length}
 use Rattle.std.proofs.lemmas.Slice.Eq.{bytes_eq-Decides}
 use Rattle.xattr_store.specs.Attrs.{Pair}
 use Rattle.evm_verify.specs.Input.{evm_input, evm_value}
 use Rattle.inode_events.specs.Inode.{Inode}
-use Rattle.inode_events.specs.Integrity.{attributes, in_force, label, label_in, status as status_of}
+use Rattle.inode_events.specs.Integrity.{attributes, in_force, label, label_in, labelled_with, status as status_of}
 use Rattle.inode_events.specs.Grants.{is_mend}
-use Rattle.inode_events.specs.Says.{close_take_told}
-use Rattle.inode_events.proofs.Examples.{Tells, abc, appraise, behind, born, grant, inode_of, meta, no_key}
-use Rattle.inode_events.specs.declared.told.Event.{Event}
+use Rattle.inode_events.specs.Says.{close_take_told, says}
+use Rattle.inode_events.proofs.Examples.{Rows, Tells, abc, after, appraise, fixing, grant, inode_of, meta, no_key, with_key}
+use Rattle.inode_events.specs.declared.told.Told.{Told}
+use Rattle.ima_templates.specs.declared.entry.Placed.TheVariants.{Added}
 
 -- a digest stands at its own label's place: the one fact here that doesn't compute, since hashes are not computed in proofs
 same_front : (xs : List ℕ) → bytes_eq xs (take (length xs) xs) ≡ true
@@ -46,203 +52,140 @@ right_label s bytes size (inl e) = subst (λ (x : EvmStatus). judge Any None (So
 right_label s bytes size (inr e) = subst (λ (x : EvmStatus). judge Any None (Some (label_of (digest_of Sha256 bytes))) x (digest_of Sha256 bytes) Sha256 size false ≡ Pass) (sym e)
     (rw (same_front (digest_of Sha256 bytes).bytes) refl)
 
--- Mode fix labels a file that has none. The grant voids its own digest, and the next open passes by the new label.
-fixed : Tells (inode_of Fix no_key true abc [] true) (born (inode_of Fix no_key true abc [] true)) (
-    (deed.Count (how.Read false), Some (told.Held)) ∷
-    (deed.Check 1 FileCheck appraise 1, Some (told.Quiet)) ∷
-    (deed.Take 1, Some (told.Begun)) ∷
-    (deed.Chunk 1, Some (told.Last)) ∷
-    (deed.Finish 1, Some (told.Grant (grant (None) (Some (Deny cause.MissingHash)) true true))) ∷
-    (deed.Count (how.Read false), Some (told.Held)) ∷
-    (deed.Check 6 FileCheck appraise 1, Some (told.Quiet)) ∷
-    (deed.Take 6, Some (told.Begun)) ∷
-    (deed.Chunk 6, Some (told.Last)) ∷
-    (deed.Finish 6, Some (told.Grant (grant (None) (Some Pass) true false))) ∷
-    [])
-fixed = (
-  (tt, refl),
-  (
-    (refl, refl),
-    (
-      (refl, refl),
-      (
-        (refl, refl),
-        (
-          (refl, refl),
-          (
-            (tt, refl),
-            (
-              (refl, refl),
-              (
-                (refl, refl),
-                (
-                  (refl, refl),
-                  (
-                    (refl, ap (λ (v : Verdict). Some (told.Grant (grant None (Some v) true (is_mend (mend_for v (judge Any None (Some (label_of (digest_of Sha256 abc))) status.Pass (digest_of Sha256 abc) Sha256 3 false) status.Unknown (read_label (Some (label_of (digest_of Sha256 abc))) Sha256)))))) (right_label status.Unknown abc 3 (inr refl))),
-                    tt,
-                  ),
-                ),
-              ),
-            ),
-          ),
-        ),
-      ),
-    ),
-  ),
-)
+-- Mode fix labels a file that has none, by a grant that voids its own digest.
+abbrev fixed : Rows
+fixed =
+    (deed.Count (how.Read false), Some told.Held) ∷
+    (deed.Check 1 FileCheck appraise 1, Some told.Quiet) ∷
+    (deed.Take 1, Some told.Begun) ∷
+    (deed.Chunk 1, Some told.Last) ∷
+    (deed.Finish 1, Some (told.Grant (grant None (Some (Deny cause.MissingHash)) true true))) ∷
+    []
 
--- the journal of the labelled grant
-abbrev fixed_journal : List Event
-fixed_journal =
-    behind (deed.Finish 1) (Some (told.Grant (grant None (Some (Deny cause.MissingHash)) true true)))
-    (behind (deed.Chunk 1) (Some told.Last) (behind (deed.Take 1) (Some told.Begun) (behind (deed.Check 1 FileCheck appraise 1) (Some told.Quiet)
-    (behind (deed.Count (how.Read false)) (Some told.Held) (born (inode_of Fix no_key true abc [] true))))))
+fixed_tells : Tells fixing fixed
+fixed_tells = (refl, refl)
 
 -- at once after it no digest is in force, and the label is that of the content
-fixed_label : (label (inode_of Fix no_key true abc [] true) fixed_journal ≡ Some (label_of (digest_of Sha256 abc))) × (in_force (inode_of Fix no_key true abc [] true) fixed_journal ≡ None)
+fixed_label : (label fixing (after fixing fixed) ≡ Some (label_of (digest_of Sha256 abc))) × (in_force fixing (after fixing fixed) ≡ None)
 fixed_label = (refl, refl)
 
--- Enforced appraisal with a key: a new file passes without a label, and its last writer's close labels it. An open that
--- doesn't create finds none.
-new_file : (key : List ℕ) → Tells (inode_of Enforce (record { key = Some key; added = []; format = 1 }) false [] [] true) (born (inode_of Enforce (record { key = Some key; added = []; format = 1 }) false [] [] true)) (
-    (deed.Count (how.Read false), Some (told.NotFound)) ∷
-    (deed.Count (how.Write false true), Some (told.Held)) ∷
-    (deed.Check 2 FileCheck appraise 1, Some (told.Quiet)) ∷
-    (deed.Take 2, Some (told.Begun)) ∷
-    (deed.Chunk 2, Some (told.Last)) ∷
-    (deed.Finish 2, Some (told.Grant (grant (None) (Some Pass) true false))) ∷
-    (deed.Write 2 0 abc, Some (told.Done)) ∷
-    (deed.CloseTake 2, Some (told.Begun)) ∷
-    (deed.CloseChunk 2, Some (told.Last)) ∷
-    (deed.CloseFinish 2, Some (told.LabelledDropped)) ∷
-    [])
-new_file key = (
-  (tt, refl),
-  (
-    (tt, refl),
-    (
-      (refl, refl),
-      (
-        (refl, refl),
-        (
-          (refl, refl),
-          (
-            (refl, refl),
-            (
-              ((refl, refl, lit< tt), refl),
-              (
-                ((refl, refl), refl),
-                (
-                  (refl, refl),
-                  (
-                    (refl, refl),
-                    tt,
-                  ),
-                ),
-              ),
-            ),
-          ),
-        ),
-      ),
-    ),
-  ),
-)
+-- The next open hashes anew, and passes by the new label.
+abbrev fixed_again : Rows
+fixed_again =
+    (deed.Count (how.Read false), Some told.Held) ∷
+    (deed.Check 1 FileCheck appraise 1, Some told.Quiet) ∷
+    (deed.Take 1, Some told.Begun) ∷
+    (deed.Chunk 1, Some told.Last) ∷
+    (deed.Finish 1, Some (told.Grant (grant None (Some (Deny cause.MissingHash)) true true))) ∷
+    (deed.Count (how.Read false), Some told.Held) ∷
+    (deed.Check 6 FileCheck appraise 1, Some told.Quiet) ∷
+    (deed.Take 6, Some told.Begun) ∷
+    (deed.Chunk 6, Some told.Last) ∷
+    []
 
--- the inode of that journal, and the journal
-abbrev keyed_inode : List ℕ → Inode
-keyed_inode key = inode_of Enforce (record { key = Some key; added = []; format = 1 }) false [] [] true
+fixed_again_tells : Tells fixing fixed_again
+fixed_again_tells = (refl, refl)
 
-abbrev new_journal : List ℕ → List Event
-new_journal key =
-    behind (deed.CloseFinish 2) (Some told.LabelledDropped) (behind (deed.CloseChunk 2) (Some told.Last) (behind (deed.CloseTake 2) (Some told.Begun)
-    (behind (deed.Write 2 0 abc) (Some told.Done) (behind (deed.Finish 2) (Some (told.Grant (grant None (Some Pass) true false)))
-    (behind (deed.Chunk 2) (Some told.Last) (behind (deed.Take 2) (Some told.Begun) (behind (deed.Check 2 FileCheck appraise 1) (Some told.Quiet)
-    (behind (deed.Count (how.Write false true)) (Some told.Held) (behind (deed.Count (how.Read false)) (Some told.NotFound) (born (keyed_inode key)))))))))))
+-- what the grant is, by the verdict on the file with its new label
+abbrev told_again : Verdict → Option Told
+told_again v = Some (told.Grant (grant None (Some v) true (is_mend (mend_for v
+    (judge Any None (Some (label_of (digest_of Sha256 abc))) status.Pass (digest_of Sha256 abc) Sha256 3 false)
+    status.Unknown (read_label (Some (label_of (digest_of Sha256 abc))) Sha256)))))
+
+fixed_passes : says fixing (after fixing fixed_again) (Added 0) (deed.Finish 6) ≡ Some (told.Grant (grant None (Some Pass) true false))
+fixed_passes = ap told_again (right_label status.Unknown abc 3 (inr refl))
+
+-- the inode of a file that is created under enforced appraisal with a key
+abbrev keyed : List ℕ → Inode
+keyed key = inode_of Enforce (with_key key) false [] [] true
+
+-- A new file passes without a label, and its last writer's close labels it. An open that doesn't create finds none.
+abbrev new_file : Rows
+new_file =
+    (deed.Count (how.Read false), Some told.NotFound) ∷
+    (deed.Count (how.Write false true), Some told.Held) ∷
+    (deed.Check 2 FileCheck appraise 1, Some told.Quiet) ∷
+    (deed.Take 2, Some told.Begun) ∷
+    (deed.Chunk 2, Some told.Last) ∷
+    (deed.Finish 2, Some (told.Grant (grant None (Some Pass) true false))) ∷
+    (deed.Write 2 0 abc, Some told.Done) ∷
+    (deed.CloseTake 2, Some told.Begun) ∷
+    (deed.CloseChunk 2, Some told.Last) ∷
+    (deed.CloseFinish 2, Some told.LabelledDropped) ∷
+    []
+
+new_file_tells : (key : List ℕ) → Tells (keyed key) new_file
+new_file_tells key = (refl, refl)
 
 same_bytes : (xs : List ℕ) → bytes_eq xs xs ≡ true
 same_bytes xs = (bytes_eq-Decides xs xs).1 refl
 
 -- at its end the label is that of the content
-new_label : (key : List ℕ) → label (keyed_inode key) (new_journal key) ≡ Some (label_of (digest_of Sha256 abc))
+new_label : (key : List ℕ) → label (keyed key) (after (keyed key) new_file) ≡ Some (label_of (digest_of Sha256 abc))
 new_label key = refl
 
 -- and the HMAC fits
-new_status : (key : List ℕ) → status_of (keyed_inode key) (new_journal key) ≡ status.Pass
-new_status key = rw (same_bytes (evm_value key (evm_input (keyed_inode key).settings.evm (attributes (keyed_inode key) (new_journal key)) meta))) refl
+new_status : (key : List ℕ) → status_of (keyed key) (after (keyed key) new_file) ≡ status.Pass
+new_status key = rw (same_bytes (evm_value key (evm_input (keyed key).settings.evm (attributes (keyed key) (after (keyed key) new_file)) meta))) refl
 
 -- The close of a longer file takes its pieces one by one.
-long_close : (key : List ℕ) → Tells (inode_of Enforce (record { key = Some key; added = []; format = 1 }) false [] [] true) (born (inode_of Enforce (record { key = Some key; added = []; format = 1 }) false [] [] true)) (
-    (deed.Count (how.Write false true), Some (told.Held)) ∷
-    (deed.Check 1 FileCheck appraise 1, Some (told.Quiet)) ∷
-    (deed.Take 1, Some (told.Begun)) ∷
-    (deed.Chunk 1, Some (told.Last)) ∷
-    (deed.Finish 1, Some (told.Grant (grant (None) (Some Pass) true false))) ∷
-    (deed.Write 1 0 (replicate 5000 97), Some (told.Done)) ∷
-    (deed.CloseTake 1, Some (told.Begun)) ∷
-    (deed.CloseChunk 1, Some (told.More)) ∷
-    (deed.CloseChunk 1, Some (told.Last)) ∷
-    (deed.CloseFinish 1, Some (told.LabelledDropped)) ∷
+long_close : (key : List ℕ) → Tells (inode_of Enforce (with_key key) false [] [] true) (
+    (deed.Count (how.Write false true), Some told.Held) ∷
+    (deed.Check 1 FileCheck appraise 1, Some told.Quiet) ∷
+    (deed.Take 1, Some told.Begun) ∷
+    (deed.Chunk 1, Some told.Last) ∷
+    (deed.Finish 1, Some (told.Grant (grant None (Some Pass) true false))) ∷
+    (deed.Write 1 0 (replicate 5000 97), Some told.Done) ∷
+    (deed.CloseTake 1, Some told.Begun) ∷
+    (deed.CloseChunk 1, Some told.More) ∷
+    (deed.CloseChunk 1, Some told.Last) ∷
+    (deed.CloseFinish 1, Some told.LabelledDropped) ∷
     [])
-long_close key = (
-  (tt, refl),
-  (
-    (refl, refl),
-    (
-      (refl, refl),
-      (
-        (refl, refl),
-        (
-          (refl, refl),
-          (
-            ((refl, refl, lit< tt), refl),
-            (
-              ((refl, refl), refl),
-              (
-                (refl, refl),
-                (
-                  (refl, refl),
-                  (
-                    (refl, refl),
-                    tt,
-                  ),
-                ),
-              ),
-            ),
-          ),
-        ),
-      ),
-    ),
-  ),
-)
+long_close key = (refl, refl)
 
 -- Enforced appraisal without a label: refused.
-refused : Tells (inode_of Enforce no_key true abc [] true) (born (inode_of Enforce no_key true abc [] true)) (
-    (deed.Count (how.Read false), Some (told.Held)) ∷
-    (deed.Check 1 FileCheck appraise 1, Some (told.Quiet)) ∷
-    (deed.Take 1, Some (told.Begun)) ∷
-    (deed.Chunk 1, Some (told.Last)) ∷
-    (deed.Finish 1, Some (told.Grant (grant (None) (Some (Deny cause.MissingHash)) false false))) ∷
-    (deed.Close 1, Some (told.Dropped)) ∷
-    [])
-refused = (
-  (tt, refl),
-  (
-    (refl, refl),
-    (
-      (refl, refl),
-      (
-        (refl, refl),
-        (
-          (refl, refl),
-          (
-            ((refl, refl), refl),
-            tt,
-          ),
-        ),
-      ),
-    ),
-  ),
-)
+abbrev enforcing : Inode
+enforcing = inode_of Enforce no_key true abc [] true
+
+abbrev refused : Rows
+refused =
+    (deed.Count (how.Read false), Some told.Held) ∷
+    (deed.Check 1 FileCheck appraise 1, Some told.Quiet) ∷
+    (deed.Take 1, Some told.Begun) ∷
+    (deed.Chunk 1, Some told.Last) ∷
+    (deed.Finish 1, Some (told.Grant (grant None (Some (Deny cause.MissingHash)) false false))) ∷
+    (deed.Close 1, Some told.Dropped) ∷
+    []
+
+refused_tells : Tells enforcing refused
+refused_tells = (refl, refl)
+
+-- Its verdict is in force for the hook, the need and the algorithms by which it was asked, and for no other.
+abbrev kept : Slot → Need → Option AlgoSet → Option Verdict
+kept slot need algos = verdict_in_force enforcing (record { slot = slot; need = need; algos = algos }) (after enforcing refused)
+
+abbrev all_algos : AlgoSet
+all_algos = record { md5 = true; sha1 = true; sha256 = true; sha384 = true; sha512 = true; sha224 = true }
+
+verdict_key : (kept slot.File Any None ≡ Some (Deny cause.MissingHash)) × (kept slot.Mmap Any None ≡ None) × (kept slot.Bprm Any None ≡ None)
+    × (kept slot.File Signature None ≡ None) × (kept slot.File Any (Some all_algos) ≡ None)
+verdict_key = (refl, refl, refl, refl, refl)
+
+-- Mode fix over an HMAC of the older form renews it, and leaves the label as it is.
+abbrev old_fixed : Rows
+old_fixed =
+    (deed.Count (how.Read false), Some told.Held) ∷
+    (deed.Check 1 FileCheck appraise 1, Some told.Quiet) ∷
+    (deed.Take 1, Some told.Begun) ∷
+    (deed.Chunk 1, Some told.Last) ∷
+    (deed.Finish 1, Some (told.Grant (grant None (Some (Deny cause.InvalidHmac)) true true))) ∷
+    []
+
+old_renewed : (evm : Setup) (attrs : List Pair) → evm_status evm attrs meta ≡ status.Old
+    → attributes (inode_of Fix evm true abc attrs true) (after (inode_of Fix evm true abc attrs true) old_fixed) ≡ renewed evm attrs meta
+old_renewed evm attrs old =
+    ap (λ (s : EvmStatus). if is_old s then renewed evm attrs meta
+    else labelled_with (inode_of Fix evm true abc attrs true) (digest_of (collect_algo (label_in attrs) Sha256) abc) meta attrs) old
 
 -- the verdict on a sealed file: its label is that of `abc`, and its HMAC fits
 passes : (evm : Setup) (attrs : List Pair) → label_in attrs ≡ Some (label_of (digest_of Sha256 abc)) → evm_status evm attrs meta ≡ status.Pass
@@ -255,76 +198,36 @@ passes evm attrs labelled fits =
 abbrev IsRight : Setup → List Pair → Type 0
 IsRight evm attrs = judge Any None (label_in attrs) (evm_status evm attrs meta) (digest_of (collect_algo (label_in attrs) Sha256) abc) Sha256 3 false ≡ Pass
 
+-- what the two writers below are told, by the verdict on the file and whether its label is a signature
+abbrev two_told : Verdict → Bool → List (Option Told)
+two_told v signed =
+    Some told.Held ∷ Some told.Quiet ∷ Some told.Begun ∷ Some told.Last ∷ Some (told.Grant (grant None (Some v) (is_pass v) false)) ∷ Some told.Done
+    ∷ Some (close_take_told (not signed && true) 1) ∷ Some told.Held ∷ Some told.Quiet ∷ None ∷ Some told.Last ∷ Some told.Dropped
+    ∷ Some (told.Grant (grant None (Some Pass) true false)) ∷ Some (close_take_told (not signed && true) 1) ∷ Some told.Last ∷ Some told.LabelledDropped ∷ []
+
 -- A writer closes while another has come: its collection ends without a label, and the other's close writes it. A take waits
 -- for the collection that is open. The file has a right label of any algorithm, and no signature.
 two_writers : (evm : Setup) (attrs : List Pair) → IsRight evm attrs → is_signature (read_label (label_in attrs) Sha256) ≡ false
-    → Tells (inode_of Enforce evm true abc attrs true) (born (inode_of Enforce evm true abc attrs true)) (
-    (deed.Count (how.Write false false), Some (told.Held)) ∷
-    (deed.Check 1 FileCheck appraise 1, Some (told.Quiet)) ∷
-    (deed.Take 1, Some (told.Begun)) ∷
-    (deed.Chunk 1, Some (told.Last)) ∷
-    (deed.Finish 1, Some (told.Grant (grant (None) (Some Pass) true false))) ∷
-    (deed.Write 1 0 (88 ∷ []), Some (told.Done)) ∷
-    (deed.CloseTake 1, Some (told.Begun)) ∷
-    (deed.Count (how.Write false false), Some (told.Held)) ∷
-    (deed.Check 8 FileCheck appraise 1, Some (told.Quiet)) ∷
+    → Tells (inode_of Enforce evm true abc attrs true) (
+    (deed.Count (how.Write false false), Some told.Held) ∷
+    (deed.Check 1 FileCheck appraise 1, Some told.Quiet) ∷
+    (deed.Take 1, Some told.Begun) ∷
+    (deed.Chunk 1, Some told.Last) ∷
+    (deed.Finish 1, Some (told.Grant (grant None (Some Pass) true false))) ∷
+    (deed.Write 1 0 (88 ∷ []), Some told.Done) ∷
+    (deed.CloseTake 1, Some told.Begun) ∷
+    (deed.Count (how.Write false false), Some told.Held) ∷
+    (deed.Check 8 FileCheck appraise 1, Some told.Quiet) ∷
     (deed.Take 8, None) ∷
-    (deed.CloseChunk 1, Some (told.Last)) ∷
-    (deed.CloseFinish 1, Some (told.Dropped)) ∷
-    (deed.Take 8, Some (told.Grant (grant (None) (Some Pass) true false))) ∷
-    (deed.CloseTake 8, Some (told.Begun)) ∷
-    (deed.CloseChunk 8, Some (told.Last)) ∷
-    (deed.CloseFinish 8, Some (told.LabelledDropped)) ∷
+    (deed.CloseChunk 1, Some told.Last) ∷
+    (deed.CloseFinish 1, Some told.Dropped) ∷
+    (deed.Take 8, Some (told.Grant (grant None (Some Pass) true false))) ∷
+    (deed.CloseTake 8, Some told.Begun) ∷
+    (deed.CloseChunk 8, Some told.Last) ∷
+    (deed.CloseFinish 8, Some told.LabelledDropped) ∷
     [])
-two_writers evm attrs right unsigned = (
-  (tt, refl),
-  (
-    (refl, refl),
-    (
-      (refl, refl),
-      (
-        (refl, refl),
-        (
-          (refl, ap (λ (v : Verdict). Some (told.Grant (grant None (Some v) (is_pass v) false))) right),
-          (
-            ((refl, refl, lit< tt), refl),
-            (
-              ((refl, refl), ap (λ (b : Bool). Some (close_take_told (not b && true) 1)) unsigned),
-              (
-                (tt, refl),
-                (
-                  (refl, refl),
-                  (
-                    (refl, refl),
-                    (
-                      (refl, refl),
-                      (
-                        (refl, refl),
-                        (
-                          (refl, refl),
-                          (
-                            ((refl, refl), ap (λ (b : Bool). Some (close_take_told (not b && true) 1)) unsigned),
-                            (
-                              (refl, refl),
-                              (
-                                (refl, refl),
-                                tt,
-                              ),
-                            ),
-                          ),
-                        ),
-                      ),
-                    ),
-                  ),
-                ),
-              ),
-            ),
-          ),
-        ),
-      ),
-    ),
-  ),
-)
+two_writers evm attrs right unsigned =
+    (refl, ap (λ (v : Verdict). two_told v (is_signature (read_label (label_in attrs) Sha256))) right ∙ ap (λ (b : Bool). two_told Pass b) unsigned)
 
 -- a sealed file has such a label
 sealed_is_right : (evm : Setup) (attrs : List Pair) → label_in attrs ≡ Some (label_of (digest_of Sha256 abc)) → evm_status evm attrs meta ≡ status.Pass

@@ -1,25 +1,69 @@
--- Examples: deeds in order, each with what it is told. `None` stands for a deed that is blocked.
-use Rattle.std.proofs.Common.{◌≡◌, ℕ, Bool, true, false, List, [], ◌∷◌, Option, Some, None, refl}
+-- What the examples share: inodes, actions, and rows of deeds in order, each with what it is told.
+use Rattle.std.proofs.Common.{◌≡◌, ℕ, Bool, true, false, ◌&&◌, not, List, [], ◌∷◌, map, length, Option, Some, None, refl}
+use Rattle.std.specs.Prelude.{◌==◌, nat_lt}
 use Rattle.hash_algos.specs.declared.algo.Algo.TheVariants.{Sha256}
 use Rattle.evm_verify.specs.Setup.{Setup}
 use Rattle.ima_templates.specs.declared.entry.Placed.{Placed}
 use Rattle.ima_templates.specs.declared.entry.Placed.TheVariants.{Added}
 use Rattle.inode_meta.specs.declared.appraisal.Mode.{Mode}
+use Rattle.inode_meta.specs.declared.appraisal.Mode.TheVariants.{Fix, Off}
 use Rattle.inode_meta.specs.declared.appraisal.Need.TheVariants.{Any}
 use Rattle.inode_meta.specs.declared.identity.Meta.{Meta}
 use Rattle.inode_meta.specs.declared.measurement.Template.TheVariants.{ImaNg}
 use Rattle.label_values.specs.declared.verdict.Verdict.{Verdict}
 use Rattle.policy_text.specs.declared.access.Action.{Action}
 use Rattle.xattr_store.specs.Attrs.{Pair}
+use Rattle.inode_events.specs.Files.{can_read, held, holds, is_writing}
 use Rattle.inode_events.specs.Inode.{Inode, nobody}
-use Rattle.inode_events.specs.Legal.{May}
-use Rattle.inode_events.specs.Says.{says, placed_in}
+use Rattle.inode_events.specs.Says.{placed_in, says}
+use Rattle.inode_events.specs.Stage.{Stage, may_check, stage}
+use Rattle.inode_events.specs.Stage.{Asked, CloseCollected, CloseCollecting, Collected, Collecting, Counted, Gone, Settled}
 use Rattle.inode_events.specs.declared.deed.Deed.{Deed}
 use Rattle.inode_events.specs.declared.deed.Deed.TheVariants as deed
 use Rattle.inode_events.specs.declared.told.Event.{Event}
 use Rattle.inode_events.specs.declared.told.Grant.{Grant}
 use Rattle.inode_events.specs.declared.told.Told.{Told}
 use Rattle.inode_events.specs.declared.told.Told.TheVariants as told
+
+-- ---- whether a deed may be done, decided
+
+abbrev pub number_of : Stage → ℕ
+number_of Gone = 0
+number_of Counted = 1
+number_of Asked = 2
+number_of Collecting = 3
+number_of Collected = 4
+number_of Settled = 5
+number_of CloseCollecting = 6
+number_of CloseCollected = 7
+
+abbrev pub is_at : Stage → Stage → Bool
+is_at a b = number_of a == number_of b
+
+-- the condition of the deed's call
+abbrev pub may : Inode → List Event → Deed → Bool
+may inode before (deed.Count how) = true
+may inode before (deed.Check file func action rules) = may_check (stage inode file before)
+may inode before (deed.Take file) = is_at (stage inode file before) Asked
+may inode before (deed.Chunk file) = is_at (stage inode file before) Collecting
+may inode before (deed.Finish file) = is_at (stage inode file before) Collected
+may inode before (deed.Read file from len) = is_at (stage inode file before) Settled && holds can_read (held file before)
+may inode before (deed.Write file from bytes) =
+    is_at (stage inode file before) Settled && is_writing file before && nat_lt 0 (length bytes)
+may inode before (deed.Trunc file len) = is_at (stage inode file before) Settled && is_writing file before
+may inode before (deed.SetAttr name bytes admin) = true
+may inode before (deed.SetMeta change) = true
+may inode before (deed.Close file) = is_at (stage inode file before) Settled && not (is_writing file before)
+may inode before (deed.CloseTake file) = is_at (stage inode file before) Settled && is_writing file before
+may inode before (deed.CloseChunk file) = is_at (stage inode file before) CloseCollecting
+may inode before (deed.CloseFinish file) = is_at (stage inode file before) CloseCollected
+may inode before _ = false
+
+-- ---- rows
+
+-- deeds in order, each with what it is told. `None` stands for a deed that is blocked
+abbrev pub Rows : Type 0
+Rows = List (Deed × Option Told)
 
 abbrev pub placed_of : Option Told → Placed
 placed_of None = Added 0
@@ -29,18 +73,38 @@ abbrev pub behind : Deed → Option Told → List Event → List Event
 behind d None before = before
 behind d (Some t) before = record { who = nobody; deed = d; told = t } ∷ before
 
--- each deed may be done where it stands, and is told what the journal before it says
-abbrev pub Tells : Inode → List Event → List (Deed × Option Told) → Type 0
-Tells inode before [] = Unit {0}
-Tells inode before (s ∷ rest) =
-    (May inode before s.0 × (says inode before (placed_of s.1) s.0 ≡ s.1)) × Tells inode (behind s.0 s.1 before) rest
-
 -- the journal of an inode that has just come into being
 abbrev pub born : Inode → List Event
 born inode = record { who = nobody; deed = deed.Birth; told = told.Image inode.birth } ∷ []
 
+-- the journal behind which the rows stand
+abbrev pub behind_all : Rows → List Event → List Event
+behind_all [] before = before
+behind_all (r ∷ rest) before = behind_all rest (behind r.0 r.1 before)
+
+abbrev pub after : Inode → Rows → List Event
+after inode rows = behind_all rows (born inode)
+
+abbrev pub may_all : Inode → List Event → Rows → Bool
+may_all inode before [] = true
+may_all inode before (r ∷ rest) = may inode before r.0 && may_all inode (behind r.0 r.1 before) rest
+
+-- what the journal before each row says
+abbrev pub says_all : Inode → List Event → Rows → List (Option Told)
+says_all inode before [] = []
+says_all inode before (r ∷ rest) = says inode before (placed_of r.1) r.0 ∷ says_all inode (behind r.0 r.1 before) rest
+
+-- behind the birth, each deed may be done where it stands, and is told what the journal before it says
+abbrev pub Tells : Inode → Rows → Type 0
+Tells inode rows = (may_all inode (born inode) rows ≡ true) × (says_all inode (born inode) rows ≡ map (λ r. r.1) rows)
+
+-- ---- inodes
+
 abbrev pub no_key : Setup
 no_key = record { key = None; added = []; format = 1 }
+
+abbrev pub with_key : List ℕ → Setup
+with_key key = record { key = Some key; added = []; format = 1 }
 
 abbrev pub meta : Meta
 meta = record { ino = 12; generation = 1; uid = 0; gid = 0; mode = 33188; place = 1 }
@@ -56,6 +120,16 @@ inode_of mode evm present content attrs versions = record {
 -- the bytes `abc`
 abbrev pub abc : List ℕ
 abc = 97 ∷ 98 ∷ 99 ∷ []
+
+-- a file with these bytes and no attributes, measured alone
+abbrev pub plain : Inode
+plain = inode_of Off no_key true abc [] true
+
+-- the same in mode fix
+abbrev pub fixing : Inode
+fixing = inode_of Fix no_key true abc [] true
+
+-- ---- actions and grants
 
 abbrev pub measure : Action
 measure = record { measure = true; pcr = 10; template = None; appraise = false; need = Any; algos = None; audit = false; hash = false }

@@ -1,4 +1,9 @@
 pub mod Examples
+pub mod Deciding
 pub mod MeasuringExamples
 pub mod AppraisalExamples
 pub mod ChangeExamples
+pub mod MarkExamples
+pub mod EntryExamples
+pub mod SemaphoreExamples
+pub mod RunExamples

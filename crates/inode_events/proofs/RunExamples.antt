@@ -1,0 +1,318 @@
+-- Three whole runs over one file: a task opens it, reads and closes; a writer comes while a reader is there; two readers come while
+-- a writer is there. Each journal is legal and is listed in its list, the list is merged from it, and each read is covered.
+use Rattle.std.proofs.Common.{◌≡◌, ℕ, zero, suc, ◌+◌, ◌<◌, Bool, true, false, List, [], ◌∷◌, codes, Option, Some, None, refl, ap, sym, subst, arith, inl, inr, lit<}
+use Rattle.std.specs.Prelude.{◌&&◌, nat_le, ◌⊎◌, All, Contains, slice_get, if◌then◌else◌, ◌==◌}
+use Rattle.std.proofs.lemmas.List.Elements.{All-cons, All-nil}
+use Rattle.std.proofs.lemmas.Bool.{and_parts, leb-true}
+use Rattle.std.proofs.lemmas.Option.{none-some}
+use Rattle.hash_algos.proofs.HashLemmas.{length-hash}
+use Rattle.ima_templates.proofs.SameLemmas.{same_data-fields}
+use Rattle.ima_templates.specs.IsEntry.{IsEntry}
+use Rattle.ima_templates.specs.Path.{IsGraphic}
+use Rattle.hash_algos.specs.Digest.{digest_of, zero_digest}
+use Rattle.hash_algos.specs.declared.algo.Algo.TheVariants.{Sha256}
+use Rattle.ima_templates.specs.Same.{place_of_same, same}
+use Rattle.ima_templates.specs.declared.entry.Entry.{Entry}
+use Rattle.ima_templates.specs.declared.entry.Placed.{Placed}
+use Rattle.ima_templates.specs.declared.entry.Placed.TheVariants.{Added, Already}
+use Rattle.inode_meta.specs.declared.measurement.Template.TheVariants.{ImaNg}
+use Rattle.policy_text.specs.declared.rule.Func.TheVariants.{FileCheck}
+use Rattle.inode_events.specs.Checks.{no_action}
+use Rattle.inode_events.specs.Coverage.{IsAnswered, IsCovered, ShowsContent, ShowsViolation}
+use Rattle.inode_events.specs.Legal.{Legal}
+use Rattle.inode_events.specs.Listing.{IsListed}
+use Rattle.inode_events.specs.Merged.{IsMerged, places_added, times_added}
+use Rattle.inode_events.specs.Stage.{stage, stage_in}
+use Rattle.inode_events.specs.declared.deed.Deed.{Deed}
+use Rattle.inode_events.specs.declared.deed.Deed.TheVariants as deed
+use Rattle.inode_events.specs.declared.deed.How.TheVariants as how
+use Rattle.inode_events.specs.declared.told.Event.{Event}
+use Rattle.inode_events.specs.declared.told.Told.{Told}
+use Rattle.inode_events.specs.declared.told.Told.TheVariants as told
+use Rattle.inode_events.proofs.Deciding.{covered_by, has_none, legal_by, listed_by, merged_by, one_has, onto}
+use Rattle.inode_events.proofs.EntryExamples.{file_entry, violation_entry}
+use Rattle.inode_events.proofs.Examples.{abc, born, grant, measure, plain}
+
+-- a step of a task
+abbrev pub did : ℕ → ℕ → ℕ → Deed → Told → Event
+did task call step d t = record { who = record { task = task; call = call; step = step }; deed = d; told = t }
+
+abbrev pub granted : Placed → Told
+granted placed = told.Grant (grant (Some placed) None true false)
+
+abbrev pub boot : Entry
+boot = record { pcr = 10; template = ImaNg; digest = zero_digest Sha256; name = codes "boot_aggregate"; sig = []; violation = false }
+
+-- ---- the three runs, oldest event first
+
+-- `open 0 /a r`, `read 0 0 3`, `close 0`
+abbrev pub reading : List Event
+reading =
+    did 0 0 0 (deed.Count (how.Read false)) told.Held ∷
+    did 0 0 1 (deed.Check 1 FileCheck measure 1) told.Quiet ∷
+    did 0 0 2 (deed.Take 1) told.Begun ∷
+    did 0 0 3 (deed.Chunk 1) told.Last ∷
+    did 0 0 4 (deed.Finish 1) (granted (Added 1)) ∷
+    did 0 1 0 (deed.Read 1 0 3) (told.Read 3 (digest_of Sha256 abc)) ∷
+    did 0 2 0 (deed.Close 1) told.Dropped ∷
+    []
+
+-- task 0 opens for reading, and then task 1 for writing
+abbrev pub overtaken : List Event
+overtaken =
+    did 0 0 0 (deed.Count (how.Read false)) told.Held ∷
+    did 0 0 1 (deed.Check 1 FileCheck measure 1) told.Quiet ∷
+    did 0 0 2 (deed.Take 1) told.Begun ∷
+    did 0 0 3 (deed.Chunk 1) told.Last ∷
+    did 0 0 4 (deed.Finish 1) (granted (Added 1)) ∷
+    did 1 0 0 (deed.Count (how.Write false false)) told.Held ∷
+    did 1 0 1 (deed.Check 6 FileCheck no_action 1) (told.ToMToU 2) ∷
+    []
+
+-- task 0 opens for writing, and then tasks 1 and 2 for reading
+abbrev pub beside_writer : List Event
+beside_writer =
+    did 0 0 0 (deed.Count (how.Write false false)) told.Held ∷
+    did 0 0 1 (deed.Check 1 FileCheck no_action 1) told.Quiet ∷
+    did 1 0 0 (deed.Count (how.Read false)) told.Held ∷
+    did 1 0 1 (deed.Check 3 FileCheck measure 1) (told.OpenWriters 1) ∷
+    did 1 0 2 (deed.Take 3) told.Begun ∷
+    did 1 0 3 (deed.Chunk 3) told.Last ∷
+    did 1 0 4 (deed.Finish 3) (granted (Added 2)) ∷
+    did 2 0 0 (deed.Count (how.Read false)) told.Held ∷
+    did 2 0 1 (deed.Check 8 FileCheck measure 1) (told.OpenWriters 3) ∷
+    did 2 0 2 (deed.Take 8) (granted (Already 2)) ∷
+    []
+
+-- their journals, and their lists
+abbrev pub journal_of : List Event → List Event
+journal_of events = onto (born plain) events
+
+abbrev pub reading_list : List Entry
+reading_list = boot ∷ file_entry ∷ []
+
+abbrev pub overtaken_list : List Entry
+overtaken_list = boot ∷ file_entry ∷ violation_entry ∷ []
+
+abbrev pub beside_list : List Entry
+beside_list = boot ∷ violation_entry ∷ file_entry ∷ violation_entry ∷ []
+
+-- ---- legal
+
+reading_legal : Legal plain (journal_of reading)
+reading_legal = legal_by plain reading refl refl
+
+overtaken_legal : Legal plain (journal_of overtaken)
+overtaken_legal = legal_by plain overtaken refl refl
+
+beside_legal : Legal plain (journal_of beside_writer)
+beside_legal = legal_by plain beside_writer refl refl
+
+-- a writer's check that keeps the violation quiet is not legal
+abbrev unheard : List Event
+unheard =
+    did 1 0 1 (deed.Check 6 FileCheck no_action 1) told.Quiet ∷
+    did 1 0 0 (deed.Count (how.Write false false)) told.Held ∷
+    did 0 0 4 (deed.Finish 1) (granted (Added 1)) ∷
+    did 0 0 3 (deed.Chunk 1) told.Last ∷
+    did 0 0 2 (deed.Take 1) told.Begun ∷
+    did 0 0 1 (deed.Check 1 FileCheck measure 1) told.Quiet ∷
+    did 0 0 0 (deed.Count (how.Read false)) told.Held ∷
+    born plain
+
+unheard_illegal : Legal plain unheard → ⊥
+unheard_illegal legal = cc legal.1.0.2
+
+-- ---- the stage by a task's own events
+
+-- the writer's stage, read off task 1's events alone
+own_stage : stage_in plain 6 ((7, did 1 0 1 (deed.Check 6 FileCheck no_action 1) (told.ToMToU 2)) ∷ (6, did 1 0 0 (deed.Count (how.Write false false)) told.Held) ∷ [])
+    ≡ stage plain 6 (journal_of overtaken)
+own_stage = refl
+
+-- ---- listed
+
+reading_listed : IsListed plain reading_list (journal_of reading)
+reading_listed = listed_by plain reading_list (journal_of reading) refl refl
+
+overtaken_listed : IsListed plain overtaken_list (journal_of overtaken)
+overtaken_listed = listed_by plain overtaken_list (journal_of overtaken) refl refl
+
+-- a list without the violation is not that journal's
+unlisted : IsListed plain reading_list (journal_of overtaken) → ⊥
+unlisted listed = none-some violation_entry listed.0
+
+-- ---- which entries are the same
+
+abbrev are_graphic : List ℕ → Bool
+are_graphic [] = true
+are_graphic (b ∷ rest) = (nat_le 0x21 b && nat_le b 0x7e) && are_graphic rest
+
+graphic : (bytes : List ℕ) → are_graphic bytes ≡ true → All IsGraphic bytes
+graphic [] g = All-nil IsGraphic
+graphic (b ∷ rest) g =
+    let parts = and_parts (nat_le 0x21 b && nat_le b 0x7e) (are_graphic rest) g in
+    let ends = and_parts (nat_le 0x21 b) (nat_le b 0x7e) parts.0 in
+    All-cons IsGraphic b rest (leb-true 0x21 b ends.0, leb-true b 0x7e ends.1) (graphic rest parts.1)
+
+boot_valid : IsEntry boot
+boot_valid = record {
+  pcr = lit< tt;
+  digest_size = refl;
+  digest_of_ima = λ e. cc;
+  name_not_empty = omega arith;
+  name_at_most = omega arith;
+  name_graphic = graphic boot.name refl;
+  name_of_ima = λ e. cc;
+  sig_at_most = omega arith;
+  sig_of_ima = λ e. refl;
+  sig_of_ima_ng = λ e. refl;
+  violation = λ e. cc;
+}
+
+file_valid : IsEntry file_entry
+file_valid = record {
+  pcr = lit< tt;
+  digest_size = length-hash Sha256 abc;
+  digest_of_ima = λ e. cc;
+  name_not_empty = omega arith;
+  name_at_most = omega arith;
+  name_graphic = graphic file_entry.name refl;
+  name_of_ima = λ e. cc;
+  sig_at_most = omega arith;
+  sig_of_ima = λ e. refl;
+  sig_of_ima_ng = λ e. refl;
+  violation = λ e. cc;
+}
+
+-- the file's entry is the same as itself, and the boot aggregate has another name
+file_same : same file_entry file_entry ≡ true
+unfolding same
+file_same = sym (same_data-fields file_entry file_entry true file_valid file_valid refl ((λ y. (refl, refl, refl)), (λ f. refl)))
+
+boot_apart : same boot file_entry ≡ false
+unfolding same
+boot_apart = sym (same_data-fields boot file_entry false boot_valid file_valid refl ((λ y. cc), (λ f. other_name f.1))) where
+  other_name : boot.name ≡ file_entry.name → false ≡ true
+  other_name e = cc
+
+violation_apart : same violation_entry file_entry ≡ false
+unfolding same
+violation_apart = refl
+
+found_third : place_of_same beside_list file_entry ≡ Some 2
+found_third = rw (boot_apart, violation_apart, file_same) refl
+
+beside_listed : IsListed plain beside_list (journal_of beside_writer)
+beside_listed = listed_by plain beside_list (journal_of beside_writer) refl (ap (λ (o : Option ℕ). o ∷ []) found_third)
+
+-- ---- merged
+
+reading_once : (place : ℕ) → place < 2 → 0 + times_added place (places_added plain (journal_of reading)) ≡ (if place == 0 then 0 else 1)
+reading_once zero b = refl
+reading_once (suc zero) b = refl
+reading_once (suc (suc k)) b = absurd (omega arith)
+
+reading_merged : IsMerged boot reading_list (record { inode = plain; events = journal_of reading } ∷ [])
+reading_merged =
+    merged_by boot reading_list plain (journal_of reading) refl reading_listed reading_once refl refl
+    (ap (λ (b : Bool). b ∷ []) boot_apart, (refl, tt))
+
+-- the boot aggregate is not the same as a violation, and no entry is
+boot_violation : same boot violation_entry ≡ false
+unfolding same
+boot_violation = refl
+
+file_violation : same file_entry violation_entry ≡ false
+unfolding same
+file_violation = refl
+
+violation_violation : same violation_entry violation_entry ≡ false
+unfolding same
+violation_violation = refl
+
+overtaken_once : (place : ℕ) → place < 3 → 0 + times_added place (places_added plain (journal_of overtaken)) ≡ (if place == 0 then 0 else 1)
+overtaken_once zero b = refl
+overtaken_once (suc zero) b = refl
+overtaken_once (suc (suc zero)) b = refl
+overtaken_once (suc (suc (suc k))) b = absurd (omega arith)
+
+overtaken_merged : IsMerged boot overtaken_list (record { inode = plain; events = journal_of overtaken } ∷ [])
+overtaken_merged =
+    merged_by boot overtaken_list plain (journal_of overtaken) refl overtaken_listed overtaken_once refl refl
+    ((λ k. boot_apart k ∷ boot_violation k ∷ []), ((λ k. file_violation k ∷ []), (refl, tt)))
+
+beside_once : (place : ℕ) → place < 4 → 0 + times_added place (places_added plain (journal_of beside_writer)) ≡ (if place == 0 then 0 else 1)
+beside_once zero b = refl
+beside_once (suc zero) b = refl
+beside_once (suc (suc zero)) b = refl
+beside_once (suc (suc (suc zero))) b = refl
+beside_once (suc (suc (suc (suc k)))) b = absurd (omega arith)
+
+beside_merged : IsMerged boot beside_list (record { inode = plain; events = journal_of beside_writer } ∷ [])
+beside_merged =
+    merged_by boot beside_list plain (journal_of beside_writer) refl beside_listed beside_once refl refl
+    ((λ k. boot_violation k ∷ boot_apart k ∷ boot_violation k ∷ []), ((λ k. violation_apart k ∷ violation_violation k ∷ []), ((λ k. file_violation k ∷ []), (refl, tt))))
+
+-- A journal that is told to have added the first entry is legal and listed, and no list is merged from it.
+abbrev adds_first : List Event
+adds_first =
+    did 0 0 0 (deed.Count (how.Read false)) told.Held ∷
+    did 0 0 1 (deed.Check 1 FileCheck measure 1) told.Quiet ∷
+    did 0 0 2 (deed.Take 1) told.Begun ∷
+    did 0 0 3 (deed.Chunk 1) told.Last ∷
+    did 0 0 4 (deed.Finish 1) (granted (Added 0)) ∷
+    []
+
+adds_first_fits : Legal plain (journal_of adds_first) × IsListed plain (file_entry ∷ []) (journal_of adds_first)
+adds_first_fits = (legal_by plain adds_first refl refl, listed_by plain (file_entry ∷ []) (journal_of adds_first) refl refl)
+
+adds_first_unmerged : IsMerged file_entry (file_entry ∷ []) (record { inode = plain; events = journal_of adds_first } ∷ []) → ⊥
+adds_first_unmerged merged = added_once 1 refl (merged.once 0 (lit< tt)) where
+  added_once : (times : ℕ) → times ≡ 1 → times ≡ 0 → ⊥
+  added_once times is never = absurd (omega arith)
+
+-- ---- covered
+
+-- the events before the read
+abbrev before_read : List Event
+before_read =
+    did 0 0 0 (deed.Count (how.Read false)) told.Held ∷
+    did 0 0 1 (deed.Check 1 FileCheck measure 1) told.Quiet ∷
+    did 0 0 2 (deed.Take 1) told.Begun ∷
+    did 0 0 3 (deed.Chunk 1) told.Last ∷
+    did 0 0 4 (deed.Finish 1) (granted (Added 1)) ∷
+    []
+
+read_covered : IsCovered plain reading_list 1 (journal_of before_read)
+read_covered = covered_by plain reading_list 1 (journal_of before_read) ((1, ((0, omega arith, refl), inl (file_entry, (refl, refl, refl, refl)))), tt)
+
+-- the two readers beside the writer, each by the one entry
+beside_covered : IsCovered plain beside_list 3 (journal_of beside_writer) × IsCovered plain beside_list 8 (journal_of beside_writer)
+beside_covered = (
+  covered_by plain beside_list 3 (journal_of beside_writer) ((2, ((0, omega arith, refl), inl (file_entry, (refl, refl, refl, refl)))), tt),
+  covered_by plain beside_list 8 (journal_of beside_writer) ((2, ((0, omega arith, refl), inl (file_entry, (refl, refl, refl, refl)))), tt),
+)
+
+-- once the writer that overtook the reader has written, a read is covered by the violation
+abbrev written_over : List Event
+written_over = did 1 1 0 (deed.Write 6 0 (88 ∷ [])) told.Done ∷ journal_of overtaken
+
+overtaken_covered : IsCovered plain overtaken_list 1 written_over
+overtaken_covered =
+    covered_by plain overtaken_list 1 written_over
+    ((1, ((0, omega arith, refl), inr (2, ((0, omega arith, refl), (violation_entry, (refl, refl, refl)))))), tt)
+
+-- by a list that lacks the entry no read is covered
+abbrev lacking_later : List Event
+lacking_later = did 0 0 4 (deed.Finish 1) (granted (Added 1)) ∷ did 0 0 3 (deed.Chunk 1) told.Last ∷ did 0 0 2 (deed.Take 1) told.Begun ∷ []
+
+lacking : IsAnswered plain (boot ∷ []) 1 abc lacking_later (did 0 0 1 (deed.Check 1 FileCheck measure 1) told.Quiet) → ⊥
+lacking answer = at answer.0 (one_has 1 answer.0 answer.1.0) answer.1.1 where
+  at : (place : ℕ) → 1 ≡ place → ShowsContent plain (boot ∷ []) abc place ⊎ ((violation : ℕ) × (Contains [] violation × ShowsViolation plain (boot ∷ []) violation)) → ⊥
+  at place e (inl shown) = none-some shown.0 (subst (λ (k : ℕ). slice_get (boot ∷ []) k ≡ Some shown.0) (sym e) shown.1.0)
+  at place e (inr violation) = has_none violation.0 violation.1.0
+
+uncovered : IsCovered plain (boot ∷ []) 1 (journal_of before_read) → ⊥
+uncovered covered =
+    lacking (covered lacking_later (did 0 0 1 (deed.Check 1 FileCheck measure 1) told.Quiet) (did 0 0 0 (deed.Count (how.Read false)) told.Held ∷ born plain) refl refl)
