@@ -19,3 +19,4 @@ pub mod Callers
 pub mod Semaphores
 pub mod Coverage
 pub mod Merged
+pub mod EndedInode

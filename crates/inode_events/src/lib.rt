@@ -6,11 +6,13 @@
 #![tactic(auto)]
 
 mod deed;
+mod ended;
 mod image;
 mod settings;
 mod told;
 
 pub use deed::{Change, Deed, How};
+pub use ended::EndedInode;
 pub use image::Image;
 pub use settings::Settings;
 pub use told::{Event, Grant, Told};

@@ -6,8 +6,8 @@ use Rattle.run_model.specs.Scene.{Program, Scene}
 use Rattle.run_model.specs.Turns.{Moment, go, run_at, start_of, turn, turns_of}
 use Rattle.call_steps.specs.declared.ending.Ending.{Ending}
 use Rattle.call_steps.specs.declared.ending.Ending.TheVariants as ending
-use Rattle.run_model.specs.declared.Turn.{Turn}
-use Rattle.run_model.specs.declared.Turn.TheVariants as turns
+use Rattle.run_model.specs.declared.turn.Turn.{Turn}
+use Rattle.run_model.specs.declared.turn.Turn.TheVariants as turns
 
 -- the numbers below n
 abbrev pub numbers : ℕ → List ℕ

@@ -21,9 +21,9 @@ use Rattle.call_steps.specs.Mind.{Nothing, Does, Checks, Signals, Appends}
 use Rattle.run_model.specs.History.{Thought, event, hear, plain_answer, start, step_at, who_at}
 use Rattle.run_model.specs.Served.{Run}
 use Rattle.run_model.specs.Scene.{Program, Scene, Station, decided, inode_of, mode_of, rules_with}
-use Rattle.run_model.specs.declared.RuleEntry.{RuleEntry}
-use Rattle.run_model.specs.declared.Turn.{Turn}
-use Rattle.run_model.specs.declared.Turn.TheVariants as turns
+use Rattle.run_model.specs.declared.entry.RuleEntry.{RuleEntry}
+use Rattle.run_model.specs.declared.turn.Turn.{Turn}
+use Rattle.run_model.specs.declared.turn.Turn.TheVariants as turns
 
 -- the lists of a world: the journals, the measurement list, the posts and waits, and the appended
 -- rules

@@ -1,33 +1,20 @@
-//! Whole runs: what a script sets up, what one turn of a task does, which runs are served, and which are shown.
+//! Whole runs: what a script sets up, what one turn of a task does, which runs are served, and which
+//! are shown.
 //!
-//! The definitions of `specs/` speak of plain lists: a journal for each inode, the measurement list, the appended rules, and of
-//! each task its program and what it was told.
+//! The definitions of `specs/` speak of plain lists: a journal for each inode, the measurement list,
+//! the appended rules, and of each task its program and what it was told. What a run leaves is
+//! [`Ended`].
 #![tactic(auto)]
+
+mod ended;
+mod entry;
+mod turn;
 
 ghost use Rattle.run_model.specs.Laws.{OneEnd, PlacedIsTold, StepIsListed, StillRound, StillTurn};
 
-use inode_meta::Who;
-use policy_text::Rule;
-
-/// What a turn did.
-#[derive(Clone, Copy, Debug, PartialEq, Eq)]
-pub enum Turn {
-    /// The task made a step.
-    Moved,
-    /// Its step can't be made now.
-    Blocked,
-    /// Its program was over.
-    Done,
-}
-
-/// A rule that a task appended.
-#[derive(Drop)]
-pub struct RuleEntry {
-    /// The step that appended it.
-    pub who: Who,
-    /// The rule.
-    pub rule: Rule,
-}
+pub use ended::{Ended, EndedTask};
+pub use entry::RuleEntry;
+pub use turn::Turn;
 
 /// A turn that doesn't move its task changes nothing.
 pub fn still_turn()
@@ -44,14 +31,14 @@ pub fn one_end()
     ensures { OneEnd }
 {}
 
-/// What a step is told with the place that the list gave is what the journal says with the place that was told. So what a turn
-/// appends is told what its journal says.
+/// What a step is told with the place that the list gave is what the journal says with the place
+/// that was told. So what a turn appends is told what its journal says.
 pub fn placed_is_told()
     ensures { PlacedIsTold }
 {}
 
-/// What a step leaves of the measurement list is what its event says of it: an entry that it adds at the end, one that it finds, or
-/// neither.
+/// What a step leaves of the measurement list is what its event says of it: an entry that it adds at
+/// the end, one that it finds, or neither.
 pub fn step_is_listed()
     ensures { StepIsListed }
 {}

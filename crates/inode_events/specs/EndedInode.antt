@@ -1,0 +1,32 @@
+-- What contracts see of an inode at the end of a run.
+use Rattle.std.specs.Prelude.{ℕ, List, Option, option_map}
+use Rattle.hash_algos.specs.declared.digest.Digest.{Digest}
+use Rattle.xattr_store.specs.Attrs.{Pair}
+use Rattle.inode_events.specs.Files.{execs, readers, writers}
+use Rattle.inode_events.specs.Inode.{Inode}
+use Rattle.inode_events.specs.Integrity.{attributes, in_force}
+use Rattle.inode_events.specs.Past.{past}
+use Rattle.inode_events.specs.declared.told.Event.{Event}
+
+-- its path and journal, and what the journal gives: the digest in force by the algorithm that was
+-- chosen, the attributes, and the files that are still held
+pub record EndedInodeValue : Type 0 where
+  pub path : List ℕ
+  pub journal : List Event
+  pub force : Option Digest
+  pub attrs : List Pair
+  pub writers : ℕ
+  pub readers : ℕ
+  pub execs : ℕ
+
+-- the end of an inode with this journal
+abbrev pub ended_inode : Inode → List Event → EndedInodeValue
+ended_inode inode journal = record {
+  path = inode.path;
+  journal = journal;
+  force = option_map (λ f. f.digest) (in_force inode (past journal));
+  attrs = attributes inode (past journal);
+  writers = writers (past journal);
+  readers = readers (past journal);
+  execs = execs (past journal);
+}

@@ -1,0 +1,65 @@
+use crate::entry::RuleEntry;
+use call_steps::Reply;
+use ima_templates::Entry;
+use inode_events::EndedInode;
+use inode_meta::Template;
+use pcr_bank::Banks;
+use std::marker::Model;
+
+/// A task at the end of a run. Contracts see the record of its fields, the replies as a list.
+#[derive(Drop)]
+pub struct EndedTask {
+    /// Whether each of its calls is answered.
+    pub done: bool,
+    /// The replies of the answered calls, in order.
+    pub replies: Vec<Reply>,
+}
+
+impl Model for EndedTask {
+    ghost use Rattle.run_model.specs.EndedValue.{EndedTaskValue};
+
+    ghost Value = { EndedTaskValue };
+
+    ghost view = { λ t. record { done = t.done; replies = t.replies.items } };
+}
+
+/// What a run leaves. Contracts see the record of its fields, each vector as a list.
+#[derive(Drop)]
+pub struct Ended {
+    /// The inodes with their journals, in the order of the script.
+    pub inodes: Vec<EndedInode>,
+    /// The measurement list.
+    pub list: Vec<Entry>,
+    /// The registers, which are the replay of the list.
+    pub banks: Banks,
+    /// The tasks, in the order of their numbers.
+    pub tasks: Vec<EndedTask>,
+    /// Whether some task isn't done and each that isn't waits for a semaphore of which nothing is left.
+    pub stuck: bool,
+    /// The template of the script.
+    pub template: Template,
+    /// The appended rules, in order.
+    pub rules: Vec<RuleEntry>,
+    /// The number of the script's own rules.
+    pub base: u64,
+    /// Whether some task's program can append rules.
+    pub grows: bool,
+}
+
+impl Model for Ended {
+    ghost use Rattle.run_model.specs.EndedValue.{EndedValue};
+
+    ghost Value = { EndedValue };
+
+    ghost view = { λ e. record {
+      inodes = e.inodes.items;
+      list = e.list.items;
+      banks = e.banks;
+      tasks = e.tasks.items;
+      stuck = e.stuck;
+      template = e.template;
+      rules = e.rules.items;
+      base = e.base;
+      grows = e.grows;
+    } };
+}
