@@ -1,6 +1,6 @@
 -- What a call line of a script can say: the ranges of its numbers and the lengths of its bytes.
 use Rattle.std.specs.Prelude.{ℕ, Bool, true, ◌&&◌, ◌||◌, not, nat_le, nat_lt, List, length, Option, Some, None}
-use Rattle.inode_events.specs.Content.{most_bytes}
+use Rattle.inode_pages.specs.Content.{most_bytes}
 use Rattle.inode_events.specs.Files.{is_writer}
 use Rattle.text_forms.specs.Words.{is_word}
 use Rattle.call_steps.specs.declared.call.Call.{Call}

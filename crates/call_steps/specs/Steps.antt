@@ -8,7 +8,7 @@ use Rattle.policy_text.specs.declared.access.Action.{Action}
 use Rattle.policy_text.specs.declared.rule.Func.{Func}
 use Rattle.policy_text.specs.declared.rule.Func.TheVariants as func
 use Rattle.inode_events.specs.Checks.{is_off, no_action, slot_of}
-use Rattle.inode_events.specs.Content.{most_bytes}
+use Rattle.inode_pages.specs.Content.{most_bytes}
 use Rattle.inode_events.specs.Files.{can_read, is_writer}
 use Rattle.inode_events.specs.declared.deed.How.{How}
 use Rattle.inode_events.specs.declared.deed.How.TheVariants as how

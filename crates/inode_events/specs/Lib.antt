@@ -1,6 +1,5 @@
 pub mod Past
 pub mod Inode
-pub mod Content
 pub mod Files
 pub mod State
 pub mod Integrity

@@ -9,7 +9,7 @@ use Rattle.ima_templates.specs.declared.entry.Placed.{Placed}
 use Rattle.ima_templates.specs.declared.entry.Placed.TheVariants.{Added, Already}
 use Rattle.inode_meta.specs.declared.appraisal.EvmStatus.{EvmStatus}
 use Rattle.xattr_store.specs.Attrs.{value}
-use Rattle.inode_events.specs.Content.{bytes_at, is_last_piece, most_bytes}
+use Rattle.inode_pages.specs.Content.{bytes_at, is_last_piece, most_bytes}
 use Rattle.inode_events.specs.Files.{creates, execs, is_exec, is_writer, is_writing, readers, writers}
 use Rattle.inode_events.specs.Grants.{grant_of}
 use Rattle.inode_events.specs.Inode.{Inode}

@@ -1,7 +1,7 @@
 -- What the events leave of a file: whether it is there, its content and its metadata.
 use Rattle.std.specs.Prelude.{ℕ, ◌==◌, Bool, true, false, ◌&&◌, ◌||◌, not, nat_le, List, [], ◌∷◌, length, if◌then◌else◌}
 use Rattle.inode_meta.specs.declared.identity.Meta.{Meta}
-use Rattle.inode_events.specs.Content.{overwritten, resized}
+use Rattle.inode_pages.specs.Content.{overwritten, resized}
 use Rattle.inode_events.specs.Files.{is_writer, writers}
 use Rattle.inode_events.specs.declared.deed.Change.{Change}
 use Rattle.inode_events.specs.declared.deed.Change.TheVariants as change

@@ -1,6 +1,6 @@
 ghost use Rattle.std.specs.Prelude.{◌≡◌, ◌+◌, IfOk, drop};
 ghost use Rattle.inode_events.specs.Past.{past};
-ghost use Rattle.inode_events.specs.Content.{bytes_at, is_last_piece, piece_at, resized, with_zeros_to, overwritten};
+ghost use Rattle.inode_pages.specs.Content.{bytes_at, is_last_piece, piece_at, resized, with_zeros_to, overwritten};
 ghost use Rattle.inode_events.specs.State.{content, content_after};
 
 use crate::walk::newest;

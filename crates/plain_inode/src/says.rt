@@ -1,6 +1,6 @@
 ghost use Rattle.std.specs.Prelude.{◌≡◌, IfOk};
 ghost use Rattle.inode_events.specs.Past.{past};
-ghost use Rattle.inode_events.specs.Content.{bytes_at};
+ghost use Rattle.inode_pages.specs.Content.{bytes_at};
 ghost use Rattle.inode_events.specs.Files.{is_writing, readers, writers};
 ghost use Rattle.inode_events.specs.Inode.{Inode};
 ghost use Rattle.inode_events.specs.Integrity.{collecting};

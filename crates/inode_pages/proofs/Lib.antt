@@ -1,0 +1,5 @@
+pub mod Lookups
+pub mod Writes
+pub mod Paging
+pub mod Changes
+pub mod Reading

@@ -1,0 +1,8 @@
+//! The bytes of a file, kept as pages of 4,096 bytes that may be shared, and are copied before they are changed.
+#![tactic(auto)]
+
+mod content;
+mod page;
+
+pub use content::{Content, MOST_BYTES, PageErr};
+pub use page::{PAGE_SIZE, Page};

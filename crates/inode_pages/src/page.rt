@@ -1,0 +1,76 @@
+//! A page: bytes that may have several owners, and are never changed.
+ghost use Rattle.std.specs.Prelude.{◌≡◌, ◌+◌, ◌≤◌, length, IfOk};
+ghost use Rattle.inode_pages.specs.Content.{overwritten, piece_bytes};
+
+use std::alloc::{AllocError, Global};
+use std::marker::Model;
+use std::sync::Arc;
+
+/// How many bytes a page has, but for the last of a content.
+pub const PAGE_SIZE: usize = 4096;
+
+/// A page of a content as it was when it was handed out: at most 4,096 bytes, which no later write
+/// changes. Contracts see the list of its bytes.
+#[derive(Drop)]
+pub struct Page {
+    bytes: Arc<Vec<u8>, Global>,
+}
+
+impl Model for Page {
+    ghost use Rattle.std.specs.Prelude.{ℕ, List, length, ◌≤◌};
+    ghost use Rattle.std.specs.Arc.{arc_value};
+    ghost use Rattle.inode_pages.specs.Content.{piece_bytes};
+
+    ghost Value = { List ℕ };
+
+    ghost view = { λ p. (arc_value p.bytes).items };
+
+    ghost invariant = { λ p. length (arc_value p.bytes).items ≤ piece_bytes };
+}
+
+impl Page {
+    /// The bytes.
+    pub fn as_slice(&self) -> &[u8]
+        ensures bytes { result.now ≡ self.now }
+        ensures small { length self.now ≤ piece_bytes }
+    {
+        self.bytes.as_slice()
+    }
+
+    /// The page with these bytes, which it takes over.
+    pub fn from_vec(alloc: Global, bytes: Vec<u8>) -> Result<Page, AllocError>
+        requires small { length bytes.items ≤ piece_bytes }
+        ensures bytes { IfOk result (λ p. p ≡ bytes.items) }
+    {
+        let bytes = Arc::new(alloc, bytes)?;
+        Ok(Page { bytes })
+    }
+
+    /// The same page, with one owner more.
+    pub fn share(&self) -> Result<Page, AllocError>
+        ensures bytes { IfOk result (λ p. p ≡ self.now) }
+    {
+        let bytes = Arc::try_clone(&self.bytes)?;
+        Ok(Page { bytes })
+    }
+}
+
+/// A new page: the old one's bytes with others written over them from a place on.
+pub fn overwritten(
+    alloc: Global,
+    page: &[u8],
+    from: usize,
+    bytes: &[u8],
+) -> Result<Page, AllocError>
+    requires old { length page.now ≤ piece_bytes }
+    requires new { from + length bytes.now ≤ piece_bytes }
+    ensures { IfOk result (λ p. p ≡ overwritten page.now from bytes.now) }
+{
+    let end = from + bytes.len();
+    let mut new = Vec::with_capacity(alloc, end.max(page.len()))?;
+    new.extend_from_slice(&page[..from.min(page.len())])?;
+    new.resize(from, 0)?;
+    new.extend_from_slice(bytes)?;
+    new.extend_from_slice(&page[end.min(page.len())..])?;
+    Page::from_vec(alloc, new)
+}
