@@ -7,7 +7,7 @@ use Rattle.inode_meta.specs.declared.step.Who.{Who}
 use Rattle.ima_templates.specs.declared.entry.Placed.{Placed}
 use Rattle.inode_events.specs.Callers.{caller_of}
 use Rattle.journal_laws.specs.Standing.{event_at}
-use Rattle.inode_events.specs.Content.{is_last_piece}
+use Rattle.inode_pages.specs.Content.{is_last_piece}
 use Rattle.inode_events.specs.Files.{execs, held, writers}
 use Rattle.inode_events.specs.Inode.{Inode}
 use Rattle.inode_events.specs.Integrity.{Collection, Digests, collecting, in_force}
