@@ -40,16 +40,22 @@ use Rattle.inode_events.proofs.Examples.{Rows, Tells, abc, after, appraise, fixi
 use Rattle.inode_events.specs.declared.told.Told.{Told}
 use Rattle.ima_templates.specs.declared.entry.Placed.TheVariants.{Added}
 
--- a digest stands at its own label's place: the one fact here that doesn't compute, since hashes are not computed in proofs
+-- a digest stands at its own label's place: the one fact here that doesn't compute, since hashes
+-- are not computed in proofs
 same_front : (xs : List ℕ) → bytes_eq xs (take (length xs) xs) ≡ true
 same_front xs = ap (bytes_eq xs) (take-length xs) ∙ (bytes_eq-Decides xs xs).1 refl
 
 -- a file with the label of its content and a sound HMAC, or no key, passes
 right_label : (s : EvmStatus) (bytes : List ℕ) (size : ℕ) → (s ≡ status.Pass) ⊎ (s ≡ status.Unknown)
-    → judge Any None (Some (label_of (digest_of Sha256 bytes))) s (digest_of Sha256 bytes) Sha256 size false ≡ Pass
-right_label s bytes size (inl e) = subst (λ (x : EvmStatus). judge Any None (Some (label_of (digest_of Sha256 bytes))) x (digest_of Sha256 bytes) Sha256 size false ≡ Pass) (sym e)
+    → judge Any None (Some (label_of (digest_of Sha256 bytes))) s
+    (digest_of Sha256 bytes) Sha256 size false ≡ Pass
+right_label s bytes size (inl e) =
+    subst (λ (x : EvmStatus). judge Any None (Some (label_of (digest_of Sha256 bytes))) x
+    (digest_of Sha256 bytes) Sha256 size false ≡ Pass) (sym e)
     (rw (same_front (digest_of Sha256 bytes).bytes) refl)
-right_label s bytes size (inr e) = subst (λ (x : EvmStatus). judge Any None (Some (label_of (digest_of Sha256 bytes))) x (digest_of Sha256 bytes) Sha256 size false ≡ Pass) (sym e)
+right_label s bytes size (inr e) =
+    subst (λ (x : EvmStatus). judge Any None (Some (label_of (digest_of Sha256 bytes))) x
+    (digest_of Sha256 bytes) Sha256 size false ≡ Pass) (sym e)
     (rw (same_front (digest_of Sha256 bytes).bytes) refl)
 
 -- Mode fix labels a file that has none, by a grant that voids its own digest.
@@ -66,7 +72,8 @@ fixed_tells : Tells fixing fixed
 fixed_tells = (refl, refl)
 
 -- at once after it no digest is in force, and the label is that of the content
-fixed_label : (label fixing (after fixing fixed) ≡ Some (label_of (digest_of Sha256 abc))) × (in_force fixing (after fixing fixed) ≡ None)
+fixed_label : (label fixing (after fixing fixed) ≡ Some (label_of (digest_of Sha256 abc)))
+    × (in_force fixing (after fixing fixed) ≡ None)
 fixed_label = (refl, refl)
 
 -- The next open hashes anew, and passes by the new label.
@@ -89,17 +96,20 @@ fixed_again_tells = (refl, refl)
 -- what the grant is, by the verdict on the file with its new label
 abbrev told_again : Verdict → Option Told
 told_again v = Some (told.Grant (grant None (Some v) true (is_mend (mend_for v
-    (judge Any None (Some (label_of (digest_of Sha256 abc))) status.Pass (digest_of Sha256 abc) Sha256 3 false)
+    (judge Any None (Some (label_of (digest_of Sha256 abc))) status.Pass
+    (digest_of Sha256 abc) Sha256 3 false)
     status.Unknown (read_label (Some (label_of (digest_of Sha256 abc))) Sha256)))))
 
-fixed_passes : says fixing (after fixing fixed_again) (Added 0) (deed.Finish 6) ≡ Some (told.Grant (grant None (Some Pass) true false))
+fixed_passes : says fixing (after fixing fixed_again) (Added 0) (deed.Finish 6)
+    ≡ Some (told.Grant (grant None (Some Pass) true false))
 fixed_passes = ap told_again (right_label status.Unknown abc 3 (inr refl))
 
 -- the inode of a file that is created under enforced appraisal with a key
 abbrev keyed : List ℕ → Inode
 keyed key = inode_of Enforce (with_key key) false [] [] true
 
--- A new file passes without a label, and its last writer's close labels it. An open that doesn't create finds none.
+-- A new file passes without a label, and its last writer's close labels it. An open that doesn't
+-- create finds none.
 abbrev new_file : Rows
 new_file =
     (deed.Count (how.Read false), Some told.NotFound) ∷
@@ -121,12 +131,15 @@ same_bytes : (xs : List ℕ) → bytes_eq xs xs ≡ true
 same_bytes xs = (bytes_eq-Decides xs xs).1 refl
 
 -- at its end the label is that of the content
-new_label : (key : List ℕ) → label (keyed key) (after (keyed key) new_file) ≡ Some (label_of (digest_of Sha256 abc))
+new_label : (key : List ℕ)
+    → label (keyed key) (after (keyed key) new_file) ≡ Some (label_of (digest_of Sha256 abc))
 new_label key = refl
 
 -- and the HMAC fits
 new_status : (key : List ℕ) → status_of (keyed key) (after (keyed key) new_file) ≡ status.Pass
-new_status key = rw (same_bytes (evm_value key (evm_input (keyed key).settings.evm (attributes (keyed key) (after (keyed key) new_file)) meta))) refl
+new_status key = rw (same_bytes
+    (evm_value key (evm_input (keyed key).settings.evm
+    (attributes (keyed key) (after (keyed key) new_file)) meta))) refl
 
 -- The close of a longer file takes its pieces one by one.
 long_close : (key : List ℕ) → Tells (inode_of Enforce (with_key key) false [] [] true) (
@@ -160,14 +173,25 @@ refused =
 refused_tells : Tells enforcing refused
 refused_tells = (refl, refl)
 
--- Its verdict is in force for the hook, the need and the algorithms by which it was asked, and for no other.
+-- Its verdict is in force for the hook, the need and the algorithms by which it was asked, and for
+-- no other.
 abbrev kept : Slot → Need → Option AlgoSet → Option Verdict
-kept slot need algos = verdict_in_force enforcing (record { slot = slot; need = need; algos = algos }) (after enforcing refused)
+kept slot need algos =
+    verdict_in_force enforcing (record { slot = slot; need = need; algos = algos })
+    (after enforcing refused)
 
 abbrev all_algos : AlgoSet
-all_algos = record { md5 = true; sha1 = true; sha256 = true; sha384 = true; sha512 = true; sha224 = true }
+all_algos = record {
+  md5 = true;
+  sha1 = true;
+  sha256 = true;
+  sha384 = true;
+  sha512 = true;
+  sha224 = true;
+}
 
-verdict_key : (kept slot.File Any None ≡ Some (Deny cause.MissingHash)) × (kept slot.Mmap Any None ≡ None) × (kept slot.Bprm Any None ≡ None)
+verdict_key : (kept slot.File Any None ≡ Some (Deny cause.MissingHash))
+    × (kept slot.Mmap Any None ≡ None) × (kept slot.Bprm Any None ≡ None)
     × (kept slot.File Signature None ≡ None) × (kept slot.File Any (Some all_algos) ≡ None)
 verdict_key = (refl, refl, refl, refl, refl)
 
@@ -182,32 +206,45 @@ old_fixed =
     []
 
 old_renewed : (evm : Setup) (attrs : List Pair) → evm_status evm attrs meta ≡ status.Old
-    → attributes (inode_of Fix evm true abc attrs true) (after (inode_of Fix evm true abc attrs true) old_fixed) ≡ renewed evm attrs meta
+    → attributes (inode_of Fix evm true abc attrs true)
+    (after (inode_of Fix evm true abc attrs true) old_fixed) ≡ renewed evm attrs meta
 old_renewed evm attrs old =
     ap (λ (s : EvmStatus). if is_old s then renewed evm attrs meta
-    else labelled_with (inode_of Fix evm true abc attrs true) (digest_of (collect_algo (label_in attrs) Sha256) abc) meta attrs) old
+    else labelled_with (inode_of Fix evm true abc attrs true)
+    (digest_of (collect_algo (label_in attrs) Sha256) abc) meta attrs) old
 
 -- the verdict on a sealed file: its label is that of `abc`, and its HMAC fits
-passes : (evm : Setup) (attrs : List Pair) → label_in attrs ≡ Some (label_of (digest_of Sha256 abc)) → evm_status evm attrs meta ≡ status.Pass
-    → judge Any None (label_in attrs) (evm_status evm attrs meta) (digest_of (collect_algo (label_in attrs) Sha256) abc) Sha256 3 false ≡ Pass
+passes : (evm : Setup) (attrs : List Pair) → label_in attrs ≡ Some (label_of (digest_of Sha256 abc))
+    → evm_status evm attrs meta ≡ status.Pass
+    → judge Any None (label_in attrs) (evm_status evm attrs meta)
+    (digest_of (collect_algo (label_in attrs) Sha256) abc) Sha256 3 false ≡ Pass
 passes evm attrs labelled fits =
-    ap (λ (l : Option (List ℕ)). judge Any None l (evm_status evm attrs meta) (digest_of (collect_algo l Sha256) abc) Sha256 3 false) labelled
+    ap (λ (l : Option (List ℕ)). judge Any None l (evm_status evm attrs meta)
+    (digest_of (collect_algo l Sha256) abc) Sha256 3 false) labelled
     ∙ right_label (evm_status evm attrs meta) abc 3 (inl fits)
 
 -- the file passes by the algorithm that its label names
 abbrev IsRight : Setup → List Pair → Type 0
-IsRight evm attrs = judge Any None (label_in attrs) (evm_status evm attrs meta) (digest_of (collect_algo (label_in attrs) Sha256) abc) Sha256 3 false ≡ Pass
+IsRight evm attrs = judge Any None (label_in attrs) (evm_status evm attrs meta)
+    (digest_of (collect_algo (label_in attrs) Sha256) abc) Sha256 3 false ≡ Pass
 
--- what the two writers below are told, by the verdict on the file and whether its label is a signature
+-- what the two writers below are told, by the verdict on the file and whether its label is a
+-- signature
 abbrev two_told : Verdict → Bool → List (Option Told)
 two_told v signed =
-    Some told.Held ∷ Some told.Quiet ∷ Some told.Begun ∷ Some told.Last ∷ Some (told.Grant (grant None (Some v) (is_pass v) false)) ∷ Some told.Done
-    ∷ Some (close_take_told (not signed && true) 1) ∷ Some told.Held ∷ Some told.Quiet ∷ None ∷ Some told.Last ∷ Some told.Dropped
-    ∷ Some (told.Grant (grant None (Some Pass) true false)) ∷ Some (close_take_told (not signed && true) 1) ∷ Some told.Last ∷ Some told.LabelledDropped ∷ []
+    Some told.Held ∷ Some told.Quiet ∷ Some told.Begun ∷ Some told.Last
+    ∷ Some (told.Grant (grant None (Some v) (is_pass v) false)) ∷ Some told.Done
+    ∷ Some (close_take_told (not signed && true) 1)
+    ∷ Some told.Held ∷ Some told.Quiet ∷ None ∷ Some told.Last ∷ Some told.Dropped
+    ∷ Some (told.Grant (grant None (Some Pass) true false))
+    ∷ Some (close_take_told (not signed && true) 1)
+    ∷ Some told.Last ∷ Some told.LabelledDropped ∷ []
 
--- A writer closes while another has come: its collection ends without a label, and the other's close writes it. A take waits
--- for the collection that is open. The file has a right label of any algorithm, and no signature.
-two_writers : (evm : Setup) (attrs : List Pair) → IsRight evm attrs → is_signature (read_label (label_in attrs) Sha256) ≡ false
+-- A writer closes while another has come: its collection ends without a label, and the other's
+-- close writes it. A take waits for the collection that is open. The file has a right label of any
+-- algorithm, and no signature.
+two_writers : (evm : Setup) (attrs : List Pair) → IsRight evm attrs
+    → is_signature (read_label (label_in attrs) Sha256) ≡ false
     → Tells (inode_of Enforce evm true abc attrs true) (
     (deed.Count (how.Write false false), Some told.Held) ∷
     (deed.Check 1 FileCheck appraise 1, Some told.Quiet) ∷
@@ -226,36 +263,54 @@ two_writers : (evm : Setup) (attrs : List Pair) → IsRight evm attrs → is_sig
     (deed.CloseChunk 8, Some told.Last) ∷
     (deed.CloseFinish 8, Some told.LabelledDropped) ∷
     [])
-two_writers evm attrs right unsigned =
-    (refl, ap (λ (v : Verdict). two_told v (is_signature (read_label (label_in attrs) Sha256))) right ∙ ap (λ (b : Bool). two_told Pass b) unsigned)
+two_writers evm attrs right unsigned = (
+  refl,
+  ap (λ (v : Verdict). two_told v (is_signature (read_label (label_in attrs) Sha256)))
+      right ∙ ap (λ (b : Bool). two_told Pass b) unsigned,
+)
 
 -- a sealed file has such a label
-sealed_is_right : (evm : Setup) (attrs : List Pair) → label_in attrs ≡ Some (label_of (digest_of Sha256 abc)) → evm_status evm attrs meta ≡ status.Pass
+sealed_is_right : (evm : Setup) (attrs : List Pair)
+    → label_in attrs ≡ Some (label_of (digest_of Sha256 abc))
+    → evm_status evm attrs meta ≡ status.Pass
     → IsRight evm attrs × (is_signature (read_label (label_in attrs) Sha256) ≡ false)
-sealed_is_right evm attrs labelled fits =
-    (passes evm attrs labelled fits, ap (λ (l : Option (List ℕ)). is_signature (read_label l Sha256)) labelled)
+sealed_is_right evm attrs labelled fits = (
+  passes evm attrs labelled fits,
+  ap (λ (l : Option (List ℕ)). is_signature (read_label l Sha256)) labelled,
+)
 
 -- a SHA-1 behind the type 1 has 21 bytes in all, and names its algorithm
 sha1_length : length (1 ∷ (digest_of Sha1 abc).bytes) ≡ 21
 sha1_length = ap (λ (n : ℕ). suc n) (length-hash Sha1 abc)
 
-plain_sha1 : (bytes : List ℕ) → length bytes ≡ 21 → ends_in_zeros bytes ≡ false → plain_algo bytes Sha256 ≡ Sha1
+plain_sha1 : (bytes : List ℕ) → length bytes ≡ 21 → ends_in_zeros bytes ≡ false
+    → plain_algo bytes Sha256 ≡ Sha1
 plain_sha1 bytes long nonzero = rw (nonzero, long) refl
 
-sha1_named : ends_in_zeros (1 ∷ (digest_of Sha1 abc).bytes) ≡ false → collect_algo (Some (1 ∷ (digest_of Sha1 abc).bytes)) Sha256 ≡ Sha1
+sha1_named : ends_in_zeros (1 ∷ (digest_of Sha1 abc).bytes) ≡ false
+    → collect_algo (Some (1 ∷ (digest_of Sha1 abc).bytes)) Sha256 ≡ Sha1
 sha1_named nonzero = plain_sha1 (1 ∷ (digest_of Sha1 abc).bytes) sha1_length nonzero
 
-sha1_passes : (s : EvmStatus) → s ≡ status.Pass → judge Any None (Some (1 ∷ (digest_of Sha1 abc).bytes)) s (digest_of Sha1 abc) Sha256 3 false ≡ Pass
-sha1_passes s e = subst (λ (x : EvmStatus). judge Any None (Some (1 ∷ (digest_of Sha1 abc).bytes)) x (digest_of Sha1 abc) Sha256 3 false ≡ Pass) (sym e)
+sha1_passes : (s : EvmStatus) → s ≡ status.Pass
+    → judge Any None (Some (1 ∷ (digest_of Sha1 abc).bytes)) s (digest_of Sha1 abc) Sha256 3 false
+    ≡ Pass
+sha1_passes s e = subst
+    (λ (x : EvmStatus). judge Any None (Some (1 ∷ (digest_of Sha1 abc).bytes)) x
+    (digest_of Sha1 abc) Sha256 3 false ≡ Pass) (sym e)
     (rw (same_front (digest_of Sha1 abc).bytes) refl)
 
--- and so has a file with the label of its content by SHA-1, as the kernel writes it where the digest doesn't end in four zero bytes
-sha1_is_right : (evm : Setup) (attrs : List Pair) → label_in attrs ≡ Some (1 ∷ (digest_of Sha1 abc).bytes)
-    → ends_in_zeros (1 ∷ (digest_of Sha1 abc).bytes) ≡ false → evm_status evm attrs meta ≡ status.Pass
+-- and so has a file with the label of its content by SHA-1, as the kernel writes it where the
+-- digest doesn't end in four zero bytes
+sha1_is_right : (evm : Setup) (attrs : List Pair)
+    → label_in attrs ≡ Some (1 ∷ (digest_of Sha1 abc).bytes)
+    → ends_in_zeros (1 ∷ (digest_of Sha1 abc).bytes) ≡ false
+    → evm_status evm attrs meta ≡ status.Pass
     → IsRight evm attrs × (is_signature (read_label (label_in attrs) Sha256) ≡ false)
 sha1_is_right evm attrs labelled nonzero fits = (
-  ap (λ (l : Option (List ℕ)). judge Any None l (evm_status evm attrs meta) (digest_of (collect_algo l Sha256) abc) Sha256 3 false) labelled
-      ∙ ap (λ (a : Algo). judge Any None (Some (1 ∷ (digest_of Sha1 abc).bytes)) (evm_status evm attrs meta) (digest_of a abc) Sha256 3 false) (sha1_named nonzero)
+  ap (λ (l : Option (List ℕ)). judge Any None l (evm_status evm attrs meta)
+      (digest_of (collect_algo l Sha256) abc) Sha256 3 false) labelled
+      ∙ ap (λ (a : Algo). judge Any None (Some (1 ∷ (digest_of Sha1 abc).bytes))
+      (evm_status evm attrs meta) (digest_of a abc) Sha256 3 false) (sha1_named nonzero)
       ∙ sha1_passes (evm_status evm attrs meta) fits,
   ap (λ (l : Option (List ℕ)). is_signature (read_label l Sha256)) labelled,
 )

@@ -41,30 +41,38 @@ absent_changed : Tells (inode_of Off no_key false [] [] true) (
 absent_changed = (refl, refl)
 
 -- With a key, the first protected attribute isn't set on a file that isn't new.
-nothing_protected : (key : List ℕ) → Tells (inode_of Off (with_key key) true abc [] true) (
-    (deed.SetAttr (codes "security.selinux") (Some (97 ∷ [])) false, Some (told.Status status.NoXattrs)) ∷
+nothing_protected : (key : List ℕ) → Tells (inode_of Off (with_key key) true abc [] true) ((
+  deed.SetAttr (codes "security.selinux") (Some (97 ∷ [])) false,
+  Some (told.Status status.NoXattrs),
+) ∷
     [])
 nothing_protected key = (refl, refl)
 
 -- Mode and owner aren't changed where the HMAC is wrong.
-hmac_wrong : (key : List ℕ) → Tells (inode_of Off (with_key key) true abc ((codes "security.evm", 3 ∷ []) ∷ (codes "security.ima", 4 ∷ []) ∷ []) true) (
+hmac_wrong : (key : List ℕ)
+    → Tells (inode_of Off (with_key key) true abc
+    ((codes "security.evm", 3 ∷ []) ∷ (codes "security.ima", 4 ∷ []) ∷ []) true) (
     (deed.SetMeta (change.Mode 33152), Some (told.Status status.Fail)) ∷
     [])
 hmac_wrong key = (refl, refl)
 
 -- Nor where it is missing.
-hmac_missing : (key : List ℕ) → Tells (inode_of Off (with_key key) true abc ((codes "security.ima", 4 ∷ []) ∷ []) true) (
+hmac_missing : (key : List ℕ)
+    → Tells (inode_of Off (with_key key) true abc ((codes "security.ima", 4 ∷ []) ∷ []) true) (
     (deed.SetMeta (change.Owner 1 1), Some (told.Status status.NoLabel)) ∷
     [])
 hmac_missing key = (refl, refl)
 
 -- They are where it fits.
-hmac_fits : (evm : Setup) (attrs : List Pair) → evm_status evm attrs meta ≡ status.Pass → Tells (inode_of Off evm true abc attrs true) (
+hmac_fits : (evm : Setup) (attrs : List Pair) → evm_status evm attrs meta ≡ status.Pass
+    → Tells (inode_of Off evm true abc attrs true) (
     (deed.SetMeta (change.Mode 33152), Some told.Done) ∷
     [])
-hmac_fits evm attrs fits = (refl, ap (λ (s : EvmStatus). Some (status_told (answered (allows_meta s) s)) ∷ []) fits)
+hmac_fits evm attrs fits =
+    (refl, ap (λ (s : EvmStatus). Some (status_told (answered (allows_meta s) s)) ∷ []) fits)
 
--- While a collection is open, takes, changes and writers' closes wait. Reads, writes, opens and readers' closes don't.
+-- While a collection is open, takes, changes and writers' closes wait. Reads, writes, opens and
+-- readers' closes don't.
 mutex_held : Tells plain (
     (deed.Count (how.Read false), Some told.Held) ∷
     (deed.Count (how.Write false false), Some told.Held) ∷

@@ -37,23 +37,27 @@ at_is CloseCollected CloseCollected m = refl
 at_is a b m = cc
 
 -- what is decided is the condition of the call
-pub follows : (i : Inode) (p : List Event) (who : Who) (d : Deed) (t : Told) → IsBorn p → may i p d ≡ true → says i p (placed_in t) d ≡ Some t → Follows i p who d t
+pub follows : (i : Inode) (p : List Event) (who : Who) (d : Deed) (t : Told) → IsBorn p
+    → may i p d ≡ true → says i p (placed_in t) d ≡ Some t → Follows i p who d t
 follows i p who deed.Birth t b m s = cc
 follows i p who (deed.Count how) t b m s = (b, tt, s)
 follows i p who (deed.Check f func action rules) t b m s = (b, m, s)
 follows i p who (deed.Take f) t b m s = (b, at_is _ _ m, s)
 follows i p who (deed.Chunk f) t b m s = (b, at_is _ _ m, s)
 follows i p who (deed.Finish f) t b m s = (b, at_is _ _ m, s)
-follows i p who (deed.Read f from len) t b m s = let h = and_parts _ _ m in (b, (at_is _ _ h.0, h.1), s)
+follows i p who (deed.Read f from len) t b m s =
+    let h = and_parts _ _ m in (b, (at_is _ _ h.0, h.1), s)
 follows i p who (deed.Write f from bytes) t b m s =
-    let h = and_parts _ _ m in let g = and_parts _ _ h.0 in (b, (at_is _ _ g.0, g.1, ltb-true _ _ h.1), s)
+    let h = and_parts _ _ m in
+    let g = and_parts _ _ h.0 in (b, (at_is _ _ g.0, g.1, ltb-true _ _ h.1), s)
 follows i p who (deed.Trunc f len) t b m s = let h = and_parts _ _ m in (b, (at_is _ _ h.0, h.1), s)
 follows i p who (deed.SetAttr name bytes admin) t b m s = (b, tt, s)
 follows i p who (deed.SetMeta change) t b m s = (b, tt, s)
-follows i p who (deed.Close f) t b m s = let h = and_parts _ _ m in (b, (at_is _ _ h.0, not_true _ h.1), s) where
-  not_true : (x : Bool) → not x ≡ true → x ≡ false
-  not_true true e = sym e
-  not_true false e = refl
+follows i p who (deed.Close f) t b m s =
+    let h = and_parts _ _ m in (b, (at_is _ _ h.0, not_true _ h.1), s) where
+      not_true : (x : Bool) → not x ≡ true → x ≡ false
+      not_true true e = sym e
+      not_true false e = refl
 follows i p who (deed.CloseTake f) t b m s = let h = and_parts _ _ m in (b, (at_is _ _ h.0, h.1), s)
 follows i p who (deed.CloseChunk f) t b m s = (b, at_is _ _ m, s)
 follows i p who (deed.CloseFinish f) t b m s = (b, at_is _ _ m, s)
@@ -71,7 +75,8 @@ may_each i before (e ∷ rest) = may i before e.deed && may_each i (e ∷ before
 
 abbrev pub says_each : Inode → List Event → List Event → List (Option Told)
 says_each i before [] = []
-says_each i before (e ∷ rest) = says i before (placed_in e.told) e.deed ∷ says_each i (e ∷ before) rest
+says_each i before (e ∷ rest) =
+    says i before (placed_in e.told) e.deed ∷ says_each i (e ∷ before) rest
 
 first_of : {X : Type 0} (a b : X) (xs ys : List X) → a ∷ xs ≡ b ∷ ys → a ≡ b
 first_of a b xs ys e = cc
@@ -79,14 +84,17 @@ first_of a b xs ys e = cc
 rest_of : {X : Type 0} (a b : X) (xs ys : List X) → a ∷ xs ≡ b ∷ ys → xs ≡ ys
 rest_of a b xs ys e = cc
 
-legal_onto : (i : Inode) (before rest : List Event) → Legal i before → may_each i before rest ≡ true → says_each i before rest ≡ map (λ e. Some e.told) rest → Legal i (onto before rest)
+legal_onto : (i : Inode) (before rest : List Event) → Legal i before → may_each i before rest ≡ true
+    → says_each i before rest ≡ map (λ e. Some e.told) rest → Legal i (onto before rest)
 legal_onto i before [] h m s = h
 legal_onto i before (e ∷ rest) h m s =
     let parts = and_parts (may i before e.deed) (may_each i (e ∷ before) rest) m in
-    legal_onto i (e ∷ before) rest (tt, (follows i before e.who e.deed e.told h.0 parts.0 (first_of _ _ _ _ s), h.1)) parts.1 (rest_of _ _ _ _ s)
+    let next = follows i before e.who e.deed e.told h.0 parts.0 (first_of _ _ _ _ s) in
+    legal_onto i (e ∷ before) rest (tt, (next, h.1)) parts.1 (rest_of _ _ _ _ s)
 
 -- a journal whose deeds may be done and are told what the journal says is legal
-pub legal_by : (i : Inode) (events : List Event) → may_each i (born i) events ≡ true → says_each i (born i) events ≡ map (λ e. Some e.told) events → Legal i (onto (born i) events)
+pub legal_by : (i : Inode) (events : List Event) → may_each i (born i) events ≡ true
+    → says_each i (born i) events ≡ map (λ e. Some e.told) events → Legal i (onto (born i) events)
 legal_by i events m s = legal_onto i (born i) events (tt, ((refl, refl, refl), tt)) m s
 
 -- ---- listed
@@ -113,21 +121,29 @@ abbrev pub found_of : List Mention → List (Option ℕ)
 found_of [] = []
 found_of (m ∷ earlier) = put_on m.found (λ l. Some l.0) (found_of earlier)
 
-stands : (list : List Entry) (o : Option Listed) (xs ys : List (Option Entry)) → put_on o (λ l. slice_get list l.0) xs ≡ put_on o (λ l. Some l.1) ys → StandsIn list o × (xs ≡ ys)
+stands : (list : List Entry) (o : Option Listed) (xs ys : List (Option Entry))
+    → put_on o (λ l. slice_get list l.0) xs ≡ put_on o (λ l. Some l.1) ys → StandsIn list o
+    × (xs ≡ ys)
 stands list None xs ys e = (tt, e)
 stands list (Some l) xs ys e = (first_of _ _ _ _ e, rest_of _ _ _ _ e)
 
-is_first : (list : List Entry) (o : Option Listed) (xs ys : List (Option ℕ)) → put_on o (λ l. place_of_same list l.1) xs ≡ put_on o (λ l. Some l.0) ys → IsFirstIn list o × (xs ≡ ys)
+is_first : (list : List Entry) (o : Option Listed) (xs ys : List (Option ℕ))
+    → put_on o (λ l. place_of_same list l.1) xs ≡ put_on o (λ l. Some l.0) ys → IsFirstIn list o
+    × (xs ≡ ys)
 is_first list None xs ys e = (tt, e)
 is_first list (Some l) xs ys e = (first_of _ _ _ _ e, rest_of _ _ _ _ e)
 
-are_in : (list : List Entry) (ms : List Mention) → entries_at list ms ≡ added_of ms → places_of list ms ≡ found_of ms → AreIn list ms
+are_in : (list : List Entry) (ms : List Mention) → entries_at list ms ≡ added_of ms
+    → places_of list ms ≡ found_of ms → AreIn list ms
 are_in list [] a f = tt
 are_in list (m ∷ ms) a f =
     let x = stands list m.added (entries_at list ms) (added_of ms) a in
-    let y = is_first list m.found (places_of list ms) (found_of ms) f in (x.0, y.0, are_in list ms x.1 y.1)
+    let y = is_first list m.found (places_of list ms) (found_of ms) f in
+    (x.0, y.0, are_in list ms x.1 y.1)
 
-pub listed_by : (i : Inode) (list : List Entry) (p : List Event) → entries_at list (mentions i p) ≡ added_of (mentions i p) → places_of list (mentions i p) ≡ found_of (mentions i p) → IsListed i list p
+pub listed_by : (i : Inode) (list : List Entry) (p : List Event)
+    → entries_at list (mentions i p) ≡ added_of (mentions i p)
+    → places_of list (mentions i p) ≡ found_of (mentions i p) → IsListed i list p
 listed_by i list p a f = are_in list (mentions i p) a f
 
 -- ---- covered
@@ -140,7 +156,8 @@ answer_to false answer rest = rest
 abbrev pub Answers : Inode → List Entry → ℕ → List ℕ → List Event → List Event → Type 0
 Answers i list file bytes done [] = Unit {0}
 Answers i list file bytes done (e ∷ before) =
-    answer_to (is_measuring file e.deed) (IsAnswered i list file bytes done e) (Answers i list file bytes (done ++ e ∷ []) before)
+    answer_to (is_measuring file e.deed) (IsAnswered i list file bytes done e)
+    (Answers i list file bytes (done ++ e ∷ []) before)
 
 taken : (b : Bool) (A R : Type 0) → answer_to b A R → (b ≡ true → A) × R
 taken true A R h = ((λ y. h.0), h.1)
@@ -154,8 +171,10 @@ append_none : {X : Type 0} (xs : List X) → xs ++ [] ≡ xs
 append_none [] = refl
 append_none (z ∷ zs) = ap (λ l. z ∷ l) (append_none zs)
 
-covered : (i : Inode) (list : List Entry) (file : ℕ) (bytes : List ℕ) (done events : List Event) → Answers i list file bytes done events
-    → (later : List Event) (check : Event) (before : List Event) → events ≡ later ++ check ∷ before → is_measuring file check.deed ≡ true
+covered : (i : Inode) (list : List Entry) (file : ℕ) (bytes : List ℕ) (done events : List Event)
+    → Answers i list file bytes done events
+    → (later : List Event) (check : Event) (before : List Event) → events ≡ later ++ check ∷ before
+    → is_measuring file check.deed ≡ true
     → IsAnswered i list file bytes (done ++ later) check
 covered i list file bytes done [] h [] check before e m = cc
 covered i list file bytes done [] h (x ∷ later) check before e m = cc
@@ -163,14 +182,19 @@ covered i list file bytes done (x ∷ rest) h [] check before e m =
     let same : x ≡ check = first_of _ _ _ _ e in
     subst (λ (d : List Event). IsAnswered i list file bytes d check) (sym (append_none done))
     (subst (λ (c : Event). IsAnswered i list file bytes done c) same
-    ((taken (is_measuring file x.deed) _ _ h).0 (ap (λ (c : Event). is_measuring file c.deed) same ∙ m)))
+    ((taken (is_measuring file x.deed) _ _ h).0 (ap (λ (c : Event). is_measuring file c.deed) same
+    ∙ m)))
 covered i list file bytes done (x ∷ rest) h (y ∷ later) check before e m =
     let same : x ≡ y = first_of _ _ _ _ e in
-    subst (λ (d : List Event). IsAnswered i list file bytes d check) (append_one done x later ∙ ap (λ (c : Event). done ++ c ∷ later) same)
-    (covered i list file bytes (done ++ x ∷ []) rest (taken (is_measuring file x.deed) _ _ h).1 later check before (rest_of _ _ _ _ e) m)
+    subst (λ (d : List Event). IsAnswered i list file bytes d check) (append_one done x later
+    ∙ ap (λ (c : Event). done ++ c ∷ later) same)
+    (covered i list file bytes (done ++ x ∷ []) rest
+    (taken (is_measuring file x.deed) _ _ h).1 later check before (rest_of _ _ _ _ e) m)
 
-pub covered_by : (i : Inode) (list : List Entry) (file : ℕ) (p : List Event) → Answers i list file (content p) [] p → IsCovered i list file p
-covered_by i list file p h later check before e m = covered i list file (content p) [] p h later check before e m
+pub covered_by : (i : Inode) (list : List Entry) (file : ℕ) (p : List Event)
+    → Answers i list file (content p) [] p → IsCovered i list file p
+covered_by i list file p h later check before e m =
+    covered i list file (content p) [] p h later check before e m
 
 -- ---- merged
 
@@ -183,16 +207,19 @@ abbrev pub AreApart : List Entry → Type 0
 AreApart [] = Unit {0}
 AreApart (x ∷ xs) = (none_same x xs ≡ map (λ y. false) xs) × AreApart xs
 
-apart_first : (x : Entry) (xs : List Entry) (b : ℕ) (y : Entry) → none_same x xs ≡ map (λ y. false) xs → slice_get xs b ≡ Some y → same x y ≡ false
+apart_first : (x : Entry) (xs : List Entry) (b : ℕ) (y : Entry)
+    → none_same x xs ≡ map (λ y. false) xs → slice_get xs b ≡ Some y → same x y ≡ false
 apart_first x [] b y n g = absurd (none-some y g)
 apart_first x (z ∷ zs) zero y n g = ap (same x) (sym (same_Some z y g)) ∙ first_of _ _ _ _ n
 apart_first x (z ∷ zs) (suc b) y n g = apart_first x zs b y (rest_of _ _ _ _ n) g
 
 pub distinct_by : (list : List Entry) → AreApart list
-    → (a b : ℕ) (x y : Entry) → a < b → slice_get list a ≡ Some x → slice_get list b ≡ Some y → same x y ≡ false
+    → (a b : ℕ) (x y : Entry) → a < b → slice_get list a ≡ Some x → slice_get list b ≡ Some y
+    → same x y ≡ false
 distinct_by [] h a b x y l ga gb = absurd (none-some x ga)
 distinct_by (z ∷ zs) h zero zero x y l ga gb = absurd (omega arith)
-distinct_by (z ∷ zs) h zero (suc b) x y l ga gb = ap (λ (w : Entry). same w y) (sym (same_Some z x ga)) ∙ apart_first z zs b y h.0 gb
+distinct_by (z ∷ zs) h zero (suc b) x y l ga gb =
+    ap (λ (w : Entry). same w y) (sym (same_Some z x ga)) ∙ apart_first z zs b y h.0 gb
 distinct_by (z ∷ zs) h (suc a) zero x y l ga gb = absurd (omega arith)
 distinct_by (z ∷ zs) h (suc a) (suc b) x y l ga gb = distinct_by zs h.1 a b x y (omega arith) ga gb
 
@@ -224,21 +251,26 @@ below : (n a : Named) (b : Bool) → b ≡ true → (not b || nat_lt n.1 a.1) �
 below n a true y o = ltb-true n.1 a.1 o
 below n a false y o = cc
 
-rises : (n a : Named) (added : List Named) → rises_over n added ≡ true → Contains added a → is_earlier n.0 a.0 ≡ true → n.1 < a.1
+rises : (n a : Named) (added : List Named) → rises_over n added ≡ true → Contains added a
+    → is_earlier n.0 a.0 ≡ true → n.1 < a.1
 rises n a [] r c e = absurd (has_none a c)
 rises n a (x ∷ rest) r c e =
     let parts = and_parts (not (is_earlier n.0 x.0) || nat_lt n.1 x.1) (rises_over n rest) r in
     at (has_cases x a rest c) parts.0 (λ t. rises n a rest parts.1 t e) where
-      at : (x ≡ a) ⊎ Contains rest a → (not (is_earlier n.0 x.0) || nat_lt n.1 x.1) ≡ true → (Contains rest a → n.1 < a.1) → n.1 < a.1
-      at (inl s) o more = below n a (is_earlier n.0 a.0) e (subst (λ (w : Named). (not (is_earlier n.0 w.0) || nat_lt n.1 w.1) ≡ true) s o)
+      at : (x ≡ a) ⊎ Contains rest a → (not (is_earlier n.0 x.0) || nat_lt n.1 x.1) ≡ true
+          → (Contains rest a → n.1 < a.1) → n.1 < a.1
+      at (inl s) o more = below n a (is_earlier n.0 a.0) e
+          (subst (λ (w : Named). (not (is_earlier n.0 w.0) || nat_lt n.1 w.1) ≡ true) s o)
       at (inr t) o more = more t
 
-pub rise_by : (named added : List Named) → all_rise named added ≡ true → (n a : Named) → Contains named n → Contains added a → is_earlier n.0 a.0 ≡ true → n.1 < a.1
+pub rise_by : (named added : List Named) → all_rise named added ≡ true → (n a : Named)
+    → Contains named n → Contains added a → is_earlier n.0 a.0 ≡ true → n.1 < a.1
 rise_by [] added r n a c d e = absurd (has_none n c)
 rise_by (x ∷ rest) added r n a c d e =
     let parts = and_parts (rises_over x added) (all_rise rest added) r in
     at (has_cases x n rest c) parts.0 (λ t. rise_by rest added parts.1 n a t d e) where
-      at : (x ≡ n) ⊎ Contains rest n → rises_over x added ≡ true → (Contains rest n → n.1 < a.1) → n.1 < a.1
+      at : (x ≡ n) ⊎ Contains rest n → rises_over x added ≡ true → (Contains rest n → n.1 < a.1)
+          → n.1 < a.1
       at (inl s) o more = rises n a added (subst (λ (w : Named). rises_over w added ≡ true) s o) d e
       at (inr t) o more = more t
 
@@ -253,7 +285,8 @@ added_above (a ∷ rest) named = above_each a.1 named && added_above rest named
 
 abbrev pub mentions_rise : List Mention → Bool
 mentions_rise [] = true
-mentions_rise (m ∷ earlier) = added_above (named m.who m.added) (all_named earlier) && mentions_rise earlier
+mentions_rise (m ∷ earlier) =
+    added_above (named m.who m.added) (all_named earlier) && mentions_rise earlier
 
 above_all : (place : ℕ) (ns : List Named) → above_each place ns ≡ true → All (λ n. n.1 < place) ns
 above_all place [] h = All-nil (λ n. n.1 < place)
@@ -261,33 +294,45 @@ above_all place (n ∷ rest) h =
     let parts = and_parts (nat_lt n.1 place) (above_each place rest) h in
     All-cons (λ n. n.1 < place) n rest (ltb-true n.1 place parts.0) (above_all place rest parts.1)
 
-added_all : (added ns : List Named) → added_above added ns ≡ true → All (λ a. All (λ n. n.1 < a.1) ns) added
+added_all : (added ns : List Named) → added_above added ns ≡ true
+    → All (λ a. All (λ n. n.1 < a.1) ns) added
 added_all [] ns h = All-nil (λ a. All (λ n. n.1 < a.1) ns)
 added_all (a ∷ rest) ns h =
     let parts = and_parts (above_each a.1 ns) (added_above rest ns) h in
-    All-cons (λ a. All (λ n. n.1 < a.1) ns) a rest (above_all a.1 ns parts.0) (added_all rest ns parts.1)
+    All-cons (λ a. All (λ n. n.1 < a.1) ns) a rest (above_all a.1 ns parts.0)
+    (added_all rest ns parts.1)
 
 rising : (ms : List Mention) → mentions_rise ms ≡ true → MentionsRise ms
 rising [] h = tt
 rising (m ∷ earlier) h =
-    let parts = and_parts (added_above (named m.who m.added) (all_named earlier)) (mentions_rise earlier) h in
+    let parts = and_parts (added_above (named m.who m.added) (all_named earlier))
+    (mentions_rise earlier) h in
     (added_all (named m.who m.added) (all_named earlier) parts.0, rising earlier parts.1)
 
 -- a run over one inode is merged
-pub merged_by : (boot : Entry) (list : List Entry) (i : Inode) (p : List Event) → slice_get list 0 ≡ Some boot → IsListed i list p
-    → ((place : ℕ) → place < length list → 0 + times_added place (places_added i p) ≡ (if place == 0 then 0 else 1))
-    → mentions_rise (mentions i p) ≡ true → all_rise (places_named i p) (places_added i p) ≡ true → AreApart list
+pub merged_by : (boot : Entry) (list : List Entry) (i : Inode) (p : List Event)
+    → slice_get list 0 ≡ Some boot → IsListed i list p
+    → ((place : ℕ) → place < length list
+    → 0 + times_added place (places_added i p) ≡ (if place == 0 then 0 else 1))
+    → mentions_rise (mentions i p) ≡ true → all_rise (places_named i p) (places_added i p) ≡ true
+    → AreApart list
     → IsMerged boot list (record { inode = i; events = p } ∷ [])
 merged_by boot list i p first listed once along tasks apart = record {
   first = first;
-  listed = All-cons (λ j. IsListed j.inode list j.events) (record { inode = i; events = p }) [] listed (All-nil (λ j. IsListed j.inode list j.events));
+  listed = All-cons (λ j. IsListed j.inode list j.events) (record { inode = i; events = p }) []
+      listed (All-nil (λ j. IsListed j.inode list j.events));
   once = once;
-  along_journals = All-cons (λ j. PlacesRise j.inode j.events) (record { inode = i; events = p }) [] (rising (mentions i p) along) (All-nil (λ j. PlacesRise j.inode j.events));
-  along_tasks = λ j k earlier later cj ck ce cl e. by_tasks j k (one_has (record { inode = i; events = p }) j cj) (one_has (record { inode = i; events = p }) k ck) earlier later ce cl e;
+  along_journals = All-cons (λ j. PlacesRise j.inode j.events) (record { inode = i; events = p }) []
+      (rising (mentions i p) along) (All-nil (λ j. PlacesRise j.inode j.events));
+  along_tasks = λ j k earlier later cj ck ce cl e. by_tasks j k
+      (one_has (record { inode = i; events = p }) j cj)
+      (one_has (record { inode = i; events = p }) k ck) earlier later ce cl e;
   distinct = distinct_by list apart;
 } where
-  by_tasks : (j k : Journal) → record { inode = i; events = p } ≡ j → record { inode = i; events = p } ≡ k → (earlier later : Named)
-      → Contains (places_named j.inode j.events) earlier → Contains (places_added k.inode k.events) later
+  by_tasks : (j k : Journal) → record { inode = i; events = p } ≡ j
+      → record { inode = i; events = p } ≡ k → (earlier later : Named)
+      → Contains (places_named j.inode j.events) earlier
+      → Contains (places_added k.inode k.events) later
       → is_earlier earlier.0 later.0 ≡ true → earlier.1 < later.1
   by_tasks j k ej ek earlier later ce cl e =
       rise_by (places_named i p) (places_added i p) tasks earlier later

@@ -11,7 +11,6 @@ use Rattle.inode_meta.specs.declared.measurement.Template.TheVariants.{ImaNg, Im
 use Rattle.policy_text.specs.declared.access.Action.{Action}
 use Rattle.policy_text.specs.declared.rule.Func.TheVariants.{FileCheck}
 use Rattle.inode_events.specs.Asked.{asked, outcome}
-use Rattle.inode_events.specs.Checks.{no_action}
 use Rattle.inode_events.specs.Inode.{Inode}
 use Rattle.inode_events.specs.Listing.{entries_added}
 use Rattle.inode_events.specs.declared.deed.Deed.TheVariants as deed
@@ -23,14 +22,37 @@ use Rattle.inode_events.proofs.Examples.{Rows, abc, after, grant, inode_of, meas
 
 -- the entry of `abc` at /a under the script's template, and the violation of that file
 abbrev pub file_entry : Entry
-file_entry = record { pcr = 10; template = ImaNg; digest = digest_of Sha256 abc; name = codes "/a"; sig = []; violation = false }
+file_entry = record {
+  pcr = 10;
+  template = ImaNg;
+  digest = digest_of Sha256 abc;
+  name = codes "/a";
+  sig = [];
+  violation = false;
+}
 
 abbrev pub violation_entry : Entry
-violation_entry = record { pcr = 10; template = ImaNg; digest = zero_digest Sha256; name = codes "/a"; sig = []; violation = true }
+violation_entry = record {
+  pcr = 10;
+  template = ImaNg;
+  digest = zero_digest Sha256;
+  name = codes "/a";
+  sig = [];
+  violation = true;
+}
 
 -- a rule's own register and template
 abbrev to_eleven : Action
-to_eleven = record { measure = true; pcr = 11; template = Some ImaSig; appraise = false; need = Any; algos = None; audit = false; hash = false }
+to_eleven = record {
+  measure = true;
+  pcr = 11;
+  template = Some ImaSig;
+  appraise = false;
+  need = Any;
+  algos = None;
+  audit = false;
+  hash = false;
+}
 
 -- a file with a signature as its label
 abbrev signed : Inode
@@ -53,12 +75,23 @@ opened action =
     (deed.Finish 1, Some (told.Grant (grant (Some (Added 1)) None true false))) ∷
     []
 
--- A measurement has the action's register, the action's template or else the script's, and the signature.
+-- A measurement has the action's register, the action's template or else the script's, and the
+-- signature.
 plain_entry : entries_added plain (after plain (opened measure)) ≡ (1, file_entry) ∷ []
 plain_entry = refl
 
 ruled_entry : entries_added signed (after signed (opened to_eleven))
-    ≡ (1, record { pcr = 11; template = ImaSig; digest = digest_of Sha256 abc; name = codes "/a"; sig = 3 ∷ 2 ∷ []; violation = false }) ∷ []
+    ≡ (
+      1,
+      record {
+        pcr = 11;
+        template = ImaSig;
+        digest = digest_of Sha256 abc;
+        name = codes "/a";
+        sig = 3 ∷ 2 ∷ [];
+        violation = false;
+      },
+    ) ∷ []
 ruled_entry = refl
 
 -- A violation has register 10 and the script's template and algorithm.
@@ -75,23 +108,38 @@ violation_added = refl
 
 -- ---- what a step asks for
 
--- A finish asks for the entry, a take without a digest in force for none, and a check for the violation that it finds.
+-- a reader that was checked, and a writer beside it
+abbrev checked : Rows
+checked =
+    (deed.Count (how.Read false), Some told.Held) ∷
+    (deed.Check 1 FileCheck measure 1, Some told.Quiet) ∷
+    []
+
+abbrev joined : Rows
+joined =
+    (deed.Count (how.Read false), Some told.Held) ∷
+    (deed.Check 1 FileCheck measure 1, Some told.Quiet) ∷
+    (deed.Count (how.Write false false), Some told.Held) ∷
+    []
+
+-- A finish asks for the entry.
 finish_asks : asked plain (deed.Finish 1) (after plain (hashed measure)) ≡ Some file_entry
 finish_asks = refl
 
-take_asks : (asked plain (deed.Take 1) (after plain ((deed.Count (how.Read false), Some told.Held) ∷ (deed.Check 1 FileCheck measure 1, Some told.Quiet) ∷ [])) ≡ None)
+-- A take asks for it where a digest is in force, and for none while a collection is open.
+take_asks : (asked plain (deed.Take 1) (after plain checked) ≡ None)
     × (asked plain (deed.Take 1) (after plain (opened measure)) ≡ Some file_entry)
     × (asked plain (deed.Take 1) (after plain (hashed measure)) ≡ None)
 take_asks = (refl, refl, refl)
 
-check_asks : (asked plain (deed.Check 6 FileCheck no_action 1) (after plain (opened measure)) ≡ None)
-    × (asked signed (deed.Check 3 FileCheck to_eleven 1) (after signed ((deed.Count (how.Read false), Some told.Held) ∷ (deed.Check 1 FileCheck measure 1, Some told.Quiet)
-    ∷ (deed.Count (how.Write false false), Some told.Held) ∷ [])) ≡ Some violation_entry)
+-- A check asks for the violation that it finds.
+check_asks : (asked plain (deed.Check 1 FileCheck measure 1) (after plain (opened measure)) ≡ None)
+    × (asked signed (deed.Check 3 FileCheck to_eleven 1) (after signed joined)
+    ≡ Some violation_entry)
 check_asks = (refl, refl)
 
--- The check is then told the place at the list's end, since no violation is the same as another.
-check_told_last : outcome signed (violation_entry ∷ violation_entry ∷ []) (deed.Check 3 FileCheck to_eleven 1)
-    (after signed ((deed.Count (how.Read false), Some told.Held) ∷ (deed.Check 1 FileCheck measure 1, Some told.Quiet) ∷ (deed.Count (how.Write false false), Some told.Held) ∷ []))
-    ≡ Some (told.ToMToU 2)
+-- It is then told the place at the list's end, since no violation is the same as another.
+check_told_last : outcome signed (violation_entry ∷ violation_entry ∷ [])
+    (deed.Check 3 FileCheck to_eleven 1) (after signed joined) ≡ Some (told.ToMToU 2)
 unfolding same
 check_told_last = refl

@@ -47,14 +47,18 @@ may inode before (deed.Check file func action rules) = may_check (stage inode fi
 may inode before (deed.Take file) = is_at (stage inode file before) Asked
 may inode before (deed.Chunk file) = is_at (stage inode file before) Collecting
 may inode before (deed.Finish file) = is_at (stage inode file before) Collected
-may inode before (deed.Read file from len) = is_at (stage inode file before) Settled && holds can_read (held file before)
+may inode before (deed.Read file from len) =
+    is_at (stage inode file before) Settled && holds can_read (held file before)
 may inode before (deed.Write file from bytes) =
     is_at (stage inode file before) Settled && is_writing file before && nat_lt 0 (length bytes)
-may inode before (deed.Trunc file len) = is_at (stage inode file before) Settled && is_writing file before
+may inode before (deed.Trunc file len) =
+    is_at (stage inode file before) Settled && is_writing file before
 may inode before (deed.SetAttr name bytes admin) = true
 may inode before (deed.SetMeta change) = true
-may inode before (deed.Close file) = is_at (stage inode file before) Settled && not (is_writing file before)
-may inode before (deed.CloseTake file) = is_at (stage inode file before) Settled && is_writing file before
+may inode before (deed.Close file) =
+    is_at (stage inode file before) Settled && not (is_writing file before)
+may inode before (deed.CloseTake file) =
+    is_at (stage inode file before) Settled && is_writing file before
 may inode before (deed.CloseChunk file) = is_at (stage inode file before) CloseCollecting
 may inode before (deed.CloseFinish file) = is_at (stage inode file before) CloseCollected
 may inode before _ = false
@@ -92,11 +96,14 @@ may_all inode before (r ∷ rest) = may inode before r.0 && may_all inode (behin
 -- what the journal before each row says
 abbrev pub says_all : Inode → List Event → Rows → List (Option Told)
 says_all inode before [] = []
-says_all inode before (r ∷ rest) = says inode before (placed_of r.1) r.0 ∷ says_all inode (behind r.0 r.1 before) rest
+says_all inode before (r ∷ rest) =
+    says inode before (placed_of r.1) r.0 ∷ says_all inode (behind r.0 r.1 before) rest
 
--- behind the birth, each deed may be done where it stands, and is told what the journal before it says
+-- behind the birth, each deed may be done where it stands, and is told what the journal before it
+-- says
 abbrev pub Tells : Inode → Rows → Type 0
-Tells inode rows = (may_all inode (born inode) rows ≡ true) × (says_all inode (born inode) rows ≡ map (λ r. r.1) rows)
+Tells inode rows = (may_all inode (born inode) rows ≡ true)
+    × (says_all inode (born inode) rows ≡ map (λ r. r.1) rows)
 
 -- ---- inodes
 
@@ -114,7 +121,13 @@ abbrev pub inode_of : Mode → Setup → Bool → List ℕ → List Pair → Boo
 inode_of mode evm present content attrs versions = record {
   path = 47 ∷ 97 ∷ [];
   settings = record { hash = Sha256; template = ImaNg; mode = mode; evm = evm; for_files = refl };
-  birth = record { present = present; content = content; attrs = attrs; meta = meta; versions = versions };
+  birth = record {
+    present = present;
+    content = content;
+    attrs = attrs;
+    meta = meta;
+    versions = versions;
+  };
 }
 
 -- the bytes `abc`
@@ -132,10 +145,33 @@ fixing = inode_of Fix no_key true abc [] true
 -- ---- actions and grants
 
 abbrev pub measure : Action
-measure = record { measure = true; pcr = 10; template = None; appraise = false; need = Any; algos = None; audit = false; hash = false }
+measure = record {
+  measure = true;
+  pcr = 10;
+  template = None;
+  appraise = false;
+  need = Any;
+  algos = None;
+  audit = false;
+  hash = false;
+}
 
 abbrev pub appraise : Action
-appraise = record { measure = false; pcr = 10; template = None; appraise = true; need = Any; algos = None; audit = false; hash = false }
+appraise = record {
+  measure = false;
+  pcr = 10;
+  template = None;
+  appraise = true;
+  need = Any;
+  algos = None;
+  audit = false;
+  hash = false;
+}
 
 abbrev pub grant : Option Placed → Option Verdict → Bool → Bool → Grant
-grant placed verdict admitted labelled = record { placed = placed; verdict = verdict; admitted = admitted; labelled = labelled }
+grant placed verdict admitted labelled = record {
+  placed = placed;
+  verdict = verdict;
+  admitted = admitted;
+  labelled = labelled;
+}

@@ -1,5 +1,6 @@
--- The marks of an inode: what a writer's close owes, and when new, update and the span begin and end. The file has no label and
--- mode fix gives it one, which sets update where the file that was granted is open for writing.
+-- The marks of an inode: what a writer's close owes, and when new, update and the span begin and
+-- end. The file has no label and mode fix gives it one, which sets update where the file that was
+-- granted is open for writing.
 use Rattle.std.proofs.Common.{true, false, [], ◌∷◌, Some, None, refl}
 use Rattle.ima_templates.specs.declared.entry.Placed.TheVariants.{Added, Already}
 use Rattle.inode_meta.specs.declared.appraisal.Mode.TheVariants.{Enforce, Off}
@@ -37,7 +38,8 @@ something_written : Tells fixing (
     [])
 something_written = (refl, refl)
 
--- The last writer's close ends update: the next writer isn't appraised, and owes no label for what it writes.
+-- The last writer's close ends update: the next writer isn't appraised, and owes no label for what
+-- it writes.
 update_ends : Tells fixing (
     (deed.Count (how.Write false false), Some told.Held) ∷
     (deed.Check 1 FileCheck appraise 1, Some told.Quiet) ∷
@@ -52,7 +54,8 @@ update_ends : Tells fixing (
     [])
 update_ends = (refl, refl)
 
--- The span begins anew with the first writer: what an earlier writer wrote is not this one's to label.
+-- The span begins anew with the first writer: what an earlier writer wrote is not this one's to
+-- label.
 span_restarts : Tells fixing (
     (deed.Count (how.Write false false), Some told.Held) ∷
     (deed.Check 1 FileCheck no_action 1, Some told.Quiet) ∷
@@ -67,7 +70,8 @@ span_restarts : Tells fixing (
     [])
 span_restarts = (refl, refl)
 
--- A reader that creates the file passes, since the file is new. It sets no update: the writer that follows owes no label.
+-- A reader that creates the file passes, since the file is new. It sets no update: the writer that
+-- follows owes no label.
 reader_passes : Tells (inode_of Enforce no_key false [] [] true) (
     (deed.Count (how.Read true), Some told.Held) ∷
     (deed.Check 1 FileCheck appraise 1, Some told.Quiet) ∷
@@ -81,7 +85,8 @@ reader_passes : Tells (inode_of Enforce no_key false [] [] true) (
     [])
 reader_passes = (refl, refl)
 
--- A file is new until its first last writer closes it: the next writer, which writes nothing, leaves the digest in force.
+-- A file is new until its first last writer closes it: the next writer, which writes nothing,
+-- leaves the digest in force.
 new_once : Tells (inode_of Off no_key false [] [] true) (
     (deed.Count (how.Write false true), Some told.Held) ∷
     (deed.Check 1 FileCheck no_action 1, Some told.Quiet) ∷

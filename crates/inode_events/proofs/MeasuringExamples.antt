@@ -24,7 +24,8 @@ measured_open : Tells plain (
     [])
 measured_open = (refl, refl)
 
--- A writer comes while a measured reader is there: ToMToU, though no rule speaks of the writer. The mark is then gone.
+-- A writer comes while a measured reader is there: ToMToU, though no rule speaks of the writer. The
+-- mark is then gone.
 time_of_use : Tells plain (
     (deed.Count (how.Read false), Some told.Held) ∷
     (deed.Check 1 FileCheck measure 1, Some told.Quiet) ∷
@@ -38,7 +39,8 @@ time_of_use : Tells plain (
     [])
 time_of_use = (refl, refl)
 
--- Readers come while a writer is there: open-writers at each measured check. The second reader finds the digest in force.
+-- Readers come while a writer is there: open-writers at each measured check. The second reader
+-- finds the digest in force.
 open_writers : Tells plain (
     (deed.Count (how.Write false false), Some told.Held) ∷
     (deed.Check 1 FileCheck no_action 1, Some told.Quiet) ∷
@@ -53,8 +55,8 @@ open_writers : Tells plain (
     [])
 open_writers = (refl, refl)
 
--- A write falls between two pieces of a collection. The digest that it gives is voided by the last writer's close, and the next
--- open hashes anew.
+-- A write falls between two pieces of a collection. The digest that it gives is voided by the last
+-- writer's close, and the next open hashes anew.
 written_while_hashed : Tells (inode_of Off no_key true (replicate 5000 97) [] true) (
     (deed.Count (how.Read false), Some told.Held) ∷
     (deed.Check 1 FileCheck measure 1, Some told.Quiet) ∷
@@ -117,7 +119,8 @@ writer_before_exec : Tells plain (
     [])
 writer_before_exec = (refl, refl)
 
--- An executed file isn't opened for writing, until the execution is over. An absent one isn't executed at all.
+-- An executed file isn't opened for writing, until the execution is over. An absent one isn't
+-- executed at all.
 exec_before_writer : Tells plain (
     (deed.Count how.Exec, Some told.Held) ∷
     (deed.Check 1 BprmCheck no_action 1, Some told.Quiet) ∷

@@ -1,5 +1,6 @@
--- Three whole runs over one file: a task opens it, reads and closes; a writer comes while a reader is there; two readers come while
--- a writer is there. Each journal is legal and is listed in its list, the list is merged from it, and each read is covered.
+-- Three whole runs over one file: a task opens it, reads and closes; a writer comes while a reader
+-- is there; two readers come while a writer is there. Each journal is legal and is listed in its
+-- list, the list is merged from it, and each read is covered.
 use Rattle.std.proofs.Common.{◌≡◌, ℕ, zero, suc, ◌+◌, ◌<◌, Bool, true, false, List, [], ◌∷◌, codes, Option, Some, None, refl, ap, sym, subst, arith, inl, inr, lit<}
 use Rattle.std.specs.Prelude.{◌&&◌, nat_le, ◌⊎◌, All, Contains, slice_get, if◌then◌else◌, ◌==◌}
 use Rattle.std.proofs.lemmas.List.Elements.{All-cons, All-nil}
@@ -35,13 +36,21 @@ use Rattle.inode_events.proofs.Examples.{abc, born, grant, measure, plain}
 
 -- a step of a task
 abbrev pub did : ℕ → ℕ → ℕ → Deed → Told → Event
-did task call step d t = record { who = record { task = task; call = call; step = step }; deed = d; told = t }
+did task call step d t =
+    record { who = record { task = task; call = call; step = step }; deed = d; told = t }
 
 abbrev pub granted : Placed → Told
 granted placed = told.Grant (grant (Some placed) None true false)
 
 abbrev pub boot : Entry
-boot = record { pcr = 10; template = ImaNg; digest = zero_digest Sha256; name = codes "boot_aggregate"; sig = []; violation = false }
+boot = record {
+  pcr = 10;
+  template = ImaNg;
+  digest = zero_digest Sha256;
+  name = codes "boot_aggregate";
+  sig = [];
+  violation = false;
+}
 
 -- ---- the three runs, oldest event first
 
@@ -126,7 +135,13 @@ unheard_illegal legal = cc legal.1.0.2
 -- ---- the stage by a task's own events
 
 -- the writer's stage, read off task 1's events alone
-own_stage : stage_in plain 6 ((7, did 1 0 1 (deed.Check 6 FileCheck no_action 1) (told.ToMToU 2)) ∷ (6, did 1 0 0 (deed.Count (how.Write false false)) told.Held) ∷ [])
+own_stage : stage_in plain 6 ((
+  7,
+  did 1 0 1 (deed.Check 6 FileCheck no_action 1) (told.ToMToU 2),
+) ∷ (
+  6,
+  did 1 0 0 (deed.Count (how.Write false false)) told.Held,
+) ∷ [])
     ≡ stage plain 6 (journal_of overtaken)
 own_stage = refl
 
@@ -153,7 +168,10 @@ graphic [] g = All-nil IsGraphic
 graphic (b ∷ rest) g =
     let parts = and_parts (nat_le 0x21 b && nat_le b 0x7e) (are_graphic rest) g in
     let ends = and_parts (nat_le 0x21 b) (nat_le b 0x7e) parts.0 in
-    All-cons IsGraphic b rest (leb-true 0x21 b ends.0, leb-true b 0x7e ends.1) (graphic rest parts.1)
+    All-cons IsGraphic b rest (
+      leb-true 0x21 b ends.0,
+      leb-true b 0x7e ends.1,
+    ) (graphic rest parts.1)
 
 boot_valid : IsEntry boot
 boot_valid = record {
@@ -188,11 +206,15 @@ file_valid = record {
 -- the file's entry is the same as itself, and the boot aggregate has another name
 file_same : same file_entry file_entry ≡ true
 unfolding same
-file_same = sym (same_data-fields file_entry file_entry true file_valid file_valid refl ((λ y. (refl, refl, refl)), (λ f. refl)))
+file_same = sym (same_data-fields file_entry file_entry true file_valid file_valid refl
+    ((λ y. (refl, refl, refl)), (λ f. refl)))
 
 boot_apart : same boot file_entry ≡ false
 unfolding same
-boot_apart = sym (same_data-fields boot file_entry false boot_valid file_valid refl ((λ y. cc), (λ f. other_name f.1))) where
+boot_apart = sym (same_data-fields boot file_entry false boot_valid file_valid refl (
+  (λ y. cc),
+  (λ f. other_name f.1),
+)) where
   other_name : boot.name ≡ file_entry.name → false ≡ true
   other_name e = cc
 
@@ -204,18 +226,25 @@ found_third : place_of_same beside_list file_entry ≡ Some 2
 found_third = rw (boot_apart, violation_apart, file_same) refl
 
 beside_listed : IsListed plain beside_list (journal_of beside_writer)
-beside_listed = listed_by plain beside_list (journal_of beside_writer) refl (ap (λ (o : Option ℕ). o ∷ []) found_third)
+beside_listed = listed_by plain beside_list (journal_of beside_writer) refl
+    (ap (λ (o : Option ℕ). o ∷ []) found_third)
 
 -- ---- merged
 
-reading_once : (place : ℕ) → place < 2 → 0 + times_added place (places_added plain (journal_of reading)) ≡ (if place == 0 then 0 else 1)
+reading_once : (place : ℕ) → place < 2
+    → 0 + times_added place (places_added plain (journal_of reading))
+    ≡ (if place == 0 then 0 else 1)
 reading_once zero b = refl
 reading_once (suc zero) b = refl
 reading_once (suc (suc k)) b = absurd (omega arith)
 
-reading_merged : IsMerged boot reading_list (record { inode = plain; events = journal_of reading } ∷ [])
+reading_merged : IsMerged boot reading_list (record {
+  inode = plain;
+  events = journal_of reading;
+} ∷ [])
 reading_merged =
-    merged_by boot reading_list plain (journal_of reading) refl reading_listed reading_once refl refl
+    merged_by boot reading_list plain
+    (journal_of reading) refl reading_listed reading_once refl refl
     (ap (λ (b : Bool). b ∷ []) boot_apart, (refl, tt))
 
 -- the boot aggregate is not the same as a violation, and no entry is
@@ -231,30 +260,48 @@ violation_violation : same violation_entry violation_entry ≡ false
 unfolding same
 violation_violation = refl
 
-overtaken_once : (place : ℕ) → place < 3 → 0 + times_added place (places_added plain (journal_of overtaken)) ≡ (if place == 0 then 0 else 1)
+overtaken_once : (place : ℕ) → place < 3
+    → 0 + times_added place (places_added plain (journal_of overtaken))
+    ≡ (if place == 0 then 0 else 1)
 overtaken_once zero b = refl
 overtaken_once (suc zero) b = refl
 overtaken_once (suc (suc zero)) b = refl
 overtaken_once (suc (suc (suc k))) b = absurd (omega arith)
 
-overtaken_merged : IsMerged boot overtaken_list (record { inode = plain; events = journal_of overtaken } ∷ [])
+overtaken_merged : IsMerged boot overtaken_list (record {
+  inode = plain;
+  events = journal_of overtaken;
+} ∷ [])
 overtaken_merged =
-    merged_by boot overtaken_list plain (journal_of overtaken) refl overtaken_listed overtaken_once refl refl
+    merged_by boot overtaken_list plain
+    (journal_of overtaken) refl overtaken_listed overtaken_once refl refl
     ((λ k. boot_apart k ∷ boot_violation k ∷ []), ((λ k. file_violation k ∷ []), (refl, tt)))
 
-beside_once : (place : ℕ) → place < 4 → 0 + times_added place (places_added plain (journal_of beside_writer)) ≡ (if place == 0 then 0 else 1)
+beside_once : (place : ℕ) → place < 4
+    → 0 + times_added place (places_added plain (journal_of beside_writer))
+    ≡ (if place == 0 then 0 else 1)
 beside_once zero b = refl
 beside_once (suc zero) b = refl
 beside_once (suc (suc zero)) b = refl
 beside_once (suc (suc (suc zero))) b = refl
 beside_once (suc (suc (suc (suc k)))) b = absurd (omega arith)
 
-beside_merged : IsMerged boot beside_list (record { inode = plain; events = journal_of beside_writer } ∷ [])
+beside_merged : IsMerged boot beside_list (record {
+  inode = plain;
+  events = journal_of beside_writer;
+} ∷ [])
 beside_merged =
-    merged_by boot beside_list plain (journal_of beside_writer) refl beside_listed beside_once refl refl
-    ((λ k. boot_violation k ∷ boot_apart k ∷ boot_violation k ∷ []), ((λ k. violation_apart k ∷ violation_violation k ∷ []), ((λ k. file_violation k ∷ []), (refl, tt))))
+    merged_by boot beside_list plain
+    (journal_of beside_writer) refl beside_listed beside_once refl refl (
+      (λ k. boot_violation k ∷ boot_apart k ∷ boot_violation k ∷ []),
+      (
+        (λ k. violation_apart k ∷ violation_violation k ∷ []),
+        ((λ k. file_violation k ∷ []), (refl, tt)),
+      ),
+    )
 
--- A journal that is told to have added the first entry is legal and listed, and no list is merged from it.
+-- A journal that is told to have added the first entry is legal and listed, and no list is merged
+-- from it.
 abbrev adds_first : List Event
 adds_first =
     did 0 0 0 (deed.Count (how.Read false)) told.Held ∷
@@ -264,10 +311,17 @@ adds_first =
     did 0 0 4 (deed.Finish 1) (granted (Added 0)) ∷
     []
 
-adds_first_fits : Legal plain (journal_of adds_first) × IsListed plain (file_entry ∷ []) (journal_of adds_first)
-adds_first_fits = (legal_by plain adds_first refl refl, listed_by plain (file_entry ∷ []) (journal_of adds_first) refl refl)
+adds_first_fits : Legal plain (journal_of adds_first)
+    × IsListed plain (file_entry ∷ []) (journal_of adds_first)
+adds_first_fits = (
+  legal_by plain adds_first refl refl,
+  listed_by plain (file_entry ∷ []) (journal_of adds_first) refl refl,
+)
 
-adds_first_unmerged : IsMerged file_entry (file_entry ∷ []) (record { inode = plain; events = journal_of adds_first } ∷ []) → ⊥
+adds_first_unmerged : IsMerged file_entry (file_entry ∷ []) (record {
+  inode = plain;
+  events = journal_of adds_first;
+} ∷ []) → ⊥
 adds_first_unmerged merged = added_once 1 refl (merged.once 0 (lit< tt)) where
   added_once : (times : ℕ) → times ≡ 1 → times ≡ 0 → ⊥
   added_once times is never = absurd (omega arith)
@@ -285,13 +339,32 @@ before_read =
     []
 
 read_covered : IsCovered plain reading_list 1 (journal_of before_read)
-read_covered = covered_by plain reading_list 1 (journal_of before_read) ((1, ((0, omega arith, refl), inl (file_entry, (refl, refl, refl, refl)))), tt)
+read_covered = covered_by plain reading_list 1 (journal_of before_read) (
+  (
+    1,
+    ((0, omega arith, refl), inl (file_entry, (refl, refl, refl, refl))),
+  ),
+  tt,
+)
 
 -- the two readers beside the writer, each by the one entry
-beside_covered : IsCovered plain beside_list 3 (journal_of beside_writer) × IsCovered plain beside_list 8 (journal_of beside_writer)
+beside_covered : IsCovered plain beside_list 3 (journal_of beside_writer)
+    × IsCovered plain beside_list 8 (journal_of beside_writer)
 beside_covered = (
-  covered_by plain beside_list 3 (journal_of beside_writer) ((2, ((0, omega arith, refl), inl (file_entry, (refl, refl, refl, refl)))), tt),
-  covered_by plain beside_list 8 (journal_of beside_writer) ((2, ((0, omega arith, refl), inl (file_entry, (refl, refl, refl, refl)))), tt),
+  covered_by plain beside_list 3 (journal_of beside_writer) (
+    (
+      2,
+      ((0, omega arith, refl), inl (file_entry, (refl, refl, refl, refl))),
+    ),
+    tt,
+  ),
+  covered_by plain beside_list 8 (journal_of beside_writer) (
+    (
+      2,
+      ((0, omega arith, refl), inl (file_entry, (refl, refl, refl, refl))),
+    ),
+    tt,
+  ),
 )
 
 -- once the writer that overtook the reader has written, a read is covered by the violation
@@ -300,19 +373,33 @@ written_over = did 1 1 0 (deed.Write 6 0 (88 ∷ [])) told.Done ∷ journal_of o
 
 overtaken_covered : IsCovered plain overtaken_list 1 written_over
 overtaken_covered =
-    covered_by plain overtaken_list 1 written_over
-    ((1, ((0, omega arith, refl), inr (2, ((0, omega arith, refl), (violation_entry, (refl, refl, refl)))))), tt)
+    covered_by plain overtaken_list 1 written_over (
+      (
+        1,
+        (
+          (0, omega arith, refl),
+          inr (2, ((0, omega arith, refl), (violation_entry, (refl, refl, refl)))),
+        ),
+      ),
+      tt,
+    )
 
 -- by a list that lacks the entry no read is covered
 abbrev lacking_later : List Event
-lacking_later = did 0 0 4 (deed.Finish 1) (granted (Added 1)) ∷ did 0 0 3 (deed.Chunk 1) told.Last ∷ did 0 0 2 (deed.Take 1) told.Begun ∷ []
+lacking_later = did 0 0 4 (deed.Finish 1) (granted (Added 1)) ∷ did 0 0 3 (deed.Chunk 1) told.Last
+    ∷ did 0 0 2 (deed.Take 1) told.Begun ∷ []
 
-lacking : IsAnswered plain (boot ∷ []) 1 abc lacking_later (did 0 0 1 (deed.Check 1 FileCheck measure 1) told.Quiet) → ⊥
+lacking : IsAnswered plain (boot ∷ []) 1 abc lacking_later
+    (did 0 0 1 (deed.Check 1 FileCheck measure 1) told.Quiet) → ⊥
 lacking answer = at answer.0 (one_has 1 answer.0 answer.1.0) answer.1.1 where
-  at : (place : ℕ) → 1 ≡ place → ShowsContent plain (boot ∷ []) abc place ⊎ ((violation : ℕ) × (Contains [] violation × ShowsViolation plain (boot ∷ []) violation)) → ⊥
-  at place e (inl shown) = none-some shown.0 (subst (λ (k : ℕ). slice_get (boot ∷ []) k ≡ Some shown.0) (sym e) shown.1.0)
+  at : (place : ℕ) → 1 ≡ place → ShowsContent plain (boot ∷ []) abc place
+      ⊎ ((violation : ℕ) × (Contains [] violation × ShowsViolation plain (boot ∷ []) violation)) → ⊥
+  at place e (inl shown) =
+      none-some shown.0 (subst (λ (k : ℕ). slice_get (boot ∷ []) k ≡ Some shown.0)
+      (sym e) shown.1.0)
   at place e (inr violation) = has_none violation.0 violation.1.0
 
 uncovered : IsCovered plain (boot ∷ []) 1 (journal_of before_read) → ⊥
 uncovered covered =
-    lacking (covered lacking_later (did 0 0 1 (deed.Check 1 FileCheck measure 1) told.Quiet) (did 0 0 0 (deed.Count (how.Read false)) told.Held ∷ born plain) refl refl)
+    lacking (covered lacking_later (did 0 0 1 (deed.Check 1 FileCheck measure 1) told.Quiet)
+    (did 0 0 0 (deed.Count (how.Read false)) told.Held ∷ born plain) refl refl)

@@ -21,9 +21,13 @@ signals_are_legal = (refl, (refl, (refl, (refl, tt))))
 counts_left : (left 1 signals ≡ 1) × (left 0 signals ≡ 1) × (left 2 signals ≡ 0)
 counts_left = (refl, refl, refl)
 
--- a wait is blocked where nothing is left, and done where something is. A post never waits, and no other deed stands here
-waits_block : (semaphore_says signals (deed.Wait 1) ≡ Some told.Done) × (semaphore_says (done (deed.Wait 1) ∷ signals) (deed.Wait 1) ≡ None)
-    × (semaphore_says signals (deed.Wait 2) ≡ None) × (semaphore_says [] (deed.Post 2) ≡ Some told.Done) × (semaphore_says signals deed.Birth ≡ None)
+-- a wait is blocked where nothing is left, and done where something is. A post never waits, and no
+-- other deed stands here
+waits_block : (semaphore_says signals (deed.Wait 1) ≡ Some told.Done)
+    × (semaphore_says (done (deed.Wait 1) ∷ signals) (deed.Wait 1) ≡ None)
+    × (semaphore_says signals (deed.Wait 2) ≡ None)
+    × (semaphore_says [] (deed.Post 2) ≡ Some told.Done)
+    × (semaphore_says signals deed.Birth ≡ None)
 waits_block = (refl, refl, refl, refl, refl)
 
 -- a wait that nothing was left for makes a journal illegal

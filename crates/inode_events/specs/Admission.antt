@@ -22,7 +22,8 @@ collection_begin c = c.begin
 abbrev pub digests_begin : Digests → ℕ
 digests_begin f = f.begin
 
--- the begin of the digest from which the grant is made: that in force, or that of the collection which the finish ends
+-- the begin of the digest from which the grant is made: that in force, or that of the collection
+-- which the finish ends
 abbrev pub grant_begin : Inode → Deed → List Event → Option ℕ
 grant_begin inode (deed.Take file) before = option_map digests_begin (in_force inode before)
 grant_begin inode (deed.Finish file) before = option_map collection_begin (collecting inode before)
@@ -32,7 +33,8 @@ abbrev pub unmodified_since : Option ℕ → List Event → Bool
 unmodified_since None before = true
 unmodified_since (Some place) before = not (modified_since place before)
 
--- the grant is made of an unmodified file: no write or truncation was done between the begin of its digest and the grant
+-- the grant is made of an unmodified file: no write or truncation was done between the begin of its
+-- digest and the grant
 abbrev pub granted_unmodified : Inode → Deed → List Event → Bool
 granted_unmodified inode d before = unmodified_since (grant_begin inode d before) before
 

@@ -1,5 +1,5 @@
--- A step on an inode: the entry that it asks the measurement list for, what it is told by the list's answer, and what it leaves
--- of journal and list.
+-- A step on an inode: the entry that it asks the measurement list for, what it is told by the
+-- list's answer, and what it leaves of journal and list.
 use Rattle.std.specs.Prelude.{ℕ, Bool, true, List, [], ◌∷◌, Option, Some, None, is_some, if◌then◌else◌}
 use Rattle.ima_templates.specs.Same.{add, placed}
 use Rattle.ima_templates.specs.declared.entry.Entry.{Entry}
@@ -31,16 +31,19 @@ abbrev pub measured_if : Bool → Inode → ℕ → Option Digests → List Even
 measured_if true inode file (Some digests) before = Some (measured inode file digests before)
 measured_if _ inode file _ before = None
 
--- the entry that the deed adds unless the list has it: the violation that a check finds, and the measurement of a grant whose
--- check measures
+-- the entry that the deed adds unless the list has it: the violation that a check finds, and the
+-- measurement of a grant whose check measures
 abbrev pub asked : Inode → Deed → List Event → Option Entry
 asked inode (deed.Check file func action rules) before =
-    violation_in inode (check_told (is_writing file before) action.measure (readers before) (writers before) (must_measure before) 0)
+    violation_in inode (check_told (is_writing file before) action.measure (readers before)
+    (writers before) (must_measure before) 0)
 asked inode (deed.Take file) before =
     if is_some (collecting inode before) then None
-    else measured_if (last_check file before).action.measure inode file (granting inode (deed.Take file) before) before
+    else measured_if (last_check file before).action.measure inode file
+    (granting inode (deed.Take file) before) before
 asked inode (deed.Finish file) before =
-    measured_if (last_check file before).action.measure inode file (granting inode (deed.Finish file) before) before
+    measured_if (last_check file before).action.measure inode file
+    (granting inode (deed.Finish file) before) before
 asked inode _ before = None
 
 -- ---- the outcome

@@ -1,4 +1,5 @@
--- The callers of a journal, by number. The journal's own caller, number 0, adds the birth, and the task n is caller n + 1.
+-- The callers of a journal, by number. The journal's own caller, number 0, adds the birth, and the
+-- task n is caller n + 1.
 use Rattle.std.specs.Prelude.{ℕ, ◌+◌}
 use Rattle.inode_events.specs.declared.deed.Deed.{Deed}
 use Rattle.inode_events.specs.declared.deed.Deed.TheVariants as deed

@@ -31,7 +31,8 @@ no_action = record {
 }
 
 abbrev pub check_after : ℕ → Deed → Check → Check
-check_after file (deed.Check other func action rules) old = if other == file then record { func = func; action = action } else old
+check_after file (deed.Check other func action rules) old =
+    if other == file then record { func = func; action = action } else old
 check_after file _ old = old
 
 -- the last check of the file
@@ -39,7 +40,8 @@ abbrev pub last_check : ℕ → List Event → Check
 last_check file [] = record { func = func.FileCheck; action = no_action }
 last_check file (e ∷ before) = check_after file e.deed (last_check file before)
 
--- the hook's place in the kernel's inode cache: a function that no other names has that of opened files
+-- the hook's place in the kernel's inode cache: a function that no other names has that of opened
+-- files
 abbrev pub slot_of : Func → Slot
 slot_of func.BprmCheck = slot.Bprm
 slot_of func.MmapCheck = slot.Mmap

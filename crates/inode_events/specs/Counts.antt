@@ -16,15 +16,18 @@ begins_take _ _ = false
 -- the takes that began a collection
 abbrev pub takes_begun : List Event → ℕ
 takes_begun [] = 0
-takes_begun (e ∷ before) = if begins_take e.deed e.told then 1 + takes_begun before else takes_begun before
+takes_begun (e ∷ before) =
+    if begins_take e.deed e.told then 1 + takes_begun before else takes_begun before
 
 -- how many events void the digest, whether or not one was in force
 abbrev pub times_voided : Inode → List Event → ℕ
 times_voided inode [] = 0
 times_voided inode (e ∷ before) =
-    if voids_digest e.deed e.told before (in_force inode before) then 1 + times_voided inode before else times_voided inode before
+    if voids_digest e.deed e.told before (in_force inode before) then 1 + times_voided inode before
+    else times_voided inode before
 
 -- those of them before the last take that began a collection
 abbrev pub times_voided_before_last : Inode → List Event → ℕ
 times_voided_before_last inode [] = 0
-times_voided_before_last inode (e ∷ before) = if begins_take e.deed e.told then times_voided inode before else times_voided_before_last inode before
+times_voided_before_last inode (e ∷ before) = if begins_take e.deed e.told
+    then times_voided inode before else times_voided_before_last inode before

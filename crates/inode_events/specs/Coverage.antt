@@ -24,8 +24,10 @@ place_in (Some placed) = place_of placed ∷ []
 
 -- the place that a grant of the file names
 abbrev pub grant_places : ℕ → Deed → Told → List ℕ
-grant_places file (deed.Take other) (told.Grant grant) = if other == file then place_in grant.placed else []
-grant_places file (deed.Finish other) (told.Grant grant) = if other == file then place_in grant.placed else []
+grant_places file (deed.Take other) (told.Grant grant) =
+    if other == file then place_in grant.placed else []
+grant_places file (deed.Finish other) (told.Grant grant) =
+    if other == file then place_in grant.placed else []
 grant_places file _ _ = []
 
 -- the places that grants of the file name
@@ -44,26 +46,33 @@ abbrev pub places_violated : List Event → List ℕ
 places_violated [] = []
 places_violated (e ∷ events) = violation_places e.deed e.told ++ places_violated events
 
--- the list has at this place the name of the inode, and the digest of these bytes by the entry's own algorithm
+-- the list has at this place the name of the inode, and the digest of these bytes by the entry's
+-- own algorithm
 abbrev pub ShowsContent : Inode → List Entry → List ℕ → ℕ → Type 0
-ShowsContent inode list bytes place = (e : Entry) × ((slice_get list place ≡ Some e) × (e.violation ≡ false)
+ShowsContent inode list bytes place = (e : Entry)
+    × ((slice_get list place ≡ Some e) × (e.violation ≡ false)
     × (e.name ≡ shown_name e.template inode.path) × (e.digest ≡ digest_of e.digest.algo bytes))
 
 -- the list has at this place a violation of the inode
 abbrev pub ShowsViolation : Inode → List Entry → ℕ → Type 0
-ShowsViolation inode list place = (e : Entry) × ((slice_get list place ≡ Some e) × (e.violation ≡ true)
+ShowsViolation inode list place = (e : Entry)
+    × ((slice_get list place ≡ Some e) × (e.violation ≡ true)
     × (e.name ≡ shown_name e.template inode.path))
 
--- A check is answered: the file got a grant since that names a place of the list, and the digest of these bytes stands there,
--- or a violation was told, at the check or since. `later` are the events behind the check, and `check` is its own.
+-- A check is answered: the file got a grant since that names a place of the list, and the digest of
+-- these bytes stands there, or a violation was told, at the check or since. `later` are the events
+-- behind the check, and `check` is its own.
 abbrev pub IsAnswered : Inode → List Entry → ℕ → List ℕ → List Event → Event → Type 0
 IsAnswered inode list file bytes later check =
     (place : ℕ) × (Contains (places_granted file later) place
     × (ShowsContent inode list bytes place
-    ⊎ ((violation : ℕ) × (Contains (places_violated (later ++ check ∷ [])) violation × ShowsViolation inode list violation))))
+    ⊎ ((violation : ℕ) × (Contains (places_violated (later ++ check ∷ [])) violation
+    × ShowsViolation inode list violation))))
 
--- A read of the file behind this journal is covered: each check of the file that measures is answered, by the content as it is.
+-- A read of the file behind this journal is covered: each check of the file that measures is
+-- answered, by the content as it is.
 abbrev pub IsCovered : Inode → List Entry → ℕ → List Event → Type 0
 IsCovered inode list file events =
-    (later : List Event) (check : Event) (before : List Event) → events ≡ later ++ check ∷ before → is_measuring file check.deed ≡ true
+    (later : List Event) (check : Event) (before : List Event) → events ≡ later ++ check ∷ before
+    → is_measuring file check.deed ≡ true
     → IsAnswered inode list file (content events) later check

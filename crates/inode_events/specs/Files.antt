@@ -1,4 +1,5 @@
--- The open files of an inode: those that were counted and not dropped. A file is named by the place of its count.
+-- The open files of an inode: those that were counted and not dropped. A file is named by the place
+-- of its count.
 use Rattle.std.specs.Prelude.{ℕ, ◌+◌, ◌==◌, Bool, true, false, List, [], ◌∷◌, length, Option, Some, None, if◌then◌else◌}
 use Rattle.inode_events.specs.declared.deed.Deed.{Deed}
 use Rattle.inode_events.specs.declared.deed.Deed.TheVariants as deed
@@ -66,7 +67,8 @@ without_file (Some file) held = less_file file held
 -- the files that are held, each with how it was opened
 abbrev pub files : List Event → List (ℕ × How)
 files [] = []
-files (e ∷ before) = with_file (length before) (counted e.deed e.told) (without_file (dropped e.deed e.told) (files before))
+files (e ∷ before) = with_file (length before) (counted e.deed e.told)
+    (without_file (dropped e.deed e.told) (files before))
 
 -- ---- what is read off them
 

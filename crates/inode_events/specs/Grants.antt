@@ -24,11 +24,13 @@ use Rattle.std.specs.Prelude.{length}
 abbrev pub placed_if_measured : Action → Placed → Option Placed
 placed_if_measured action placed = if action.measure then Some placed else None
 
--- the verdict, where the file is appraised: the one in force, else one over the digest and everything else as it is
+-- the verdict, where the file is appraised: the one in force, else one over the digest and
+-- everything else as it is
 abbrev pub verdict_for : Inode → Check → Digest → List Event → Option Verdict
 verdict_for inode check digest before =
     if appraises inode check.action then
-    Some (unwrap_or (verdict_in_force inode (key_of check) before) (judged inode check.action.need check.action.algos digest before))
+    Some (unwrap_or (verdict_in_force inode (key_of check) before)
+    (judged inode check.action.need check.action.algos digest before))
     else None
 
 -- mode enforce admits exactly on Pass, the others always
@@ -44,13 +46,15 @@ is_mend _ = true
 abbrev pub mend_of : Inode → Action → Digest → Verdict → List Event → Mend
 mend_of inode action digest verdict before =
     mend_for verdict
-    (judge action.need action.algos (label inode before) evm.Pass digest inode.settings.hash (length (content before)) (new before))
+    (judge action.need action.algos (label inode before) evm.Pass digest inode.settings.hash
+    (length (content before)) (new before))
     (status inode before) (read_label (label inode before) inode.settings.hash)
 
 -- mode fix writes something on the verdict: the label, or the HMAC alone
 abbrev pub mends : Inode → Action → Digest → Option Verdict → List Event → Bool
 mends inode action digest None before = false
-mends inode action digest (Some verdict) before = is_fix inode.settings.mode && is_mend (mend_of inode action digest verdict before)
+mends inode action digest (Some verdict) before =
+    is_fix inode.settings.mode && is_mend (mend_of inode action digest verdict before)
 
 abbrev pub granted : Inode → Check → Placed → Digest → Option Verdict → List Event → Grant
 granted inode check placed digest verdict before = record {
@@ -63,4 +67,5 @@ granted inode check placed digest verdict before = record {
 -- the grant of the file, made from a digest
 abbrev pub grant_of : Inode → ℕ → Placed → Digest → List Event → Grant
 grant_of inode file placed digest before =
-    granted inode (last_check file before) placed digest (verdict_for inode (last_check file before) digest before) before
+    granted inode (last_check file before) placed digest
+    (verdict_for inode (last_check file before) digest before) before

@@ -1,5 +1,6 @@
--- What IMA and EVM keep of an inode: its extended attributes, the collection that is open, and the digest in force. The three
--- rest on one another: a label names the algorithm of the next collection, and mode fix writes the digest in force as the label.
+-- What IMA and EVM keep of an inode: its extended attributes, the collection that is open, and the
+-- digest in force. The three rest on one another: a label names the algorithm of the next
+-- collection, and mode fix writes the digest in force as the label.
 use Rattle.std.specs.Prelude.{ℕ, ◌+◌, Bool, true, false, ◌&&◌, ◌||◌, not, List, [], ◌∷◌, ◌++◌, length, codes, Option, Some, None, option_map, if◌then◌else◌}
 use Rattle.hash_algos.specs.Digest.{digest_of}
 use Rattle.hash_algos.specs.declared.algo.Algo.{Algo}
@@ -23,8 +24,8 @@ use Rattle.inode_events.specs.declared.told.Told.TheVariants as told
 
 -- ---- what is kept
 
--- a collection under way: for which file, whether for its close, by which algorithm, from which place on, how many pieces and
--- which bytes it took, and whether the last piece was taken
+-- a collection under way: for which file, whether for its close, by which algorithm, from which
+-- place on, how many pieces and which bytes it took, and whether the last piece was taken
 pub record Collection : Type 0 where
   pub file : ℕ
   pub closing : Bool
@@ -34,8 +35,8 @@ pub record Collection : Type 0 where
   pub bytes : List ℕ
   pub complete : Bool
 
--- the digests of one content: by the algorithm that was chosen and by SHA-1, with the place of the take that began their
--- collection
+-- the digests of one content: by the algorithm that was chosen and by SHA-1, with the place of the
+-- take that began their collection
 pub record Digests : Type 0 where
   pub digest : Digest
   pub sha1 : Digest
@@ -64,12 +65,14 @@ attr_changed name (Some bytes) attrs = put name bytes attrs
 -- a call's change of an attribute renews the HMAC where the name is protected
 abbrev pub attr_set : Inode → List ℕ → Option (List ℕ) → Meta → List Pair → List Pair
 attr_set inode name bytes meta attrs =
-    if protects inode.settings.evm name then renewed inode.settings.evm (attr_changed name bytes attrs) meta
+    if protects inode.settings.evm name
+    then renewed inode.settings.evm (attr_changed name bytes attrs) meta
     else attr_changed name bytes attrs
 
 -- the kernel's own writing of a label renews the HMAC
 abbrev pub labelled_with : Inode → Digest → Meta → List Pair → List Pair
-labelled_with inode digest meta attrs = renewed inode.settings.evm (put ima_name (label_of digest) attrs) meta
+labelled_with inode digest meta attrs =
+    renewed inode.settings.evm (put ima_name (label_of digest) attrs) meta
 
 -- mode fix writes the label. Where the HMAC is of the older form it renews that alone
 abbrev pub fixed_with : Inode → Digest → Meta → List Pair → List Pair
@@ -90,12 +93,25 @@ labelled_by inode None meta attrs = attrs
 -- a collection begins
 abbrev pub collection_of : ℕ → Bool → Algo → ℕ → Collection
 collection_of file closing algo begin =
-    record { file = file; closing = closing; algo = algo; begin = begin; pieces = 0; bytes = []; complete = false }
+    record {
+      file = file;
+      closing = closing;
+      algo = algo;
+      begin = begin;
+      pieces = 0;
+      bytes = [];
+      complete = false;
+    }
 
 -- it takes its next piece of the content as it is
 abbrev pub collected_more : List ℕ → Bool → Option Collection → Option Collection
 collected_more content complete None = None
-collected_more content complete (Some c) = Some (record c { pieces = c.pieces + 1; bytes = c.bytes ++ piece_at content c.pieces; complete = complete })
+collected_more content complete (Some c) =
+    Some (record c {
+      pieces = c.pieces + 1;
+      bytes = c.bytes ++ piece_at content c.pieces;
+      complete = complete;
+    })
 
 -- what a collection gives: the digest by its own algorithm, and both
 abbrev pub digest_from : Collection → Digest
@@ -106,13 +122,18 @@ digests_of c = record { digest = digest_from c; sha1 = digest_of Sha1 c.bytes; b
 
 abbrev pub collecting_after : Inode → Deed → Told → List Event → Integrity → Option Collection
 collecting_after inode (deed.Take file) told.Begun before old =
-    Some (collection_of file false (collect_algo (label_in old.attributes) inode.settings.hash) (length before))
+    Some (collection_of file false (collect_algo (label_in old.attributes) inode.settings.hash)
+    (length before))
 collecting_after inode (deed.CloseTake file) told.Begun before old =
     Some (collection_of file true inode.settings.hash (length before))
-collecting_after inode (deed.Chunk file) told.More before old = collected_more (content before) false old.collecting
-collecting_after inode (deed.Chunk file) told.Last before old = collected_more (content before) true old.collecting
-collecting_after inode (deed.CloseChunk file) told.More before old = collected_more (content before) false old.collecting
-collecting_after inode (deed.CloseChunk file) told.Last before old = collected_more (content before) true old.collecting
+collecting_after inode (deed.Chunk file) told.More before old =
+    collected_more (content before) false old.collecting
+collecting_after inode (deed.Chunk file) told.Last before old =
+    collected_more (content before) true old.collecting
+collecting_after inode (deed.CloseChunk file) told.More before old =
+    collected_more (content before) false old.collecting
+collecting_after inode (deed.CloseChunk file) told.Last before old =
+    collected_more (content before) true old.collecting
 collecting_after inode (deed.Finish file) (told.Grant grant) before old = None
 collecting_after inode (deed.CloseFinish file) told.Dropped before old = None
 collecting_after inode (deed.CloseFinish file) told.LabelledDropped before old = None
@@ -125,13 +146,14 @@ abbrev pub is_stale : Option Digests → List Event → Bool
 is_stale None before = false
 is_stale (Some digests) before = modified_since digests.begin before
 
--- at a last writer's close the kernel looks at the inode's version. A new file, and one of a file system that counts no
--- changes, are taken as changed
+-- at a last writer's close the kernel looks at the inode's version. A new file, and one of a file
+-- system that counts no changes, are taken as changed
 abbrev pub drop_voids : Deed → Told → List Event → Option Digests → Bool
-drop_voids d t before digests = is_last_drop d t before && (new before || not (versions before) || is_stale digests before)
+drop_voids d t before digests =
+    is_last_drop d t before && (new before || not (versions before) || is_stale digests before)
 
--- the event voids the digest in force, and with it all verdicts: an attribute was set or removed, a label was written, or a
--- last writer left a content that is taken as changed
+-- the event voids the digest in force, and with it all verdicts: an attribute was set or removed, a
+-- label was written, or a last writer left a content that is taken as changed
 abbrev pub voids_digest : Deed → Told → List Event → Option Digests → Bool
 voids_digest (deed.SetAttr name bytes admin) told.Done before digests = true
 voids_digest (deed.Take file) (told.Grant grant) before digests = grant.labelled
@@ -143,13 +165,16 @@ voids_digest d t before digests = drop_voids d t before digests
 
 abbrev pub attributes_after : Inode → Deed → Told → List Event → Integrity → List Pair
 attributes_after inode deed.Birth (told.Image image) before old = image.attrs
-attributes_after inode (deed.SetAttr name bytes admin) told.Done before old = attr_set inode name bytes (metadata before) old.attributes
+attributes_after inode (deed.SetAttr name bytes admin) told.Done before old =
+    attr_set inode name bytes (metadata before) old.attributes
 attributes_after inode (deed.SetMeta change) told.Done before old =
     renewed inode.settings.evm old.attributes (changed change (metadata before))
 attributes_after inode (deed.Take file) (told.Grant grant) before old =
-    fixed_by inode grant.labelled (option_map (λ f. f.digest) old.digests) (metadata before) old.attributes
+    fixed_by inode grant.labelled (option_map (λ f. f.digest) old.digests)
+    (metadata before) old.attributes
 attributes_after inode (deed.Finish file) (told.Grant grant) before old =
-    fixed_by inode grant.labelled (option_map digest_from old.collecting) (metadata before) old.attributes
+    fixed_by inode grant.labelled (option_map digest_from old.collecting)
+    (metadata before) old.attributes
 attributes_after inode (deed.CloseFinish file) told.LabelledDropped before old =
     labelled_by inode (option_map digest_from old.collecting) (metadata before) old.attributes
 attributes_after inode _ _ before old = old.attributes
@@ -160,7 +185,8 @@ digests_given (deed.Finish file) (told.Grant grant) old = option_map digests_of 
 digests_given _ _ old = old.digests
 
 abbrev pub digests_after : Deed → Told → List Event → Integrity → Option Digests
-digests_after d t before old = if voids_digest d t before old.digests then None else digests_given d t old
+digests_after d t before old =
+    if voids_digest d t before old.digests then None else digests_given d t old
 
 abbrev pub integrity_after : Inode → Deed → Told → List Event → Integrity → Integrity
 integrity_after inode d t before old = record {
@@ -177,8 +203,8 @@ integrity inode (e ∷ before) = integrity_after inode e.deed e.told before (int
 abbrev pub attributes : Inode → List Event → List Pair
 attributes inode before = (integrity inode before).attributes
 
--- the collection that is open: a take or close-take that told begun, and isn't finished. While one is open the kernel's
--- integrity mutex is held
+-- the collection that is open: a take or close-take that told begun, and isn't finished. While one
+-- is open the kernel's integrity mutex is held
 abbrev pub collecting : Inode → List Event → Option Collection
 collecting inode before = (integrity inode before).collecting
 

@@ -1,5 +1,5 @@
--- Which journals are legal: the first event is the birth, each later one may be made where it stands, and each is told what the
--- journal before it says.
+-- Which journals are legal: the first event is the birth, each later one may be made where it
+-- stands, and each is told what the journal before it says.
 use Rattle.std.specs.Prelude.{◌≡◌, ◌<◌, ℕ, true, false, List, [], ◌∷◌, length, Option, Some}
 use Rattle.inode_meta.specs.declared.step.Who.{Who}
 use Rattle.inode_events.specs.Files.{can_read, held, holds, is_writer}
@@ -14,20 +14,26 @@ use Rattle.inode_events.specs.declared.told.Event.{Event}
 use Rattle.inode_events.specs.declared.told.Told.{Told}
 use Rattle.inode_events.specs.declared.told.Told.TheVariants as told
 
--- what has to hold before the deed is done, by the stage of its file and how the file is held: the condition of its call
+-- what has to hold before the deed is done, by the stage of its file and how the file is held: the
+-- condition of its call
 abbrev pub MayAt : (ℕ → Stage) → (ℕ → Option How) → Deed → Type 0
 MayAt stages hows (deed.Count how) = Unit {0}
 MayAt stages hows (deed.Check file func action rules) = may_check (stages file) ≡ true
 MayAt stages hows (deed.Take file) = stages file ≡ Asked
 MayAt stages hows (deed.Chunk file) = stages file ≡ Collecting
 MayAt stages hows (deed.Finish file) = stages file ≡ Collected
-MayAt stages hows (deed.Read file from len) = (stages file ≡ Settled) × (holds can_read (hows file) ≡ true)
-MayAt stages hows (deed.Write file from bytes) = (stages file ≡ Settled) × (holds is_writer (hows file) ≡ true) × (0 < length bytes)
-MayAt stages hows (deed.Trunc file len) = (stages file ≡ Settled) × (holds is_writer (hows file) ≡ true)
+MayAt stages hows (deed.Read file from len) =
+    (stages file ≡ Settled) × (holds can_read (hows file) ≡ true)
+MayAt stages hows (deed.Write file from bytes) =
+    (stages file ≡ Settled) × (holds is_writer (hows file) ≡ true) × (0 < length bytes)
+MayAt stages hows (deed.Trunc file len) =
+    (stages file ≡ Settled) × (holds is_writer (hows file) ≡ true)
 MayAt stages hows (deed.SetAttr name bytes admin) = Unit {0}
 MayAt stages hows (deed.SetMeta change) = Unit {0}
-MayAt stages hows (deed.Close file) = (stages file ≡ Settled) × (holds is_writer (hows file) ≡ false)
-MayAt stages hows (deed.CloseTake file) = (stages file ≡ Settled) × (holds is_writer (hows file) ≡ true)
+MayAt stages hows (deed.Close file) =
+    (stages file ≡ Settled) × (holds is_writer (hows file) ≡ false)
+MayAt stages hows (deed.CloseTake file) =
+    (stages file ≡ Settled) × (holds is_writer (hows file) ≡ true)
 MayAt stages hows (deed.CloseChunk file) = stages file ≡ CloseCollecting
 MayAt stages hows (deed.CloseFinish file) = stages file ≡ CloseCollected
 MayAt stages hows _ = ⊥
@@ -43,8 +49,10 @@ IsBorn (e ∷ before) = Unit {0}
 
 -- an event may stand behind these
 abbrev pub Follows : Inode → List Event → Who → Deed → Told → Type 0
-Follows inode before who deed.Birth t = (before ≡ []) × (who ≡ nobody) × (t ≡ told.Image inode.birth)
-Follows inode before who d t = IsBorn before × May inode before d × (says inode before (placed_in t) d ≡ Some t)
+Follows inode before who deed.Birth t =
+    (before ≡ []) × (who ≡ nobody) × (t ≡ told.Image inode.birth)
+Follows inode before who d t =
+    IsBorn before × May inode before d × (says inode before (placed_in t) d ≡ Some t)
 
 -- each event may stand behind those before it
 abbrev pub EachFollows : Inode → List Event → Type 0

@@ -33,8 +33,9 @@ signature_in (Some bytes) = if type_of bytes == 3 || type_of bytes == 6 then byt
 -- the entry of a file's measurement, with these digests and the label as it is
 abbrev pub measured : Inode → ℕ → Digests → List Event → Entry
 measured inode file digests before =
-    entry_of (last_check file before).action.pcr (template_for inode (last_check file before).action) digests.digest digests.sha1
-    inode.path (signature_in (label inode before))
+    entry_of (last_check file before).action.pcr
+    (template_for inode (last_check file before).action)
+    digests.digest digests.sha1 inode.path (signature_in (label inode before))
 
 -- a violation of the inode, under the script's template and algorithm whatever the rule says
 abbrev pub violated : Inode → Entry
@@ -53,25 +54,33 @@ granting inode (deed.Finish file) before = option_map digests_of (collecting ino
 granting inode _ before = None
 
 abbrev pub added_at : Option Placed → Option Digests → Inode → ℕ → List Event → Option Listed
-added_at (Some (Added place)) (Some digests) inode file before = Some (place, measured inode file digests before)
+added_at (Some (Added place)) (Some digests) inode file before =
+    Some (place, measured inode file digests before)
 added_at _ _ inode file before = None
 
 abbrev pub found_at : Option Placed → Option Digests → Inode → ℕ → List Event → Option Listed
-found_at (Some (Already place)) (Some digests) inode file before = Some (place, measured inode file digests before)
+found_at (Some (Already place)) (Some digests) inode file before =
+    Some (place, measured inode file digests before)
 found_at _ _ inode file before = None
 
 -- the entry that the event adds to the list
 abbrev pub adds : Inode → Deed → Told → List Event → Option Listed
-adds inode (deed.Check file func action rules) (told.OpenWriters place) before = Some (place, violated inode)
-adds inode (deed.Check file func action rules) (told.ToMToU place) before = Some (place, violated inode)
-adds inode (deed.Take file) (told.Grant grant) before = added_at grant.placed (granting inode (deed.Take file) before) inode file before
-adds inode (deed.Finish file) (told.Grant grant) before = added_at grant.placed (granting inode (deed.Finish file) before) inode file before
+adds inode (deed.Check file func action rules) (told.OpenWriters place) before =
+    Some (place, violated inode)
+adds inode (deed.Check file func action rules) (told.ToMToU place) before =
+    Some (place, violated inode)
+adds inode (deed.Take file) (told.Grant grant) before =
+    added_at grant.placed (granting inode (deed.Take file) before) inode file before
+adds inode (deed.Finish file) (told.Grant grant) before =
+    added_at grant.placed (granting inode (deed.Finish file) before) inode file before
 adds inode _ _ before = None
 
 -- the entry that the event finds in the list
 abbrev pub finds : Inode → Deed → Told → List Event → Option Listed
-finds inode (deed.Take file) (told.Grant grant) before = found_at grant.placed (granting inode (deed.Take file) before) inode file before
-finds inode (deed.Finish file) (told.Grant grant) before = found_at grant.placed (granting inode (deed.Finish file) before) inode file before
+finds inode (deed.Take file) (told.Grant grant) before =
+    found_at grant.placed (granting inode (deed.Take file) before) inode file before
+finds inode (deed.Finish file) (told.Grant grant) before =
+    found_at grant.placed (granting inode (deed.Finish file) before) inode file before
 finds inode _ _ before = None
 
 -- ---- all that a journal says of the list
@@ -86,7 +95,11 @@ pub record Mention : Type 0 where
 abbrev pub mentions : Inode → List Event → List Mention
 mentions inode [] = []
 mentions inode (e ∷ before) =
-    record { who = e.who; added = adds inode e.deed e.told before; found = finds inode e.deed e.told before }
+    record {
+      who = e.who;
+      added = adds inode e.deed e.told before;
+      found = finds inode e.deed e.told before;
+    }
     ∷ mentions inode before
 
 abbrev pub listed_in : Option Listed → List Listed
@@ -121,7 +134,8 @@ IsListed inode list events = AreIn list (mentions inode events)
 
 abbrev pub AreFoundEntries : List Mention → Type 0
 AreFoundEntries [] = Unit {0}
-AreFoundEntries (m ∷ earlier) = ((found : Listed) → m.found ≡ Some found → IsEntry found.1) × AreFoundEntries earlier
+AreFoundEntries (m ∷ earlier) =
+    ((found : Listed) → m.found ≡ Some found → IsEntry found.1) × AreFoundEntries earlier
 
 -- what the events find is an entry that can stand in a list
 abbrev pub FindsEntries : Inode → List Event → Type 0

@@ -39,25 +39,31 @@ places_named inode events = all_named (mentions inode events)
 -- how often an entry is added at the place
 abbrev pub times_added : ℕ → List Named → ℕ
 times_added place [] = 0
-times_added place (n ∷ rest) = if n.1 == place then 1 + times_added place rest else times_added place rest
+times_added place (n ∷ rest) =
+    if n.1 == place then 1 + times_added place rest else times_added place rest
 
 -- the step comes before the other of the same task
 abbrev pub is_earlier : Who → Who → Bool
-is_earlier a b = a.task == b.task && (nat_lt a.call b.call || (a.call == b.call && nat_lt a.step b.step))
+is_earlier a b =
+    a.task == b.task && (nat_lt a.call b.call || (a.call == b.call && nat_lt a.step b.step))
 
 abbrev pub MentionsRise : List Mention → Type 0
 MentionsRise [] = Unit {0}
 MentionsRise (m ∷ earlier) =
-    All (λ added. All (λ name. name.1 < added.1) (all_named earlier)) (named m.who m.added) × MentionsRise earlier
+    All (λ added. All (λ name. name.1 < added.1) (all_named earlier)) (named m.who m.added)
+    × MentionsRise earlier
 
 -- along the journal, an entry is added above all places that were named before it
 abbrev pub PlacesRise : Inode → List Event → Type 0
 PlacesRise inode events = MentionsRise (mentions inode events)
 
--- along a task's steps, an entry is added above all places that its earlier steps named, in whichever journals they stand
+-- along a task's steps, an entry is added above all places that its earlier steps named, in
+-- whichever journals they stand
 abbrev pub StepsRise : List Journal → Type 0
-StepsRise journals = (j k : Journal) (earlier later : Named) → Contains journals j → Contains journals k
-    → Contains (places_named j.inode j.events) earlier → Contains (places_added k.inode k.events) later
+StepsRise journals = (j k : Journal) (earlier later : Named) → Contains journals j
+    → Contains journals k
+    → Contains (places_named j.inode j.events) earlier
+    → Contains (places_added k.inode k.events) later
     → is_earlier earlier.0 later.0 ≡ true → earlier.1 < later.1
 
 pub record IsMerged (boot : Entry) (list : List Entry) (journals : List Journal) : Type 0 where
@@ -67,9 +73,11 @@ pub record IsMerged (boot : Entry) (list : List Entry) (journals : List Journal)
   pub listed : All (λ j. IsListed j.inode list j.events) journals
   -- no event added that first entry, and every other was added by exactly one event
   pub once : (place : ℕ) → place < length list
-      → sum_by (λ j. times_added place (places_added j.inode j.events)) journals ≡ (if place == 0 then 0 else 1)
+      → sum_by (λ j. times_added place (places_added j.inode j.events)) journals
+      ≡ (if place == 0 then 0 else 1)
   -- along a journal and along a task's steps the places rise
   pub along_journals : All (λ j. PlacesRise j.inode j.events) journals
   pub along_tasks : StepsRise journals
   -- no entry is the same as an earlier one
-  pub distinct : (a b : ℕ) (x y : Entry) → a < b → slice_get list a ≡ Some x → slice_get list b ≡ Some y → same x y ≡ false
+  pub distinct : (a b : ℕ) (x y : Entry) → a < b → slice_get list a ≡ Some x
+      → slice_get list b ≡ Some y → same x y ≡ false

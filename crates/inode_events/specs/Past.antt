@@ -1,5 +1,6 @@
--- The two orders of a journal. It stands in the order of its events; the definitions read it from its newest event back,
--- so that "before" is what they say of the rest, and the place of an event is the length of what lies before it.
+-- The two orders of a journal. It stands in the order of its events; the definitions read it from
+-- its newest event back, so that "before" is what they say of the rest, and the place of an event
+-- is the length of what lies before it.
 use Rattle.std.specs.Prelude.{◌≡◌, List, [], ◌∷◌, ◌++◌, reverse}
 use Rattle.std.proofs.lemmas.List.{reverse-append}
 use Rattle.inode_events.specs.declared.told.Event.{Event}

@@ -46,11 +46,12 @@ placed_in _ = Added 0
 abbrev pub count_told : How → Bool → ℕ → ℕ → Told
 count_told how present writers execs =
     if not present && not (creates how) then told.NotFound
-    else if (is_writer how && nat_lt 0 execs) || (is_exec how && nat_lt 0 writers) then told.TextBusy
+    else if (is_writer how && nat_lt 0 execs) || (is_exec how && nat_lt 0 writers)
+    then told.TextBusy
     else told.Held
 
--- a writer that meets readers of a measured file is a ToMToU violation, whatever the rules say of the writer itself; a measured
--- reader that meets writers is an open-writers violation
+-- a writer that meets readers of a measured file is a ToMToU violation, whatever the rules say of
+-- the writer itself; a measured reader that meets writers is an open-writers violation
 abbrev pub check_told : Bool → Bool → ℕ → ℕ → Bool → ℕ → Told
 check_told writing measure readers writers must place =
     if writing then (if nat_lt 0 readers && must then told.ToMToU place else told.Quiet)
@@ -59,7 +60,8 @@ check_told writing measure readers writers must place =
 -- the grant where a digest is in force, else a collection begins
 abbrev pub take_told : Inode → ℕ → Placed → Option Digests → List Event → Told
 take_told inode file placed None before = told.Begun
-take_told inode file placed (Some digests) before = told.Grant (grant_of inode file placed digests.digest before)
+take_told inode file placed (Some digests) before =
+    told.Grant (grant_of inode file placed digests.digest before)
 
 abbrev pub chunk_told : List ℕ → Option Collection → Option Told
 chunk_told content None = None
@@ -67,7 +69,8 @@ chunk_told content (Some c) = Some (if is_last_piece content c.pieces then told.
 
 abbrev pub finish_told : Inode → ℕ → Placed → Option Collection → List Event → Option Told
 finish_told inode file placed None before = None
-finish_told inode file placed (Some c) before = Some (told.Grant (grant_of inode file placed (digest_from c) before))
+finish_told inode file placed (Some c) before =
+    Some (told.Grant (grant_of inode file placed (digest_from c) before))
 
 abbrev pub read_told : List ℕ → Told
 read_told bytes = told.Read (length bytes) (digest_of Sha256 bytes)
@@ -103,7 +106,8 @@ set_attr_told inode name bytes admin before =
     else if is_too_long bytes then told.TooLong
     else if bytes_eq name ima_name && is_no_label bytes then told.Invalid
     else if is_none bytes && is_none (value name (attributes inode before)) then told.NoData
-    else status_told (may_change inode.settings.evm name (attributes inode before) (metadata before) (new before))
+    else status_told (may_change inode.settings.evm name (attributes inode before) (metadata before)
+    (new before))
 
 abbrev pub set_meta_told : Inode → List Event → Told
 set_meta_told inode before =
@@ -125,27 +129,36 @@ unless_collecting (Some c) t = None
 
 -- ---- all deeds
 
--- What the next event is told. `placed` is the place in the list and whether it is added there or was there already, which isn't
--- the journal's to say. `None` is blocked: no event. A birth follows no event, and the deeds of a semaphore stand in no inode's journal
+-- What the next event is told. `placed` is the place in the list and whether it is added there or
+-- was there already, which isn't the journal's to say. `None` is blocked: no event. A birth follows
+-- no event, and the deeds of a semaphore stand in no inode's journal
 abbrev pub says : Inode → List Event → Placed → Deed → Option Told
 says inode before placed deed.Birth = None
-says inode before placed (deed.Count how) = Some (count_told how (present before) (writers before) (execs before))
+says inode before placed (deed.Count how) =
+    Some (count_told how (present before) (writers before) (execs before))
 says inode before placed (deed.Check file func action rules) =
-    Some (check_told (is_writing file before) action.measure (readers before) (writers before) (must_measure before) (place_of placed))
+    Some (check_told (is_writing file before) action.measure (readers before) (writers before)
+    (must_measure before) (place_of placed))
 says inode before placed (deed.Take file) =
-    unless_collecting (collecting inode before) (take_told inode file placed (in_force inode before) before)
+    unless_collecting (collecting inode before)
+    (take_told inode file placed (in_force inode before) before)
 says inode before placed (deed.Chunk file) = chunk_told (content before) (collecting inode before)
-says inode before placed (deed.Finish file) = finish_told inode file placed (collecting inode before) before
-says inode before placed (deed.Read file from len) = Some (read_told (bytes_at (content before) from len))
+says inode before placed (deed.Finish file) =
+    finish_told inode file placed (collecting inode before) before
+says inode before placed (deed.Read file from len) =
+    Some (read_told (bytes_at (content before) from len))
 says inode before placed (deed.Write file from bytes) = Some (write_told (from + length bytes))
 says inode before placed (deed.Trunc file len) = Some (write_told len)
 says inode before placed (deed.SetAttr name bytes admin) =
     unless_collecting (collecting inode before) (set_attr_told inode name bytes admin before)
-says inode before placed (deed.SetMeta change) = unless_collecting (collecting inode before) (set_meta_told inode before)
+says inode before placed (deed.SetMeta change) =
+    unless_collecting (collecting inode before) (set_meta_told inode before)
 says inode before placed (deed.Close file) = Some told.Dropped
 says inode before placed (deed.CloseTake file) =
-    unless_collecting (collecting inode before) (close_take_told (is_label_due inode before) (writers before))
-says inode before placed (deed.CloseChunk file) = chunk_told (content before) (collecting inode before)
+    unless_collecting (collecting inode before)
+    (close_take_told (is_label_due inode before) (writers before))
+says inode before placed (deed.CloseChunk file) =
+    chunk_told (content before) (collecting inode before)
 says inode before placed (deed.CloseFinish file) = Some (close_finish_told (writers before))
 says inode before placed (deed.Post sem) = None
 says inode before placed (deed.Wait sem) = None

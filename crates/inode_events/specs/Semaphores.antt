@@ -1,4 +1,5 @@
--- The journal of the semaphores: its deeds are posts and waits, and all that it says is the count that each semaphore has left.
+-- The journal of the semaphores: its deeds are posts and waits, and all that it says is the count
+-- that each semaphore has left.
 use Rattle.std.specs.Prelude.{◌≡◌, ℕ, ◌+◌, ◌-◌, ◌==◌, nat_lt, Bool, false, List, [], ◌∷◌, Option, Some, None, if◌then◌else◌}
 use Rattle.inode_events.specs.declared.deed.Deed.{Deed}
 use Rattle.inode_events.specs.declared.deed.Deed.TheVariants as deed
@@ -27,13 +28,15 @@ waits sem (e ∷ before) = if is_wait sem e.deed then 1 + waits sem before else 
 abbrev pub left : ℕ → List Event → ℕ
 left sem before = posts sem before - waits sem before
 
--- What the next deed is told. `None` is blocked: a wait with nothing left. No other deed stands in this journal
+-- What the next deed is told. `None` is blocked: a wait with nothing left. No other deed stands in
+-- this journal
 abbrev pub semaphore_says : List Event → Deed → Option Told
 semaphore_says before (deed.Post sem) = Some told.Done
 semaphore_says before (deed.Wait sem) = if nat_lt 0 (left sem before) then Some told.Done else None
 semaphore_says before _ = None
 
--- a journal of the semaphores, read from its newest event back, is legal: each event is told what those before it say
+-- a journal of the semaphores, read from its newest event back, is legal: each event is told what
+-- those before it say
 abbrev pub LegalSemaphores : List Event → Type 0
 LegalSemaphores [] = Unit {0}
 LegalSemaphores (e ∷ before) = (semaphore_says before e.deed ≡ Some e.told) × LegalSemaphores before

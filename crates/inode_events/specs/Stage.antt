@@ -1,4 +1,5 @@
--- The stage of an open file: what was done with it since its count, and so which calls it may be named in.
+-- The stage of an open file: what was done with it since its count, and so which calls it may be
+-- named in.
 use Rattle.std.specs.Prelude.{ℕ, ◌==◌, Bool, true, false, List, [], ◌∷◌, length, if◌then◌else◌}
 use Rattle.inode_events.specs.Checks.{asks}
 use Rattle.inode_events.specs.Inode.{Inode}
@@ -46,7 +47,8 @@ touches file place _ = false
 -- what an event makes of the stage of its file
 abbrev pub stage_after : Inode → Deed → Told → Stage → Stage
 stage_after inode (deed.Count how) told.Held old = Counted
-stage_after inode (deed.Check file func action rules) t old = if asks inode action then Asked else Settled
+stage_after inode (deed.Check file func action rules) t old =
+    if asks inode action then Asked else Settled
 stage_after inode (deed.Take file) told.Begun old = Collecting
 stage_after inode (deed.Take file) (told.Grant grant) old = Settled
 stage_after inode (deed.Chunk file) told.Last old = Collected
@@ -61,17 +63,21 @@ stage_after inode _ _ old = old
 
 -- what the event at a place makes of the stage of any file
 abbrev pub next_stage : Inode → ℕ → ℕ → Deed → Told → Stage → Stage
-next_stage inode file place d t old = if touches file place d then stage_after inode d t old else old
+next_stage inode file place d t old =
+    if touches file place d then stage_after inode d t old else old
 
 -- the stage of the file, by the whole journal
 abbrev pub stage : Inode → ℕ → List Event → Stage
 stage inode file [] = Gone
-stage inode file (e ∷ before) = next_stage inode file (length before) e.deed e.told (stage inode file before)
+stage inode file (e ∷ before) =
+    next_stage inode file (length before) e.deed e.told (stage inode file before)
 
--- the same reading of some of a journal's events, each with its place, newest first: of those that the file's own task made
+-- the same reading of some of a journal's events, each with its place, newest first: of those that
+-- the file's own task made
 abbrev pub stage_in : Inode → ℕ → List (ℕ × Event) → Stage
 stage_in inode file [] = Gone
-stage_in inode file (e ∷ before) = next_stage inode file e.0 e.1.deed e.1.told (stage_in inode file before)
+stage_in inode file (e ∷ before) =
+    next_stage inode file e.0 e.1.deed e.1.told (stage_in inode file before)
 
 -- a file may be checked before its first take, and again where nothing is owed
 abbrev pub may_check : Stage → Bool

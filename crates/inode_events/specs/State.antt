@@ -33,7 +33,8 @@ is_last_drop d t before = drops_writer d t && (writers before == 1)
 -- the content was modified at this place or after it
 abbrev pub modified_since : ℕ → List Event → Bool
 modified_since place [] = false
-modified_since place (e ∷ before) = (modifies e.deed e.told && nat_le place (length before)) || modified_since place before
+modified_since place (e ∷ before) =
+    (modifies e.deed e.told && nat_le place (length before)) || modified_since place before
 
 -- ---- the file
 
@@ -51,7 +52,8 @@ abbrev pub new_after : Deed → Told → List Event → Bool → Bool
 new_after (deed.Count how) told.Held before old = old || not (present before)
 new_after d t before old = if is_last_drop d t before then false else old
 
--- the file was created by an open, and its last writer hasn't closed it yet (the kernel's IMA_NEW_FILE)
+-- the file was created by an open, and its last writer hasn't closed it yet (the kernel's
+-- IMA_NEW_FILE)
 abbrev pub new : List Event → Bool
 new [] = false
 new (e ∷ before) = new_after e.deed e.told before (new before)

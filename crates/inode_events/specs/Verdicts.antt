@@ -29,7 +29,8 @@ pub record Key : Type 0 where
   pub algos : Option AlgoSet
 
 abbrev pub key_of : Check → Key
-key_of check = record { slot = slot_of check.func; need = check.action.need; algos = check.action.algos }
+key_of check =
+    record { slot = slot_of check.func; need = check.action.need; algos = check.action.algos }
 
 abbrev pub same_slot : Slot → Slot → Bool
 same_slot slot.File slot.File = true
@@ -68,11 +69,14 @@ voids_verdicts d t before digests = voids_digest d t before digests
 
 -- a grant's verdict is kept under the key of the file's last check
 abbrev pub verdict_kept : Key → ℕ → Option Verdict → List Event → Option Verdict → Option Verdict
-verdict_kept key file verdict before old = if same_key key (key_of (last_check file before)) then option_or verdict old else old
+verdict_kept key file verdict before old =
+    if same_key key (key_of (last_check file before)) then option_or verdict old else old
 
 abbrev pub verdict_given : Key → Deed → Told → List Event → Option Verdict → Option Verdict
-verdict_given key (deed.Take file) (told.Grant grant) before old = verdict_kept key file grant.verdict before old
-verdict_given key (deed.Finish file) (told.Grant grant) before old = verdict_kept key file grant.verdict before old
+verdict_given key (deed.Take file) (told.Grant grant) before old =
+    verdict_kept key file grant.verdict before old
+verdict_given key (deed.Finish file) (told.Grant grant) before old =
+    verdict_kept key file grant.verdict before old
 verdict_given key _ _ before old = old
 
 -- the last verdict that a take or finish gave under the key, unless it was voided since
@@ -87,7 +91,8 @@ verdict_in_force inode key (e ∷ before) =
 -- the verdict on a file with this digest, over its attributes, metadata and size as they are
 abbrev pub judged : Inode → Need → Option AlgoSet → Digest → List Event → Verdict
 judged inode need algos digest before =
-    judge need algos (label inode before) (status inode before) digest inode.settings.hash (length (content before)) (new before)
+    judge need algos (label inode before) (status inode before) digest inode.settings.hash
+    (length (content before)) (new before)
 
 -- the digest of the content as it is, by the algorithm that the label as it is names
 abbrev pub fresh_digest : Inode → List Event → Digest

@@ -21,7 +21,8 @@ pub enum Change {
     Owner { uid: u32, gid: u32 },
 }
 
-/// What a step does. A `file` is an open file of the inode, named by the place of its count in the journal.
+/// What a step does. A `file` is an open file of the inode, named by the place of its count in the
+/// journal.
 #[derive(Drop)]
 pub enum Deed {
     /// The inode comes into being, as its script describes it: the first event of each journal.
@@ -30,8 +31,8 @@ pub enum Deed {
     Count {
         how: How,
     },
-    /// The policy is asked for an access: the hook of the kernel, with the action that the rules gave it. `rules` is the
-    /// number of rules by which it was decided.
+    /// The policy is asked for an access: the hook of the kernel, with the action that the rules
+    /// gave it. `rules` is the number of rules by which it was decided.
     Check {
         file: u64,
         func: Func,
@@ -67,7 +68,8 @@ pub enum Deed {
         file: u64,
         len: u64,
     },
-    /// An extended attribute is set, or with no value removed. `admin` is the task's right to administer.
+    /// An extended attribute is set, or with no value removed. `admin` is the task's right to
+    /// administer.
     SetAttr {
         name: Bytes,
         value: Option<Bytes>,
@@ -81,7 +83,8 @@ pub enum Deed {
     Close {
         file: u64,
     },
-    /// A writer's close begins. The last writer collects the content where a label is due, and every other is dropped.
+    /// A writer's close begins. The last writer collects the content where a label is due, and
+    /// every other is dropped.
     CloseTake {
         file: u64,
     },
@@ -89,12 +92,14 @@ pub enum Deed {
     CloseChunk {
         file: u64,
     },
-    /// The collection of a close ends: the label is written where its writer is still the last, and the writer is dropped.
+    /// The collection of a close ends: the label is written where its writer is still the last, and
+    /// the writer is dropped.
     CloseFinish {
         file: u64,
     },
     /// One is added to a semaphore. It stands in the journal of the semaphores, and in no inode's.
     Post(u8),
-    /// One is taken from a semaphore. It stands in the journal of the semaphores, and in no inode's.
+    /// One is taken from a semaphore. It stands in the journal of the semaphores, and in no
+    /// inode's.
     Wait(u8),
 }

@@ -12,7 +12,7 @@ pub struct Image {
     pub attrs: Attrs,
     /// The metadata.
     pub meta: Meta,
-    /// Whether the file system has change versions (`STATX_CHANGE_COOKIE`). Without them each last writer's close counts as a
-    /// change.
+    /// Whether the file system has change versions (`STATX_CHANGE_COOKIE`). Without them each last
+    /// writer's close counts as a change.
     pub versions: bool,
 }

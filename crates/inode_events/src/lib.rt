@@ -1,8 +1,9 @@
 //! The journal of an inode: the events that stand in it, and what each of them is told.
 //!
-//! An event is one step of a task on one inode: who made it, its deed, and what it was told. The definitions of `specs/`
-//! read a journal and nothing else. They say what the inode is after it (its content, attributes, open files, and the digest
-//! and verdicts in force), what the next deed is told, and which journals are legal.
+//! An event is one step of a task on one inode: who made it, its deed, and what it was told. The
+//! definitions of `specs/` read a journal and nothing else. They say what the inode is after it
+//! (its content, attributes, open files, and the digest and verdicts in force), what the next deed
+//! is told, and which journals are legal.
 #![tactic(auto)]
 
 mod deed;

@@ -11,8 +11,8 @@ use xattr_store::OutOfMemory;
 pub struct Settings {
     /// The algorithm of a collection whose label names none (the boot word `ima_hash=`).
     pub hash: Algo,
-    /// The template of an entry whose rule names none (the boot word `ima_template=`). It isn't `ima-buf`, which is for
-    /// buffers alone.
+    /// The template of an entry whose rule names none (the boot word `ima_template=`). It isn't
+    /// `ima-buf`, which is for buffers alone.
     pub template: Template,
     /// The appraisal mode (the boot word `ima_appraise=`).
     pub mode: Mode,

@@ -15,7 +15,8 @@ pub struct Grant {
     pub verdict: Option<Verdict>,
     /// Whether the mode admits the file.
     pub admitted: bool,
-    /// Whether mode fix mended the inode's attributes: it wrote the label, or renewed the HMAC alone.
+    /// Whether mode fix mended the inode's attributes: it wrote the label, or renewed the HMAC
+    /// alone.
     pub labelled: bool,
 }
 
@@ -34,7 +35,8 @@ pub enum Told {
     Quiet,
     /// A check: a measured file has writers. The violation stands at this place of the list.
     OpenWriters(u64),
-    /// A check: a writer meets readers of a measured file (time of measure, time of use). The violation stands at this place.
+    /// A check: a writer meets readers of a measured file (time of measure, time of use). The
+    /// violation stands at this place.
     ToMToU(u64),
     /// A take: a collection begins.
     Begun,

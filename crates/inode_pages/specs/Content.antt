@@ -1,4 +1,5 @@
--- The bytes of a file: what a write and a truncation leave, and the pieces in which a collection hashes them.
+-- The bytes of a file: what a write and a truncation leave, and the pieces in which a collection
+-- hashes them.
 use Rattle.std.specs.Prelude.{ℕ, ◌+◌, ◌-◌, ◌*◌, Bool, nat_le, List, ◌++◌, length, take, drop, replicate}
 
 -- the most bytes that a file may have
@@ -15,7 +16,8 @@ with_zeros_to place content = content ++ replicate (place - length content) 0
 
 -- the content once bytes are written over it from a place on: a gap before them becomes zeros
 abbrev pub overwritten : List ℕ → ℕ → List ℕ → List ℕ
-overwritten content from bytes = take from (with_zeros_to from content) ++ bytes ++ drop (from + length bytes) content
+overwritten content from bytes =
+    take from (with_zeros_to from content) ++ bytes ++ drop (from + length bytes) content
 
 -- after a truncation: cut, or lengthened by zeros
 abbrev pub resized : List ℕ → ℕ → List ℕ
