@@ -149,7 +149,7 @@ impl Evm {
     }
 
     /// Writes the HMAC anew, or takes `security.evm` away where nothing is protected any more. Without a
-    /// key nothing changes. After want of memory the attributes are as before.
+    /// key nothing changes. After memory ran out the attributes are as before.
     pub fn renew(&self, attrs: &mut Attrs, meta: &Meta) -> Result<(), OutOfMemory>
         ensures ok { OnOk result (attrs.new ≡ renewed self.now attrs.old meta.now) }
         ensures err { OnErr result (attrs.new ≡ attrs.old) }

@@ -46,8 +46,8 @@ pub struct HmacSha1 {
 }
 
 impl HmacSha1 {
-    /// The state of this key and the empty message. A key may have any length; as RFC 2104 says, one
-    /// of more than 64 bytes is hashed first.
+    /// The state of this key and the empty message. A key may have any length; as RFC 2104 says,
+    /// one of more than 64 bytes is hashed first.
     pub fn new(key: &[u8]) -> HmacSha1
         ensures { Holds result key.now [] }
     {

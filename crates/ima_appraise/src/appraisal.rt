@@ -74,9 +74,9 @@ fn labelled(
     }
 }
 
-/// The verdict on a file whose digest is `file`, by the algorithm that `collect_algo` gives for the label:
-/// what the rule needs and which algorithms it allows, the value of `security.ima`, the EVM status, the
-/// script's default algorithm, the file's size in bytes, and whether the file is new.
+/// The verdict on a file whose digest is `file`, by the algorithm that `collect_algo` gives for the
+/// label: what the rule needs and which algorithms it allows, the value of `security.ima`, the EVM
+/// status, the script's default algorithm, the file's size in bytes, and whether the file is new.
 pub fn verdict(
     need: Need,
     algos: Option<AlgoSet>,
@@ -87,7 +87,8 @@ pub fn verdict(
     size: u64,
     new: bool,
 ) -> Verdict
-    ensures { result ≡ judge need algos (option_copied label.entry) status file.now default size new }
+    ensures { result ≡ judge need algos
+        (option_copied label.entry) status file.now default size new }
 {
     let Some(bytes) = label else {
         return unlabelled(need, algos, file.algo(), size, new);
@@ -98,8 +99,9 @@ pub fn verdict(
     }
 }
 
-/// What mode fix writes on the verdict `found`, where `sound` is the verdict under a right HMAC and `kind` is what the label
-/// says. A verdict that is still in force may differ from one that [`verdict`] gives anew.
+/// What mode fix writes on the verdict `found`, where `sound` is the verdict under a right HMAC and
+/// `kind` is what the label says. A verdict that is still in force may differ from one that
+/// [`verdict`] gives anew.
 pub fn mend_for(found: Verdict, sound: Verdict, status: EvmStatus, kind: Label) -> Mend
     ensures { result ≡ mend_for found sound status kind }
 {
@@ -116,9 +118,9 @@ pub fn mend_for(found: Verdict, sound: Verdict, status: EvmStatus, kind: Label) 
     }
 }
 
-/// What mode fix writes: nothing on a verdict Pass, on a denied algorithm and over a signature; where the
-/// HMAC is of the older form, the HMAC alone, and only where nothing else was wrong; else the label and
-/// the HMAC. The arguments are those of [`verdict`].
+/// What mode fix writes: nothing on a verdict Pass, on a denied algorithm and over a signature;
+/// where the HMAC is of the older form, the HMAC alone, and only where nothing else was wrong; else
+/// the label and the HMAC. The arguments are those of [`verdict`].
 pub fn mend(
     need: Need,
     algos: Option<AlgoSet>,
@@ -129,7 +131,8 @@ pub fn mend(
     size: u64,
     new: bool,
 ) -> Mend
-    ensures { result ≡ mended need algos (option_copied label.entry) status file.now default size new }
+    ensures { result ≡ mended need algos
+        (option_copied label.entry) status file.now default size new }
 {
     let found = verdict(need, algos, label, status, file, default, size, new);
     let sound = verdict(

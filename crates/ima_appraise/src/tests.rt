@@ -155,14 +155,16 @@ fn what_a_rule_asks_for(rt: HostRuntime) {
 
 const KEY: &[u8] = &[0x5a; 32];
 
-// Values of `security.evm` for the label by SHA-1: the HMAC as openssl gives it, and one bit beside it.
+// Values of `security.evm` for the label by SHA-1: the HMAC as openssl gives it, and one bit beside
+// it.
 const RIGHT: &[u8] =
     b"\x02\x0a\xbb\xb6\x56\x45\x03\x4a\xcc\x25\x23\x84\x3b\x11\xd5\x04\x5a\x97\xee\xef\x69";
 
 const WRONG: &[u8] =
     b"\x02\x0a\xbb\xb6\x56\x45\x03\x4a\xcc\x25\x23\x84\x3b\x11\xd5\x04\x5a\x97\xee\xef\x68";
 
-// The same label with and without a key: `security.evm`, the key, the format, the status and the verdict.
+// The same label with and without a key: `security.evm`, the key, the format, the status and the
+// verdict.
 const KEYED: [(Option<&[u8]>, Option<&[u8]>, u8, EvmStatus, Verdict); 5] = [
     (
         None,

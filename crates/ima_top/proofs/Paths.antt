@@ -72,7 +72,7 @@ parts_step b bs false e more h =
     let both = onto_visible b (parts_of bs) h in
     (visible_is_graphic b both.0, more both.1)
 
--- visible words that are parted by slashes are graphic
+-- visible words that are separated by slashes are graphic
 parts_graphic : (bs : List ℕ) → list_all visible (parts_of bs) ≡ true → AllGraphic bs
 parts_graphic [] h = tt
 parts_graphic (b ∷ bs) h = parts_step b bs (b == 47) refl (parts_graphic bs) h

@@ -65,7 +65,7 @@ fn files_of(alloc: Global, text: &[u8]) -> Result<Option<Vec<FileLine<'_>>>, Out
     Ok(None)
 }
 
-/// The files of a plain list, or `None` exactly where the text is no plain list.
+/// The files of a plain list, or `None` exactly where the text isn't a plain list.
 pub fn plain_list(alloc: Global, text: &[u8]) -> Result<Option<Vec<FileLine<'_>>>, OutOfMemory>
     ensures value { IfOk result
         (λ files. option_map (λ v. map file_view v.items) files ≡ plain_list_of text.now) }

@@ -65,7 +65,8 @@ short_type_4_label = refl
 sha1_label : label_of (record { algo = Sha1; bytes = replicate 20 7 }) ≡ 1 ∷ replicate 20 7
 sha1_label = refl
 
-sha1_with_zeros : label_of (record { algo = Sha1; bytes = replicate 16 7 ++ replicate 4 0 }) ≡ 4 ∷ 2 ∷ replicate 16 7 ++ replicate 4 0
+sha1_with_zeros : label_of (record { algo = Sha1; bytes = replicate 16 7 ++ replicate 4 0 }) ≡ 4 ∷ 2
+    ∷ replicate 16 7 ++ replicate 4 0
 sha1_with_zeros = refl
 
 sha256_label : label_of (record { algo = Sha256; bytes = replicate 32 7 }) ≡ 4 ∷ 4 ∷ replicate 32 7
@@ -77,7 +78,10 @@ abbrev pub sha1_of_file : List ℕ
 sha1_of_file = replicate 20 7
 
 abbrev pub judged : List ℕ → Verdict
-judged bytes = judge need.Any None (Some bytes) status.Pass (record { algo = Sha1; bytes = sha1_of_file }) Sha1 1 false
+judged bytes = judge need.Any None (Some bytes) status.Pass (record {
+  algo = Sha1;
+  bytes = sha1_of_file;
+}) Sha1 1 false
 
 fits : judged (1 ∷ sha1_of_file) ≡ Pass
 fits = refl
@@ -91,20 +95,36 @@ shorter = refl
 unknown_type : judged (7 ∷ []) ≡ Deny cause.UnknownData
 unknown_type = refl
 
-unlabelled : (new : Bool) → judge need.Signature None None status.Fail (record { algo = Sha1; bytes = sha1_of_file }) Sha1 1 new ≡ Deny cause.SignatureRequired
+unlabelled : (new : Bool)
+    → judge need.Signature None None status.Fail (record {
+      algo = Sha1;
+      bytes = sha1_of_file;
+    }) Sha1 1 new ≡ Deny cause.SignatureRequired
 unlabelled true = refl
 unlabelled false = refl
 
-new_and_empty : judge need.Signature None None status.Fail (record { algo = Sha1; bytes = sha1_of_file }) Sha1 0 true ≡ Pass
+new_and_empty : judge need.Signature None None status.Fail (record {
+  algo = Sha1;
+  bytes = sha1_of_file;
+}) Sha1 0 true ≡ Pass
 new_and_empty = refl
 
 -- a right label under an HMAC of the older form: the HMAC alone is written
-migrated : mended need.Any None (Some (1 ∷ sha1_of_file)) status.Old (record { algo = Sha1; bytes = sha1_of_file }) Sha1 1 false ≡ mend.Hmac
+migrated : mended need.Any None (Some (1 ∷ sha1_of_file)) status.Old (record {
+  algo = Sha1;
+  bytes = sha1_of_file;
+}) Sha1 1 false ≡ mend.Hmac
 migrated = refl
 
 -- a wrong label under it: nothing is
-not_migrated : mended need.Any None (Some (1 ∷ replicate 20 8)) status.Old (record { algo = Sha1; bytes = sha1_of_file }) Sha1 1 false ≡ mend.Nothing
+not_migrated : mended need.Any None (Some (1 ∷ replicate 20 8)) status.Old (record {
+  algo = Sha1;
+  bytes = sha1_of_file;
+}) Sha1 1 false ≡ mend.Nothing
 not_migrated = refl
 
-relabelled : mended need.Any None (Some (1 ∷ replicate 20 8)) status.Pass (record { algo = Sha1; bytes = sha1_of_file }) Sha1 1 false ≡ mend.Label
+relabelled : mended need.Any None (Some (1 ∷ replicate 20 8)) status.Pass (record {
+  algo = Sha1;
+  bytes = sha1_of_file;
+}) Sha1 1 false ≡ mend.Label
 relabelled = refl

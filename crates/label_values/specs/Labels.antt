@@ -12,7 +12,7 @@ use Rattle.label_values.specs.declared.label.Label.TheVariants as label
 
 -- ---- reading
 
--- the first byte, or 0, which is no type, where there is none
+-- the first byte, or 0, which isn't a type, where there is none
 abbrev pub type_of : List ℕ → ℕ
 type_of bytes = slice_index bytes 0
 
@@ -20,16 +20,16 @@ type_of bytes = slice_index bytes 0
 abbrev pub ends_in_zeros : List ℕ → Bool
 ends_in_zeros bytes = bytes_eq (drop (length bytes - 4) bytes) (0 ∷ 0 ∷ 0 ∷ 0 ∷ [])
 
--- a digest without an algorithm's number shows its algorithm by its length alone. A label of 21 bytes
--- that ends in four zero bytes is an MD5, which old tools padded to the length of a SHA-1
+-- a digest without an algorithm's number shows its algorithm by its length alone. A label of 21
+-- bytes that ends in four zero bytes is an MD5, which old tools padded to the length of a SHA-1
 abbrev pub plain_algo : List ℕ → Algo → Algo
 plain_algo bytes default =
     if length bytes == 17 then algo.Md5
     else if length bytes == 21 then (if ends_in_zeros bytes then algo.Md5 else algo.Sha1)
     else default
 
--- the algorithm whose number stands at this place, else the default. Past the label's end 0 is read,
--- which is no algorithm's number
+-- the algorithm whose number stands at this place, else the default. Past the label's end 0 is
+-- read, which isn't the number of an algorithm
 abbrev pub numbered_algo : List ℕ → ℕ → Algo → Algo
 numbered_algo bytes place default = unwrap_or (algo_by_id (slice_index bytes place)) default
 
@@ -50,7 +50,7 @@ collect_algo (Some bytes) default =
 abbrev pub is_signature_type : ℕ → Bool
 is_signature_type kind = kind == 3 || kind == 5 || kind == 6
 
--- what a value of `security.ima` is; an absent or empty one is no label
+-- what a value of `security.ima` is; an absent or empty one is not a label
 abbrev pub read_label : Option (List ℕ) → Algo → Label
 read_label None default = label.Missing
 read_label (Some []) default = label.Missing
@@ -62,7 +62,8 @@ read_label (Some (kind ∷ rest)) default =
 
 -- ---- writing
 
--- an MD5 and a SHA-1 are written without a number, but for a SHA-1 that would be read as a padded MD5
+-- an MD5 and a SHA-1 are written without a number, except a SHA-1 that would be read as a padded
+-- MD5
 abbrev pub is_plain : Algo → List ℕ → Bool
 is_plain algo.Md5 bytes = true
 is_plain algo.Sha1 bytes = not (ends_in_zeros bytes)

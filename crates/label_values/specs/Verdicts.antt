@@ -65,7 +65,8 @@ has_wrong_hmac _ = false
 
 -- the label's bytes from the digest's place on begin with the whole digest
 abbrev pub has_digest : Label → Option (List ℕ) → Digest → Bool
-has_digest (label.Sum algo from) bytes file = starts_with nat_eq (drop from (unwrap_or bytes [])) file.bytes
+has_digest (label.Sum algo from) bytes file =
+    starts_with nat_eq (drop from (unwrap_or bytes [])) file.bytes
 has_digest _ bytes file = false
 
 -- ---- the verdict
@@ -89,7 +90,8 @@ judge_summed need algos fits algo =
     else by_algorithm algos algo
 
 -- the first case that holds, for a file with a label
-abbrev pub judge_labelled : Need → Option AlgoSet → Label → Option (List ℕ) → EvmStatus → Digest → Verdict
+abbrev pub judge_labelled : Need → Option AlgoSet → Label → Option (List ℕ) → EvmStatus → Digest
+    → Verdict
 judge_labelled need algos label bytes status file =
     if lacks_hmac status then Deny cause.MissingHmac
     else if has_wrong_hmac status then Deny cause.InvalidHmac
@@ -100,7 +102,8 @@ judge_labelled need algos label bytes status file =
 -- the verdict on a file: what the rule asks for (a signature, one of some algorithms), the value of
 -- `security.ima`, the EVM status, the file's digest by the algorithm of `collect_algo`, the default
 -- algorithm, the file's size, and whether the file is new
-abbrev pub judge : Need → Option AlgoSet → Option (List ℕ) → EvmStatus → Digest → Algo → ℕ → Bool → Verdict
+abbrev pub judge : Need → Option AlgoSet → Option (List ℕ) → EvmStatus → Digest → Algo → ℕ → Bool
+    → Verdict
 judge need algos bytes status file default size new =
     if is_missing (read_label bytes default) then judge_unlabelled need algos file.algo size new
     else judge_labelled need algos (read_label bytes default) bytes status file
@@ -115,7 +118,8 @@ abbrev pub is_pass : Verdict → Bool
 is_pass Pass = true
 is_pass (Deny _) = false
 
--- an HMAC of the older form is replaced where nothing but the HMAC was wrong; the label is never touched
+-- an HMAC of the older form is replaced where nothing but the HMAC was wrong; the label is never
+-- touched
 abbrev pub mend_old : Verdict → Mend
 mend_old Pass = mend.Hmac
 mend_old (Deny _) = mend.Nothing
@@ -125,13 +129,15 @@ abbrev pub mend_label : Label → Mend
 mend_label label.Signature = mend.Nothing
 mend_label _ = mend.Label
 
--- what mode fix writes on a verdict; `sound` is the verdict with the status Pass in place of the file's
+-- what mode fix writes on a verdict; `sound` is the verdict with the status Pass in place of the
+-- file's
 abbrev pub mend_for : Verdict → Verdict → EvmStatus → Label → Mend
 mend_for Pass sound status label = mend.Nothing
 mend_for (Deny cause.DeniedHashAlgorithm) sound status label = mend.Nothing
 mend_for (Deny _) sound status label = if is_old status then mend_old sound else mend_label label
 
-abbrev pub mended : Need → Option AlgoSet → Option (List ℕ) → EvmStatus → Digest → Algo → ℕ → Bool → Mend
+abbrev pub mended : Need → Option AlgoSet → Option (List ℕ) → EvmStatus → Digest → Algo → ℕ → Bool
+    → Mend
 mended need algos bytes status file default size new =
     mend_for (judge need algos bytes status file default size new)
     (judge need algos bytes evm.Pass file default size new) status (read_label bytes default)

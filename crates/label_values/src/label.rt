@@ -92,8 +92,8 @@ pub fn read_label(value: Option<&[u8]>, default: Algo) -> Label
     }
 }
 
-/// The algorithm by which a file with this value of `security.ima` is hashed: that of its digest, of
-/// its signature of version 2, or else the script's default.
+/// The algorithm by which a file with this value of `security.ima` is hashed: that of its digest,
+/// of its signature of version 2, or else the script's default.
 pub fn collect_algo(value: Option<&[u8]>, default: Algo) -> Algo
     ensures { result ≡ collect_algo (option_copied value.entry) default }
 {
@@ -108,8 +108,8 @@ pub fn collect_algo(value: Option<&[u8]>, default: Algo) -> Algo
     }
 }
 
-// Whether the label of the digest is written without the algorithm's number. A SHA-1 that ends in four
-// zero bytes has the number, since it would be read as a padded MD5.
+// Whether the label of the digest is written without the algorithm's number. A SHA-1 that ends in
+// four zero bytes has the number, since it would be read as a padded MD5.
 fn is_plain(d: &Digest) -> bool
     ensures { result ≡ is_plain d.now.algo d.now.bytes }
 {
@@ -120,7 +120,7 @@ fn is_plain(d: &Digest) -> bool
     }
 }
 
-// Writes the header and the bytes to the front of `out`, and answers how many these are.
+// Writes the header and the bytes to the beginning of `out`, and answers how many these are.
 fn write_front(out: &mut [u8], header: &[u8], bytes: &[u8]) -> usize
     requires { length header.now + length bytes.now ≤ length out.old }
     ensures written { out.new ≡ header.now ++ bytes.now ++ drop result out.old }
@@ -132,9 +132,9 @@ fn write_front(out: &mut [u8], header: &[u8], bytes: &[u8]) -> usize
     end
 }
 
-/// Writes the label of a digest to the front of `out`, as the kernel does, and answers its length: type
-/// 1 for md5 and sha1, type 4 with the algorithm's number for the others. A SHA-1 that ends in four zero
-/// bytes is written as type 4.
+/// Writes the label of a digest to the beginning of `out`, as the kernel does, and answers its
+/// length: type 1 for md5 and sha1, type 4 with the algorithm's number for the others. A SHA-1 that
+/// ends in four zero bytes is written as type 4.
 pub fn write_label(d: &Digest, out: &mut [u8; MAX_LABEL]) -> usize
     ensures written { out.new ≡ label_of d.now ++ drop result out.old }
     ensures length { result ≡ length (label_of d.now) }

@@ -8,8 +8,8 @@ struct Written {
     label: &'static [u8],
 }
 
-// What `evmctl ima_hash` of ima-evm-utils 1.4 writes for a file with the content `abc`; and, by hand, a
-// SHA-1 that ends in four zero bytes.
+// What `evmctl ima_hash` of ima-evm-utils 1.4 writes for a file with the content `abc`; and, by
+// hand, a SHA-1 that ends in four zero bytes.
 const WRITTEN: [Written; 7] = [
     Written {
         algo: Algo::Md5,
@@ -89,9 +89,9 @@ fn labels_of_evmctl(rt: HostRuntime) {
 
 const LENGTHS: [usize; 7] = [1, 2, 17, 20, 21, 22, 34];
 
-// By type and length, of labels that go on `02 05 09 09 ..`: `u` an unknown type and `s` a signature, with
-// the default algorithm; `S` a signature with the algorithm 5, sha384; else a digest: `d` by the default
-// algorithm, `m` md5, `1` sha1.
+// By type and length, of labels that go on `02 05 09 09 ..`: `u` an unknown type and `s` a
+// signature, with the default algorithm; `S` a signature with the algorithm 5, sha384; else a
+// digest: `d` by the default algorithm, `m` md5, `1` sha1.
 const KINDS: [[u8; 7]; 9] = [
     *b"uuuuuuu",
     *b"ddmd1dd",

@@ -14,20 +14,26 @@ use Rattle.list_format.specs.Record.{shown_data}
 pub appended-2 : (o o1 o2 x y : List ℕ) → o1 ≡ o ++ x → o2 ≡ o1 ++ y → o2 ≡ o ++ (x ++ y)
 appended-2 o o1 o2 x y first second = second ∙ ap (λ l. l ++ y) first ∙ append_assoc o x y
 
-pub appended-3 : (o o1 o2 o3 x y z : List ℕ) → o1 ≡ o ++ x → o2 ≡ o1 ++ y → o3 ≡ o2 ++ z → o3 ≡ o ++ ((x ++ y) ++ z)
-appended-3 o o1 o2 o3 x y z first second third = appended-2 o o2 o3 (x ++ y) z (appended-2 o o1 o2 x y first second) third
+pub appended-3 : (o o1 o2 o3 x y z : List ℕ) → o1 ≡ o ++ x → o2 ≡ o1 ++ y → o3 ≡ o2 ++ z
+    → o3 ≡ o ++ ((x ++ y) ++ z)
+appended-3 o o1 o2 o3 x y z first second third =
+    appended-2 o o2 o3 (x ++ y) z (appended-2 o o1 o2 x y first second) third
 
-pub appended-4 : (o o1 o2 o3 o4 x y z u : List ℕ) → o1 ≡ o ++ x → o2 ≡ o1 ++ y → o3 ≡ o2 ++ z → o4 ≡ o3 ++ u
+pub appended-4 : (o o1 o2 o3 o4 x y z u : List ℕ) → o1 ≡ o ++ x → o2 ≡ o1 ++ y → o3 ≡ o2 ++ z
+    → o4 ≡ o3 ++ u
     → o4 ≡ o ++ (((x ++ y) ++ z) ++ u)
 appended-4 o o1 o2 o3 o4 x y z u first second third fourth =
     appended-2 o o3 o4 ((x ++ y) ++ z) u (appended-3 o o1 o2 o3 x y z first second third) fourth
 
 -- the pieces of `d-ng`, as the code names them
-pub pieces-d_ng : (digest : Digest) (name bytes : List ℕ) → name ≡ algo_name digest.algo → bytes ≡ digest.bytes
-    → ((little_bytes 4 (length name + 2 + length bytes) ++ name) ++ 58 ∷ 0 ∷ []) ++ bytes ≡ sized (d_ng digest)
+pub pieces-d_ng : (digest : Digest) (name bytes : List ℕ) → name ≡ algo_name digest.algo
+    → bytes ≡ digest.bytes
+    → ((little_bytes 4 (length name + 2 + length bytes) ++ name) ++ 58 ∷ 0 ∷ []) ++ bytes
+    ≡ sized (d_ng digest)
 pieces-d_ng digest name bytes name_is bytes_are =
     ap (λ n. ((little_bytes 4 (length n + 2 + length bytes) ++ n) ++ 58 ∷ 0 ∷ []) ++ bytes) name_is
-    ∙ ap (λ b. ((little_bytes 4 (length (algo_name digest.algo) + 2 + length b) ++ algo_name digest.algo) ++ 58 ∷ 0 ∷ []) ++ b) bytes_are
+    ∙ ap (λ b. ((little_bytes 4 (length (algo_name digest.algo) + 2 + length b)
+    ++ algo_name digest.algo) ++ 58 ∷ 0 ∷ []) ++ b) bytes_are
     ∙ sized-d_ng digest
 
 -- the template data without a third field
@@ -36,8 +42,9 @@ pub template_data-ng : (e : Entry) → (e.template ≡ Ima) ⊎ (e.template ≡ 
 template_data-ng e (inl is) not_ima = absurd (not_ima is)
 template_data-ng e (inr is) not_ima = template_data-at e ImaNg is
 
--- a record has the template data with its length, but for `ima`
-pub shown_data-sized : (e : Entry) (t : Template) → t ≢ Ima → sized (template_data e) ≡ shown_data t e
+-- a record has the template data with its length, except under `ima`
+pub shown_data-sized : (e : Entry) (t : Template) → t ≢ Ima
+    → sized (template_data e) ≡ shown_data t e
 shown_data-sized e Ima not_ima = absurd (not_ima refl)
 shown_data-sized e ImaNg not_ima = refl
 shown_data-sized e ImaSig not_ima = refl
@@ -47,8 +54,10 @@ length-sized : (field : List ℕ) → length (sized field) ≡ 4 + length field
 unfolding sized
 length-sized field = length-append (little_bytes 4 (length field)) field
 
-pub length-template_data-ng : (e : Entry) → (e.template ≡ Ima) ⊎ (e.template ≡ ImaNg) → e.template ≢ Ima
-    → 8 + (length (algo_name e.digest.algo) + 2 + length e.digest.bytes) + (length e.name + 1) ≡ length (template_data e)
+pub length-template_data-ng : (e : Entry) → (e.template ≡ Ima) ⊎ (e.template ≡ ImaNg)
+    → e.template ≢ Ima
+    → 8 + (length (algo_name e.digest.algo) + 2 + length e.digest.bytes) + (length e.name + 1)
+    ≡ length (template_data e)
 length-template_data-ng e is not_ima =
     omega (
       arith,
@@ -61,7 +70,8 @@ length-template_data-ng e is not_ima =
     )
 
 pub length-template_data-sig : (e : Entry) → (e.template ≡ ImaSig) ⊎ (e.template ≡ ImaBuf)
-    → 12 + (length (algo_name e.digest.algo) + 2 + length e.digest.bytes) + (length e.name + 1) + length e.sig ≡ length (template_data e)
+    → 12 + (length (algo_name e.digest.algo) + 2 + length e.digest.bytes) +
+    (length e.name + 1) + length e.sig ≡ length (template_data e)
 length-template_data-sig e is =
     omega (
       arith,

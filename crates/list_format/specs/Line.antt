@@ -14,7 +14,8 @@ use Rattle.ima_templates.specs.Digests.{template_digest}
 abbrev pub pcr_text : ℕ → List ℕ
 pcr_text pcr = (if nat_lt pcr 10 then 32 else 48 + pcr / 10) ∷ (48 + pcr % 10) ∷ []
 
--- the text of the field `d` is hexadecimal, that of `d-ng` the algorithm's name, a colon and hexadecimal
+-- the text of the field `d` is hexadecimal, that of `d-ng` the algorithm's name, a colon and
+-- hexadecimal
 abbrev pub digest_text : Template → Digest → List ℕ
 digest_text Ima digest = encode_lower digest.bytes
 digest_text ImaNg digest = algo_name digest.algo ++ codes ":" ++ encode_lower digest.bytes
@@ -34,7 +35,8 @@ sig_text e = sig_text_by e.template e.sig
 -- a register, a template digest of SHA-1 and a template's name
 abbrev pub line_head : Entry → List ℕ
 line_head e =
-    pcr_text e.pcr ++ codes " " ++ encode_lower (template_digest e Sha1).bytes ++ codes " " ++ template_word e.template
+    pcr_text e.pcr ++ codes " " ++ encode_lower (template_digest e Sha1).bytes ++ codes " "
+    ++ template_word e.template
 
 -- that and the fields `d` and `n`
 abbrev pub line_front : Entry → List ℕ

@@ -20,4 +20,5 @@ shown_data ImaBuf e = sized (template_data e)
 -- the whole record
 unfoldable pub binary_record : Entry → List ℕ
 binary_record e =
-    little_bytes 4 e.pcr ++ (template_digest e Sha1).bytes ++ sized (template_word e.template) ++ shown_data e.template e
+    little_bytes 4 e.pcr ++ (template_digest e Sha1).bytes ++ sized (template_word e.template)
+    ++ shown_data e.template e

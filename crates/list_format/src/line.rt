@@ -62,7 +62,8 @@ fn append_head(e: &Entry, out: &mut Vec<u8>) -> Result<(), OutOfMemory>
 
 // The field `d` or `d-ng` behind its space.
 fn append_digest(e: &Entry, out: &mut Vec<u8>) -> Result<(), OutOfMemory>
-    ensures ok { OnOk result (out.new.items ≡ out.old.items ++ codes " " ++ digest_text e.now.template e.now.digest) }
+    ensures ok { OnOk result
+        (out.new.items ≡ out.old.items ++ codes " " ++ digest_text e.now.template e.now.digest) }
     ensures kept { take (vec_len out.old) out.new.items ≡ out.old.items }
 {
     match e.template {
@@ -75,7 +76,9 @@ fn append_digest(e: &Entry, out: &mut Vec<u8>) -> Result<(), OutOfMemory>
 
 // A space, the algorithm's name, a colon and the digest in hexadecimal.
 fn append_named_digest(digest: &Digest, out: &mut Vec<u8>) -> Result<(), OutOfMemory>
-    ensures ok { OnOk result (out.new.items ≡ out.old.items ++ 32 ∷ algo_name digest.now.algo ++ 58 ∷ encode_lower digest.now.bytes) }
+    ensures ok { OnOk result
+        (out.new.items
+        ≡ out.old.items ++ 32 ∷ algo_name digest.now.algo ++ 58 ∷ encode_lower digest.now.bytes) }
     ensures kept { take (vec_len out.old) out.new.items ≡ out.old.items }
 {
     out.extend_from_slice(b" ")?;

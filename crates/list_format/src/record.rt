@@ -54,7 +54,8 @@ fn append_data(e: &Entry, out: &mut Vec<u8>) -> Result<(), OutOfMemory>
 
 // The digest, and the name with its length.
 fn append_ima(e: &Entry, out: &mut Vec<u8>) -> Result<(), OutOfMemory>
-    ensures ok { OnOk result (out.new.items ≡ out.old.items ++ e.now.digest.bytes ++ sized e.now.name) }
+    ensures ok { OnOk result
+        (out.new.items ≡ out.old.items ++ e.now.digest.bytes ++ sized e.now.name) }
     ensures kept { take (vec_len out.old) out.new.items ≡ out.old.items }
 {
     out.extend_from_slice(e.digest.as_slice())?;

@@ -1,6 +1,7 @@
-// Two lists whose records were written out by hand, with digests of `sha1sum` and `sha256sum`. Debian's
-// `evmctl ima_measurement` (ima-evm-utils 1.4) accepts both against the registers below: one list has
-// the template `ima`, which it takes in no list with others, and the other list has the rest.
+// Two lists whose records were written out by hand, with digests of `sha1sum` and `sha256sum`.
+// Debian's `evmctl ima_measurement` (ima-evm-utils 1.4) accepts both against the registers below:
+// one list has the template `ima`, which it takes in no list with others, and the other list has
+// the rest.
 
 use crate::{ascii, binary, violations};
 use hash_algos::{Algo, Digest};

@@ -19,7 +19,8 @@ length-registers-new_banks Sha256 = refl
 pub IsWhole-new_banks : IsWhole new_banks
 IsWhole-new_banks = record { count = length-registers-new_banks }
 
-pub register-new_banks : (bank : Bank) (pcr : ℕ) → pcr < 24 → register new_banks bank pcr ≡ zero_register bank
+pub register-new_banks : (bank : Bank) (pcr : ℕ) → pcr < 24
+    → register new_banks bank pcr ≡ zero_register bank
 register-new_banks Sha1 pcr below = get_or-replicate 24 pcr (zero_register Sha1) [] below
 register-new_banks Sha256 pcr below = get_or-replicate 24 pcr (zero_register Sha256) [] below
 
@@ -32,22 +33,29 @@ pub IsWhole-extend_banks : (banks : Banks) (pcr : ℕ) (digests : Bank → List 
     → IsWhole banks → IsWhole (extend_banks banks pcr digests)
 IsWhole-extend_banks banks pcr digests whole = record {
   count = λ bank. ap length (registers-extend_banks banks pcr digests bank)
-      ∙ length-set (registers banks bank) pcr (extended bank (register banks bank pcr) (digests bank))
+      ∙ length-set (registers banks bank) pcr
+      (extended bank (register banks bank pcr) (digests bank))
       ∙ whole.count bank;
 }
 
 -- an extend changes its register and no other
-pub register-extend_banks : (banks : Banks) (pcr : ℕ) (digests : Bank → List ℕ) (bank : Bank) (q : ℕ)
+pub register-extend_banks : (banks : Banks) (pcr : ℕ) (digests : Bank
+    → List ℕ) (bank : Bank) (q : ℕ)
     → IsWhole banks → q < 24 → register (extend_banks banks pcr digests) bank q
-    ≡ (if pcr == q then extended bank (register banks bank q) (digests bank) else register banks bank q)
+    ≡ (if pcr == q then extended bank (register banks bank q) (digests bank)
+    else register banks bank q)
 register-extend_banks banks pcr digests bank q whole below =
     ap (λ rs. get_or rs q []) (registers-extend_banks banks pcr digests bank)
     ∙ elim (pcr == q) as (λ b. (pcr == q) ≡ b → get_or (extend_bank banks pcr digests bank) q []
     ≡ (if b then extended bank (register banks bank q) (digests bank) else register banks bank q)) [
       | true ↦ λ is. at_it (eqb-true pcr q is)
-      | false ↦ λ is. get_or-set_other (registers banks bank) pcr q _ [] (λ e. eqb-false pcr q is (sym e))
+      | false ↦ λ is. get_or-set_other (registers banks bank) pcr q _ []
+          (λ e. eqb-false pcr q is (sym e))
     ] refl
   where
-    at_it : pcr ≡ q → get_or (extend_bank banks pcr digests bank) q [] ≡ extended bank (register banks bank q) (digests bank)
-    at_it e = subst (λ p. get_or (extend_bank banks p digests bank) q [] ≡ extended bank (register banks bank q) (digests bank)) (sym e)
-        (get_or-set_same (registers banks bank) q _ [] (subst (λ n. q < n) (sym (whole.count bank)) below))
+    at_it : pcr ≡ q → get_or (extend_bank banks pcr digests bank) q []
+        ≡ extended bank (register banks bank q) (digests bank)
+    at_it e = subst (λ p. get_or (extend_bank banks p digests bank) q []
+        ≡ extended bank (register banks bank q) (digests bank)) (sym e)
+        (get_or-set_same (registers banks bank) q _ []
+        (subst (λ n. q < n) (sym (whole.count bank)) below))

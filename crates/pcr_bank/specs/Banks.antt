@@ -15,7 +15,10 @@ abbrev pub register : Banks → Bank → ℕ → List ℕ
 register banks bank pcr = slice_index_or (registers banks bank) pcr []
 
 abbrev pub new_banks : Banks
-new_banks = record { sha1 = replicate 24 (zero_register Sha1); sha256 = replicate 24 (zero_register Sha256) }
+new_banks = record {
+  sha1 = replicate 24 (zero_register Sha1);
+  sha256 = replicate 24 (zero_register Sha256);
+}
 
 -- a digest for each bank
 abbrev pub by_bank : List ℕ → List ℕ → Bank → List ℕ

@@ -26,8 +26,8 @@ impl Banks {
         }
     }
 
-    /// Extends the register in each bank, by that bank's digest: it becomes the hash of what it held
-    /// and the digest.
+    /// Extends the register in each bank, by that bank's digest: it becomes the hash of what it
+    /// held and the digest.
     pub fn extend(&mut self, pcr: u8, sha1: &[u8; 20], sha256: &[u8; 32])
         requires { pcr < 24 }
         ensures { self.new ≡ extend_banks self.old pcr (by_bank sha1.now sha256.now) }

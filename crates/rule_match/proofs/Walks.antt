@@ -41,7 +41,7 @@ latest_last end rules a c stands =
 pub end_of-le : (end : ℕ) (rules : List RuleValue) (a : Access) (c : Candidates) → StandsBelow end rules a c → end_of c ≤ end
 end_of-le end rules a c stands = end_above-le (is_candidate rules a) end (latest_of c) (latest_last end rules a c stands)
 
--- what a line that is no candidate is not
+-- a line that isn't a candidate is in none of the groups
 record HasNone (rules : List RuleValue) (a : Access) (i : ℕ) : Type 0 where
   both : has_group rules (group_of_both a) i ≡ false
   func : has_group rules (group_of_func a) i ≡ false

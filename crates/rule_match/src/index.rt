@@ -57,7 +57,7 @@ impl Index {
         self.rules.as_slice()
     }
 
-    /// Appends a copy of the rule. After want of memory the index is as before.
+    /// Appends a copy of the rule. After memory ran out the index is as before.
     pub fn append(&mut self, r: &Rule) -> Result<(), OutOfMemory>
         ensures ok { OnOk result (self.new ≡ self.old ++ r.now ∷ []) }
         ensures err { OnErr result (self.new ≡ self.old) }

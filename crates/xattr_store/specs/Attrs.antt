@@ -13,7 +13,7 @@ use Rattle.std.specs.Str.{bytes_eq}
 abbrev pub Pair : Type 0
 Pair = List ℕ × List ℕ
 
--- byte order: the first bytes that differ decide, and a front of a name comes before the name
+-- byte order: the first bytes that differ decide, and a prefix of a name comes before the name
 abbrev pub byte_order : List ℕ → List ℕ → Ordering
 byte_order = slice_cmp nat_cmp
 

@@ -16,7 +16,7 @@ pub const MAX_VALUE: usize = 4096;
 pub enum SetErr {
     /// The value has more than [`MAX_VALUE`] bytes.
     TooLong,
-    /// Want of memory.
+    /// Memory ran out.
     OutOfMemory,
 }
 

@@ -21,7 +21,7 @@ pub fn find(pairs: &[(Bytes, Bytes)], name: &[u8]) -> Result<usize, usize>
     Err(pairs.len())
 }
 
-// Puts the value under the name. Both copies are made first, so that after want of memory the pairs
+// Puts the value under the name. Both copies are made first, so that after memory ran out the pairs
 // are as before.
 pub fn put_value(
     pairs: &mut Vec<(Bytes, Bytes)>,

@@ -16,7 +16,7 @@ unfoldable pub refusal : Command → List ℕ → Option (List ℕ)
 refusal command.List input = list_refusal input
 refusal command.Policy input = policy_refusal input
 
--- The bytes are an output for the input, of a run that is stuck or isn't. This is a relation and no
+-- The bytes are an output for the input, of a run that is stuck or isn't. This is a relation, not a
 -- function, since an input whose tasks run on threads has several outputs. A command without tasks
 -- is never stuck.
 unfoldable pub IsOutput : Command → List ℕ → Bool → List ℕ → Type 0

@@ -25,7 +25,8 @@ returns-in-Ima-clause-exact c not_ima =
 pub returns-in-ImaSig-clause-exact : goal.returns-in-ImaSig-clause-exact
 returns-in-ImaSig-clause-exact c not_ima =
     subst (λ (e : Entry). 12 + (length c.name.result.now + 2 + length c.as_slice.result.now)
-    + (length c.as_slice-2.result.now + 1) + length c.as_slice-in-ImaSig.result.now ≡ length (template_data e)) c.e.view_is
+    + (length c.as_slice-2.result.now + 1) + length c.as_slice-in-ImaSig.result.now
+    ≡ length (template_data e)) c.e.view_is
     (omega (
       arith,
       ap length (c.name.ensures ∙ ap algo_name c.algo.ensures),

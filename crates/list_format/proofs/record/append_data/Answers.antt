@@ -12,9 +12,11 @@ unfolding sized
 returns-in_ok-append_fields-in-ImaNg c =
     let not_ima : c.args.e.now.template ≢ Ima = search rules in
     record {
-      ok = appended-2 _ _ _ _ _ c.in_ok-append_number-in-ImaNg.ensures.ok c.in_ok-append_fields-in-ImaNg.ensures.ok
+      ok = appended-2 _ _ _ _ _ c.in_ok-append_number-in-ImaNg.ensures.ok
+          c.in_ok-append_fields-in-ImaNg.ensures.ok
           ∙ ap (λ l. c.args.out.now.items ++ l)
-          (ap (λ n. little_bytes 4 n ++ template_data c.args.e.now) (c.data_length.ensures.exact not_ima)
+          (ap (λ n. little_bytes 4 n ++ template_data c.args.e.now)
+          (c.data_length.ensures.exact not_ima)
           ∙ shown_data-sized c.args.e.now c.args.e.now.template not_ima);
       kept = first_of (search rules, grind (arith, common_steps));
     }
