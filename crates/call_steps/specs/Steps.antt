@@ -1,13 +1,14 @@
 -- The steps of a call, one after the other: which comes first, and which comes after what the step before was told.
-use Rattle.std.specs.Prelude.{ℕ, Bool, true, false, ◌&&◌, ◌||◌, not, Option, Some, None, unwrap_or, if◌then◌else◌}
+use Rattle.std.specs.Prelude.{Bool, true, false, ◌&&◌, ◌||◌, not, Option, Some, None, unwrap_or, if◌then◌else◌}
 use Rattle.inode_meta.specs.declared.appraisal.Mode.{Mode}
 use Rattle.label_values.specs.declared.verdict.Cause.{Cause}
 use Rattle.label_values.specs.declared.verdict.Verdict.{Verdict}
 use Rattle.label_values.specs.declared.verdict.Verdict.TheVariants.{Deny}
 use Rattle.policy_text.specs.declared.access.Action.{Action}
-use Rattle.policy_text.specs.declared.rule.Func.{Func}
-use Rattle.policy_text.specs.declared.rule.Func.TheVariants as func
-use Rattle.inode_events.specs.Checks.{is_off, no_action, slot_of}
+use Rattle.policy_text.specs.declared.access.Purpose.{Purpose}
+use Rattle.policy_text.specs.declared.access.Purpose.TheVariants as purpose
+use Rattle.policy_text.specs.Accesses.{func_of_purpose, mask_of_purpose, slot_of}
+use Rattle.inode_events.specs.Checks.{is_off, no_action}
 use Rattle.inode_pages.specs.Content.{most_bytes}
 use Rattle.inode_events.specs.Files.{can_read, is_writer}
 use Rattle.inode_events.specs.declared.deed.How.{How}
@@ -53,31 +54,26 @@ abbrev pub how_of : Course → How
 how_of (course.Open h trunc) = h
 how_of _ = how.Exec
 
-abbrev pub func_of : Course → Func
-func_of course.Mmap = func.MmapCheck
-func_of course.Exec = func.BprmCheck
-func_of course.Module = func.ModuleCheck
-func_of course.Firmware = func.FirmwareCheck
-func_of _ = func.FileCheck
+-- for what an open opens its file
+abbrev pub purpose_of_open : How → Purpose
+purpose_of_open (how.Write true create) = purpose.ReadWrite
+purpose_of_open (how.Write false create) = purpose.Write
+purpose_of_open _ = purpose.Read
 
--- MAY_READ 4, MAY_WRITE 2 and both 6
-abbrev pub open_mask : How → ℕ
-open_mask (how.Write true create) = 6
-open_mask (how.Write false create) = 2
-open_mask _ = 4
-
--- MAY_EXEC 1
-abbrev pub mask_of : Course → ℕ
-mask_of (course.Open h trunc) = open_mask h
-mask_of course.Module = 4
-mask_of course.Firmware = 4
-mask_of _ = 1
+-- what the call wants of its file; a call of another course raises no check
+abbrev pub purpose_of : Course → Purpose
+purpose_of (course.Open h trunc) = purpose_of_open h
+purpose_of course.Mmap = purpose.Map
+purpose_of course.Exec = purpose.Exec
+purpose_of course.Module = purpose.Module
+purpose_of course.Firmware = purpose.Firmware
+purpose_of course.Other = purpose.Read
 
 abbrev pub check : Course → Ask
-check c = ask.Check (func_of c) (mask_of c)
+check c = ask.Check (func_of_purpose (purpose_of c)) (mask_of_purpose (purpose_of c))
 
 abbrev pub take : Course → Ask
-take c = ask.Take (slot_of (func_of c))
+take c = ask.Take (slot_of (func_of_purpose (purpose_of c)))
 
 -- the whole content
 abbrev pub whole : Ask

@@ -1,18 +1,10 @@
 ghost use Rattle.std.specs.Prelude.{◌≡◌};
-ghost use Rattle.call_steps.specs.Steps.{check, course_of, func_of, how_of, mask_of, open_mask, take};
+ghost use Rattle.call_steps.specs.Steps.{check, course_of, how_of, purpose_of, purpose_of_open, take};
 
 use crate::ask::Ask;
 use crate::call::Call;
 use inode_events::How;
-use inode_meta::Slot;
-use policy_text::Func;
-
-// The bits of an access mask, as the kernel has them.
-const MAY_EXEC: u8 = 1;
-
-const MAY_WRITE: u8 = 2;
-
-const MAY_READ: u8 = 4;
+use policy_text::Purpose;
 
 /// What a call does beyond its one event: those that raise a check go on by its answer.
 #[derive(Clone, Copy, Debug, PartialEq, Eq)]
@@ -59,25 +51,16 @@ impl Course {
         }
     }
 
-    fn func(self) -> Func
-        ensures { result ≡ func_of self }
+    fn purpose(self) -> Purpose
+        ensures { result ≡ purpose_of self }
     {
         match self {
-            Course::Mmap => Func::MmapCheck,
-            Course::Exec => Func::BprmCheck,
-            Course::Module => Func::ModuleCheck,
-            Course::Firmware => Func::FirmwareCheck,
-            _ => Func::FileCheck,
-        }
-    }
-
-    fn mask(self) -> u8
-        ensures { result ≡ mask_of self }
-    {
-        match self {
-            Course::Open { how, .. } => open_mask(how),
-            Course::Module | Course::Firmware => MAY_READ,
-            _ => MAY_EXEC,
+            Course::Open { how, .. } => purpose_of_open(how),
+            Course::Mmap => Purpose::Map,
+            Course::Exec => Purpose::Exec,
+            Course::Module => Purpose::Module,
+            Course::Firmware => Purpose::Firmware,
+            Course::Other => Purpose::Read,
         }
     }
 
@@ -85,9 +68,10 @@ impl Course {
     pub fn check(self) -> Ask
         ensures { result ≡ check self }
     {
+        let purpose = self.purpose();
         Ask::Check {
-            func: self.func(),
-            mask: self.mask(),
+            func: purpose.func(),
+            mask: purpose.mask(),
         }
     }
 
@@ -95,21 +79,18 @@ impl Course {
     pub fn take(self) -> Ask
         ensures { result ≡ take self }
     {
-        let slot = match self.func() {
-            Func::BprmCheck => Slot::Bprm,
-            Func::MmapCheck => Slot::Mmap,
-            _ => Slot::File,
-        };
-        Ask::Take { slot }
+        Ask::Take {
+            slot: self.purpose().func().slot(),
+        }
     }
 }
 
-fn open_mask(how: How) -> u8
-    ensures { result ≡ open_mask how }
+fn purpose_of_open(how: How) -> Purpose
+    ensures { result ≡ purpose_of_open how }
 {
     match how {
-        How::Write { read: true, .. } => MAY_READ | MAY_WRITE,
-        How::Write { read: false, .. } => MAY_WRITE,
-        _ => MAY_READ,
+        How::Write { read: true, .. } => Purpose::ReadWrite,
+        How::Write { read: false, .. } => Purpose::Write,
+        _ => Purpose::Read,
     }
 }

@@ -1,18 +1,22 @@
 -- Which changes EVM lets a call make.
-use Rattle.std.specs.Prelude.{ℕ, Bool, true, false, ◌||◌, not, List, Result, Ok, Err, if◌then◌else◌}
+use Rattle.std.specs.Prelude.{ℕ, Bool, true, false, ◌||◌, not, List, ◌++◌, Result, Ok, Err, if◌then◌else◌}
 use Rattle.std.specs.List.{list_any}
 use Rattle.std.specs.Str.{bytes_eq}
 use Rattle.inode_meta.specs.declared.appraisal.EvmStatus.{EvmStatus}
 use Rattle.inode_meta.specs.declared.appraisal.EvmStatus.TheVariants as status
 use Rattle.inode_meta.specs.declared.identity.Meta.{Meta}
 use Rattle.xattr_store.specs.Attrs.{Pair}
-use Rattle.evm_verify.specs.Input.{protected_names}
+use Rattle.evm_verify.specs.Input.{five_names}
 use Rattle.evm_verify.specs.Setup.{Setup}
 use Rattle.evm_verify.specs.Status.{evm_status}
 
+-- the name is a protected attribute where these names are added to the five
+abbrev pub is_protected : List (List ℕ) → List ℕ → Bool
+is_protected added name = list_any (bytes_eq name) (five_names ++ added)
+
 -- the name is a protected attribute
 abbrev pub protects : Setup → List ℕ → Bool
-protects evm name = list_any (bytes_eq name) (protected_names evm)
+protects evm name = is_protected evm.added name
 
 -- a protected attribute may be changed where the HMAC fits or there is no key, and where a new file
 -- has none yet

@@ -5,17 +5,15 @@ use Rattle.std.specs.List.{flat_map, list_any}
 use Rattle.hmac_core.specs.Hmac.{hmac}
 use Rattle.inode_meta.specs.declared.identity.Meta.{Meta}
 use Rattle.xattr_store.specs.Attrs.{Pair, value}
+use Rattle.xattr_store.specs.Names.{ima_name}
+pub use Rattle.xattr_store.specs.Names.{evm_name}
 use Rattle.evm_verify.specs.Setup.{Setup}
-
--- the attribute that holds the HMAC
-abbrev pub evm_name : List ℕ
-evm_name = codes "security.evm"
 
 -- the attributes that are always protected, in the order of the kernel's list
 abbrev pub five_names : List (List ℕ)
 five_names =
     codes "security.selinux" ∷ codes "security.SMACK64" ∷ codes "security.apparmor"
-    ∷ codes "security.ima" ∷ codes "security.capability" ∷ []
+    ∷ ima_name ∷ codes "security.capability" ∷ []
 
 -- the protected attributes: these five, and then the added ones
 abbrev pub protected_names : Setup → List (List ℕ)

@@ -9,10 +9,7 @@ use crate::names::{any_present, copy_names, is_among, protected_names};
 use inode_meta::{EvmStatus, Meta};
 use std::alloc::{AllocError, Global};
 use std::marker::Model;
-use xattr_store::{Attrs, Bytes, OutOfMemory};
-
-// The attribute that holds the HMAC.
-const EVM_NAME: &[u8] = b"security.evm";
+use xattr_store::{Attrs, Bytes, EVM_NAME, OutOfMemory};
 
 // How many names are always protected.
 const FIVE: usize = 5;

@@ -10,3 +10,4 @@ mod tests;
 
 pub use evm::Evm;
 pub use input::VALUE_LEN;
+pub use names::is_protected;

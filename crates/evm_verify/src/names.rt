@@ -4,17 +4,18 @@ ghost use Rattle.std.specs.List.{list_any};
 ghost use Rattle.std.specs.Prelude.{◌≡◌, ◌++◌, IfOk, is_some};
 ghost use Rattle.std.specs.Str.{bytes_eq};
 ghost use Rattle.xattr_store.specs.Attrs.{value};
+ghost use Rattle.evm_verify.specs.Changes.{is_protected};
 ghost use Rattle.evm_verify.specs.Input.{any_present, five_names};
 
 use std::alloc::Global;
-use xattr_store::{Attrs, Bytes, OutOfMemory};
+use xattr_store::{Attrs, Bytes, IMA_NAME, OutOfMemory};
 
 // The attributes that are always protected, in the order of the kernel's list.
 const FIVE_NAMES: [&[u8]; 5] = [
     b"security.selinux",
     b"security.SMACK64",
     b"security.apparmor",
-    b"security.ima",
+    IMA_NAME,
     b"security.capability",
 ];
 
@@ -62,6 +63,19 @@ pub fn is_among(name: &[u8], names: &[Bytes]) -> bool
     ensures { result ≡ list_any (bytes_eq name.now) names.now }
 {
     names.iter().any(|other| name == other.as_slice())
+}
+
+/// Whether the name is a protected attribute where these names are added to the kernel's five.
+pub fn is_protected(name: &[u8], added: &[Bytes]) -> bool
+    ensures { result ≡ is_protected added.now name.now }
+{
+    is_one_of(name, &FIVE_NAMES) || is_among(name, added)
+}
+
+fn is_one_of(name: &[u8], names: &[&[u8]]) -> bool
+    ensures { result ≡ list_any (λ other. bytes_eq name.now other.now) names.now }
+{
+    names.iter().any(|other| name == *other)
 }
 
 // Whether some of the names are present.

@@ -7,7 +7,8 @@ mod known;
 mod list;
 mod meeting;
 
-pub use list::{Grow, OutOfMemory, Pass};
+pub use inode_meta::OutOfMemory;
+pub use list::{Grow, Pass};
 
 #[cfg(test)]
 mod tests;

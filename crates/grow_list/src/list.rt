@@ -9,11 +9,9 @@ ghost use Rattle.grow_list.specs.Shown.{IsSameList, HasItsOwn, HasEach, Accounts
 use crate::known::{Growing, Known};
 use crate::meeting::{Board, Place, end, enter, meet, part, take_number};
 use atomic_table::Table;
+use inode_meta::OutOfMemory;
 use std::alloc::{AllocError, Global};
 use std::marker::Model;
-
-/// There was no memory.
-pub type OutOfMemory = AllocError;
 
 /// A list that only grows. Contracts see its name, its number of callers, its entries, beside each entry the number of
 /// the pass that added it, and its room: for how many more entries it has memory.

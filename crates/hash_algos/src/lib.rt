@@ -14,4 +14,4 @@ mod tests;
 pub use algo::{Algo, by_id, by_name};
 pub use algo_set::AlgoSet;
 pub use digest::Digest;
-pub use running::Running;
+pub use running::{Running, digest_of};

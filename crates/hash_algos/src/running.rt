@@ -10,6 +10,15 @@ use md5::{Digest as Md5Hasher, Md5};
 use sha1::Sha1;
 use sha2::{Digest as Sha2Hasher, Sha224, Sha256, Sha384, Sha512};
 
+/// The digest of the bytes by the algorithm.
+pub fn digest_of(a: Algo, bytes: &[u8]) -> Digest
+    ensures { result ≡ digest_of a bytes.now }
+{
+    let mut running = Running::new(a);
+    running.feed(bytes);
+    running.finish()
+}
+
 /// A hash under way: it takes its message in pieces, and how they are cut makes no difference.
 /// A contract says which messages it can have taken; what is fed joins their end.
 #[derive(Drop)]

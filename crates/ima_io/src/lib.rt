@@ -15,7 +15,8 @@ mod standard;
 mod whole;
 
 pub use memory::{MemSink, MemSource};
-pub use outside::{Failed, FreeGate, Gate, OutOfMemory, Sink, Source, Who};
+pub use inode_meta::OutOfMemory;
+pub use outside::{Failed, FreeGate, Gate, Sink, Source, Who};
 pub use standard::{StdSink, StdSource};
 pub use whole::{ReadErr, read_all, write_all};
 

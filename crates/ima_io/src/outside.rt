@@ -3,11 +3,6 @@ ghost use Rattle.std.specs.Prelude.{ℕ, ◌<◌, ◌≤◌, List, length, Optio
 ghost use Rattle.std.specs.Io.KnownBytes.{ReadConsumes, WriteAppends};
 ghost use Rattle.ima_io.specs.Counts.{Rose};
 
-use std::alloc::AllocError;
-
-/// Memory ran out: the one answer that has no further cause.
-pub type OutOfMemory = AllocError;
-
 /// The one error of a single read or write: the outside failed in this call, and its count of
 /// faults rose. Nothing was given or taken.
 #[derive(Clone, Copy, Debug, PartialEq, Eq)]

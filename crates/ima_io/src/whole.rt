@@ -5,7 +5,8 @@ ghost use Rattle.ima_io.specs.Counts.{Rose};
 ghost use Rattle.ima_io.specs.Bytes.{Gave, TookPart};
 ghost use Rattle.ima_io.specs.declared.whole.ReadErr.TheVariants.{Fault, OutOfMemory};
 
-use crate::outside::{Failed, OutOfMemory, Sink, Source};
+use crate::outside::{Failed, Sink, Source};
+use inode_meta::OutOfMemory;
 use std::alloc::{AllocError, Global};
 
 /// Why [`read_all`] didn't read a source to its end. Writing has no such enum: [`write_all`] can

@@ -5,6 +5,7 @@ use Rattle.hash_algos.specs.declared.algo.Algo.TheVariants.{Sha1}
 use Rattle.hash_algos.specs.declared.digest.Digest.{Digest}
 use Rattle.hash_algos.specs.Digest.{zero_digest}
 use Rattle.inode_meta.specs.declared.measurement.Template.{Template}
+use Rattle.inode_meta.specs.declared.measurement.TheConstants.{DEFAULT_PCR}
 use Rattle.ima_templates.specs.declared.entry.Entry.{Entry}
 use Rattle.ima_templates.specs.Shown.{shown_digest, shown_name, shown_sig}
 
@@ -22,7 +23,7 @@ entry_of pcr template file sha1 path sig = record {
 -- the violation of a file: the digest is zeros, of the default algorithm where the template names one
 abbrev pub violation_of : Template → Algo → List ℕ → Entry
 violation_of template default path = record {
-  pcr = 10;
+  pcr = DEFAULT_PCR;
   template = template;
   digest = shown_digest template (zero_digest default) (zero_digest Sha1);
   name = shown_name template path;

@@ -7,7 +7,7 @@ ghost use Rattle.ima_templates.specs.Path.{IsMeasuredPath};
 use crate::entry::Entry;
 use crate::shown::{shown_digest, shown_name, shown_sig};
 use hash_algos::{Algo, Digest};
-use inode_meta::Template;
+use inode_meta::{DEFAULT_PCR, Template};
 use std::alloc::Global;
 use xattr_store::{Bytes, OutOfMemory};
 
@@ -53,7 +53,7 @@ pub fn violation(
 {
     let zeros = Digest::zeros(default);
     Ok(Entry {
-        pcr: 10,
+        pcr: DEFAULT_PCR,
         template,
         digest: shown_digest(template, &zeros, &Digest::zeros(Algo::Sha1)),
         name: Bytes::from_slice(alloc, shown_name(template, path))?,

@@ -1,5 +1,5 @@
 -- Texts and words, each with what it is.
-use Rattle.std.proofs.Common.{◌≡◌, ℕ, true, false, List, [], ◌∷◌, Option, Some, None, refl}
+use Rattle.std.proofs.Common.{◌≡◌, ℕ, true, List, [], ◌∷◌, Option, Some, None, refl}
 use Rattle.std.specs.Prelude.{codes}
 use Rattle.ima_top.specs.declared.commands.Command.TheVariants as command
 use Rattle.ima_top.specs.commands.List.{boot_entry, list_refusal, measured}

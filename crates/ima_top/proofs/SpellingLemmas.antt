@@ -8,8 +8,9 @@ use Rattle.std.specs.Str.{bytes_eq}
 use Rattle.std.proofs.lemmas.Bool.{eqb-true}
 use Rattle.std.proofs.lemmas.List.Splits.{join_with_byte-slice_split}
 use Rattle.text_forms.specs.Lines.{lines}
+use Rattle.text_forms.specs.Options.{◌>>=◌}
 use Rattle.text_forms.specs.Tokens.{is_filled}
-use Rattle.ima_top.specs.PlainList.{File, behind, cut, few, file_at, file_of, files_of, is_content, is_over, list_of, onto, plain_list_of, ◌>>=◌}
+use Rattle.ima_top.specs.PlainList.{File, behind, cut, few, file_at, file_of, files_of, is_content, is_over, list_of, onto, plain_list_of}
 use Rattle.ima_top.specs.Spelling.{file_line, file_text, spelled}
 
 bind_some : {A B : Type 0} (o : Option A) (f : A → Option B) (y : B) → (o >>= f) ≡ Some y → (x : A)

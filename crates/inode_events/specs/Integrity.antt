@@ -1,7 +1,7 @@
 -- What IMA and EVM keep of an inode: its extended attributes, the collection that is open, and the
 -- digest in force. The three rest on one another: a label names the algorithm of the next
 -- collection, and mode fix writes the digest in force as the label.
-use Rattle.std.specs.Prelude.{ℕ, ◌+◌, Bool, true, false, ◌&&◌, ◌||◌, not, List, [], ◌∷◌, ◌++◌, length, codes, Option, Some, None, option_map, if◌then◌else◌}
+use Rattle.std.specs.Prelude.{ℕ, ◌+◌, Bool, true, false, ◌&&◌, ◌||◌, not, List, [], ◌∷◌, ◌++◌, length, Option, Some, None, option_map, if◌then◌else◌}
 use Rattle.hash_algos.specs.Digest.{digest_of}
 use Rattle.hash_algos.specs.declared.algo.Algo.{Algo}
 use Rattle.hash_algos.specs.declared.algo.Algo.TheVariants.{Sha1}
@@ -13,6 +13,7 @@ use Rattle.evm_verify.specs.Status.{evm_status, renewed}
 use Rattle.label_values.specs.Labels.{collect_algo, label_of}
 use Rattle.label_values.specs.Verdicts.{is_old}
 use Rattle.xattr_store.specs.Attrs.{Pair, value, put, without}
+pub use Rattle.xattr_store.specs.Names.{ima_name}
 use Rattle.inode_pages.specs.Content.{piece_at}
 use Rattle.inode_events.specs.Inode.{Inode}
 use Rattle.inode_events.specs.State.{changed, content, is_last_drop, metadata, new, versions, modified_since}
@@ -48,10 +49,6 @@ pub record Integrity : Type 0 where
   pub digests : Option Digests
 
 -- ---- attributes
-
--- the attribute that holds the label
-abbrev pub ima_name : List ℕ
-ima_name = codes "security.ima"
 
 -- the value of `security.ima`
 abbrev pub label_in : List Pair → Option (List ℕ)

@@ -5,9 +5,11 @@
 mod appraisal;
 mod identity;
 mod measurement;
+mod memory;
 mod step;
 
 pub use appraisal::{EvmStatus, Mode, Need, Slot};
 pub use identity::{Cred, Meta};
-pub use measurement::{Bank, Template};
+pub use measurement::{Bank, DEFAULT_PCR, Template};
+pub use memory::OutOfMemory;
 pub use step::Who;

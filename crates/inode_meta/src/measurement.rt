@@ -1,6 +1,10 @@
 ghost use Rattle.std.specs.Prelude.{◌≡◌};
 ghost use Rattle.inode_meta.specs.Words.{bank_word, template_word};
 
+/// The register that measurements extend where no rule names another (the kernel's
+/// `CONFIG_IMA_MEASURE_PCR_IDX`). Violations always extend it.
+pub const DEFAULT_PCR: u8 = 10;
+
 /// The template of an entry of the measurement list (Documentation/security/IMA-templates.rst).
 #[derive(Clone, Copy, Debug, PartialEq, Eq)]
 pub enum Template {

@@ -11,10 +11,7 @@ use inode_events::Settings;
 use inode_meta::{EvmStatus, Meta};
 use label_values::{MAX_LABEL, write_label};
 use std::alloc::AllocError;
-use xattr_store::{Attrs, Bytes, OutOfMemory};
-
-// The attribute that holds the label.
-pub const IMA_NAME: &[u8] = b"security.ima";
+use xattr_store::{Attrs, Bytes, IMA_NAME, OutOfMemory};
 
 // The value of `security.ima`.
 pub fn label_in(attrs: &Attrs) -> Option<&[u8]>

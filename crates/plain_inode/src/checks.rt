@@ -1,23 +1,12 @@
 ghost use Rattle.std.specs.Prelude.{◌≡◌};
 ghost use Rattle.inode_events.specs.Past.{past};
-ghost use Rattle.inode_events.specs.Checks.{is_fix, is_off, last_check, slot_of};
+ghost use Rattle.inode_events.specs.Checks.{is_fix, is_off, last_check};
 ghost use Rattle.plain_inode.specs.Asked.{asked_after};
 
 use crate::walk::newest;
 use inode_events::{Deed, Event};
-use inode_meta::{Mode, Need, Slot};
+use inode_meta::Mode;
 use policy_text::{Action, Func};
-
-// The slot of a hook in the kernel's inode cache.
-pub fn slot_of(func: Func) -> Slot
-    ensures { result ≡ slot_of func }
-{
-    match func {
-        Func::BprmCheck => Slot::Bprm,
-        Func::MmapCheck => Slot::Mmap,
-        _ => Slot::File,
-    }
-}
 
 pub fn is_off(mode: Mode) -> bool
     ensures { result ≡ is_off mode }
@@ -56,19 +45,7 @@ pub fn last_check(journal: &[Event], file: u64) -> (Func, Action)
     ensures { result ≡ ((last_check file (past journal.now)).func, (last_check file (past journal.now)).action) }
 {
     match newest(journal) {
-        None => (
-            Func::FileCheck,
-            Action {
-                measure: false,
-                pcr: 10,
-                template: None,
-                appraise: false,
-                need: Need::Any,
-                algos: None,
-                audit: false,
-                hash: false,
-            },
-        ),
+        None => (Func::FileCheck, Action::none()),
         Some((e, before)) => asked_after(e, file, last_check(before, file)),
     }
 }

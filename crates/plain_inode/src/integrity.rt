@@ -1,5 +1,4 @@
 ghost use Rattle.std.specs.Prelude.{◌≡◌, ◌+◌, ◌^◌, ◌++◌, ◌<◌, ◌≤◌, IfOk, length, option_map};
-ghost use Rattle.hash_algos.specs.Digest.{digest_of};
 ghost use Rattle.inode_events.specs.Past.{past};
 ghost use Rattle.inode_events.specs.State.{content};
 ghost use Rattle.inode_events.specs.Integrity.{attributes_after, collected_more, collecting, collecting_after, collection_of, digest_from, digests_after, digests_of, digests_given, integrity, integrity_after};
@@ -10,7 +9,7 @@ use crate::content::{content, piece_at};
 use crate::state::{changed, metadata};
 use crate::voids::voids_digest;
 use crate::walk::{newest, place_behind};
-use hash_algos::{Algo, Digest, Running};
+use hash_algos::{Algo, Digest, digest_of};
 use inode_events::{Deed, Event, Settings, Told};
 use label_values::collect_algo;
 use std::alloc::Global;
@@ -45,15 +44,6 @@ pub struct Kept {
 }
 
 // ---- collections
-
-// The digest of bytes.
-pub fn digest_of(algo: Algo, bytes: &[u8]) -> Digest
-    ensures { result ≡ digest_of algo bytes.now }
-{
-    let mut running = Running::new(algo);
-    running.feed(bytes);
-    running.finish()
-}
 
 // What a collection gives.
 pub fn digest_from(c: &Collection) -> Digest

@@ -3,7 +3,6 @@ ghost use Rattle.inode_events.specs.Verdicts.{key_of, same_algos, same_bool, sam
 ghost use Rattle.plain_inode.specs.Asked.{check_seen};
 ghost use Rattle.plain_inode.specs.Views.{key_seen};
 
-use crate::checks::slot_of;
 use hash_algos::{Algo, AlgoSet};
 use inode_meta::{Need, Slot};
 use policy_text::{Action, Func};
@@ -21,7 +20,7 @@ pub fn key_of(check: (Func, Action)) -> Key
     ensures { key_seen result ≡ key_of (check_seen check) }
 {
     Key {
-        slot: slot_of(check.0),
+        slot: check.0.slot(),
         need: check.1.need,
         algos: check.1.algos,
     }

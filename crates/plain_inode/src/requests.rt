@@ -3,20 +3,15 @@ ghost use Rattle.inode_events.specs.Past.{past};
 ghost use Rattle.inode_events.specs.Says.{check_told, count_told, is_no_label, is_too_long, place_of, read_told, set_attr_told, set_meta_told, status_told, write_told};
 ghost use Rattle.plain_inode.specs.Views.{inode_of};
 
-use crate::attributes::IMA_NAME;
 use crate::files::{Kind, counts_as, creates};
-use crate::integrity::digest_of;
 use crate::kept::attributes;
 use crate::state::{metadata, new, present};
-use hash_algos::Algo;
+use hash_algos::{Algo, digest_of};
 use ima_templates::Placed;
 use inode_events::{Event, How, Settings, Told};
 use inode_meta::EvmStatus;
 use std::alloc::Global;
-use xattr_store::{Bytes, MAX_VALUE, OutOfMemory};
-
-// The attribute that holds the HMAC.
-const EVM_NAME: &[u8] = b"security.evm";
+use xattr_store::{Bytes, EVM_NAME, IMA_NAME, MAX_VALUE, OutOfMemory};
 
 // The most bytes that a file may have.
 const SIZE_LIMIT: u64 = 262_144;

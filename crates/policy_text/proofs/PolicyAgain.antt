@@ -8,7 +8,7 @@ use Rattle.std.proofs.lemmas.List.{append-nil}
 use Rattle.std.proofs.lemmas.List.Folds.{list_all-append}
 use Rattle.inode_meta.specs.Words.{template_word}
 use Rattle.text_forms.specs.FileSystems.{magic_text, uuid_text}
-use Rattle.text_forms.specs.Lines.{lines, from_lines}
+use Rattle.text_forms.specs.Lines.{lines, is_one_line, from_lines}
 use Rattle.text_forms.specs.Words.{is_visible, is_word}
 use Rattle.text_forms.proofs.FileSystems.{magic_again, uuid_again}
 use Rattle.text_forms.proofs.Tells.{line_split}
@@ -76,6 +76,10 @@ module _ (r : RuleValue) (ok : IsRule r) where
 
   flat_rule : Flat (rule_text r)
   flat_rule = flat-append (flat-append (flat-append (flat_visible (act_word r.act) (act_again r.act).0) flat_places) flat_ids) flat_options
+
+  -- the text of a rule is one line
+  pub rule_on_one_line : is_one_line (rule_text r) ≡ true
+  rule_on_one_line = flat_rule.bytes
 
 with_rule : (done : List RuleValue) (r : RuleValue) → IsRule r → length done < 1024 → with_line done (rule_text r) ≡ Ok (done ++ r ∷ [])
 with_rule done r ok room =

@@ -1,6 +1,7 @@
 -- The keys of a rule's tokens.
 use Rattle.std.specs.Prelude.{ℕ, Bool, true, ◌==◌, ◌||◌, List, [], ◌∷◌, length, take, drop, codes, Option, Some, None, if◌then◌else◌}
 use Rattle.std.specs.Str.{bytes_eq}
+use Rattle.text_forms.specs.Options.{◌>>=◌}
 use Rattle.policy_text.specs.declared.key.Key.{Key}
 use Rattle.policy_text.specs.declared.key.Key.TheVariants as key
 use Rattle.policy_text.specs.declared.key.Subject.{Subject}
@@ -9,11 +10,6 @@ use Rattle.policy_text.specs.declared.key.Sign.{Sign}
 use Rattle.policy_text.specs.declared.key.Sign.TheVariants as sign
 use Rattle.policy_text.specs.declared.rule.Act.{Act}
 use Rattle.policy_text.specs.RuleValue.{is_measure, is_appraise}
-
-infixl 10 ◌>>=◌
-abbrev pub ◌>>=◌ : {A B : Type 0} → Option A → (A → Option B) → Option B
-None >>= f = None
-(Some x) >>= f = f x
 
 abbrev pub starts : List ℕ → List ℕ → Bool
 starts token name = bytes_eq (take (length name) token) name

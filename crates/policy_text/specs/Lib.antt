@@ -1,3 +1,4 @@
+pub mod Accesses
 pub mod ActionInside
 pub mod ActionValue
 pub mod Gives
@@ -6,4 +7,5 @@ pub mod Key
 pub mod RuleInside
 pub mod RuleValue
 pub mod Spelling
+pub mod Tests
 pub mod Values

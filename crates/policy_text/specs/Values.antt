@@ -8,6 +8,7 @@ use Rattle.hash_algos.specs.Algo.{algo_by_name}
 use Rattle.hash_algos.specs.AlgoSet.{no_algos, with_algo}
 use Rattle.inode_meta.specs.declared.measurement.Template.{Template}
 use Rattle.inode_meta.specs.declared.measurement.Template.TheVariants as template
+use Rattle.text_forms.specs.Options.{◌>>=◌}
 use Rattle.policy_text.specs.declared.key.Sign.{Sign}
 use Rattle.policy_text.specs.declared.key.Sign.TheVariants as sign
 use Rattle.policy_text.specs.declared.rule.Act.{Act}
@@ -17,7 +18,6 @@ use Rattle.policy_text.specs.declared.rule.Func.TheVariants as func
 use Rattle.policy_text.specs.declared.rule.IdTest.{IdTest}
 use Rattle.policy_text.specs.declared.rule.IdTest.TheVariants as id
 use Rattle.policy_text.specs.declared.rule.MaskTest.{MaskTest}
-use Rattle.policy_text.specs.Key.{◌>>=◌}
 
 -- what a table has for a word
 abbrev pub look_up : {A : Type 0} → List (List ℕ × A) → List ℕ → Option A

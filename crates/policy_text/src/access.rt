@@ -1,6 +1,10 @@
+ghost use Rattle.std.specs.Prelude.{◌≡◌};
+ghost use Rattle.policy_text.specs.Accesses.{func_of_purpose, mask_of_purpose};
+ghost use Rattle.policy_text.specs.ActionValue.{no_action};
+
 use crate::rule::Func;
 use hash_algos::AlgoSet;
-use inode_meta::{Cred, Need, Template};
+use inode_meta::{Cred, DEFAULT_PCR, Need, Template};
 use std::marker::Model;
 use xattr_store::Bytes;
 
@@ -17,12 +21,71 @@ pub struct Super {
     pub versions: bool,
 }
 
+/// To execute: a bit of an access mask, as the kernel has it.
+pub const MAY_EXEC: u8 = 1;
+
+/// To write.
+pub const MAY_WRITE: u8 = 2;
+
+/// To read.
+pub const MAY_READ: u8 = 4;
+
+/// To append.
+pub const MAY_APPEND: u8 = 8;
+
+/// What a task wants of a file, where the policy is asked. The table of the hook that asks and of the
+/// access mask stands here; [`Func::slot`] has the place of the verdict.
+#[derive(Clone, Copy, Debug, PartialEq, Eq)]
+pub enum Purpose {
+    /// It is opened for reading.
+    Read,
+    /// It is opened for writing.
+    Write,
+    /// It is opened for both.
+    ReadWrite,
+    /// It is mapped for execution.
+    Map,
+    /// It is executed.
+    Exec,
+    /// The kernel reads it as a module.
+    Module,
+    /// The kernel reads it as a firmware.
+    Firmware,
+}
+
+impl Purpose {
+    /// The hook that asks.
+    pub fn func(self) -> Func
+        ensures { result ≡ func_of_purpose self }
+    {
+        match self {
+            Purpose::Read | Purpose::Write | Purpose::ReadWrite => Func::FileCheck,
+            Purpose::Map => Func::MmapCheck,
+            Purpose::Exec => Func::BprmCheck,
+            Purpose::Module => Func::ModuleCheck,
+            Purpose::Firmware => Func::FirmwareCheck,
+        }
+    }
+
+    /// The access mask.
+    pub fn mask(self) -> u8
+        ensures { result ≡ mask_of_purpose self }
+    {
+        match self {
+            Purpose::Read | Purpose::Module | Purpose::Firmware => MAY_READ,
+            Purpose::Write => MAY_WRITE,
+            Purpose::ReadWrite => MAY_READ | MAY_WRITE,
+            Purpose::Map | Purpose::Exec => MAY_EXEC,
+        }
+    }
+}
+
 /// An access, as rules are matched against it.
 #[derive(Debug, Drop)]
 pub struct Access<'a> {
     /// The hook that asks.
     pub func: Func,
-    /// What is to be done with the file: `MAY_EXEC` 1, `MAY_WRITE` 2, `MAY_READ` 4, `MAY_APPEND` 8.
+    /// What is to be done with the file: [`MAY_EXEC`], [`MAY_WRITE`], [`MAY_READ`], [`MAY_APPEND`].
     pub mask: u8,
     /// The credentials of the task.
     pub cred: &'a Cred,
@@ -71,4 +134,22 @@ impl Model for Action {
     ghost invariant = { λ a. IsAction (action_value a) };
 
     ghost inverse = { action_inside };
+}
+
+impl Action {
+    /// The action where no rule has anything done.
+    pub fn none() -> Action
+        ensures { result ≡ no_action }
+    {
+        Action {
+            measure: false,
+            pcr: DEFAULT_PCR,
+            appraise: false,
+            audit: false,
+            hash: false,
+            template: None,
+            need: Need::Any,
+            algos: None,
+        }
+    }
 }

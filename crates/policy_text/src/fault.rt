@@ -5,9 +5,6 @@ ghost use Rattle.policy_text.specs.Gives.{err_at};
 
 use std::alloc::{AllocError, AllocFailed};
 
-/// Want of memory: the one answer that has no further cause.
-pub type OutOfMemory = AllocError;
-
 /// Why a line is no rule. A line's tokens are tested from left to right, and the first bad token
 /// decides.
 #[derive(Clone, Copy, Debug, PartialEq, Eq)]

@@ -18,8 +18,11 @@ mod values;
 mod words;
 mod write;
 
-pub use access::{Access, Action, Super};
-pub use fault::{Fault, OutOfMemory, PolicyErr, RuleCause};
+pub use access::{
+    Access, Action, MAY_APPEND, MAY_EXEC, MAY_READ, MAY_WRITE, Purpose, Super,
+};
+pub use fault::{Fault, PolicyErr, RuleCause};
+pub use inode_meta::OutOfMemory;
 pub use policy::{Policy, RULES};
 pub use read::{parse, parse_rule};
 pub use rule::{Act, Func, IdTest, MaskTest, Rule};

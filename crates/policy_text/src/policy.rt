@@ -1,7 +1,7 @@
-ghost use Rattle.std.specs.Prelude.{◌≡◌, ◌<◌, ◌≤◌, [], ◌∷◌, ◌++◌, length, OnOk, OnErr};
+ghost use Rattle.std.specs.Prelude.{◌≡◌, ◌<◌, ◌≤◌, [], ◌∷◌, ◌++◌, length, IfOk, OnOk, OnErr};
 
-use crate::fault::OutOfMemory;
 use crate::rule::Rule;
+use inode_meta::OutOfMemory;
 use std::alloc::Global;
 use std::marker::Model;
 
@@ -51,5 +51,25 @@ impl Policy {
     {
         self.rules.push(rule)?;
         Ok(())
+    }
+
+    /// The rules, taken over.
+    pub fn into_rules(self) -> Vec<Rule>
+        ensures rules { result.items ≡ self }
+        ensures limit { length self ≤ 1024 }
+    {
+        self.rules
+    }
+
+    /// An equal policy.
+    pub fn copy(&self) -> Result<Policy, OutOfMemory>
+        ensures { IfOk result (λ copy. copy ≡ self.now) }
+    {
+        let alloc = *self.rules.allocator();
+        let mut rules = Vec::with_capacity(alloc, self.rules.len())?;
+        for rule in self.rules.iter() {
+            rules.push(rule.copy(alloc)?)?;
+        }
+        Ok(Policy { rules })
     }
 }

@@ -1,8 +1,9 @@
 ghost use Rattle.std.specs.Prelude.{◌≡◌, IfOk};
+ghost use Rattle.policy_text.specs.Accesses.{slot_of};
+ghost use Rattle.policy_text.specs.Tests.{id_holds, mask_holds};
 
-use crate::fault::OutOfMemory;
 use hash_algos::AlgoSet;
-use inode_meta::{Need, Template};
+use inode_meta::{Need, OutOfMemory, Slot, Template};
 use std::alloc::Global;
 use std::marker::Model;
 use xattr_store::Bytes;
@@ -62,6 +63,20 @@ pub enum Func {
     MmapCheckReqprot,
 }
 
+impl Func {
+    /// The place of the hook's verdict in the kernel's inode cache: a function that has none of its own
+    /// shares that of opened files.
+    pub fn slot(self) -> Slot
+        ensures { result ≡ slot_of self }
+    {
+        match self {
+            Func::BprmCheck => Slot::Bprm,
+            Func::MmapCheck => Slot::Mmap,
+            _ => Slot::File,
+        }
+    }
+}
+
 /// The test that a rule makes of an access mask.
 #[derive(Clone, Copy, Debug, PartialEq, Eq)]
 pub struct MaskTest {
@@ -69,6 +84,19 @@ pub struct MaskTest {
     pub exact: bool,
     /// One of `MAY_EXEC` 1, `MAY_WRITE` 2, `MAY_READ` 4 and `MAY_APPEND` 8.
     pub bits: u8,
+}
+
+impl MaskTest {
+    /// Whether the test holds of an access mask.
+    pub fn holds(self, mask: u8) -> bool
+        ensures { result ≡ mask_holds self mask }
+    {
+        if self.exact {
+            mask == self.bits
+        } else {
+            mask & self.bits == self.bits
+        }
+    }
 }
 
 /// The test that a rule makes of the number of a user or a group.
@@ -80,6 +108,19 @@ pub enum IdTest {
     Above(u32),
     /// `<`: the number is below this one.
     Below(u32),
+}
+
+impl IdTest {
+    /// Whether the test holds of a number.
+    pub fn holds(self, id: u32) -> bool
+        ensures { result ≡ id_holds self id }
+    {
+        match self {
+            IdTest::Is(number) => id == number,
+            IdTest::Above(number) => id > number,
+            IdTest::Below(number) => id < number,
+        }
+    }
 }
 
 /// A rule: one action, the conditions under which it is taken, and its options. A condition that

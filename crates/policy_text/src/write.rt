@@ -1,19 +1,19 @@
 //! Printing rules.
 
-ghost use Rattle.std.specs.Prelude.{◌≡◌, [], ◌∷◌, ◌++◌, codes, not, Ok, IfOk, OnOk, OnErr};
+ghost use Rattle.std.specs.Prelude.{◌≡◌, [], ◌∷◌, ◌++◌, codes, not, true, Ok, IfOk, OnOk, OnErr};
 ghost use Rattle.std.specs.Fmt.{decimal};
 ghost use Rattle.inode_meta.specs.Words.{template_word};
 ghost use Rattle.text_forms.specs.FileSystems.{magic_text, uuid_text};
+ghost use Rattle.text_forms.specs.Lines.{is_one_line};
 ghost use Rattle.policy_text.specs.Grammar.{policy_of, rule_of};
 ghost use Rattle.policy_text.specs.RuleValue.{IsRule, is_any};
 ghost use Rattle.policy_text.specs.Spelling.{algos_text, flagged, func_word, id_text, ids_text, keyed, mask_text, options_text, place_text, policy_text, rule_text};
 
-use crate::fault::OutOfMemory;
 use crate::policy::Policy;
 use crate::rule::{Func, IdTest, MaskTest, Rule};
 use crate::words::mask_bits_word;
 use hash_algos::{Algo, AlgoSet};
-use inode_meta::{Need, Template};
+use inode_meta::{Need, OutOfMemory, Template};
 use std::alloc::{AllocError, Global};
 use std::io::{self, Write};
 use text_forms::{FsUuid, Magic};
@@ -49,6 +49,7 @@ fn push_line(text: &mut Vec<u8>, rule: &Rule) -> Result<(), AllocError>
 pub fn print_rule(alloc: Global, rule: &Rule, out: &mut Vec<u8>) -> Result<(), OutOfMemory>
     ensures text { OnOk result (out.new.items ≡ out.old.items ++ rule_text rule.now) }
     ensures again { rule_of (rule_text rule.now) ≡ Ok rule.now }
+    ensures one_line { is_one_line (rule_text rule.now) ≡ true }
     ensures err { OnErr result (out.new.items ≡ out.old.items) }
 {
     let mut text = Vec::new(alloc);

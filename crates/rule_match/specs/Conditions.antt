@@ -1,28 +1,17 @@
 -- When a rule matches an access: each condition that its line gives holds
 -- (Documentation/ABI/testing/ima_policy).
-use Rattle.std.specs.Prelude.{ℕ, Bool, ◌==◌, ◌&&◌, nat_lt, if◌then◌else◌, bit_and}
+use Rattle.std.specs.Prelude.{ℕ, Bool, ◌==◌, ◌&&◌}
 use Rattle.std.specs.Str.{bytes_eq}
 use Rattle.inode_meta.specs.declared.identity.Cred.{Cred}
 use Rattle.policy_text.specs.RuleValue.{RuleValue, if_there}
+use Rattle.policy_text.specs.Tests.{id_holds, mask_holds}
 use Rattle.policy_text.specs.declared.access.Access.{Access}
 use Rattle.policy_text.specs.declared.access.Super.{Super}
 use Rattle.policy_text.specs.declared.rule.Func.{Func}
-use Rattle.policy_text.specs.declared.rule.IdTest.{IdTest}
-use Rattle.policy_text.specs.declared.rule.IdTest.TheVariants.{Is, Above, Below}
-use Rattle.policy_text.specs.declared.rule.MaskTest.{MaskTest}
 use Rattle.policy_text.specs.contracts.rule.FuncPartialEq.TheImpl as func_eq
 
 abbrev pub same_func : Func → Func → Bool
 same_func = (func_eq.ghosts).eq
-
--- the access mask is exactly these bits, or contains them
-abbrev pub mask_holds : MaskTest → ℕ → Bool
-mask_holds test mask = if test.exact then mask == test.bits else bit_and mask test.bits == test.bits
-
-abbrev pub id_holds : IdTest → ℕ → Bool
-id_holds (Is n) id = id == n
-id_holds (Above n) id = nat_lt n id
-id_holds (Below n) id = nat_lt id n
 
 -- `func=` and `mask=`
 abbrev pub hook_matches : RuleValue → Func → ℕ → Bool

@@ -1,8 +1,9 @@
 -- First match: what the rules have done with an access. Per family of actions the first line that
 -- matches decides, and later lines of that family are ignored. No family has an effect on another.
-use Rattle.std.specs.Prelude.{ℕ, Bool, true, false, ◌&&◌, List, Option, Some, None, is_some, unwrap_or, find, if◌then◌else◌}
+use Rattle.std.specs.Prelude.{Bool, true, false, ◌&&◌, List, Option, Some, None, is_some, unwrap_or, find, if◌then◌else◌}
 use Rattle.std.specs.Option.{option_and_then, option_map_or}
 use Rattle.inode_meta.specs.declared.appraisal.Need.TheVariants as need
+use Rattle.inode_meta.specs.declared.measurement.TheConstants.{DEFAULT_PCR}
 use Rattle.policy_text.specs.ActionValue.{ActionValue}
 use Rattle.policy_text.specs.RuleValue.{RuleValue}
 use Rattle.policy_text.specs.declared.access.Access.{Access}
@@ -49,15 +50,11 @@ abbrev pub carried_out : Option RuleValue → Option RuleValue
 carried_out None = None
 carried_out (Some r) = if is_done r.act then Some r else None
 
--- the register of a measurement for which no register is given
-abbrev pub default_pcr : ℕ
-default_pcr = 10
-
 -- the action of the rules that are carried out, one at most for each family
 abbrev pub action_of : Option RuleValue → Option RuleValue → Option RuleValue → Option RuleValue → ActionValue
 action_of measure appraise audit hash = record {
   measure = is_some measure;
-  pcr = unwrap_or (option_and_then (λ r. r.pcr) measure) default_pcr;
+  pcr = unwrap_or (option_and_then (λ r. r.pcr) measure) DEFAULT_PCR;
   template = option_and_then (λ r. r.template) measure;
   appraise = is_some appraise;
   need = option_map_or (λ r. r.need) appraise need.Any;

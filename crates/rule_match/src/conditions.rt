@@ -1,9 +1,10 @@
 ghost use Rattle.std.specs.Prelude.{◌≡◌};
 ghost use Rattle.policy_text.specs.RuleValue.{if_there};
-ghost use Rattle.rule_match.specs.Conditions.{hook_matches, id_holds, mask_holds, owner_matches, place_matches, rule_matches, task_matches};
+ghost use Rattle.policy_text.specs.Tests.{id_holds};
+ghost use Rattle.rule_match.specs.Conditions.{hook_matches, owner_matches, place_matches, rule_matches, task_matches};
 
 use inode_meta::Cred;
-use policy_text::{Access, Func, IdTest, MaskTest, Rule, Super};
+use policy_text::{Access, Func, IdTest, Rule, Super};
 
 /// Whether the rule matches the access: each condition that it gives holds, and one that it doesn't give holds of every
 /// access. `permit_directio` and `appraise_flag=` are options, and no conditions.
@@ -22,7 +23,7 @@ pub fn matches(r: &Rule, a: &Access) -> bool
 fn hook_fits(r: &Rule, func: Func, mask: u8) -> bool
     ensures { result ≡ hook_matches r.now func mask }
 {
-    r.func.is_none_or(|f| f == func) && r.mask.is_none_or(|test| mask_fits(test, mask))
+    r.func.is_none_or(|f| f == func) && r.mask.is_none_or(|test| test.holds(mask))
 }
 
 fn place_fits(r: &Rule, place: &Super) -> bool
@@ -52,23 +53,8 @@ fn owner_fits(r: &Rule, owner: u32, group: u32) -> bool
     id_fits(r.fowner, owner) && id_fits(r.fgroup, group)
 }
 
-fn mask_fits(test: MaskTest, mask: u8) -> bool
-    ensures { result ≡ mask_holds test mask }
-{
-    if test.exact {
-        mask == test.bits
-    } else {
-        mask & test.bits == test.bits
-    }
-}
-
 fn id_fits(test: Option<IdTest>, id: u32) -> bool
     ensures { result ≡ if_there (λ t. id_holds t id) test }
 {
-    match test {
-        Some(IdTest::Is(n)) => id == n,
-        Some(IdTest::Above(n)) => id > n,
-        Some(IdTest::Below(n)) => id < n,
-        None => true,
-    }
+    test.is_none_or(|t| t.holds(id))
 }

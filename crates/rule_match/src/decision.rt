@@ -4,11 +4,8 @@ ghost use Rattle.policy_text.specs.declared.access.Access.{Access as AnyAccess};
 ghost use Rattle.rule_match.specs.Decision.{decide_of};
 
 use crate::conditions::matches;
-use inode_meta::Need;
+use inode_meta::{DEFAULT_PCR, Need};
 use policy_text::{Access, Act, Action, Policy, Rule};
-
-/// The register that a measurement extends where its rule names none.
-const DEFAULT_PCR: u8 = 10;
 
 /// What the policy has done with the access. For each family of actions (`measure` and `dont_measure`, and so on) the
 /// first line that matches decides. A family without one does nothing, and none has an effect on another; in the kernel
@@ -29,16 +26,7 @@ pub fn decide(p: &Policy, a: &Access) -> Action
 pub fn nothing_done() -> Action
     ensures { (a : AnyAccess) → result ≡ decide_of [] a }
 {
-    Action {
-        measure: false,
-        pcr: DEFAULT_PCR,
-        template: None,
-        appraise: false,
-        need: Need::Any,
-        algos: None,
-        audit: false,
-        hash: false,
-    }
+    Action::none()
 }
 
 /// What is done where one more rule stands before those that have `later` done: if it matches, it decides in its family

@@ -1,6 +1,7 @@
 pub mod FileSystems
 pub mod Lines
 pub mod Numbers
+pub mod Options
 pub mod Paths
 pub mod Tokens
 pub mod Words

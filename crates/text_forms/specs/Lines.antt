@@ -1,10 +1,14 @@
 -- A text is read line by line: each line makes one state of the state before it, or has a cause.
-use Rattle.std.specs.Prelude.{◌≡◌, ℕ, ◌+◌, ◌==◌, List, [], ◌∷◌, ◌++◌, length, Result, Ok, Err, count_by}
-use Rattle.std.specs.List.{slice_split}
+use Rattle.std.specs.Prelude.{◌≡◌, ℕ, Bool, not, ◌+◌, ◌==◌, List, [], ◌∷◌, ◌++◌, length, Result, Ok, Err, count_by}
+use Rattle.std.specs.List.{list_all, slice_split}
 
 -- the lines of a text; what stands behind the last newline is one more line, which may be empty
 abbrev pub lines : List ℕ → List (List ℕ)
 lines text = slice_split (λ b. b == 10) text
+
+-- no newline is in the text
+abbrev pub is_one_line : List ℕ → Bool
+is_one_line text = list_all (λ b. not (b == 10)) text
 
 abbrev pub newlines : List ℕ → ℕ
 newlines text = count_by (λ b. b == 10) text

@@ -1,2 +1,3 @@
 pub mod Attrs
+pub mod Names
 pub mod Places

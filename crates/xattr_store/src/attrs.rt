@@ -3,8 +3,9 @@ ghost use Rattle.std.specs.Option.{option_copied, option_map};
 ghost use Rattle.xattr_store.specs.declared.attrs.SetErr.TheVariants.{OutOfMemory};
 ghost use Rattle.xattr_store.specs.Attrs.{put, value, without};
 
-use crate::bytes::{Bytes, OutOfMemory};
+use crate::bytes::Bytes;
 use crate::places::{find, put_value};
+use inode_meta::OutOfMemory;
 use std::alloc::{AllocError, Global};
 use std::marker::Model;
 

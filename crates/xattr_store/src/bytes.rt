@@ -1,10 +1,8 @@
 ghost use Rattle.std.specs.Prelude.{◌≡◌, ℕ, List, IfOk};
 
-use std::alloc::{AllocError, Global};
+use inode_meta::OutOfMemory;
+use std::alloc::Global;
 use std::marker::Model;
-
-/// Want of memory: the one answer of these crates that has no further cause.
-pub type OutOfMemory = AllocError;
 
 /// A byte string that owns its memory, as a path, a name or the value of an attribute. Contracts see its list of bytes.
 #[derive(Debug, Drop)]

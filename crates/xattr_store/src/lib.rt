@@ -3,9 +3,12 @@
 
 mod attrs;
 mod bytes;
+mod names;
 mod places;
 #[cfg(test)]
 mod tests;
 
 pub use attrs::{Attrs, MAX_VALUE, NoData, SetErr};
-pub use bytes::{Bytes, OutOfMemory};
+pub use bytes::Bytes;
+pub use inode_meta::OutOfMemory;
+pub use names::{EVM_NAME, IMA_NAME};

@@ -4,7 +4,8 @@ ghost use Rattle.std.specs.Prelude.{◌≡◌, MatchResult, if◌then◌else◌,
 ghost use Rattle.xattr_store.specs.Attrs.{put};
 ghost use Rattle.xattr_store.specs.Places.{IsFoundAt, IsGapAt};
 
-use crate::bytes::{Bytes, OutOfMemory};
+use crate::bytes::Bytes;
+use inode_meta::OutOfMemory;
 use std::cmp::Ordering;
 
 // `Ok` of the place of the name, or `Err` of the place where it is to be inserted.

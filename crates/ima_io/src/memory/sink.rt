@@ -3,7 +3,8 @@ ghost use Rattle.std.specs.Io.KnownBytes.{WriteAppends};
 ghost use Rattle.ima_io.specs.Counts.{Rose, counted_on};
 ghost use Rattle.ima_io.specs.Memory.{fails_at};
 
-use crate::outside::{Failed, OutOfMemory, Sink};
+use crate::outside::{Failed, Sink};
+use inode_meta::OutOfMemory;
 use std::alloc::Global;
 use std::marker::Model;
 

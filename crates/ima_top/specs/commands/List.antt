@@ -7,6 +7,7 @@ use Rattle.hash_algos.specs.Digest.{digest_of, zero_digest}
 use Rattle.inode_meta.specs.declared.measurement.Bank.{Bank}
 use Rattle.inode_meta.specs.declared.measurement.Bank.TheVariants as bank
 use Rattle.inode_meta.specs.declared.measurement.Template.TheVariants.{ImaNg}
+use Rattle.inode_meta.specs.declared.measurement.TheConstants.{DEFAULT_PCR}
 use Rattle.inode_meta.specs.Words.{bank_word}
 use Rattle.ima_templates.specs.declared.entry.Entry.{Entry}
 use Rattle.ima_templates.specs.Entries.{entry_of}
@@ -19,12 +20,14 @@ use Rattle.ima_top.specs.PlainList.{File, plain_list_of}
 -- the first entry: nothing was measured before the kernel ran
 abbrev pub boot_entry : Entry
 boot_entry =
-    entry_of 10 ImaNg (zero_digest algo.Sha256) (zero_digest algo.Sha1) (codes "boot_aggregate") []
+    entry_of DEFAULT_PCR ImaNg (zero_digest algo.Sha256) (zero_digest algo.Sha1)
+    (codes "boot_aggregate") []
 
--- a file is measured by SHA-256 into register 10
+-- a file is measured by SHA-256 into the default register
 abbrev pub file_entry : File → Entry
 file_entry f =
-    entry_of 10 ImaNg (digest_of algo.Sha256 f.content) (digest_of algo.Sha1 f.content) f.path []
+    entry_of DEFAULT_PCR ImaNg (digest_of algo.Sha256 f.content) (digest_of algo.Sha1 f.content)
+    f.path []
 
 -- the entries of the files are added in order; one that is in the list already isn't added
 abbrev pub measured : List File → List Entry

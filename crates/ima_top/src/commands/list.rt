@@ -1,6 +1,5 @@
 // The command `list`: the measurement list of the files of a plain list, and its registers.
 ghost use Rattle.std.specs.Prelude.{◌≡◌, ◌∷◌, [], ◌++◌, map, flat_map, IfOk, OnOk};
-ghost use Rattle.hash_algos.specs.Digest.{digest_of};
 ghost use Rattle.ima_templates.specs.Replay.{banks_of};
 ghost use Rattle.ima_templates.specs.Same.{add, place_of_same};
 ghost use Rattle.list_format.specs.Line.{ascii_line};
@@ -11,10 +10,10 @@ ghost use Rattle.ima_top.specs.commands.List.{boot_entry, file_entry, list_refus
 use crate::file_line::FileLine;
 use crate::list_text::plain_list;
 use crate::not_done::NotDone;
-use hash_algos::{Algo, Digest, Running};
+use hash_algos::{Algo, Digest, digest_of};
 use ima_io::OutOfMemory;
 use ima_templates::{Entry, build};
-use inode_meta::{Bank, Template};
+use inode_meta::{Bank, DEFAULT_PCR, Template};
 use list_format::ascii;
 use pcr_bank::Banks;
 use std::alloc::Global;
@@ -50,7 +49,7 @@ fn boot_entry(alloc: Global) -> Result<Entry, OutOfMemory>
     let zeros = Digest::zeros(Algo::Sha256);
     build(
         alloc,
-        10,
+        DEFAULT_PCR,
         Template::ImaNg,
         &zeros,
         &Digest::zeros(Algo::Sha1),
@@ -62,17 +61,17 @@ fn boot_entry(alloc: Global) -> Result<Entry, OutOfMemory>
 fn file_entry(alloc: Global, file: &FileLine<'_>) -> Result<Entry, OutOfMemory>
     ensures { IfOk result (λ e. e ≡ file_entry (file_view file.now)) }
 {
-    let sha256 = digest(Algo::Sha256, file.content);
-    let sha1 = digest(Algo::Sha1, file.content);
-    build(alloc, 10, Template::ImaNg, &sha256, &sha1, file.path, &[])
-}
-
-fn digest(algo: Algo, content: &[u8]) -> Digest
-    ensures { result ≡ digest_of algo content.now }
-{
-    let mut running = Running::new(algo);
-    running.feed(content);
-    running.finish()
+    let sha256 = digest_of(Algo::Sha256, file.content);
+    let sha1 = digest_of(Algo::Sha1, file.content);
+    build(
+        alloc,
+        DEFAULT_PCR,
+        Template::ImaNg,
+        &sha256,
+        &sha1,
+        file.path,
+        &[],
+    )
 }
 
 // Adds an entry that isn't in the list yet.
