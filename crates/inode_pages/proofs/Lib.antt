@@ -1,3 +1,4 @@
+mod Examples
 pub mod Lookups
 pub mod Writes
 pub mod Paging

@@ -3,6 +3,8 @@
 
 mod content;
 mod page;
+#[cfg(test)]
+mod tests;
 
 pub use content::{Content, MOST_BYTES, PageErr};
 pub use page::{PAGE_SIZE, Page};

@@ -1,0 +1,32 @@
+-- Contents whose bytes are written out.
+use Rattle.std.proofs.Common.{◌≡◌, ℕ, List, [], ◌∷◌, ◌++◌, Bool, true, false, refl}
+use Rattle.std.specs.Prelude.{replicate}
+use Rattle.inode_pages.specs.Content.{bytes_at, is_last_piece, overwritten, piece_at, resized}
+
+-- what was cut away doesn't come back
+cut_and_lengthened : resized (resized (97 ∷ 98 ∷ 99 ∷ []) 1) 3 ≡ 97 ∷ 0 ∷ 0 ∷ []
+cut_and_lengthened = refl
+
+-- a write within, across the end, and behind a gap
+written_inside : overwritten (97 ∷ 98 ∷ 99 ∷ []) 1 (120 ∷ []) ≡ 97 ∷ 120 ∷ 99 ∷ []
+written_inside = refl
+
+written_across : overwritten (97 ∷ 98 ∷ 99 ∷ []) 2 (120 ∷ 121 ∷ []) ≡ 97 ∷ 98 ∷ 120 ∷ 121 ∷ []
+written_across = refl
+
+written_behind : overwritten (97 ∷ 98 ∷ 99 ∷ []) 4 (120 ∷ []) ≡ 97 ∷ 98 ∷ 99 ∷ 0 ∷ 120 ∷ []
+written_behind = refl
+
+-- a read that goes past the end
+read_past : bytes_at (97 ∷ 98 ∷ 99 ∷ []) 1 9 ≡ 98 ∷ 99 ∷ []
+read_past = refl
+
+-- the second piece of a content of 4,097 bytes has one byte, and is the last
+second_piece : piece_at (replicate 4096 97 ++ 98 ∷ []) 1 ≡ 98 ∷ []
+second_piece = refl
+
+not_the_last : is_last_piece (replicate 4097 97) 0 ≡ false
+not_the_last = refl
+
+the_last : is_last_piece (replicate 4096 97) 0 ≡ true
+the_last = refl
