@@ -68,19 +68,22 @@ statuses : (DONE ≡ 0) × (USAGE ≡ 1) × (REFUSED ≡ 2) × (STUCK ≡ 3) × 
     × (WRITE_FAULT ≡ 5) × (TOO_LONG ≡ 6) × (OUT_OF_MEMORY ≡ 7)
 statuses = (refl, refl, refl, refl, refl, refl, refl, refl)
 
--- neither command has a stuck run
-never_stuck : (command : Command) (input output : List ℕ) → IsOutput command input true output → ⊥
-unfolding IsOutput
-never_stuck command.List input output h = absurd (cc (h.0))
-never_stuck command.Policy input output h = absurd (cc (h.0))
+-- ---- neither `list` nor `policy` has a stuck run
 
--- so the status of a stuck run doesn't come yet
-no_stuck_status : (command : Command) (input : List ℕ) (status : ℕ) (old new : Option (List ℕ))
-    (told : List ℕ → Type 0)
+abbrev IsNeverStuck : Command → Type 0
+IsNeverStuck command = (input output : List ℕ) → IsOutput command input true output → ⊥
+
+list_is_never_stuck : IsNeverStuck command.List
+unfolding IsOutput
+list_is_never_stuck input output h = absurd (cc (h.0))
+
+policy_is_never_stuck : IsNeverStuck command.Policy
+unfolding IsOutput
+policy_is_never_stuck input output h = absurd (cc (h.0))
+
+-- so its status doesn't come by such a command
+no_stuck_status : (command : Command) → IsNeverStuck command → (input : List ℕ) (status : ℕ)
+    (old new : Option (List ℕ)) (told : List ℕ → Type 0)
     → Serves command input status old new told → status ≡ STUCK → ⊥
-no_stuck_status command input status old new told serves is =
-    let (
-      output,
-      is_output,
-      written,
-    ) = serves.written_stuck is in never_stuck command input output is_output
+no_stuck_status command never input status old new told serves is =
+    let (output, is_output, written) = serves.written_stuck is in never input output is_output
