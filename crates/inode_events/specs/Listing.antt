@@ -1,7 +1,6 @@
 -- What the events of an inode have to do with the measurement list.
 use Rattle.std.specs.Prelude.{◌≡◌, ℕ, ◌==◌, ◌||◌, List, [], ◌∷◌, ◌++◌, Option, Some, None, option_map, slice_get, unwrap_or, if◌then◌else◌}
 use Rattle.ima_templates.specs.Entries.{entry_of, violation_of}
-use Rattle.ima_templates.specs.IsEntry.{IsEntry}
 use Rattle.ima_templates.specs.Same.{place_of_same}
 use Rattle.ima_templates.specs.declared.entry.Entry.{Entry}
 use Rattle.ima_templates.specs.declared.entry.Placed.{Placed}
@@ -131,12 +130,3 @@ AreIn list (m ∷ earlier) = StandsIn list m.added × IsFirstIn list m.found × 
 -- the list has what the events of the journal say of it
 abbrev pub IsListed : Inode → List Entry → List Event → Type 0
 IsListed inode list events = AreIn list (mentions inode events)
-
-abbrev pub AreFoundEntries : List Mention → Type 0
-AreFoundEntries [] = Unit {0}
-AreFoundEntries (m ∷ earlier) =
-    ((found : Listed) → m.found ≡ Some found → IsEntry found.1) × AreFoundEntries earlier
-
--- what the events find is an entry that can stand in a list
-abbrev pub FindsEntries : Inode → List Event → Type 0
-FindsEntries inode events = AreFoundEntries (mentions inode events)

@@ -29,12 +29,14 @@ use Rattle.journal_laws.proofs.Fresh.{CollectionIs, DigestsIs, Fresh, FreshUnles
 use Rattle.journal_laws.proofs.FreshSteps.{collected_fresh, finished, freshness_lem}
 use Rattle.journal_laws.proofs.Stages.{Stages, stages}
 
+-- in mode enforce an action that appraises does
 enforced : (i : Inode) (file : ℕ) (p : List Event) → i.settings.mode ≡ Enforce
     → (last_check file p).action.appraise ≡ true
     → appraises i (last_check file p).action ≡ true
 enforced i file p m a =
     ap (λ (b : Bool). b && not (is_off i.settings.mode)) a ∙ ap (λ (x : Mode). not (is_off x)) m
 
+-- mode enforce admits exactly on Pass
 admits_passed : (m : Mode) (v : Verdict) → m ≡ Enforce → admits m (Some v) ≡ is_pass v
 admits_passed m v e = subst (λ (x : Mode). admits x (Some v) ≡ is_pass v) (sym e) refl
 
@@ -71,6 +73,7 @@ admitted i p file placed digest grant stale made m a d f =
       fresh s = verdict_fresh i p (key_of (last_check file p)) digest stale d
           (verdict_in_force i (key_of (last_check file p)) p) f s
 
+-- a take grants from the digest in force
 take_admits : (i : Inode) (p : List Event) (who : Who) (file : ℕ) (grant : Grant)
     → Follows i p who (deed.Take file) (told.Grant grant) → Fresh i p
     → i.settings.mode ≡ Enforce → (last_check file p).action.appraise ≡ true
@@ -101,6 +104,7 @@ take_admits i p who file grant h fr m a =
             (λ u. r.2 (not-true (modified_since x.begin p) (sym un ∙ u))),
           )
 
+-- a finish grants from its collection
 finish_admits : (i : Inode) (p : List Event) (who : Who) (file : ℕ) (grant : Grant)
     → Follows i p who (deed.Finish file) (told.Grant grant) → Stages i p → Fresh i p
     → i.settings.mode ≡ Enforce → (last_check file p).action.appraise ≡ true
@@ -135,6 +139,7 @@ finish_admits i p who file grant h s fr m a =
             (λ u. r.2 (not-true (modified_since c.begin p) (sym un ∙ u))),
           )
 
+-- either
 pub admits_lem : (i : Inode) (p : List Event) (who : Who) (d : Deed) (grant : Grant) (file : ℕ)
     → Follows i p who d (told.Grant grant) → EachFollows i p
     → granted_file d ≡ Some file → i.settings.mode ≡ Enforce

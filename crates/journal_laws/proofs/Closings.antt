@@ -45,6 +45,7 @@ closed_digest i p c h k m one = at (modified_since c.begin p) refl where
       ∙ ap (λ (x : Algo). digest_of x (content p))
       (h.3 ∙ cond-true c.closing i.settings.hash (chosen_algo i p) k)
 
+-- the close writes what its collection gives
 labelled_lem : (i : Inode) (p : List Event) (file : ℕ) → stage i file p ≡ CloseCollected
     → writers p ≡ 1 → Stages i p → Fresh i p → (o : Option Collection) → collecting i p ≡ o
     → labelled_by i (option_map digest_from o) (metadata p) (attributes i p) ≡ labelled_with i
@@ -60,6 +61,7 @@ labelled_lem i p file l one s fr (Some c) e =
     ap (λ (d : Digest). labelled_with i d (metadata p) (attributes i p))
     (closed_digest i p c ci ends.1 ends.2 one)
 
+-- where it is told that it did
 pub labelled : (i : Inode) (p : List Event) (who : Who) (file : ℕ)
     → Follows i p who (deed.CloseFinish file) told.LabelledDropped → EachFollows i p
     → attributes i (labelled_close who file p) ≡ labelled_with i

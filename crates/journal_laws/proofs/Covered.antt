@@ -47,13 +47,16 @@ use Rattle.journal_laws.proofs.Tallies.{tally_held}
 
 -- ---- violations
 
+-- a list of one contains that one
 contains_one : (place v : ℕ) → Contains (place ∷ []) v → place ≡ v
 contains_one place v h =
     let z : h.0 ≡ 0 = omega (arith, h.1) in subst (λ (k : ℕ). get_or (place ∷ []) k v ≡ v) z h.2
 
+-- an empty list contains nothing
 contains_none : (v : ℕ) → Contains {X = ℕ} [] v → ⊥
 contains_none v h = omega (arith, h.1)
 
+-- a violation that an event is told stands in the list
 violation_shown : (i : Inode) (list : List Entry) (before : List Event) (d : Deed) (t : Told)
     (v : ℕ) → StandsIn list (adds i d t before) → Contains (violation_places d t) v
     → ShowsViolation i list v
@@ -65,6 +68,7 @@ violation_shown i list before (deed.Check g func action rules) (told.ToMToU plac
     (violated i, (subst (λ (k : ℕ). slice_get list k ≡ Some (violated i)) e s, refl, refl))
 violation_shown i list before d t v s c = absurd (contains_none v c)
 
+-- so does each that the events are told
 violations_shown : (i : Inode) (list : List Entry) (later : List Event) (check : Event)
     (before : List Event) (v : ℕ) → IsListed i list (later ++ check ∷ before)
     → Contains (places_violated (later ++ check ∷ [])) v → ShowsViolation i list v
@@ -86,9 +90,11 @@ violations_shown i list (e ∷ later) check before v l c =
 
 -- ---- from the check on
 
+-- a file stays within the journal
 longer : (f : ℕ) (later b : List Event) → f < length b → f < length (later ++ b)
 longer f later b h = omega (arith, length-append later b)
 
+-- from the check on, the file is owed a grant or got one
 walk_any : (i : Inode) (f : ℕ) (b : List Event) (later : List Event) → EachFollows i (later ++ b)
     → f < length b → Progress (λ q. Unit {0}) i f b []
     → Progress (λ q. Unit {0}) i f (later ++ b) (places_granted f later)
@@ -98,6 +104,7 @@ walk_any i f b (e ∷ later) h l p =
     (longer f later b l) (λ grant placed a c d k. tt)
     (walk_any i f b later h.1 l p)
 
+-- what a take grants shows the content
 take_shows : (i : Inode) (list : List Entry) (f g : ℕ) (p : List Event) (bytes : List ℕ) (who : Who)
     (grant : Grant) (placed : Placed)
     → Follows i p who (deed.Take g) (told.Grant grant) → Fresh i p → Guarded i bytes p
@@ -131,6 +138,7 @@ take_shows i list f g p bytes who grant placed h fr gu st fi path kept names_it 
           (subst (λ (o : Option Listed). StandsIn list o) ats st)
           (subst (λ (o : Option Listed). IsFirstIn list o) founds fi) path kept
 
+-- and what a finish grants
 finish_shows : (i : Inode) (list : List Entry) (f g : ℕ) (p : List Event) (bytes : List ℕ)
     (who : Who) (grant : Grant) (placed : Placed)
     → Follows i p who (deed.Finish g) (told.Grant grant) → Stages i p → Fresh i p
@@ -169,6 +177,7 @@ finish_shows i list f g p bytes who grant placed h s fr gu st fi path kept names
           (subst (λ (o : Option Listed). StandsIn list o) ats st)
           (subst (λ (o : Option Listed). IsFirstIn list o) founds fi) path kept
 
+-- so what any grant of the file names
 event_shows : (i : Inode) (list : List Entry) (f : ℕ) (p : List Event) (bytes : List ℕ) (who : Who)
     (d : Deed) (t : Told) (grant : Grant) (placed : Placed)
     → Follows i p who d t → Stages i p → Fresh i p → Guarded i bytes p
@@ -188,10 +197,12 @@ event_shows i list f p bytes who (deed.Finish g) (told.Grant gr) grant placed h 
     (ap (λ (x : Grant). x.placed) same ∙ names_it)
 event_shows i list f p bytes who d t grant placed h s fr gu st fi path kept e named names_it = cc
 
+-- where two lists joined are empty, both are
 nil_parts : (xs ys : List ℕ) → xs ++ ys ≡ [] → (xs ≡ []) × (ys ≡ [])
 nil_parts [] ys h = (refl, h)
 nil_parts (x ∷ xs) ys h = cc
 
+-- from the check on, while no violation is told, nothing is written
 walk_guarded : (i : Inode) (list : List Entry) (f : ℕ) (check : Event) (before : List Event)
     (bytes : List ℕ) (later : List Event)
     → EachFollows i (later ++ check ∷ before) → f < length (check ∷ before)
@@ -232,12 +243,14 @@ walk_guarded i list f check before bytes (e ∷ later) h l v alive reads listed 
 
 -- ---- at the check
 
+-- a reader is no writer
 reader_no_writer : (o : Option How) → holds is_reader o ≡ true → holds is_writer o ≡ false
 reader_no_writer None h = refl
 reader_no_writer (Some (how.Read create)) h = refl
 reader_no_writer (Some (how.Write read create)) h = cc
 reader_no_writer (Some how.Exec) h = refl
 
+-- a measuring check of a reader that tells no violation meets no writer
 quiet_check : (r w place : ℕ) (must : Bool) (g : ℕ) (func : Func) (action : Action) (rules : ℕ)
     (t : Told) → action.measure ≡ true
     → Some (check_told false action.measure r w must place) ≡ Some t
@@ -262,6 +275,7 @@ quiet_check r w place must g func action rules t m e v = at (nat_lt 0 w) refl wh
         omega arith,
       )
 
+-- without a writer, nothing was written since the begin of the digests in force
 clean_digests_at : (i : Inode) (p : List Event) → writers p ≡ 0 → (o : Option Digests)
     → DigestsIs i p o → DigestsClean p o
 clean_digests_at i p none None h = tt
@@ -270,6 +284,7 @@ clean_digests_at i p none (Some x) h = at (modified_since x.begin p) refl where
   at true e = let some : 0 < writers p = h.1 e in absurd (omega arith)
   at false e = e
 
+-- nor since that of the open collection
 clean_collecting_at : (i : Inode) (p : List Event) → writers p ≡ 0 → (o : Option Collection)
     → CollectionIs i p o → CollectionClean p o
 clean_collecting_at i p none None h = tt
@@ -278,17 +293,20 @@ clean_collecting_at i p none (Some c) h = at (modified_since c.begin p) refl whe
   at true e = let some : cond c.closing 1 0 < writers p = h.1 e in absurd (omega arith)
   at false e = e
 
+-- an event that writes nothing leaves that
 clean_more : (p q : List Event) → ((place : ℕ) → modified_since place q ≡ modified_since place p)
     → (o : Option Digests) → DigestsClean p o → DigestsClean q o
 clean_more p q since None h = tt
 clean_more p q since (Some x) h = since x.begin ∙ h
 
+-- of a collection too
 collection_more : (p q : List Event)
     → ((place : ℕ) → modified_since place q ≡ modified_since place p) → (o : Option Collection)
     → CollectionClean p o → CollectionClean q o
 collection_more p q since None h = tt
 collection_more p q since (Some x) h = since x.begin ∙ h
 
+-- at a quiet check nothing was written and the mark is set
 quiet_base : (i : Inode) (p : List Event) (who : Who) (g : ℕ) (func : Func) (action : Action)
     (rules : ℕ) → action.measure ≡ true → is_writing g p ≡ false → writers p ≡ 0
     → Fresh i p → Guarded i (content p) (event who (deed.Check g func action rules) told.Quiet ∷ p)
@@ -306,6 +324,7 @@ quiet_base i p who g func action rules m w none fr = record {
       (clean_collecting_at i p none (collecting i p) fr.collection_is);
 }
 
+-- so at each measuring check without a violation
 base : (i : Inode) (p : List Event) (who : Who) (d : Deed) (t : Told) (f : ℕ)
     → is_measuring f d ≡ true → Follows i p who d t → Fresh i p → violation_places d t ≡ []
     → holds is_reader (held f (event who d t ∷ p)) ≡ true → Guarded i (content (event who d t ∷ p))
@@ -327,16 +346,19 @@ base i p who d t f e h fr v reads = cc
 
 -- ---- the law
 
+-- an earlier part of a journal in which each event follows is one
 pub follows_at : (i : Inode) (later : List Event) (b : List Event) → EachFollows i (later ++ b)
     → EachFollows i b
 follows_at i [] b h = h
 follows_at i (e ∷ later) b h = follows_at i later b h.1
 
+-- a settled file is owed nothing
 settled : (P : ℕ → Type 0) (i : Inode) (f : ℕ) (p : List Event) (places : List ℕ)
     → stage i f p ≡ Settled → Progress P i f p places → (q : ℕ) × (Contains places q × P q)
 settled P i f p places e (inl o) = let z : is_owing (stage i f p) ≡ false = ap is_owing e in cc
 settled P i f p places e (inr g) = g
 
+-- each measuring check is answered
 answered : (i : Inode) (list : List Entry) (f : ℕ) (later : List Event) (check : Event)
     (before : List Event) → EachFollows i (later ++ check ∷ before)
     → stage i f (later ++ check ∷ before) ≡ Settled
@@ -392,6 +414,7 @@ answered i list f later check before h s reads m listed path kept =
             (got.1.0, inr (v, (has, violations_shown i list later check before v listed has))),
           )
 
+-- for every way to cut the journal at a check
 pub covered : (i : Inode) (list : List Entry) (p : List Event) (file : ℕ) → EachFollows i p
     → stage i file p ≡ Settled → holds is_reader (held file p) ≡ true
     → IsListed i list p → IsMeasuredPath Ima i.path → All IsEntry list → IsCovered i list file p

@@ -46,6 +46,7 @@ use Rattle.journal_laws.proofs.Small.{cond_same, event}
 
 -- ---- what a place of the list shows
 
+-- templates that compare equal are equal
 template_true : (a b : Template) → same_template a b ≡ true → a ≡ b
 template_true Ima Ima e = refl
 template_true ImaNg ImaNg e = refl
@@ -73,6 +74,7 @@ same_shows x e s kept_x named_e =
           ((bytes_eq-Decides (template_data x) (template_data e)).0 d.1),
     )
 
+-- what a template shows of two digests of the same bytes
 shown_of : (t : Template) (algo : Algo) (bytes : List ℕ) → shown_digest t (digest_of algo bytes)
     (digest_of Sha1 bytes) ≡ digest_of
     (shown_digest t (digest_of algo bytes) (digest_of Sha1 bytes)).algo bytes
@@ -106,6 +108,7 @@ graphic_shown ImaNg path h = h
 graphic_shown ImaSig path h = h
 graphic_shown ImaBuf path h = h
 
+-- it has at most 1,024 bytes
 short_shown : (t : Template) (path : List ℕ) → length path ≤ 1024
     → length (last_component path) ≤ 255 → length (shown_name t path) ≤ 1024
 short_shown Ima path h l = at (nat_le (length path) 255) where
@@ -137,6 +140,7 @@ measured_named i f x p algo bytes d s path = record {
   size ImaSig = hashed x.digest algo d
   size ImaBuf = hashed x.digest algo d
 
+-- the first entry that is the same stands there and is the same
 pub first_shows : (list : List Entry) (e : Entry) (place : ℕ) → place_of_same list e ≡ Some place
     → (slice_get list place ≡ Some (get_or list place e)) × (same (get_or list place e) e ≡ true)
     × (place < length list)
@@ -146,6 +150,7 @@ first_shows list e place h =
     position-Some (λ (y : Entry). same y e) list place e h in
     (slice_get-get_or list place e a.0, a.1, a.0)
 
+-- the place of a measurement shows the content, whether added or found
 pub shows_listed : (i : Inode) (list : List Entry) (f : ℕ) (p : List Event) (x : Digests)
     (algo : Algo) (bytes : List ℕ) (placed : Placed)
     → x.digest ≡ digest_of algo bytes → x.sha1 ≡ digest_of Sha1 bytes
@@ -179,17 +184,20 @@ shows_listed i list f p x algo bytes (Already place) d s st fi path kept =
 
 -- ---- a grant is owed until it is given
 
+-- the file is owed a grant
 abbrev pub is_owing : Stage → Bool
 is_owing Asked = true
 is_owing Collecting = true
 is_owing Collected = true
 is_owing _ = false
 
+-- the file is owed a measuring grant, or got one at a place for which P holds
 abbrev pub Progress : (ℕ → Type 0) → Inode → ℕ → List Event → List ℕ → Type 0
 Progress P i f p places =
     ((is_owing (stage i f p) ≡ true) × ((last_check f p).action.measure ≡ true))
     ⊎ ((q : ℕ) × (Contains places q × P q))
 
+-- a file that may be checked is owed nothing
 check_not_owing : (l : Stage) → may_check l ≡ true → is_owing l ≡ false
 check_not_owing Gone m = cc
 check_not_owing Counted m = refl
@@ -200,6 +208,7 @@ check_not_owing Settled m = refl
 check_not_owing CloseCollecting m = cc
 check_not_owing CloseCollected m = cc
 
+-- an event of a file that is owed nothing leaves what others are owed
 owe_other : (i : Inode) (p : List Event) (g f : ℕ) (after l : Stage) → stage i g p ≡ l
     → is_owing l ≡ false → is_owing (stage i f p) ≡ true
     → is_owing (cond (g == f) after (stage i f p)) ≡ true
@@ -210,11 +219,13 @@ owe_other i p g f after l e n o = at (g == f) refl where
       cc (ap is_owing z)
   at false q = o
 
+-- so does an event that leaves its file owed
 owe_after : (b : Bool) (after old : Stage) → is_owing after ≡ true → is_owing old ≡ true
     → is_owing (cond b after old) ≡ true
 owe_after true after old a o = a
 owe_after false after old a o = o
 
+-- and a count
 owe_counted : (f : ℕ) (p : List Event) (old : Stage) → f < length p → is_owing old ≡ true
     → is_owing (cond (length p == f) Counted old) ≡ true
 owe_counted f p old b o = at (length p == f) refl where
@@ -222,6 +233,7 @@ owe_counted f p old b o = at (length p == f) refl where
   at true q = let s : length p ≡ f = eqb-true (length p) f q in absurd (omega arith)
   at false q = o
 
+-- no check changes the last check of a file that is owed a grant
 owe_check : (i : Inode) (p : List Event) (g f : ℕ) (new : Check) → may_check (stage i g p) ≡ true
     → is_owing (stage i f p) ≡ true
     → cond (g == f) new (last_check f p) ≡ last_check f p
@@ -262,6 +274,7 @@ given P i f g p grant placed places m made o shows = at (g == f) refl where
       )
   at false e = inl (o, m)
 
+-- event by event
 pub step : (P : ℕ → Type 0) (i : Inode) (f : ℕ) (p : List Event) (who : Who) (d : Deed) (t : Told)
     (places : List ℕ) → Follows i p who d t → f < length p
     → ((grant : Grant) (placed : Placed) → t ≡ told.Grant grant

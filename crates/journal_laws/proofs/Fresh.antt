@@ -37,6 +37,7 @@ use Rattle.journal_laws.proofs.Tallies.{tally_held, tally_two}
 
 -- ---- what holds of each part
 
+-- what the open collection says: of its bytes, its pieces, its algorithm
 abbrev pub CollectionIs : Inode → List Event → Option Collection → Type 0
 CollectionIs i p None = Unit {0}
 CollectionIs i p (Some c) =
@@ -47,6 +48,7 @@ CollectionIs i p (Some c) =
     × (c.algo ≡ cond c.closing i.settings.hash (chosen_algo i p))
     × (c.closing ≡ false → in_force i p ≡ None)
 
+-- what the digests in force say
 abbrev pub DigestsIs : Inode → List Event → Option Digests → Type 0
 DigestsIs i p None = Unit {0}
 DigestsIs i p (Some f) =
@@ -55,14 +57,17 @@ DigestsIs i p (Some f) =
     × (modified_since f.begin p ≡ false → (f.digest ≡ fresh_digest i p)
     × (f.sha1 ≡ digest_of Sha1 (content p)))
 
+-- a verdict is the one computed anew, unless the test holds
 abbrev pub FreshUnless : Inode → Key → List Event → Bool → Option Verdict → Type 0
 FreshUnless i k p stale None = Unit {0}
 FreshUnless i k p stale (Some v) = stale ≡ false → v ≡ fresh_verdict i k.need k.algos p
 
+-- what a verdict in force says
 abbrev pub VerdictIs : Inode → Key → List Event → Option Verdict → Option Digests → Type 0
 VerdictIs i k p v None = v ≡ None
 VerdictIs i k p v (Some f) = FreshUnless i k p (modified_since f.begin p) v
 
+-- all three
 pub record Fresh (i : Inode) (p : List Event) : Type 0 where
   pub collection_is : CollectionIs i p (collecting i p)
   pub digests_is : DigestsIs i p (in_force i p)
@@ -71,6 +76,7 @@ pub record Fresh (i : Inode) (p : List Event) : Type 0 where
 
 -- ---- events that move nothing of it
 
+-- the events leave content, label and writes as they are
 pub record Still (i : Inode) (p q : List Event) : Type 0 where
   pub longer : length q ≡ suc (length p)
   pub since : (place : ℕ) → modified_since place q ≡ modified_since place p
@@ -78,12 +84,14 @@ pub record Still (i : Inode) (p q : List Event) : Type 0 where
   pub content : content q ≡ content p
   pub label : label i q ≡ label i p
 
+-- so they leave the digest computed anew
 pub digest_same : (i : Inode) (p q : List Event) → content q ≡ content p → label i q ≡ label i p
     → fresh_digest i q ≡ fresh_digest i p
 digest_same i p q c l =
     ap (λ (x : List ℕ). digest_of (chosen_algo i q) x) c
     ∙ ap (λ (x : Option (List ℕ)). digest_of (collect_algo x i.settings.hash) (content p)) l
 
+-- the open collection stays
 pub collection_still : (i : Inode) (p q : List Event) → Still i p q
     → (in_force i p ≡ None → in_force i q ≡ None)
     → (o : Option Collection) → CollectionIs i p o → CollectionIs i q o
@@ -103,6 +111,7 @@ collection_still i p q still alone (Some c) h = (
   (λ k. alone (h.4 k)),
 )
 
+-- and the digests in force
 pub digests_still : (i : Inode) (p q : List Event) → Still i p q → (o : Option Digests)
     → DigestsIs i p o → DigestsIs i q o
 digests_still i p q still None h = tt
@@ -118,6 +127,7 @@ digests_still i p q still (Some f) h = (
       )),
 )
 
+-- and a verdict, where it is computed anew alike
 pub fresh_unless : (i : Inode) (k : Key) (p q : List Event) (s s' : Bool) → s' ≡ s
     → ((need : Need) (algos : Option AlgoSet)
     → fresh_verdict i need algos q ≡ fresh_verdict i need algos p)
@@ -125,6 +135,7 @@ pub fresh_unless : (i : Inode) (k : Key) (p q : List Event) (s s' : Bool) → s'
 fresh_unless i k p q s s' e f None h = tt
 fresh_unless i k p q s s' e f (Some v) h = λ w. h (sym e ∙ w) ∙ sym (f k.need k.algos)
 
+-- whatever is in force
 pub verdict_still : (i : Inode) (k : Key) (p q : List Event) → Still i p q
     → (present p ≡ true → (need : Need) (algos : Option AlgoSet)
     → fresh_verdict i need algos q ≡ fresh_verdict i need algos p)
@@ -146,6 +157,7 @@ unmodified place (e ∷ before) h =
     or_from _ _ (and_right _ _ (lt-leb place (length before) (omega arith)))
     (unmodified place before (omega arith))
 
+-- at the last piece nothing of the content is left
 pub last_told : (content : List ℕ) (o : Option Collection) → chunk_told content o ≡ Some told.Last
     → (c : Collection) → o ≡ Some c → length content ≤ 4096 * (c.pieces + 1)
 last_told content None h c e = cc
@@ -158,6 +170,7 @@ last_told content (Some d) h c e = at (is_last_piece content d.pieces) refl h wh
       (sym (ap (λ (x : Collection). is_last_piece content x.pieces) s) ∙ q)
   at false q g = cc
 
+-- pieces of n bytes join to a front of the content
 pieces_join : (n k : ℕ) (xs bytes : List ℕ) → bytes ≡ take (n * k) xs
     → (bytes ++ take n (drop (n * k) xs)) ≡ take (n * (k + 1)) xs
 pieces_join n k xs bytes e =
@@ -220,6 +233,7 @@ collection_written i p q g longer since w l fo settled writing (Some c) s h = (
   at false e f =
       let one : 0 < writers p = tally_held is_writer g (files p) writing in omega (arith, one, w)
 
+-- a write leaves digests of another content, while its writer is there
 digests_written : (i : Inode) (p q : List Event) (g : ℕ) → length q ≡ suc (length p)
     → ((place : ℕ) → place ≤ length p → modified_since place q ≡ true)
     → writers q ≡ writers p → is_writing g p ≡ true → (o : Option Digests) → DigestsIs i p o
@@ -232,11 +246,13 @@ digests_written i p q g longer since w writing (Some f) h = (
   (λ u. let v : modified_since f.begin q ≡ true = since f.begin (omega (arith, h.0)) in cc),
 )
 
+-- of a stale verdict nothing is said
 stale_unless : (i : Inode) (k : Key) (q : List Event) (s : Bool) → s ≡ true → (v : Option Verdict)
     → FreshUnless i k q s v
 stale_unless i k q s e None = tt
 stale_unless i k q s e (Some v) = λ w. cc
 
+-- so of verdicts
 verdict_written : (i : Inode) (k : Key) (p q : List Event)
     → ((place : ℕ) → place ≤ length p → modified_since place q ≡ true)
     → (v : Option Verdict) (o : Option Digests) → DigestsIs i p o → VerdictIs i k p v o
@@ -245,6 +261,7 @@ verdict_written i k p q since v None f h = h
 verdict_written i k p q since v (Some x) f h =
     stale_unless i k q (modified_since x.begin q) (since x.begin (omega (arith, f.0))) v
 
+-- the event writes by a held file
 pub record Written (i : Inode) (p q : List Event) (g : ℕ) : Type 0 where
   pub longer : length q ≡ suc (length p)
   pub since : (place : ℕ) → place ≤ length p → modified_since place q ≡ true
@@ -255,6 +272,7 @@ pub record Written (i : Inode) (p q : List Event) (g : ℕ) : Type 0 where
   pub verdict : (k : Key) → verdict_in_force i k q ≡ verdict_in_force i k p
   pub present : present q ≡ present p
 
+-- a write
 pub write_fresh : (i : Inode) (p q : List Event) (g : ℕ) → Written i p q g → stage i g p ≡ Settled
     → is_writing g p ≡ true
     → StageIs i p (collecting i p) → Fresh i p → Fresh i q
@@ -281,6 +299,7 @@ pub record Leaves (i : Inode) (p q : List Event) : Type 0 where
   pub verdict : (k : Key) → verdict_in_force i k q ≡ verdict_in_force i k p
   pub present : present q ≡ false → present p ≡ false
 
+-- an event that leaves all but the collection
 pub leaves_fresh : (i : Inode) (p q : List Event) → Leaves i p q → CollectionIs i q (collecting i q)
     → Fresh i p → Fresh i q
 leaves_fresh i p q w c h = record {
@@ -295,6 +314,7 @@ leaves_fresh i p q w c h = record {
   absent = λ a. w.digests ∙ h.absent (w.present a);
 }
 
+-- an event that leaves all
 pub kept_fresh : (i : Inode) (p q : List Event) → Leaves i p q → collecting i q ≡ collecting i p
     → Fresh i p → Fresh i q
 kept_fresh i p q w c h = leaves_fresh i p q w
@@ -314,6 +334,7 @@ void_fresh i q f v c = record {
 
 -- ---- collections that begin
 
+-- a take begins where nothing is in force
 pub take_begins : (i : Inode) (p : List Event) (g : ℕ) (placed : Placed) (o : Option Collection)
     (f : Option Digests)
     → unless_collecting o (take_told i g placed f p) ≡ Some told.Begun → f ≡ None
@@ -323,6 +344,7 @@ take_begins i p g placed (Some c) f e = cc
 
 -- ---- grants
 
+-- a take grants from the digests in force
 pub take_grants : (i : Inode) (p : List Event) (g : ℕ) (placed : Placed) (grant : Grant)
     (o : Option Collection) (f : Option Digests)
     → unless_collecting o (take_told i g placed f p) ≡ Some (told.Grant grant) → (x : Digests)
@@ -331,6 +353,7 @@ take_grants i p g placed grant None None e = cc
 take_grants i p g placed grant None (Some f) e = (f, (refl, cc))
 take_grants i p g placed grant (Some c) f e = cc
 
+-- a finish grants from the open collection
 pub finish_grants : (i : Inode) (p : List Event) (g : ℕ) (placed : Placed) (grant : Grant)
     (o : Option Collection)
     → finish_told i g placed o p ≡ Some (told.Grant grant) → (c : Collection)
@@ -375,6 +398,7 @@ given_fresh i p k check digest stale d h =
 
 -- ---- where no writer holds the inode
 
+-- without a writer nothing was written since the begin
 unwritten_now : (i : Inode) (p : List Event) (f : Digests) → DigestsIs i p (Some f) → writers p ≡ 0
     → modified_since f.begin p ≡ false
 unwritten_now i p f h none = at (modified_since f.begin p) refl where
@@ -382,6 +406,7 @@ unwritten_now i p f h none = at (modified_since f.begin p) refl where
   at true e = let some : 0 < writers p = h.1 e in absurd (omega arith)
   at false e = refl
 
+-- so a verdict in force is the one computed anew
 verdict_now : (i : Inode) (p : List Event) (k : Key) (w : Verdict) (v : Option Verdict)
     (o : Option Digests) → DigestsIs i p o → writers p ≡ 0
     → VerdictIs i k p v o → v ≡ Some w → w ≡ fresh_verdict i k.need k.algos p
@@ -390,6 +415,7 @@ verdict_now i p k w None (Some x) f none h e = cc
 verdict_now i p k w (Some u) (Some x) f none h e =
     let same : u ≡ w = cc in sym same ∙ h (unwritten_now i p x f none)
 
+-- and so are the digests
 pub fresh_at : (i : Inode) (p : List Event) → Fresh i p → writers p ≡ 0 → IsDigestFresh i p
     × AreVerdictsFresh i p
 fresh_at i p h none = (

@@ -46,12 +46,14 @@ use Rattle.inode_events.specs.declared.image.Image.{Image}
 
 -- ---- the verdict over its parts
 
+-- the verdict over what it reads
 verdict_over : Inode → Need → Option AlgoSet → List Pair → Meta → List ℕ → Bool → Verdict
 verdict_over i need algos attrs meta bytes new =
     judge need algos (label_in attrs) (evm_status i.settings.evm attrs meta)
     (digest_of (collect_algo (label_in attrs) i.settings.hash) bytes)
     i.settings.hash (length bytes) new
 
+-- what leaves that leaves the verdict
 verdict_new : (i : Inode) (p q : List Event) → attributes i q ≡ attributes i p
     → metadata q ≡ metadata p → content q ≡ content p → new q ≡ new p
     → (need : Need) (algos : Option AlgoSet)
@@ -65,6 +67,7 @@ verdict_new i p q a m c n need algos =
 
 -- ---- grants
 
+-- a grant that mends nothing leaves the attributes
 unlabelled : (i : Inode) (b : Bool) (d : Option Digest) (meta : Meta) (attrs : List Pair)
     → b ≡ false → fixed_by i b d meta attrs ≡ attrs
 unlabelled i b d meta attrs e = subst (λ (x : Bool). fixed_by i x d meta attrs ≡ attrs) (sym e) refl
@@ -93,6 +96,7 @@ granted_fresh i p q check digest x f fi w d h v n c there = record {
   absent = λ a. cc;
 }
 
+-- a take's grant, by whether it mends
 take_granted : (i : Inode) (p : List Event) (who : Who) (g : ℕ) (grant : Grant) (b : Bool)
     → grant.labelled ≡ b
     → Follows i p who (deed.Take g) (told.Grant grant) → Lives i p → Fresh i p
@@ -143,6 +147,7 @@ take_granted i p who g grant false e h v fr =
           (sym (free_at (collecting i p) _ _ h.2)) tt)
           (v g (ap is_gone h.1)).1
 
+-- the stage of a collection that is through
 pub stage_ends : (a b k : Bool) → collecting_stage a b ≡ collecting_stage k true → (a ≡ k)
     × (b ≡ true)
 stage_ends false true false e = (refl, refl)
@@ -176,6 +181,7 @@ collected_fresh i p c h m w k =
     ∙ ap (λ (x : Algo). digest_of x (content p))
     (h.3 ∙ cond-false c.closing i.settings.hash (chosen_algo i p) k)
 
+-- a finish's grant, by whether it mends
 finish_granted : (i : Inode) (p : List Event) (who : Who) (g : ℕ) (grant : Grant) (b : Bool)
     → grant.labelled ≡ b
     → Follows i p who (deed.Finish g) (told.Grant grant) → Lives i p → Stages i p → Fresh i p
@@ -227,16 +233,19 @@ finish_granted i p who g grant false e h v s fr =
 
 -- ---- drops of writers
 
+-- "or" groups either way
 or_assoc : (a b c : Bool) → ((a || b) || c) ≡ (a || (b || c))
 or_assoc true b c = refl
 or_assoc false b c = refl
 
+-- a writer that isn't the last leaves another
 not_last : (n : ℕ) (b : Bool) → ((n == 1) && b) ≡ false → b ≡ true → 0 < n → 1 < n
 not_last n b e t h = at (n == 1) refl e where
   at : (x : Bool) → (n == 1) ≡ x → (x && b) ≡ false → 1 < n
   at true q f = cc
   at false q f = let ne : n ≡ 1 → ⊥ = eqb-false n 1 q in omega arith
 
+-- a drop that voids nothing leaves the digests
 digests_dropped : (i : Inode) (p q : List Event) → length q ≡ suc (length p)
     → ((place : ℕ) → modified_since place q ≡ modified_since place p)
     → writers q + 1 ≡ writers p → content q ≡ content p → label i q ≡ label i p
@@ -253,6 +262,7 @@ digests_dropped i p q longer since w c l (Some f) v h = (
       (a.0 ∙ sym (digest_same i p q c l), a.1 ∙ sym (ap (digest_of Sha1) c))),
 )
 
+-- and newness
 new_dropped : (n : ℕ) (new rest : Bool) → ((n == 1) && (new || rest)) ≡ false
     → cond (n == 1) false new ≡ new
 new_dropped n new rest e = at (n == 1) e where
@@ -260,6 +270,7 @@ new_dropped n new rest e = at (n == 1) e where
   at true f = sym (or_parts new rest f).0
   at false f = refl
 
+-- and verdicts
 verdict_dropped : (i : Inode) (k : Key) (p q : List Event)
     → ((place : ℕ) → modified_since place q ≡ modified_since place p)
     → ((need : Need) (algos : Option AlgoSet)
@@ -268,6 +279,7 @@ verdict_dropped : (i : Inode) (k : Key) (p q : List Event)
 verdict_dropped i k p q since f v None h = h
 verdict_dropped i k p q since f v (Some x) h = fresh_unless i k p q _ _ (since x.begin) f v h
 
+-- a writer is dropped
 record Drops (i : Inode) (p q : List Event) : Type 0 where
   longer : length q ≡ suc (length p)
   since : (place : ℕ) → modified_since place q ≡ modified_since place p
@@ -285,6 +297,7 @@ record Drops (i : Inode) (p q : List Event) : Type 0 where
   collecting_is : collecting i q ≡ None
   present_is : present q ≡ present p
 
+-- a drop
 dropped_fresh : (i : Inode) (p q : List Event) → Drops i p q → Fresh i p → Fresh i q
 dropped_fresh i p q d h =
     at ((writers p == 1) && (new p || not (versions p) || is_stale (in_force i p) p)) refl where
@@ -317,6 +330,7 @@ dropped_fresh i p q d h =
             absent = λ a. f ∙ h.absent (sym d.present_is ∙ a);
           }
 
+-- a drop takes one writer away
 dropped_one : (g : ℕ) (p : List Event) → is_writing g p ≡ true
     → tally is_writer (less_file g (files p)) + 1 ≡ writers p
 dropped_one g p w = rw w at (tally-less is_writer g (files p))
@@ -337,16 +351,20 @@ closing_writer i p g l s = at (collecting i p) refl where
 
 -- ---- other kinds
 
+-- a count of a file that is there leaves newness
 new_held : (new there : Bool) → there ≡ true → (new || not there) ≡ new
 new_held new there e = rw e (or_none new)
 
+-- where no verdict is in force nothing is said
 none_is : (i : Inode) (k : Key) (q : List Event) (o : Option Digests) → VerdictIs i k q None o
 none_is i k q None = refl
 none_is i k q (Some f) = tt
 
+-- where no collection is open nothing is said
 nothing_open : (i : Inode) (q : List Event) (o : Option Collection) → o ≡ None → CollectionIs i q o
 nothing_open i q o e = subst (λ (x : Option Collection). CollectionIs i q x) (sym e) tt
 
+-- a birth
 born : (i : Inode) (who : Who) (image : Image) (p : List Event) → p ≡ []
     → Fresh i (event who deed.Birth (told.Image image) ∷ p)
 born i who image p e =
@@ -355,6 +373,7 @@ born i who image p e =
 
 -- ---- all events
 
+-- event by event
 step : (i : Inode) (p : List Event) (who : Who) (d : Deed) (t : Told) → Follows i p who d t
     → Lives i p → Stages i p → Fresh i p → Fresh i (event who d t ∷ p)
 step i p who deed.Birth (told.Image image) h v s fr = born i who image p h.0
@@ -639,6 +658,7 @@ step i p who d t h v s fr = kept_fresh i p (event who d t ∷ p)
       present = λ a. a;
     }) refl fr
 
+-- along the journal
 pub freshness_lem : (i : Inode) (p : List Event) → EachFollows i p → Fresh i p
 freshness_lem i [] h =
     record { collection_is = tt; digests_is = tt; verdict_is = λ k. refl; absent = λ a. refl }

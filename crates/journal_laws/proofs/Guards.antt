@@ -32,11 +32,13 @@ use Rattle.journal_laws.proofs.Tallies.{find-less, tally_held}
 
 -- ---- a file stays as it was opened
 
+-- a count leaves files that were counted before
 held_apart : (f : ℕ) (how : How) (p : List Event) → f < length p
     → find_file f ((length p, how) ∷ files p) ≡ held f p
 held_apart f how p b =
     cond-false (length p == f) (Some how) (held f p) (ne_eqb (length p) f (λ e. omega arith))
 
+-- a drop leaves other files
 held_dropped : (i : Inode) (f g : ℕ) (p : List Event) (old : Stage)
     → is_gone (cond (g == f) Gone old) ≡ false → find_file f (less_file g (files p)) ≡ held f p
 held_dropped i f g p old a = at (g == f) refl a where
@@ -45,6 +47,7 @@ held_dropped i f g p old a = at (g == f) refl a where
   at true e h = cc
   at false e h = find-less g f (files p) e
 
+-- an event leaves how a file is held that isn't gone after it
 pub held_same : (i : Inode) (p : List Event) (who : Who) (d : Deed) (t : Told) → (f : ℕ)
     → f < length p
     → is_gone (next_stage i f (length p) d t (stage i f p)) ≡ false
@@ -59,10 +62,12 @@ held_same i p who d t f b a = refl
 
 -- ---- what holds from the check on
 
+-- nothing was written since the begin of the digests in force
 abbrev pub DigestsClean : List Event → Option Digests → Type 0
 DigestsClean p None = Unit {0}
 DigestsClean p (Some x) = modified_since x.begin p ≡ false
 
+-- nor since that of the open collection
 abbrev pub CollectionClean : List Event → Option Collection → Type 0
 CollectionClean p None = Unit {0}
 CollectionClean p (Some c) = modified_since c.begin p ≡ false
@@ -72,6 +77,8 @@ abbrev pub Unchecked : Inode → List Event → Type 0
 Unchecked i p =
     (g : ℕ) → is_gone (stage i g p) ≡ false → is_writing g p ≡ true → stage i g p ≡ Counted
 
+-- what holds while no violation is told: the content stays, the mark is set, and each writer is
+-- unchecked
 pub record Guarded (i : Inode) (bytes : List ℕ) (p : List Event) : Type 0 where
   pub same : content p ≡ bytes
   pub marked : must_measure p ≡ true
@@ -79,32 +86,38 @@ pub record Guarded (i : Inode) (bytes : List ℕ) (p : List Event) : Type 0 wher
   pub clean_digests : DigestsClean p (in_force i p)
   pub clean_collecting : CollectionClean p (collecting i p)
 
+-- an event that writes nothing leaves the digests clean
 digests_kept : (p q : List Event) → ((place : ℕ) → modified_since place q ≡ modified_since place p)
     → (o : Option Digests) → DigestsClean p o → DigestsClean q o
 digests_kept p q since None h = tt
 digests_kept p q since (Some x) h = since x.begin ∙ h
 
+-- so where they may be voided
 digests_cond : (q : List Event) (b : Bool) (o : Option Digests) → DigestsClean q o
     → DigestsClean q (cond b None o)
 digests_cond q true o h = tt
 digests_cond q false o h = h
 
+-- what a clean collection gives is clean
 digests_made : (q : List Event) (o : Option Collection) → CollectionClean q o
     → DigestsClean q (option_map digests_of o)
 digests_made q None h = tt
 digests_made q (Some c) h = h
 
+-- it leaves a collection clean
 collection_kept : (p q : List Event)
     → ((place : ℕ) → modified_since place q ≡ modified_since place p) → (o : Option Collection)
     → CollectionClean p o → CollectionClean q o
 collection_kept p q since None h = tt
 collection_kept p q since (Some c) h = since c.begin ∙ h
 
+-- so does a piece more
 collection_more : (q : List Event) (bytes : List ℕ) (complete : Bool) (o : Option Collection)
     → CollectionClean q o → CollectionClean q (collected_more bytes complete o)
 collection_more q bytes complete None h = tt
 collection_more q bytes complete (Some c) h = h
 
+-- a file that was counted and not checked
 is_counted : Stage → Bool
 is_counted Counted = true
 is_counted _ = false
@@ -125,12 +138,14 @@ unchecked_named i p g after l e n a u x alive w = at (g == x) refl alive where
       let d : is_counted l ≡ true = sym (ap is_counted z) ∙ ap is_counted c in cc
   at false q h = u x h w
 
+-- an event that changes no stage
 unchecked_same : (i : Inode) (p : List Event) (b : Bool) (x : ℕ) → Unchecked i p
     → is_gone (cond b (stage i x p) (stage i x p)) ≡ false → is_writing x p ≡ true
     → cond b (stage i x p) (stage i x p) ≡ Counted
 unchecked_same i p b x u a w =
     cond_same b (stage i x p) ∙ u x (sym (ap is_gone (cond_same b (stage i x p))) ∙ a) w
 
+-- a count: the new writer is unchecked
 unchecked_counted : (i : Inode) (p : List Event) (how : How) → Unchecked i p → (x : ℕ)
     → is_gone (cond (length p == x) Counted (stage i x p)) ≡ false
     → holds is_writer (cond (length p == x) (Some how) (held x p)) ≡ true
@@ -142,6 +157,7 @@ unchecked_counted i p how u x a w = at (length p == x) a w where
   at true a w = refl
   at false a w = u x a w
 
+-- a file that goes
 unchecked_closed : (i : Inode) (p : List Event) (g : ℕ) → Unchecked i p → (x : ℕ)
     → is_gone (cond (g == x) Gone (stage i x p)) ≡ false
     → holds is_writer (find_file x (less_file g (files p))) ≡ true
@@ -169,6 +185,7 @@ no_violation readers writers place must true measure func action g rules t r m e
           → check_told true measure readers writers must place ≡ t
       parted e = cc
 
+-- a check of a file that isn't open for writing
 unchecked_check : (i : Inode) (p : List Event) (g : ℕ) (after : Stage) → is_writing g p ≡ false
     → Unchecked i p
     → (x : ℕ) → is_gone (cond (g == x) after (stage i x p)) ≡ false → is_writing x p ≡ true
@@ -188,6 +205,7 @@ no_writer i p g l e n a w u =
     let c : stage i g p ≡ Counted = u g (ap is_gone e ∙ a) w in
     let d : is_counted l ≡ true = sym (ap is_counted e) ∙ ap is_counted c in cc
 
+-- event by event
 pub guard_step : (i : Inode) (bytes : List ℕ) (p : List Event) (who : Who) (d : Deed) (t : Told)
     (f : ℕ) → Follows i p who d t → Stages i p
     → holds is_reader (held f p) ≡ true → violation_places d t ≡ [] → Guarded i bytes p

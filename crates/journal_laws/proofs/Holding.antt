@@ -28,6 +28,7 @@ newest i p who (deed.Count how) told.Held f h v e a =
 newest i p who d t f h v e a =
     let b : f < length p = (v f (alive_kept i p who d t h refl f a)).0 in absurd (omega arith)
 
+-- no test answers both
 not_both : (b : Bool) → b ≡ true → b ≡ false → ⊥
 not_both b y n = cc
 
@@ -36,6 +37,7 @@ older : (f place : ℕ) → f < suc place → (place == f) ≡ false → f < pla
 older f place l ne =
     let apart : place ≢ f = λ e. not_both (place == f) (eq-eqb place f e) ne in omega arith
 
+-- by the newest event
 pub held_counted : (i : Inode) (f : ℕ) (p : List Event) → EachFollows i p
     → is_gone (stage i f p) ≡ false → IsHeldAsCounted f p
 held_counted i f [] h a = absurd (cc)

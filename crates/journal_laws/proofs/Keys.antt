@@ -8,23 +8,27 @@ use Rattle.inode_meta.specs.declared.appraisal.Slot.{Slot}
 use Rattle.inode_meta.specs.declared.appraisal.Slot.TheVariants as slot
 use Rattle.inode_events.specs.Verdicts.{Key, same_algos, same_bool, same_key, same_need, same_set, same_slot}
 
+-- slots
 slot_true : (a b : Slot) → same_slot a b ≡ true → a ≡ b
 slot_true slot.File slot.File e = refl
 slot_true slot.Mmap slot.Mmap e = refl
 slot_true slot.Bprm slot.Bprm e = refl
 slot_true _ _ e = cc
 
+-- needs
 need_true : (a b : Need) → same_need a b ≡ true → a ≡ b
 need_true need.Any need.Any e = refl
 need_true need.Signature need.Signature e = refl
 need_true _ _ e = cc
 
+-- truth values
 bool_true : (a b : Bool) → same_bool a b ≡ true → a ≡ b
 bool_true true true e = refl
 bool_true true false e = cc
 bool_true false true e = cc
 bool_true false false e = refl
 
+-- sets of algorithms
 set_true : (a b : AlgoSet) → same_set a b ≡ true → a ≡ b
 set_true a b e =
     let h1 : (same_bool a.md5 b.md5 && same_bool a.sha1 b.sha1 && same_bool a.sha256 b.sha256 &&
@@ -48,12 +52,14 @@ set_true a b e =
       sha224 = bool_true a.sha224 b.sha224 h1.1 i;
     }
 
+-- sets, or none
 algos_true : (a b : Option AlgoSet) → same_algos a b ≡ true → a ≡ b
 algos_true None None e = refl
 algos_true (Some a) (Some b) e = ap Some (set_true a b e)
 algos_true None (Some b) e = cc
 algos_true (Some a) None e = cc
 
+-- keys that compare equal are equal
 pub same_key-true : (a b : Key) → same_key a b ≡ true → a ≡ b
 same_key-true a b e =
     let h1 : (same_slot a.slot b.slot && same_need a.need b.need ≡ true)

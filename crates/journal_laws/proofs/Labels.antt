@@ -39,6 +39,7 @@ value-put (p ∷ ps) bytes = put_at (value-put ps bytes) (byte_order evm_name p.
       cond-false _ (Some bytes) _ f ∙ sym (cond-false _ (Some p.1) _ f)
   put_at ih Greater e = ap (λ (r : Option (List ℕ)). cond (bytes_eq ima_name p.0) (Some p.1) r) ih
 
+-- nor where one is removed
 value-without : (attrs : List Pair) → value ima_name (without evm_name attrs) ≡ value ima_name attrs
 value-without [] = refl
 value-without (p ∷ ps) = left_at (value-without ps) (bytes_eq evm_name p.0) refl where
@@ -50,11 +51,13 @@ value-without (p ∷ ps) = left_at (value-without ps) (bytes_eq evm_name p.0) re
       sym (cond-false _ (Some p.1) _ (no_label p.0 ((bytes_eq-Decides evm_name p.0).0 e)))
   left_at ih false e = ap (λ (r : Option (List ℕ)). cond (bytes_eq ima_name p.0) (Some p.1) r) ih
 
+-- either of two
 label-cond : (b : Bool) (x y z : List Pair) → label_in x ≡ label_in z → label_in y ≡ label_in z
     → label_in (cond b x y) ≡ label_in z
 label-cond true x y z e f = e
 label-cond false x y z e f = f
 
+-- by whether there is a key
 renewed_lem : (key : Option (List ℕ)) (evm : Setup) (attrs : List Pair) (meta : Meta)
     → label_in (renewed_under key evm attrs meta) ≡ label_in attrs
 renewed_lem None evm attrs meta = refl
@@ -64,6 +67,7 @@ renewed_lem (Some key) evm attrs meta =
     (without evm_name attrs) attrs
     (value-put attrs (evm_value key (evm_input evm attrs meta))) (value-without attrs)
 
+-- a renewal leaves the label
 pub label-renewed : (evm : Setup) (attrs : List Pair) (meta : Meta)
     → label_in (renewed evm attrs meta) ≡ label_in attrs
 label-renewed evm attrs meta = renewed_lem evm.key evm attrs meta
@@ -83,6 +87,7 @@ put_same (p ∷ ps) bytes = put_at (put_same ps bytes) (byte_order ima_name p.0)
   put_at ih Greater e = cond-false (bytes_eq ima_name p.0) (Some p.1) _
       (sym (is_eq-slice_cmp ima_name p.0) ∙ ap is_eq e) ∙ ih
 
+-- a label that is put is there after the renewal
 pub label-put : (evm : Setup) (attrs : List Pair) (bytes : List ℕ) (meta : Meta)
     → label_in (renewed evm (put ima_name bytes attrs) meta) ≡ Some bytes
 label-put evm attrs bytes meta =

@@ -15,6 +15,7 @@ use Rattle.inode_events.specs.declared.told.Event.{Event}
 use Rattle.inode_events.specs.declared.told.Told.{Told}
 use Rattle.inode_events.specs.declared.told.Told.TheVariants as told
 
+-- a file that may be checked isn't gone
 pub check_alive : (l : Stage) → may_check l ≡ true → is_gone l ≡ false
 check_alive Gone m = cc
 check_alive Counted m = refl
@@ -25,6 +26,7 @@ check_alive Settled m = refl
 check_alive CloseCollecting m = refl
 check_alive CloseCollected m = refl
 
+-- a file that isn't gone was counted before, and the inode is there
 abbrev pub Lives : Inode → List Event → Type 0
 Lives i p = (f : ℕ) → is_gone (stage i f p) ≡ false → (f < length p) × (present p ≡ true)
 
@@ -34,19 +36,23 @@ was : (b : Bool) (after old : Stage) → (b ≡ true → is_gone old ≡ false)
 was true after old m a = m refl
 was false after old m a = a
 
+-- nor where the stage stays
 was_same : (b : Bool) (x : Stage) → is_gone (cond b x x) ≡ false → is_gone x ≡ false
 was_same true x a = a
 was_same false x a = a
 
+-- a deed names a file that isn't gone
 pub named : (i : Inode) (p : List Event) (g f : ℕ) (l : Stage) → stage i g p ≡ l → is_gone l ≡ false
     → (g == f) ≡ true → is_gone (stage i f p) ≡ false
 named i p g f l e n h =
     subst (λ (x : ℕ). is_gone (stage i x p) ≡ false) (eqb-true g f h) (ap is_gone e ∙ n)
 
+-- with an event more
 later : (f : ℕ) (p : List Event) → (f < length p) × (present p ≡ true) → (f < suc (length p))
     × (present p ≡ true)
 later f p h = (omega (arith, h.0), h.1)
 
+-- a count
 count_lives : (f place : ℕ) (old : Stage) (p : List Event) → place ≡ length p
     → (is_gone old ≡ false → (f < length p) × (present p ≡ true))
     → (b : Bool) → (place == f) ≡ b → is_gone (cond b Counted old) ≡ false → (f < suc (length p))
@@ -55,10 +61,12 @@ count_lives f place old p e h true q a =
     let s : place ≡ f = eqb-true place f q in (omega arith, refl)
 count_lives f place old p e h false q a = (omega (arith, (h a).0), refl)
 
+-- without events each file is gone
 no_stage : (i : Inode) (p : List Event) (f : ℕ) → p ≡ [] → is_gone (stage i f p) ≡ false → ⊥
 no_stage i p f e a = let z : is_gone (stage i f []) ≡ false =
     subst (λ (q : List Event). is_gone (stage i f q) ≡ false) e a in cc
 
+-- a count of another file
 apart_count : (f : ℕ) (p : List Event) (old : Stage) → f < length p
     → is_gone (cond (length p == f) Counted old) ≡ false → is_gone old ≡ false
 apart_count f p old b a = at (length p == f) refl a where
@@ -118,6 +126,7 @@ step i p who (deed.Count how) told.Held h v f a =
     count_lives f (length p) (stage i f p) p refl (v f) (length p == f) refl a
 step i p who d t h v f a = later f p (v f (alive_kept i p who d t h refl f a))
 
+-- along the journal
 pub lives : (i : Inode) (p : List Event) → EachFollows i p → Lives i p
 lives i [] h f a = cc
 lives i (e ∷ before) h f a = step i before e.who e.deed e.told h.0 (lives i before h.1) f a

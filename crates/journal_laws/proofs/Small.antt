@@ -9,14 +9,17 @@ use Rattle.inode_events.specs.declared.told.Told.{Told}
 abbrev pub event : Who → Deed → Told → Event
 event who d t = record { who = who; deed = d; told = t }
 
+-- a choice between the same
 pub cond_same : {A : Type 0} (b : Bool) (x : A) → cond b x x ≡ x
 cond_same true x = refl
 cond_same false x = refl
 
+-- "or" with a test that doesn't hold
 pub or_none : (b : Bool) → (b || false) ≡ b
 or_none true = refl
 or_none false = refl
 
+-- "and" with a test that doesn't hold
 pub and_none : (b : Bool) → (b && false) ≡ false
 and_none true = refl
 and_none false = refl

@@ -23,27 +23,33 @@ use Rattle.journal_laws.proofs.Lives.{Lives, lives}
 use Rattle.journal_laws.proofs.Small.{cond_same, event}
 use Rattle.journal_laws.proofs.Tallies.{find-less}
 
+-- the open collection is of this file
 abbrev pub Collects : ℕ → Option Collection → Type 0
 Collects f None = ⊥
 Collects f (Some c) = c.file ≡ f
 
+-- a file at a collecting stage is that of the open collection
 abbrev pub Busy : Inode → List Event → Option Collection → Type 0
 Busy i p o = (f : ℕ) → is_collecting (stage i f p) ≡ true → Collects f o
 
+-- the file of the open collection is at its stage, and for a close open for writing
 abbrev pub StageIs : Inode → List Event → Option Collection → Type 0
 StageIs i p None = Unit {0}
 StageIs i p (Some c) = (stage i c.file p ≡ collecting_stage c.closing c.complete)
     × (c.closing ≡ true → is_writing c.file p ≡ true)
 
+-- both
 abbrev pub Stages : Inode → List Event → Type 0
 Stages i p = Busy i p (collecting i p) × StageIs i p (collecting i p)
 
+-- these stages are collecting
 pub stage_busy : (a b : Bool) → is_collecting (collecting_stage a b) ≡ true
 stage_busy false false = refl
 stage_busy false true = refl
 stage_busy true false = refl
 stage_busy true true = refl
 
+-- a file that collects isn't gone
 busy_alive : (l : Stage) → is_collecting l ≡ true → is_gone l ≡ false
 busy_alive Gone b = cc
 busy_alive Counted b = refl
@@ -54,6 +60,7 @@ busy_alive Settled b = refl
 busy_alive CloseCollecting b = refl
 busy_alive CloseCollected b = refl
 
+-- a file that may be checked doesn't collect
 check_idle : (l : Stage) → may_check l ≡ true → is_collecting l ≡ false
 check_idle Gone m = refl
 check_idle Counted m = refl
@@ -64,6 +71,7 @@ check_idle Settled m = refl
 check_idle CloseCollecting m = cc
 check_idle CloseCollected m = cc
 
+-- nor does one that was checked
 asked_idle : (b : Bool) → is_collecting (cond b Asked Settled) ≡ false
 asked_idle true = refl
 asked_idle false = refl
@@ -76,6 +84,7 @@ record Calm (i : Inode) (p q : List Event) : Type 0 where
   same : (f : ℕ) → is_collecting (stage i f p) ≡ true → stage i f q ≡ stage i f p
   writing : (f : ℕ) → is_collecting (stage i f p) ≡ true → is_writing f q ≡ is_writing f p
 
+-- an event that leaves stages leaves both
 kept : (i : Inode) (p q : List Event) → Calm i p q → (o : Option Collection) → Busy i p o
     → StageIs i p o → Busy i q o × StageIs i q o
 kept i p q calm None b s = ((λ f h. b f (calm.none_new f h)), tt)
@@ -86,17 +95,20 @@ kept i p q calm (Some c) b s =
       (calm.same c.file busy ∙ s.0, (λ k. calm.writing c.file busy ∙ s.1 k)),
     )
 
+-- a file doesn't begin to collect
 quiet : (b : Bool) (after old : Stage) → (b ≡ true → is_collecting old ≡ false)
     → is_collecting after ≡ false → is_collecting (cond b after old) ≡ true
     → is_collecting old ≡ true
 quiet true after old m n a = cc
 quiet false after old m n a = a
 
+-- a file that collects stays as it is
 calm_at : (b : Bool) (after old : Stage) → (b ≡ true → is_collecting old ≡ false)
     → is_collecting old ≡ true → cond b after old ≡ old
 calm_at true after old m a = let n : is_collecting old ≡ false = m refl in cc
 calm_at false after old m a = refl
 
+-- one file by two names
 idle : (i : Inode) (p : List Event) (g f : ℕ) → is_collecting (stage i g p) ≡ false
     → (g == f) ≡ true → is_collecting (stage i f p) ≡ false
 idle i p g f n h = subst (λ (x : ℕ). is_collecting (stage i x p) ≡ false) (eqb-true g f h) n
@@ -160,6 +172,7 @@ begun i p q g k algo place b l w = (
   at f true e h = eqb-true g f e
   at f false e h = absurd (b f h)
 
+-- the stage says what the collection is for
 pub stage_parts : (a b k : Bool) → collecting_stage a b ≡ collecting_stage k false → (a ≡ k)
     × (b ≡ false)
 stage_parts false false false e = (refl, refl)
@@ -220,10 +233,12 @@ more_at i p g l e f = at (g == f) refl where
 
 -- ---- all events
 
+-- an event that needs the mutex finds it free
 pub free_at : (o : Option Collection) (t u : Told) → unless_collecting o t ≡ Some u → o ≡ None
 free_at None t u e = refl
 free_at (Some c) t u e = cc
 
+-- event by event
 step : (i : Inode) (p : List Event) (who : Who) (d : Deed) (t : Told) → Follows i p who d t
     → Lives i p → Stages i p → Stages i (event who d t ∷ p)
 step i p who (deed.Count how) told.Held h v s =
@@ -293,6 +308,7 @@ step i p who d t h v s = kept i p (event who d t ∷ p)
     (calm_all i p _ (λ f. cond_same (touches f (length p) d) (stage i f p)) (λ f. refl))
     (collecting i p) s.0 s.1
 
+-- along the journal
 pub stages : (i : Inode) (p : List Event) → EachFollows i p → Stages i p
 stages i [] h = ((λ f a. cc), tt)
 stages i (e ∷ before) h =
@@ -300,10 +316,12 @@ stages i (e ∷ before) h =
 
 -- ---- the open collection and its file
 
+-- where a collection is open
 pub collection_stands : (i : Inode) (p : List Event) (c : Collection) → EachFollows i p
     → collecting i p ≡ Some c → StageIs i p (Some c)
 collection_stands i p c h e = subst (λ (o : Option Collection). StageIs i p o) e (stages i p h).1
 
+-- where a file collects
 pub stage_collects : (i : Inode) (p : List Event) (f : ℕ) → EachFollows i p
     → is_collecting (stage i f p) ≡ true
     → (c : Collection) × ((collecting i p ≡ Some c) × (c.file ≡ f))

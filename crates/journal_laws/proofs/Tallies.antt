@@ -5,6 +5,7 @@ use Rattle.std.proofs.lemmas.Bool.{cond-false, eqb-true, eq-eqb}
 use Rattle.inode_events.specs.Files.{tally, find_file, less_file, holds}
 use Rattle.inode_events.specs.declared.deed.How.{How}
 
+-- 1 where the test holds
 abbrev one_if : Bool → ℕ
 one_if b = cond b 1 0
 
