@@ -4,6 +4,7 @@ pub mod MeasuringExamples
 pub mod AppraisalExamples
 pub mod ChangeExamples
 pub mod MarkExamples
+pub mod EdgeExamples
 pub mod EntryExamples
 pub mod SemaphoreExamples
 pub mod RunExamples

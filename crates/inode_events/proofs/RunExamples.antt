@@ -3,7 +3,7 @@
 -- list, the list is merged from it, and each read is covered.
 use Rattle.std.proofs.Common.{◌≡◌, ℕ, zero, suc, ◌+◌, ◌<◌, Bool, true, false, List, [], ◌∷◌, codes, Option, Some, None, refl, ap, sym, subst, arith, inl, inr, lit<}
 use Rattle.std.specs.Prelude.{◌&&◌, nat_le, ◌⊎◌, All, Contains, slice_get, if◌then◌else◌, ◌==◌}
-use Rattle.std.proofs.lemmas.List.Elements.{All-cons, All-nil}
+use Rattle.std.proofs.lemmas.List.Elements.{All-cons, All-contains, All-nil}
 use Rattle.std.proofs.lemmas.Bool.{and_parts, leb-true}
 use Rattle.std.proofs.lemmas.Option.{none-some}
 use Rattle.hash_algos.proofs.HashLemmas.{length-hash}
@@ -18,11 +18,13 @@ use Rattle.ima_templates.specs.declared.entry.Placed.{Placed}
 use Rattle.ima_templates.specs.declared.entry.Placed.TheVariants.{Added, Already}
 use Rattle.inode_meta.specs.declared.measurement.Template.TheVariants.{ImaNg}
 use Rattle.policy_text.specs.declared.rule.Func.TheVariants.{FileCheck}
+use Rattle.inode_meta.specs.declared.step.Who.{Who}
+use Rattle.inode_events.specs.Inode.{Inode}
 use Rattle.inode_events.specs.Checks.{no_action}
 use Rattle.inode_events.specs.Coverage.{IsAnswered, IsCovered, ShowsContent, ShowsViolation}
 use Rattle.inode_events.specs.Legal.{Legal}
-use Rattle.inode_events.specs.Listing.{IsListed}
-use Rattle.inode_events.specs.Merged.{IsMerged, places_added, times_added}
+use Rattle.inode_events.specs.Listing.{IsListed, violated}
+use Rattle.inode_events.specs.Merged.{IsMerged, Journal, Named, PlacesRise, places_added, times_added}
 use Rattle.inode_events.specs.Stage.{stage, stage_in}
 use Rattle.inode_events.specs.declared.deed.Deed.{Deed}
 use Rattle.inode_events.specs.declared.deed.Deed.TheVariants as deed
@@ -325,6 +327,87 @@ adds_first_unmerged : IsMerged file_entry (file_entry ∷ []) (record {
 adds_first_unmerged merged = added_once 1 refl (merged.once 0 (lit< tt)) where
   added_once : (times : ℕ) → times ≡ 1 → times ≡ 0 → ⊥
   added_once times is never = absurd (omega arith)
+
+-- One in which a later event adds below an earlier one is legal and listed, and not merged.
+abbrev falls : List Event
+falls =
+    did 0 0 0 (deed.Count (how.Write false false)) told.Held ∷
+    did 0 0 1 (deed.Check 1 FileCheck no_action 1) told.Quiet ∷
+    did 1 0 0 (deed.Count (how.Read false)) told.Held ∷
+    did 1 0 1 (deed.Check 3 FileCheck measure 1) (told.OpenWriters 2) ∷
+    did 2 0 0 (deed.Count (how.Read false)) told.Held ∷
+    did 2 0 1 (deed.Check 5 FileCheck measure 1) (told.OpenWriters 1) ∷
+    []
+
+abbrev falls_list : List Entry
+falls_list = boot ∷ violation_entry ∷ violation_entry ∷ []
+
+falls_fits : Legal plain (journal_of falls) × IsListed plain falls_list (journal_of falls)
+falls_fits =
+    (legal_by plain falls refl refl, listed_by plain falls_list (journal_of falls) refl refl)
+
+abbrev falls_journal : Journal
+falls_journal = record { inode = plain; events = journal_of falls }
+
+falls_unmerged : IsMerged boot falls_list (falls_journal ∷ []) → ⊥
+falls_unmerged merged =
+    at (All-contains (λ j. PlacesRise j.inode j.events)
+    (falls_journal ∷ []) falls_journal merged.along_journals (0, omega arith, refl)) where
+      step : ℕ → Who
+      step task = record { task = task; call = 0; step = 1 }
+
+      at : PlacesRise plain (journal_of falls) → ⊥
+      at rise =
+          let earlier : List Named = (step 1, 2) ∷ [] in
+          let last : All (λ (n : Named). n.1 < 1) earlier =
+          All-contains (λ (a : Named). All (λ (n : Named). n.1 < a.1) earlier)
+          ((step 2, 1) ∷ []) (step 2, 1) rise.0 (0, omega arith, refl) in
+          let fell : 2 < 1 =
+          All-contains (λ (n : Named). n.1 < 1) earlier (step 1, 2) last (
+            0,
+            omega arith,
+            refl,
+          ) in
+          absurd (omega arith)
+
+-- Nor are two in which a task's later call adds below its earlier one.
+abbrev other : Inode
+other = record plain { path = codes "/b" }
+
+abbrev beside : ℕ → ℕ → List Event
+beside call place =
+    did 1 call 0 (deed.Count (how.Write false false)) told.Held ∷
+    did 1 call 1 (deed.Check 1 FileCheck no_action 1) told.Quiet ∷
+    did 0 call 0 (deed.Count (how.Read false)) told.Held ∷
+    did 0 call 1 (deed.Check 3 FileCheck measure 1) (told.OpenWriters place) ∷
+    []
+
+abbrev cross_list : List Entry
+cross_list = boot ∷ violated other ∷ violation_entry ∷ []
+
+abbrev first_call : Journal
+first_call = record { inode = plain; events = onto (born plain) (beside 0 2) }
+
+abbrev second_call : Journal
+second_call = record { inode = other; events = onto (born other) (beside 1 1) }
+
+crosses_fit : (Legal plain first_call.events × IsListed plain cross_list first_call.events)
+    × (Legal other second_call.events × IsListed other cross_list second_call.events)
+crosses_fit = (
+  (legal_by plain (beside 0 2) refl refl, listed_by plain cross_list first_call.events refl refl),
+  (legal_by other (beside 1 1) refl refl, listed_by other cross_list second_call.events refl refl),
+)
+
+crosses_unmerged : IsMerged boot cross_list (first_call ∷ second_call ∷ []) → ⊥
+crosses_unmerged merged =
+    let fell : 2 < 1 = merged.along_tasks first_call second_call
+    (record { task = 0; call = 0; step = 1 }, 2) (record { task = 0; call = 1; step = 1 }, 1)
+    (0, omega arith, refl) (1, omega arith, refl) (0, omega arith, refl) (
+      0,
+      omega arith,
+      refl,
+    ) refl in
+    absurd (omega arith)
 
 -- ---- covered
 
