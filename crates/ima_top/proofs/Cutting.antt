@@ -5,10 +5,12 @@ use Rattle.std.specs.List.{slice_split, onto_first}
 use Rattle.memchr.specs.Find.{IsFirstByte, is_byte, Passes}
 use Rattle.ima_top.specs.PlainList.{cut}
 
+-- a test that is not true is false
 not_true : (b : Bool) → ¬ (b ≡ true) → b ≡ false
 not_true true h = absurd (h refl)
 not_true false h = refl
 
+-- a text in which no byte is the separator is not cut
 cut_nowhere : (c : ℕ) (xs : List ℕ) → ((k : ℕ) → k < length xs → ¬ Passes (is_byte c) xs k)
     → cut c xs ≡ None
 cut_nowhere c [] h = refl
@@ -16,6 +18,7 @@ cut_nowhere c (x ∷ xs) h =
     let here : (x == c) ≡ false = not_true (x == c) (h 0 (omega arith)) in
     rw (here, cut_nowhere c xs (λ k lt. h (suc k) (omega arith))) refl
 
+-- a text is cut at the first byte that is the separator
 cut_first : (c : ℕ) (xs : List ℕ) (n : ℕ) → n < length xs
     → ((k : ℕ) → k < n → ¬ Passes (is_byte c) xs k) → Passes (is_byte c) xs n
     → cut c xs ≡ Some (take n xs, drop (suc n) xs)
@@ -33,6 +36,7 @@ cut_first c (x ∷ xs) (suc n) lt before passes =
 pub cut_missed : (c : ℕ) (xs : List ℕ) → IsFirstByte (is_byte c) xs None → cut c xs ≡ None
 cut_missed c xs h = cut_nowhere c xs (λ k lt. h k (omega arith) lt)
 
+-- where `memchr` finds a byte, the text is cut there
 pub cut_found : (c : ℕ) (xs : List ℕ) (n : ℕ) → IsFirstByte (is_byte c) xs (Some n)
     → cut c xs ≡ Some (take n xs, drop (n + 1) xs)
 cut_found c xs n h = rw add-one

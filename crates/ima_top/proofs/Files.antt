@@ -9,15 +9,18 @@ use Rattle.text_forms.specs.Lines.{lines}
 use Rattle.text_forms.specs.Tokens.{is_filled}
 use Rattle.ima_top.specs.PlainList.{File, is_over, files_of}
 
+-- files that were read before those of the rest
 abbrev pub in_front : List File → Option (List File) → Option (List File)
 in_front front None = None
 in_front front (Some files) = Some (front ++ files)
 
+-- a line with a byte is not the empty line behind the last newline
 over_onto : (x : ℕ) (parts : List (List ℕ)) → is_over (onto_first x parts) ≡ false
 over_onto x [] = refl
 over_onto x (part ∷ []) = refl
 over_onto x (part ∷ more ∷ parts) = refl
 
+-- two lines are more than the empty line behind the last newline
 over_two : (parts : List (List ℕ)) → 0 < length parts → is_over ([] ∷ parts) ≡ false
 over_two [] h = absurd (omega (arith, h))
 over_two (part ∷ parts) h = refl
@@ -30,6 +33,7 @@ over_lines (b ∷ bs) = elim (cases_Bool (b == 10)) [
   | inr e ↦ rw e (over_onto b (lines bs))
 ]
 
+-- where something is left of the text, the lines are not over
 more_than_nothing : (text : List ℕ) → (length text == 0) ≡ false → is_over (lines text) ≡ false
 more_than_nothing [] h = absurd (cc)
 more_than_nothing (b ∷ bs) h = over_lines (b ∷ bs)

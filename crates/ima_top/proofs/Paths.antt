@@ -9,17 +9,21 @@ use Rattle.text_forms.specs.Words.{is_word, is_visible}
 use Rattle.text_forms.specs.Tokens.{is_filled}
 use Rattle.ima_templates.specs.Path.{IsMeasuredPath, IsGraphic}
 
+-- the left one of two tests that hold
 and_left : (a b : Bool) → (a && b) ≡ true → a ≡ true
 and_left true b h = refl
 and_left false b h = h
 
+-- the right one of two tests that hold
 and_right : (a b : Bool) → (a && b) ≡ true → b ≡ true
 and_right true b h = h
 and_right false b h = absurd (cc)
 
+-- a visible byte can stand in a path of an entry
 visible_is_graphic : (b : ℕ) → is_visible b ≡ true → IsGraphic b
 visible_is_graphic b h = (grind (arith, nat_tests), grind (arith, nat_tests))
 
+-- what the test on numbers says
 at_most_by : (n m : ℕ) → nat_le n m ≡ true → n ≤ m
 at_most_by n m h = grind (arith, nat_tests)
 
@@ -28,14 +32,17 @@ abbrev AllGraphic : List ℕ → Type 0
 AllGraphic [] = Unit {0}
 AllGraphic (b ∷ bs) = IsGraphic b × AllGraphic bs
 
+-- the same for all bytes of a list
 all_graphic : (bs : List ℕ) → AllGraphic bs → All IsGraphic bs
 all_graphic [] h k d lt = absurd (omega (arith, lt))
 all_graphic (b ∷ bs) h zero d lt = h.0
 all_graphic (b ∷ bs) h (suc k) d lt = all_graphic bs h.1 k d (omega (arith, lt))
 
+-- a part of a path has visible bytes alone
 abbrev visible : List ℕ → Bool
 visible part = list_all is_visible part
 
+-- the parts of a path between its slashes
 abbrev parts_of : List ℕ → List (List ℕ)
 parts_of bs = slice_split (λ c. c == 47) bs
 
@@ -50,6 +57,7 @@ words_visible (part ∷ parts) h =
     let rest = words_visible parts (and_right (is_word 255 part) _ h) in
     rw (here, rest) refl
 
+-- a part with a byte more is visible only where the byte is
 onto_visible : (b : ℕ) (parts : List (List ℕ)) → list_all visible (onto_first b parts) ≡ true
     → (is_visible b ≡ true) × (list_all visible parts ≡ true)
 onto_visible b [] h = (and_left (is_visible b) true (and_left (is_visible b && true) true h), refl)
@@ -60,9 +68,11 @@ onto_visible b (part ∷ parts) h =
       rw (and_right (is_visible b) (visible part) here, rest) refl,
     )
 
+-- a slash can stand in a path of an entry
 slash_is_graphic : (b : ℕ) → (b == 47) ≡ true → IsGraphic b
 slash_is_graphic b h = (grind (arith, nat_tests), grind (arith, nat_tests))
 
+-- one byte more: a slash, or a byte of the first part
 parts_step : (b : ℕ) (bs : List ℕ) (slash : Bool) → (b == 47) ≡ slash
     → (list_all visible (parts_of bs) ≡ true → AllGraphic bs)
     → list_all visible (cond slash ([] ∷ parts_of bs) (onto_first b (parts_of bs))) ≡ true

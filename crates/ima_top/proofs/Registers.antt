@@ -11,11 +11,13 @@ use Rattle.ima_templates.proofs.ReplayLemmas.{register-banks_of}
 use Rattle.list_format.specs.Line.{ascii_line}
 use Rattle.ima_top.specs.commands.List.{list_text, register_line}
 
+-- the value of register 10 is that of the replay
 value_is : (list : List Entry) (banks : Banks) (bank : Bank) (value : List ℕ)
     → banks ≡ banks_of list → value ≡ register banks bank 10 → value ≡ replay list bank 10
 value_is list banks bank value made read = read ∙ ap (λ (b : Banks). register b bank 10) made
     ∙ register-banks_of list bank 10 (lit< tt)
 
+-- lines and registers, as they are appended, are the text of the list
 pub text_is : (list : List Entry) (banks : Banks) (lines one two sha1 sha256 : List ℕ)
     → banks ≡ banks_of list → lines ≡ flat_map ascii_line list
     → sha1 ≡ register banks Sha1 10 → one ≡ lines ++ register_line Sha1 sha1
