@@ -14,8 +14,8 @@ mod outside;
 mod standard;
 mod whole;
 
-pub use memory::{MemSink, MemSource};
 pub use inode_meta::OutOfMemory;
+pub use memory::{MemSink, MemSource};
 pub use outside::{Failed, FreeGate, Gate, Sink, Source, Who};
 pub use standard::{StdSink, StdSource};
 pub use whole::{ReadErr, read_all, write_all};
