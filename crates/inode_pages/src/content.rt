@@ -5,6 +5,7 @@ ghost use Rattle.inode_pages.specs.Content.{bytes_at, overwritten, piece_bytes, 
 ghost use Rattle.inode_pages.specs.declared.content.PageErr.TheVariants.{OutOfMemory};
 
 use crate::page::{PAGE_SIZE, Page, overwritten};
+use inode_meta::OutOfMemory;
 use std::alloc::{AllocError, Global};
 use std::marker::Model;
 
@@ -150,7 +151,7 @@ impl Content {
     }
 
     /// The page of the bytes of `chunk(k)`. It is shared and not copied, and no later write changes it.
-    pub fn page(&self, alloc: Global, k: u32) -> Result<Page, AllocError>
+    pub fn page(&self, alloc: Global, k: u32) -> Result<Page, OutOfMemory>
         ensures piece { IfOk result (λ page. page ≡ piece_at self.now k) }
     {
         match self.pages.get(k as usize) {
@@ -179,7 +180,7 @@ impl Content {
         b: &[u8],
         first: usize,
         count: usize,
-    ) -> Result<Vec<Page>, AllocError>
+    ) -> Result<Vec<Page>, OutOfMemory>
         requires small { (from + length b.now ≤ most_bytes) × (first + count ≤ most_bytes) }
         ensures count { IfOk result (λ pages. length pages.items ≡ count) }
         ensures each { IfOk result (λ pages. (j : ℕ) → j < count
@@ -193,7 +194,13 @@ impl Content {
     }
 
     // The page with this number, as it is after a write.
-    fn page_after(&self, alloc: Global, from: usize, b: &[u8], k: usize) -> Result<Page, AllocError>
+    fn page_after(
+        &self,
+        alloc: Global,
+        from: usize,
+        b: &[u8],
+        k: usize,
+    ) -> Result<Page, OutOfMemory>
         requires small { (from + length b.now ≤ most_bytes) × (k < most_bytes) }
         ensures { IfOk result (λ page. page ≡ piece_at (overwritten self.now from b.now) k) }
     {
@@ -205,7 +212,7 @@ impl Content {
     }
 
     // Writes where the end lies within the limit. A write of nothing behind the end lengthens by zeros.
-    fn overwrite(&mut self, alloc: Global, from: usize, b: &[u8]) -> Result<(), AllocError>
+    fn overwrite(&mut self, alloc: Global, from: usize, b: &[u8]) -> Result<(), OutOfMemory>
         requires small { from + length b.now ≤ most_bytes }
         ensures ok { OnOk result (self.new ≡ overwritten self.old from b.now) }
         ensures err { OnErr result (self.new ≡ self.old) }
@@ -234,7 +241,7 @@ impl Content {
     }
 
     // Keeps the first bytes alone.
-    fn cut(&mut self, alloc: Global, len: usize) -> Result<(), AllocError>
+    fn cut(&mut self, alloc: Global, len: usize) -> Result<(), OutOfMemory>
         requires shorter { len < length self.old }
         ensures ok { OnOk result (self.new ≡ take len self.old) }
         ensures err { OnErr result (self.new ≡ self.old) }

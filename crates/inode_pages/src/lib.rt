@@ -7,4 +7,5 @@ mod page;
 mod tests;
 
 pub use content::{Content, MOST_BYTES, PageErr};
+pub use inode_meta::OutOfMemory;
 pub use page::{PAGE_SIZE, Page};

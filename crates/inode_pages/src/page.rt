@@ -2,7 +2,8 @@
 ghost use Rattle.std.specs.Prelude.{◌≡◌, ◌+◌, ◌≤◌, length, IfOk};
 ghost use Rattle.inode_pages.specs.Content.{overwritten, piece_bytes};
 
-use std::alloc::{AllocError, Global};
+use inode_meta::OutOfMemory;
+use std::alloc::Global;
 use std::marker::Model;
 use std::sync::Arc;
 
@@ -38,7 +39,7 @@ impl Page {
     }
 
     /// The page with these bytes, which it takes over.
-    pub fn from_vec(alloc: Global, bytes: Vec<u8>) -> Result<Page, AllocError>
+    pub fn from_vec(alloc: Global, bytes: Vec<u8>) -> Result<Page, OutOfMemory>
         requires small { length bytes.items ≤ piece_bytes }
         ensures bytes { IfOk result (λ p. p ≡ bytes.items) }
     {
@@ -47,7 +48,7 @@ impl Page {
     }
 
     /// The same page, with one owner more.
-    pub fn share(&self) -> Result<Page, AllocError>
+    pub fn share(&self) -> Result<Page, OutOfMemory>
         ensures bytes { IfOk result (λ p. p ≡ self.now) }
     {
         let bytes = Arc::try_clone(&self.bytes)?;
@@ -61,7 +62,7 @@ pub fn overwritten(
     page: &[u8],
     from: usize,
     bytes: &[u8],
-) -> Result<Page, AllocError>
+) -> Result<Page, OutOfMemory>
     requires old { length page.now ≤ piece_bytes }
     requires new { from + length bytes.now ≤ piece_bytes }
     ensures { IfOk result (λ p. p ≡ overwritten page.now from bytes.now) }
