@@ -1,0 +1,154 @@
+ghost use Rattle.std.specs.Prelude.{◌≡◌, ℕ, ◌+◌, ◌<◌, ◌≤◌, [], ◌∷◌, ◌++◌, length, All, IfOk, OnOk, OnErr, count_by, slice_get};
+ghost use mathlib.Core.List.{IsPrefix};
+ghost use Rattle.grow_list.specs.Entries.{has_place};
+ghost use Rattle.grow_list.specs.Shown.{IsSameList, HasItsOwn, HasEach, fresh};
+ghost use Rattle.policy_cell.specs.Policy.{in_force};
+
+use grow_list::{Grow, OutOfMemory, Pass};
+use inode_meta::Who;
+use policy_text::{Policy, Rule};
+use rule_match::Index;
+use std::alloc::Global;
+use std::marker::Model;
+
+/// A rule that was appended.
+#[derive(Drop)]
+pub struct RuleEntry {
+    /// The step that appended it.
+    pub who: Who,
+    /// The rule.
+    pub rule: Rule,
+}
+
+/// The rules in force: those that it was started with, and behind them those that its callers have
+/// appended. Contracts see the former, and the growing list of the latter. It has no limit of its own.
+#[derive(Drop)]
+pub struct PolicyCell {
+    index: Index,
+    base: usize,
+    appended: Grow<RuleEntry>,
+}
+
+impl Model for PolicyCell {
+    ghost use Rattle.policy_cell.specs.Policy.{PolicyValue};
+
+    ghost Value = { PolicyValue };
+
+    ghost use Rattle.policy_cell.specs.PolicyFields.{IsPolicy, policy_of};
+
+    ghost view = { policy_of };
+
+    ghost invariant = { IsPolicy };
+}
+
+impl PolicyCell {
+    /// The policy with no rule appended, and a pass for each of its callers, in the order of their
+    /// numbers.
+    pub fn start(
+        alloc: Global,
+        rules: Policy,
+        callers: u32,
+    ) -> Result<(PolicyCell, Vec<Pass<RuleEntry>>), OutOfMemory>
+        requires { 1 ≤ callers }
+        ensures base { IfOk result (λ r. r.0.base ≡ rules) }
+        ensures list { IfOk result (λ r. (r.0.appended.list ≡ []) × (r.0.appended.numbers ≡ [])) }
+        ensures callers { IfOk result (λ r. r.0.appended.callers ≡ callers) }
+        ensures count { IfOk result (λ r. length r.1.items ≡ callers) }
+        ensures passes { IfOk result (λ r. (k : ℕ) → k < callers
+            → slice_get r.1.items k ≡ Some (fresh r.0.appended.name k)) }
+        ensures each { IfOk result (λ r. HasEach r.0.appended r.1.items) }
+    {
+        let index = Index::start(alloc, rules)?;
+        let base = index.rules().len();
+        let (appended, passes) = Grow::start(alloc, callers)?;
+        let cell = PolicyCell {
+            index,
+            base,
+            appended,
+        };
+        Ok((cell, passes))
+    }
+
+    /// Appends a copy of the rule by a pass of this policy, and answers its place among all rules in
+    /// force, from 0 on. After want of memory policy and pass are as before.
+    pub fn append(
+        &mut self,
+        alloc: Global,
+        pass: &mut Pass<RuleEntry>,
+        who: Who,
+        rule: &Rule,
+    ) -> Result<u64, OutOfMemory>
+        requires { pass.old.name ≡ self.old.appended.name }
+
+        ensures place { IfOk result (λ place. place ≡ length (in_force self.old)) }
+        ensures list { OnOk result (self.new.appended.list
+            ≡ self.old.appended.list ++ record { who = who; rule = rule.now } ∷ []) }
+        ensures numbers { OnOk result (self.new.appended.numbers
+            ≡ self.old.appended.numbers ++ pass.old.number ∷ []) }
+        ensures kept { (self.new.base ≡ self.old.base) × (self.new.appended.name ≡ self.old.appended.name)
+            × (self.new.appended.callers ≡ self.old.appended.callers) }
+
+        ensures before { OnOk result (IsPrefix pass.old.seen self.old.appended.list) }
+        ensures seen { OnOk result (pass.new.seen ≡ self.new.appended.list) }
+        ensures mine { OnOk result (pass.new.mine
+            ≡ pass.old.mine ++ (length self.old.appended.list, record { who = who; rule = rule.now }) ∷ []) }
+        ensures own { OnOk result (HasItsOwn self.new.appended pass.new) }
+        ensures placed { OnOk result (All (λ x. x.0 < length self.new.appended.list) pass.new.mine) }
+        ensures number { OnOk result (pass.new.number < self.new.appended.callers) }
+        ensures even { OnOk result (length self.new.appended.numbers ≡ length self.new.appended.list) }
+        ensures same_pass { (pass.new.name ≡ pass.old.name) × (pass.new.number ≡ pass.old.number) }
+
+        ensures err { OnErr result (IsSameList self.old.appended self.new.appended × (pass.new ≡ pass.old)) }
+    {
+        let place = self.index.rules().len() as u64;
+        let copy = rule.copy(alloc)?;
+        self.appended.reserve(1)?;
+        self.index.append(rule)?;
+        self.appended.push(pass, RuleEntry { who, rule: copy });
+        Ok(place)
+    }
+
+    /// A pass of this policy sees the appended rules.
+    pub fn look(&mut self, pass: &mut Pass<RuleEntry>)
+        requires { pass.old.name ≡ self.old.appended.name }
+
+        ensures base { self.new.base ≡ self.old.base }
+        ensures list { IsSameList self.old.appended self.new.appended }
+
+        ensures before { IsPrefix pass.old.seen self.old.appended.list }
+        ensures seen { pass.new.seen ≡ self.new.appended.list }
+        ensures mine { pass.new.mine ≡ pass.old.mine }
+        ensures own { HasItsOwn self.new.appended pass.new }
+        ensures placed { All (λ x. x.0 < length self.new.appended.list) pass.new.mine }
+        ensures number { pass.new.number < self.new.appended.callers }
+        ensures even { length self.new.appended.numbers ≡ length self.new.appended.list }
+        ensures same_pass { (pass.new.name ≡ pass.old.name) × (pass.new.number ≡ pass.old.number) }
+    {
+        self.appended.look(pass);
+    }
+
+    /// The rules in force.
+    pub fn rules(&self) -> &Index
+        ensures { result.now ≡ in_force self.now }
+    {
+        &self.index
+    }
+
+    /// Hands out the appended rules, and takes back the passes, of which the same holds as at
+    /// [`Grow::close`].
+    pub fn close(self, passes: Vec<Pass<RuleEntry>>) -> Vec<RuleEntry>
+        requires { HasEach self.appended passes.items }
+        ensures list { result.items ≡ self.appended.list }
+        ensures seen { All (λ p. IsPrefix p.seen self.appended.list) passes.items }
+        ensures own { All (λ p. HasItsOwn self.appended p) passes.items }
+        ensures places { (k : ℕ) → k < length self.appended.list
+            → count_by (λ p. has_place k p.mine) passes.items ≡ 1 }
+    {
+        let PolicyCell {
+            index: _,
+            base: _,
+            appended,
+        } = self;
+        appended.close(passes)
+    }
+}

@@ -1,0 +1,9 @@
+//! The rules in force while tasks run: a policy that grows by rules which tasks append.
+#![tactic(auto)]
+
+mod cell;
+#[cfg(test)]
+mod tests;
+
+pub use cell::{PolicyCell, RuleEntry};
+pub use grow_list::{OutOfMemory, Pass};
