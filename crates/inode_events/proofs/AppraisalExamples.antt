@@ -36,7 +36,7 @@ use Rattle.inode_events.specs.Inode.{Inode}
 use Rattle.inode_events.specs.Integrity.{attributes, in_force, label, label_in, labelled_with, status as status_of}
 use Rattle.inode_events.specs.Grants.{is_mend}
 use Rattle.inode_events.specs.Says.{close_take_told, says}
-use Rattle.inode_events.proofs.Examples.{Rows, Tells, abc, after, appraise, fixing, grant, inode_of, meta, no_key, with_key}
+use Rattle.inode_events.proofs.Examples.{Rows, Tells, abc, after, appraise, enforcing, fixing, grant, inode_of, meta, with_key}
 use Rattle.inode_events.specs.declared.told.Told.{Told}
 use Rattle.ima_templates.specs.declared.entry.Placed.TheVariants.{Added}
 
@@ -68,6 +68,7 @@ fixed =
     (deed.Finish 1, Some (told.Grant (grant None (Some (Deny cause.MissingHash)) true true))) ∷
     []
 
+-- each of these deeds may be done, and is told so
 fixed_tells : Tells fixing fixed
 fixed_tells = (refl, refl)
 
@@ -90,6 +91,7 @@ fixed_again =
     (deed.Chunk 6, Some told.Last) ∷
     []
 
+-- so are these
 fixed_again_tells : Tells fixing fixed_again
 fixed_again_tells = (refl, refl)
 
@@ -100,6 +102,7 @@ told_again v = Some (told.Grant (grant None (Some v) true (is_mend (mend_for v
     (digest_of Sha256 abc) Sha256 3 false)
     status.Unknown (read_label (Some (label_of (digest_of Sha256 abc))) Sha256)))))
 
+-- the second finish passes by the new label
 fixed_passes : says fixing (after fixing fixed_again) (Added 0) (deed.Finish 6)
     ≡ Some (told.Grant (grant None (Some Pass) true false))
 fixed_passes = ap told_again (right_label status.Unknown abc 3 (inr refl))
@@ -124,9 +127,11 @@ new_file =
     (deed.CloseFinish 2, Some told.LabelledDropped) ∷
     []
 
+-- each of these deeds may be done, and is told so
 new_file_tells : (key : List ℕ) → Tells (keyed key) new_file
 new_file_tells key = (refl, refl)
 
+-- bytes are the same as themselves
 same_bytes : (xs : List ℕ) → bytes_eq xs xs ≡ true
 same_bytes xs = (bytes_eq-Decides xs xs).1 refl
 
@@ -157,9 +162,6 @@ long_close : (key : List ℕ) → Tells (inode_of Enforce (with_key key) false [
 long_close key = (refl, refl)
 
 -- Enforced appraisal without a label: refused.
-abbrev enforcing : Inode
-enforcing = inode_of Enforce no_key true abc [] true
-
 abbrev refused : Rows
 refused =
     (deed.Count (how.Read false), Some told.Held) ∷
@@ -170,6 +172,7 @@ refused =
     (deed.Close 1, Some told.Dropped) ∷
     []
 
+-- each of these deeds may be done, and is told so
 refused_tells : Tells enforcing refused
 refused_tells = (refl, refl)
 
@@ -180,6 +183,7 @@ kept slot need algos =
     verdict_in_force enforcing (record { slot = slot; need = need; algos = algos })
     (after enforcing refused)
 
+-- the set of all six algorithms
 abbrev all_algos : AlgoSet
 all_algos = record {
   md5 = true;
@@ -190,6 +194,7 @@ all_algos = record {
   sha224 = true;
 }
 
+-- under the key of the check stands the verdict, and none under a key that differs in one part
 verdict_key : (kept slot.File Any None ≡ Some (Deny cause.MissingHash))
     × (kept slot.Mmap Any None ≡ None) × (kept slot.Bprm Any None ≡ None)
     × (kept slot.File Signature None ≡ None) × (kept slot.File Any (Some all_algos) ≡ None)
@@ -205,6 +210,7 @@ old_fixed =
     (deed.Finish 1, Some (told.Grant (grant None (Some (Deny cause.InvalidHmac)) true true))) ∷
     []
 
+-- behind that grant the attributes are those with the HMAC renewed
 old_renewed : (evm : Setup) (attrs : List Pair) → evm_status evm attrs meta ≡ status.Old
     → attributes (inode_of Fix evm true abc attrs true)
     (after (inode_of Fix evm true abc attrs true) old_fixed) ≡ renewed evm attrs meta

@@ -69,21 +69,26 @@ abbrev pub onto : List Event → List Event → List Event
 onto before [] = before
 onto before (e ∷ rest) = onto (e ∷ before) rest
 
+-- whether each of the events may be done where it stands
 abbrev pub may_each : Inode → List Event → List Event → Bool
 may_each i before [] = true
 may_each i before (e ∷ rest) = may i before e.deed && may_each i (e ∷ before) rest
 
+-- what the journal before each of the events says
 abbrev pub says_each : Inode → List Event → List Event → List (Option Told)
 says_each i before [] = []
 says_each i before (e ∷ rest) =
     says i before (placed_in e.told) e.deed ∷ says_each i (e ∷ before) rest
 
+-- lists that are the same have the same first element
 first_of : {X : Type 0} (a b : X) (xs ys : List X) → a ∷ xs ≡ b ∷ ys → a ≡ b
 first_of a b xs ys e = cc
 
+-- and the same rest
 rest_of : {X : Type 0} (a b : X) (xs ys : List X) → a ∷ xs ≡ b ∷ ys → xs ≡ ys
 rest_of a b xs ys e = cc
 
+-- events that may be done and are told what is said keep a journal legal
 legal_onto : (i : Inode) (before rest : List Event) → Legal i before → may_each i before rest ≡ true
     → says_each i before rest ≡ map (λ e. Some e.told) rest → Legal i (onto before rest)
 legal_onto i before [] h m s = h
@@ -99,6 +104,7 @@ legal_by i events m s = legal_onto i (born i) events (tt, ((refl, refl, refl), t
 
 -- ---- listed
 
+-- one more element where there is something to show
 abbrev pub put_on : {X : Type 0} → Option Listed → (Listed → X) → List X → List X
 put_on None f rest = rest
 put_on (Some l) f rest = f l ∷ rest
@@ -108,6 +114,7 @@ abbrev pub entries_at : List Entry → List Mention → List (Option Entry)
 entries_at list [] = []
 entries_at list (m ∷ earlier) = put_on m.added (λ l. slice_get list l.0) (entries_at list earlier)
 
+-- the entries that are added
 abbrev pub added_of : List Mention → List (Option Entry)
 added_of [] = []
 added_of (m ∷ earlier) = put_on m.added (λ l. Some l.1) (added_of earlier)
@@ -117,22 +124,26 @@ abbrev pub places_of : List Entry → List Mention → List (Option ℕ)
 places_of list [] = []
 places_of list (m ∷ earlier) = put_on m.found (λ l. place_of_same list l.1) (places_of list earlier)
 
+-- the places at which entries were found
 abbrev pub found_of : List Mention → List (Option ℕ)
 found_of [] = []
 found_of (m ∷ earlier) = put_on m.found (λ l. Some l.0) (found_of earlier)
 
+-- what is added stands there, and the rest agrees
 stands : (list : List Entry) (o : Option Listed) (xs ys : List (Option Entry))
     → put_on o (λ l. slice_get list l.0) xs ≡ put_on o (λ l. Some l.1) ys → StandsIn list o
     × (xs ≡ ys)
 stands list None xs ys e = (tt, e)
 stands list (Some l) xs ys e = (first_of _ _ _ _ e, rest_of _ _ _ _ e)
 
+-- what is found is first there, and the rest agrees
 is_first : (list : List Entry) (o : Option Listed) (xs ys : List (Option ℕ))
     → put_on o (λ l. place_of_same list l.1) xs ≡ put_on o (λ l. Some l.0) ys → IsFirstIn list o
     × (xs ≡ ys)
 is_first list None xs ys e = (tt, e)
 is_first list (Some l) xs ys e = (first_of _ _ _ _ e, rest_of _ _ _ _ e)
 
+-- where all agree, the list has what the mentions say
 are_in : (list : List Entry) (ms : List Mention) → entries_at list ms ≡ added_of ms
     → places_of list ms ≡ found_of ms → AreIn list ms
 are_in list [] a f = tt
@@ -141,6 +152,7 @@ are_in list (m ∷ ms) a f =
     let y = is_first list m.found (places_of list ms) (found_of ms) f in
     (x.0, y.0, are_in list ms x.1 y.1)
 
+-- so a journal is listed by two equations that compute
 pub listed_by : (i : Inode) (list : List Entry) (p : List Event)
     → entries_at list (mentions i p) ≡ added_of (mentions i p)
     → places_of list (mentions i p) ≡ found_of (mentions i p) → IsListed i list p
@@ -153,24 +165,29 @@ abbrev pub answer_to : Bool → Type 0 → Type 0 → Type 0
 answer_to true answer rest = answer × rest
 answer_to false answer rest = rest
 
+-- the answers that a journal owes, one for each of its checks that measure
 abbrev pub Answers : Inode → List Entry → ℕ → List ℕ → List Event → List Event → Type 0
 Answers i list file bytes done [] = Unit {0}
 Answers i list file bytes done (e ∷ before) =
     answer_to (is_measuring file e.deed) (IsAnswered i list file bytes done e)
     (Answers i list file bytes (done ++ e ∷ []) before)
 
+-- an answer that is owed is given, and the rest is there
 taken : (b : Bool) (A R : Type 0) → answer_to b A R → (b ≡ true → A) × R
 taken true A R h = ((λ y. h.0), h.1)
 taken false A R h = ((λ y. cc), h)
 
+-- an element moves from behind one list to before the next
 append_one : {X : Type 0} (xs : List X) (x : X) (ys : List X) → (xs ++ x ∷ []) ++ ys ≡ xs ++ x ∷ ys
 append_one [] x ys = refl
 append_one (z ∷ zs) x ys = ap (λ l. z ∷ l) (append_one zs x ys)
 
+-- nothing behind a list leaves it as it is
 append_none : {X : Type 0} (xs : List X) → xs ++ [] ≡ xs
 append_none [] = refl
 append_none (z ∷ zs) = ap (λ l. z ∷ l) (append_none zs)
 
+-- with all answers, each split of the journal at a check that measures has its own
 covered : (i : Inode) (list : List Entry) (file : ℕ) (bytes : List ℕ) (done events : List Event)
     → Answers i list file bytes done events
     → (later : List Event) (check : Event) (before : List Event) → events ≡ later ++ check ∷ before
@@ -191,6 +208,7 @@ covered i list file bytes done (x ∷ rest) h (y ∷ later) check before e m =
     (covered i list file bytes (done ++ x ∷ []) rest
     (taken (is_measuring file x.deed) _ _ h).1 later check before (rest_of _ _ _ _ e) m)
 
+-- so a read is covered by one answer for each check
 pub covered_by : (i : Inode) (list : List Entry) (file : ℕ) (p : List Event)
     → Answers i list file (content p) [] p → IsCovered i list file p
 covered_by i list file p h later check before e m =
@@ -203,16 +221,19 @@ abbrev pub none_same : Entry → List Entry → List Bool
 none_same x [] = []
 none_same x (y ∷ ys) = same x y ∷ none_same x ys
 
+-- no two entries of the list are the same
 abbrev pub AreApart : List Entry → Type 0
 AreApart [] = Unit {0}
 AreApart (x ∷ xs) = (none_same x xs ≡ map (λ y. false) xs) × AreApart xs
 
+-- the first entry is the same as none behind it
 apart_first : (x : Entry) (xs : List Entry) (b : ℕ) (y : Entry)
     → none_same x xs ≡ map (λ y. false) xs → slice_get xs b ≡ Some y → same x y ≡ false
 apart_first x [] b y n g = absurd (none-some y g)
 apart_first x (z ∷ zs) zero y n g = ap (same x) (sym (same_Some z y g)) ∙ first_of _ _ _ _ n
 apart_first x (z ∷ zs) (suc b) y n g = apart_first x zs b y (rest_of _ _ _ _ n) g
 
+-- in a list whose entries are apart no two places have the same
 pub distinct_by : (list : List Entry) → AreApart list
     → (a b : ℕ) (x y : Entry) → a < b → slice_get list a ≡ Some x → slice_get list b ≡ Some y
     → same x y ≡ false
@@ -228,29 +249,35 @@ abbrev pub rises_over : Named → List Named → Bool
 rises_over n [] = true
 rises_over n (a ∷ rest) = (not (is_earlier n.0 a.0) || nat_lt n.1 a.1) && rises_over n rest
 
+-- the same for each place that is named
 abbrev pub all_rise : List Named → List Named → Bool
 all_rise [] added = true
 all_rise (n ∷ rest) added = rises_over n added && all_rise rest added
 
+-- a list of one element contains that element alone
 pub one_has : {X : Type 0} (y x : X) → Contains (y ∷ []) x → y ≡ x
 one_has {X} y x h = at h.0 h.1 h.2 where
   at : (k : ℕ) → k < 1 → get_or (y ∷ []) k x ≡ x → y ≡ x
   at zero l e = e
   at (suc k) l e = absurd (omega arith)
 
+-- an empty list contains nothing
 pub has_none : {X : Type 0} (x : X) → Contains [] x → ⊥
 has_none x h = let l : h.0 < 0 = h.1 in absurd (omega arith)
 
+-- what a list contains is its first element, or is contained in the rest
 has_cases : {X : Type 0} (y x : X) (xs : List X) → Contains (y ∷ xs) x → (y ≡ x) ⊎ Contains xs x
 has_cases {X} y x xs h = at (Contains-append_cases (y ∷ []) xs x h) where
   at : Contains (y ∷ []) x ⊎ Contains xs x → (y ≡ x) ⊎ Contains xs x
   at (inl a) = inl (one_has y x a)
   at (inr b) = inr b
 
+-- where the step is earlier, what was decided is that its place is below
 below : (n a : Named) (b : Bool) → b ≡ true → (not b || nat_lt n.1 a.1) ≡ true → n.1 < a.1
 below n a true y o = ltb-true n.1 a.1 o
 below n a false y o = cc
 
+-- a place named by an earlier step is below each place added by a later one
 rises : (n a : Named) (added : List Named) → rises_over n added ≡ true → Contains added a
     → is_earlier n.0 a.0 ≡ true → n.1 < a.1
 rises n a [] r c e = absurd (has_none a c)
@@ -263,6 +290,7 @@ rises n a (x ∷ rest) r c e =
           (subst (λ (w : Named). (not (is_earlier n.0 w.0) || nat_lt n.1 w.1) ≡ true) s o)
       at (inr t) o more = more t
 
+-- so it is for all places that are named
 pub rise_by : (named added : List Named) → all_rise named added ≡ true → (n a : Named)
     → Contains named n → Contains added a → is_earlier n.0 a.0 ≡ true → n.1 < a.1
 rise_by [] added r n a c d e = absurd (has_none n c)
@@ -279,21 +307,25 @@ abbrev pub above_each : ℕ → List Named → Bool
 above_each place [] = true
 above_each place (n ∷ rest) = nat_lt n.1 place && above_each place rest
 
+-- each place that is added is above all these
 abbrev pub added_above : List Named → List Named → Bool
 added_above [] named = true
 added_above (a ∷ rest) named = above_each a.1 named && added_above rest named
 
+-- each place that is added is above all that were named before it
 abbrev pub mentions_rise : List Mention → Bool
 mentions_rise [] = true
 mentions_rise (m ∷ earlier) =
     added_above (named m.who m.added) (all_named earlier) && mentions_rise earlier
 
+-- places that are decided to be below are below
 above_all : (place : ℕ) (ns : List Named) → above_each place ns ≡ true → All (λ n. n.1 < place) ns
 above_all place [] h = All-nil (λ n. n.1 < place)
 above_all place (n ∷ rest) h =
     let parts = and_parts (nat_lt n.1 place) (above_each place rest) h in
     All-cons (λ n. n.1 < place) n rest (ltb-true n.1 place parts.0) (above_all place rest parts.1)
 
+-- so they are below each place that is added
 added_all : (added ns : List Named) → added_above added ns ≡ true
     → All (λ a. All (λ n. n.1 < a.1) ns) added
 added_all [] ns h = All-nil (λ a. All (λ n. n.1 < a.1) ns)
@@ -302,6 +334,7 @@ added_all (a ∷ rest) ns h =
     All-cons (λ a. All (λ n. n.1 < a.1) ns) a rest (above_all a.1 ns parts.0)
     (added_all rest ns parts.1)
 
+-- so the places rise along the mentions
 rising : (ms : List Mention) → mentions_rise ms ≡ true → MentionsRise ms
 rising [] h = tt
 rising (m ∷ earlier) h =

@@ -15,7 +15,6 @@ use Rattle.label_values.specs.declared.verdict.Verdict.TheVariants.{Deny, Pass}
 use Rattle.policy_text.specs.declared.rule.Func.{Func}
 use Rattle.policy_text.specs.declared.rule.Func.TheVariants.{BprmCheck, FileCheck, MmapCheck}
 use Rattle.inode_events.specs.Checks.{no_action}
-use Rattle.inode_events.specs.Inode.{Inode}
 use Rattle.inode_events.specs.Legal.{May}
 use Rattle.inode_events.specs.Listing.{signature_in}
 use Rattle.inode_events.specs.State.{content, metadata}
@@ -24,7 +23,7 @@ use Rattle.inode_events.specs.declared.deed.Change.TheVariants as change
 use Rattle.inode_events.specs.declared.deed.Deed.TheVariants as deed
 use Rattle.inode_events.specs.declared.deed.How.TheVariants as how
 use Rattle.inode_events.specs.declared.told.Told.TheVariants as told
-use Rattle.inode_events.proofs.Examples.{Rows, Tells, abc, after, appraise, grant, inode_of, measure, no_key, plain}
+use Rattle.inode_events.proofs.Examples.{Rows, Tells, abc, after, appraise, enforcing, grant, inode_of, measure, no_key, plain}
 
 -- ---- counts and marks
 
@@ -123,13 +122,12 @@ denied func =
     (deed.Finish 1, Some (told.Grant (grant None (Some (Deny cause.MissingHash)) false false))) ∷
     []
 
-abbrev enforcing : Inode
-enforcing = inode_of Enforce no_key true abc [] true
-
+-- the verdict in force in a slot, behind a check of a function
 abbrev kept : Func → Slot → Option Verdict
 kept func slot = verdict_in_force enforcing (record { slot = slot; need = Any; algos = None })
     (after enforcing (denied func))
 
+-- it is kept in the slot of its own function, and in no other
 slots : (kept BprmCheck slot.Bprm ≡ Some (Deny cause.MissingHash))
     × (kept BprmCheck slot.File ≡ None)
     × (kept MmapCheck slot.Mmap ≡ Some (Deny cause.MissingHash)) × (kept MmapCheck slot.File ≡ None)
@@ -146,6 +144,7 @@ none = record {
   sha224 = false;
 }
 
+-- sets that differ in one algorithm are not the same
 sets : (same_set none none ≡ true) × (same_set none (record none { md5 = true }) ≡ false)
     × (same_set none (record none { sha1 = true }) ≡ false)
     × (same_set none (record none { sha256 = true }) ≡ false)
@@ -175,6 +174,7 @@ one_piece : Tells (inode_of Off no_key true (replicate 4096 97) [] true) (
     [])
 one_piece = (refl, refl)
 
+-- one byte more is a second piece
 two_pieces : Tells (inode_of Off no_key true (replicate 4097 97) [] true) (
     (deed.Count (how.Read false), Some told.Held) ∷
     (deed.Check 1 FileCheck measure 1, Some told.Quiet) ∷
@@ -197,9 +197,11 @@ changes =
     (deed.SetMeta (change.Owner 7 8), Some told.Done) ∷
     []
 
+-- each of these deeds may be done, and is told so
 changes_tell : Tells plain changes
 changes_tell = (refl, refl)
 
+-- they leave these bytes and this metadata
 changed : (content (after plain changes) ≡ 97 ∷ 90 ∷ 99 ∷ 0 ∷ 88 ∷ 0 ∷ 0 ∷ [])
     × (metadata (after plain changes) ≡ record {
       ino = 12;
@@ -262,6 +264,7 @@ begun =
     (deed.Take 1, Some told.Begun) ∷
     []
 
+-- none of these may be done there
 before_grant : (May plain (after plain begun) (deed.Check 1 FileCheck measure 1) → ⊥)
     × (May plain (after plain begun) (deed.Read 1 0 3) → ⊥)
     × (May plain (after plain begun) (deed.Finish 1) → ⊥)

@@ -31,6 +31,7 @@ file_entry = record {
   violation = false;
 }
 
+-- the violation of that file
 abbrev pub violation_entry : Entry
 violation_entry = record {
   pcr = 10;
@@ -58,6 +59,7 @@ to_eleven = record {
 abbrev signed : Inode
 signed = inode_of Off no_key true abc ((codes "security.ima", 3 ∷ 2 ∷ []) ∷ []) true
 
+-- the deeds before the finish of an open
 abbrev hashed : Action → Rows
 hashed action =
     (deed.Count (how.Read false), Some told.Held) ∷
@@ -66,6 +68,7 @@ hashed action =
     (deed.Chunk 1, Some told.Last) ∷
     []
 
+-- the same with the finish
 abbrev opened : Action → Rows
 opened action =
     (deed.Count (how.Read false), Some told.Held) ∷
@@ -80,6 +83,7 @@ opened action =
 plain_entry : entries_added plain (after plain (opened measure)) ≡ (1, file_entry) ∷ []
 plain_entry = refl
 
+-- here the action names a register and a template, and the label is a signature
 ruled_entry : entries_added signed (after signed (opened to_eleven))
     ≡ (
       1,
@@ -103,6 +107,7 @@ met =
     (deed.Check 3 FileCheck to_eleven 1, Some (told.ToMToU 1)) ∷
     []
 
+-- that ToMToU adds the violation
 violation_added : entries_added signed (after signed met) ≡ (1, violation_entry) ∷ []
 violation_added = refl
 
@@ -115,6 +120,7 @@ checked =
     (deed.Check 1 FileCheck measure 1, Some told.Quiet) ∷
     []
 
+-- the same with a writer beside it
 abbrev joined : Rows
 joined =
     (deed.Count (how.Read false), Some told.Held) ∷

@@ -6,7 +6,7 @@ use Rattle.evm_verify.specs.Setup.{Setup}
 use Rattle.ima_templates.specs.declared.entry.Placed.{Placed}
 use Rattle.ima_templates.specs.declared.entry.Placed.TheVariants.{Added}
 use Rattle.inode_meta.specs.declared.appraisal.Mode.{Mode}
-use Rattle.inode_meta.specs.declared.appraisal.Mode.TheVariants.{Fix, Off}
+use Rattle.inode_meta.specs.declared.appraisal.Mode.TheVariants.{Enforce, Fix, Off}
 use Rattle.inode_meta.specs.declared.appraisal.Need.TheVariants.{Any}
 use Rattle.inode_meta.specs.declared.identity.Meta.{Meta}
 use Rattle.inode_meta.specs.declared.measurement.Template.TheVariants.{ImaNg}
@@ -27,6 +27,7 @@ use Rattle.inode_events.specs.declared.told.Told.TheVariants as told
 
 -- ---- whether a deed may be done, decided
 
+-- the stages in order, by number
 abbrev pub number_of : Stage → ℕ
 number_of Gone = 0
 number_of Counted = 1
@@ -37,6 +38,7 @@ number_of Settled = 5
 number_of CloseCollecting = 6
 number_of CloseCollected = 7
 
+-- the stages are the same
 abbrev pub is_at : Stage → Stage → Bool
 is_at a b = number_of a == number_of b
 
@@ -69,10 +71,12 @@ may inode before _ = false
 abbrev pub Rows : Type 0
 Rows = List (Deed × Option Told)
 
+-- the answer of the list that a row was told
 abbrev pub placed_of : Option Told → Placed
 placed_of None = Added 0
 placed_of (Some t) = placed_in t
 
+-- the journal behind a row: a blocked deed leaves no event
 abbrev pub behind : Deed → Option Told → List Event → List Event
 behind d None before = before
 behind d (Some t) before = record { who = nobody; deed = d; told = t } ∷ before
@@ -86,9 +90,11 @@ abbrev pub behind_all : Rows → List Event → List Event
 behind_all [] before = before
 behind_all (r ∷ rest) before = behind_all rest (behind r.0 r.1 before)
 
+-- the journal of an inode behind the rows
 abbrev pub after : Inode → Rows → List Event
 after inode rows = behind_all rows (born inode)
 
+-- each deed may be done where it stands
 abbrev pub may_all : Inode → List Event → Rows → Bool
 may_all inode before [] = true
 may_all inode before (r ∷ rest) = may inode before r.0 && may_all inode (behind r.0 r.1 before) rest
@@ -107,12 +113,15 @@ Tells inode rows = (may_all inode (born inode) rows ≡ true)
 
 -- ---- inodes
 
+-- EVM without a key
 abbrev pub no_key : Setup
 no_key = record { key = None; added = []; format = 1 }
 
+-- EVM with a key
 abbrev pub with_key : List ℕ → Setup
 with_key key = record { key = Some key; added = []; format = 1 }
 
+-- the metadata of the inodes of the examples
 abbrev pub meta : Meta
 meta = record { ino = 12; generation = 1; uid = 0; gid = 0; mode = 33188; place = 1 }
 
@@ -142,8 +151,13 @@ plain = inode_of Off no_key true abc [] true
 abbrev pub fixing : Inode
 fixing = inode_of Fix no_key true abc [] true
 
+-- the same under enforced appraisal
+abbrev pub enforcing : Inode
+enforcing = inode_of Enforce no_key true abc [] true
+
 -- ---- actions and grants
 
+-- the action of `measure`
 abbrev pub measure : Action
 measure = record {
   measure = true;
@@ -156,6 +170,7 @@ measure = record {
   hash = false;
 }
 
+-- the action of `appraise`
 abbrev pub appraise : Action
 appraise = record {
   measure = false;
@@ -168,6 +183,7 @@ appraise = record {
   hash = false;
 }
 
+-- a grant of these parts
 abbrev pub grant : Option Placed → Option Verdict → Bool → Bool → Grant
 grant placed verdict admitted labelled = record {
   placed = placed;

@@ -1,7 +1,7 @@
 -- Three whole runs over one file: a task opens it, reads and closes; a writer comes while a reader
 -- is there; two readers come while a writer is there. Each journal is legal and is listed in its
 -- list, the list is merged from it, and each read is covered.
-use Rattle.std.proofs.Common.{◌≡◌, ℕ, zero, suc, ◌+◌, ◌<◌, Bool, true, false, List, [], ◌∷◌, codes, Option, Some, None, refl, ap, sym, subst, arith, inl, inr, lit<}
+use Rattle.std.proofs.Common.{◌≡◌, ℕ, zero, suc, ◌+◌, ◌<◌, Bool, true, false, List, [], ◌∷◌, ◌++◌, codes, Option, Some, None, refl, ap, sym, subst, arith, inl, inr, lit<}
 use Rattle.std.specs.Prelude.{◌&&◌, nat_le, ◌⊎◌, All, Contains, slice_get, if◌then◌else◌, ◌==◌}
 use Rattle.std.proofs.lemmas.List.Elements.{All-cons, All-contains, All-nil}
 use Rattle.std.proofs.lemmas.Bool.{and_parts, leb-true}
@@ -41,9 +41,11 @@ abbrev pub did : ℕ → ℕ → ℕ → Deed → Told → Event
 did task call step d t =
     record { who = record { task = task; call = call; step = step }; deed = d; told = t }
 
+-- a grant that names a place of the list
 abbrev pub granted : Placed → Told
 granted placed = told.Grant (grant (Some placed) None true false)
 
+-- the boot aggregate of zeros
 abbrev pub boot : Entry
 boot = record {
   pcr = 10;
@@ -56,14 +58,20 @@ boot = record {
 
 -- ---- the three runs, oldest event first
 
--- `open 0 /a r`, `read 0 0 3`, `close 0`
-abbrev pub reading : List Event
-reading =
+-- `open 0 /a r`
+abbrev before_read : List Event
+before_read =
     did 0 0 0 (deed.Count (how.Read false)) told.Held ∷
     did 0 0 1 (deed.Check 1 FileCheck measure 1) told.Quiet ∷
     did 0 0 2 (deed.Take 1) told.Begun ∷
     did 0 0 3 (deed.Chunk 1) told.Last ∷
     did 0 0 4 (deed.Finish 1) (granted (Added 1)) ∷
+    []
+
+-- and then `read 0 0 3` and `close 0`
+abbrev pub reading : List Event
+reading =
+    before_read ++
     did 0 1 0 (deed.Read 1 0 3) (told.Read 3 (digest_of Sha256 abc)) ∷
     did 0 2 0 (deed.Close 1) told.Dropped ∷
     []
@@ -71,11 +79,7 @@ reading =
 -- task 0 opens for reading, and then task 1 for writing
 abbrev pub overtaken : List Event
 overtaken =
-    did 0 0 0 (deed.Count (how.Read false)) told.Held ∷
-    did 0 0 1 (deed.Check 1 FileCheck measure 1) told.Quiet ∷
-    did 0 0 2 (deed.Take 1) told.Begun ∷
-    did 0 0 3 (deed.Chunk 1) told.Last ∷
-    did 0 0 4 (deed.Finish 1) (granted (Added 1)) ∷
+    before_read ++
     did 1 0 0 (deed.Count (how.Write false false)) told.Held ∷
     did 1 0 1 (deed.Check 6 FileCheck no_action 1) (told.ToMToU 2) ∷
     []
@@ -99,23 +103,29 @@ beside_writer =
 abbrev pub journal_of : List Event → List Event
 journal_of events = onto (born plain) events
 
+-- the list of the first run
 abbrev pub reading_list : List Entry
 reading_list = boot ∷ file_entry ∷ []
 
+-- that of the second
 abbrev pub overtaken_list : List Entry
 overtaken_list = boot ∷ file_entry ∷ violation_entry ∷ []
 
+-- that of the third
 abbrev pub beside_list : List Entry
 beside_list = boot ∷ violation_entry ∷ file_entry ∷ violation_entry ∷ []
 
 -- ---- legal
 
+-- the first journal is legal
 reading_legal : Legal plain (journal_of reading)
 reading_legal = legal_by plain reading refl refl
 
+-- so is the second
 overtaken_legal : Legal plain (journal_of overtaken)
 overtaken_legal = legal_by plain overtaken refl refl
 
+-- and the third
 beside_legal : Legal plain (journal_of beside_writer)
 beside_legal = legal_by plain beside_writer refl refl
 
@@ -131,6 +141,7 @@ unheard =
     did 0 0 0 (deed.Count (how.Read false)) told.Held ∷
     born plain
 
+-- what it is told is not what the journal says
 unheard_illegal : Legal plain unheard → ⊥
 unheard_illegal legal = cc legal.1.0.2
 
@@ -149,9 +160,11 @@ own_stage = refl
 
 -- ---- listed
 
+-- the first journal is listed in its list
 reading_listed : IsListed plain reading_list (journal_of reading)
 reading_listed = listed_by plain reading_list (journal_of reading) refl refl
 
+-- so is the second
 overtaken_listed : IsListed plain overtaken_list (journal_of overtaken)
 overtaken_listed = listed_by plain overtaken_list (journal_of overtaken) refl refl
 
@@ -161,10 +174,12 @@ unlisted listed = none-some violation_entry listed.0
 
 -- ---- which entries are the same
 
+-- all bytes are printable and no space, decided
 abbrev are_graphic : List ℕ → Bool
 are_graphic [] = true
 are_graphic (b ∷ rest) = (nat_le 0x21 b && nat_le b 0x7e) && are_graphic rest
 
+-- bytes that are decided to be so are so
 graphic : (bytes : List ℕ) → are_graphic bytes ≡ true → All IsGraphic bytes
 graphic [] g = All-nil IsGraphic
 graphic (b ∷ rest) g =
@@ -175,6 +190,7 @@ graphic (b ∷ rest) g =
       leb-true b 0x7e ends.1,
     ) (graphic rest parts.1)
 
+-- the boot aggregate is an entry that can stand in a list
 boot_valid : IsEntry boot
 boot_valid = record {
   pcr = lit< tt;
@@ -190,6 +206,7 @@ boot_valid = record {
   violation = λ e. cc;
 }
 
+-- so is the entry of the file
 file_valid : IsEntry file_entry
 file_valid = record {
   pcr = lit< tt;
@@ -211,6 +228,7 @@ unfolding same
 file_same = sym (same_data-fields file_entry file_entry true file_valid file_valid refl
     ((λ y. (refl, refl, refl)), (λ f. refl)))
 
+-- the boot aggregate has another name than the file
 boot_apart : same boot file_entry ≡ false
 unfolding same
 boot_apart = sym (same_data-fields boot file_entry false boot_valid file_valid refl (
@@ -220,19 +238,23 @@ boot_apart = sym (same_data-fields boot file_entry false boot_valid file_valid r
   other_name : boot.name ≡ file_entry.name → false ≡ true
   other_name e = cc
 
+-- a violation is the same as no entry
 violation_apart : same violation_entry file_entry ≡ false
 unfolding same
 violation_apart = refl
 
+-- so the first entry that is the same as the file's is the third
 found_third : place_of_same beside_list file_entry ≡ Some 2
 found_third = rw (boot_apart, violation_apart, file_same) refl
 
+-- so the third journal is listed in its list
 beside_listed : IsListed plain beside_list (journal_of beside_writer)
 beside_listed = listed_by plain beside_list (journal_of beside_writer) refl
     (ap (λ (o : Option ℕ). o ∷ []) found_third)
 
 -- ---- merged
 
+-- one event adds the entry behind the boot aggregate
 reading_once : (place : ℕ) → place < 2
     → 0 + times_added place (places_added plain (journal_of reading))
     ≡ (if place == 0 then 0 else 1)
@@ -240,6 +262,7 @@ reading_once zero b = refl
 reading_once (suc zero) b = refl
 reading_once (suc (suc k)) b = absurd (omega arith)
 
+-- the list of the first run is merged from its journal
 reading_merged : IsMerged boot reading_list (record {
   inode = plain;
   events = journal_of reading;
@@ -254,14 +277,17 @@ boot_violation : same boot violation_entry ≡ false
 unfolding same
 boot_violation = refl
 
+-- the file's entry is the same as no violation
 file_violation : same file_entry violation_entry ≡ false
 unfolding same
 file_violation = refl
 
+-- nor is a violation the same as another
 violation_violation : same violation_entry violation_entry ≡ false
 unfolding same
 violation_violation = refl
 
+-- one event adds each of the two entries
 overtaken_once : (place : ℕ) → place < 3
     → 0 + times_added place (places_added plain (journal_of overtaken))
     ≡ (if place == 0 then 0 else 1)
@@ -270,6 +296,7 @@ overtaken_once (suc zero) b = refl
 overtaken_once (suc (suc zero)) b = refl
 overtaken_once (suc (suc (suc k))) b = absurd (omega arith)
 
+-- the list of the second run is merged from its journal
 overtaken_merged : IsMerged boot overtaken_list (record {
   inode = plain;
   events = journal_of overtaken;
@@ -279,6 +306,7 @@ overtaken_merged =
     (journal_of overtaken) refl overtaken_listed overtaken_once refl refl
     ((λ k. boot_apart k ∷ boot_violation k ∷ []), ((λ k. file_violation k ∷ []), (refl, tt)))
 
+-- one event adds each of the three entries
 beside_once : (place : ℕ) → place < 4
     → 0 + times_added place (places_added plain (journal_of beside_writer))
     ≡ (if place == 0 then 0 else 1)
@@ -288,6 +316,7 @@ beside_once (suc (suc zero)) b = refl
 beside_once (suc (suc (suc zero))) b = refl
 beside_once (suc (suc (suc (suc k)))) b = absurd (omega arith)
 
+-- the list of the third run is merged from its journal
 beside_merged : IsMerged boot beside_list (record {
   inode = plain;
   events = journal_of beside_writer;
@@ -313,6 +342,7 @@ adds_first =
     did 0 0 4 (deed.Finish 1) (granted (Added 0)) ∷
     []
 
+-- it is legal, and listed in the list of that entry alone
 adds_first_fits : Legal plain (journal_of adds_first)
     × IsListed plain (file_entry ∷ []) (journal_of adds_first)
 adds_first_fits = (
@@ -320,6 +350,7 @@ adds_first_fits = (
   listed_by plain (file_entry ∷ []) (journal_of adds_first) refl refl,
 )
 
+-- but the first entry is the boot aggregate's, which no event adds
 adds_first_unmerged : IsMerged file_entry (file_entry ∷ []) (record {
   inode = plain;
   events = journal_of adds_first;
@@ -339,16 +370,20 @@ falls =
     did 2 0 1 (deed.Check 5 FileCheck measure 1) (told.OpenWriters 1) ∷
     []
 
+-- the list in which it is listed
 abbrev falls_list : List Entry
 falls_list = boot ∷ violation_entry ∷ violation_entry ∷ []
 
+-- it is legal, and listed there
 falls_fits : Legal plain (journal_of falls) × IsListed plain falls_list (journal_of falls)
 falls_fits =
     (legal_by plain falls refl refl, listed_by plain falls_list (journal_of falls) refl refl)
 
+-- its inode with it
 abbrev falls_journal : Journal
 falls_journal = record { inode = plain; events = journal_of falls }
 
+-- but what the last event adds lies below what an earlier one named
 falls_unmerged : IsMerged boot falls_list (falls_journal ∷ []) → ⊥
 falls_unmerged merged =
     at (All-contains (λ j. PlacesRise j.inode j.events)
@@ -374,6 +409,7 @@ falls_unmerged merged =
 abbrev other : Inode
 other = record plain { path = codes "/b" }
 
+-- task 0 opens beside a writer, in a call, and is told a place
 abbrev beside : ℕ → ℕ → List Event
 beside call place =
     did 1 call 0 (deed.Count (how.Write false false)) told.Held ∷
@@ -382,15 +418,19 @@ beside call place =
     did 0 call 1 (deed.Check 3 FileCheck measure 1) (told.OpenWriters place) ∷
     []
 
+-- the list in which both are listed
 abbrev cross_list : List Entry
 cross_list = boot ∷ violated other ∷ violation_entry ∷ []
 
+-- the journal of its earlier call
 abbrev first_call : Journal
 first_call = record { inode = plain; events = onto (born plain) (beside 0 2) }
 
+-- the journal of its later call, on another inode
 abbrev second_call : Journal
 second_call = record { inode = other; events = onto (born other) (beside 1 1) }
 
+-- both are legal, and listed there
 crosses_fit : (Legal plain first_call.events × IsListed plain cross_list first_call.events)
     × (Legal other second_call.events × IsListed other cross_list second_call.events)
 crosses_fit = (
@@ -398,6 +438,7 @@ crosses_fit = (
   (legal_by other (beside 1 1) refl refl, listed_by other cross_list second_call.events refl refl),
 )
 
+-- but the later call adds below what the earlier one named
 crosses_unmerged : IsMerged boot cross_list (first_call ∷ second_call ∷ []) → ⊥
 crosses_unmerged merged =
     let fell : 2 < 1 = merged.along_tasks first_call second_call
@@ -411,16 +452,7 @@ crosses_unmerged merged =
 
 -- ---- covered
 
--- the events before the read
-abbrev before_read : List Event
-before_read =
-    did 0 0 0 (deed.Count (how.Read false)) told.Held ∷
-    did 0 0 1 (deed.Check 1 FileCheck measure 1) told.Quiet ∷
-    did 0 0 2 (deed.Take 1) told.Begun ∷
-    did 0 0 3 (deed.Chunk 1) told.Last ∷
-    did 0 0 4 (deed.Finish 1) (granted (Added 1)) ∷
-    []
-
+-- the read is covered by the entry that the grant names
 read_covered : IsCovered plain reading_list 1 (journal_of before_read)
 read_covered = covered_by plain reading_list 1 (journal_of before_read) (
   (
@@ -454,6 +486,7 @@ beside_covered = (
 abbrev written_over : List Event
 written_over = did 1 1 0 (deed.Write 6 0 (88 ∷ [])) told.Done ∷ journal_of overtaken
 
+-- the check is answered by the violation
 overtaken_covered : IsCovered plain overtaken_list 1 written_over
 overtaken_covered =
     covered_by plain overtaken_list 1 written_over (
@@ -472,6 +505,7 @@ abbrev lacking_later : List Event
 lacking_later = did 0 0 4 (deed.Finish 1) (granted (Added 1)) ∷ did 0 0 3 (deed.Chunk 1) told.Last
     ∷ did 0 0 2 (deed.Take 1) told.Begun ∷ []
 
+-- no grant names a place of that list, and no violation was told
 lacking : IsAnswered plain (boot ∷ []) 1 abc lacking_later
     (did 0 0 1 (deed.Check 1 FileCheck measure 1) told.Quiet) → ⊥
 lacking answer = at answer.0 (one_has 1 answer.0 answer.1.0) answer.1.1 where
@@ -482,6 +516,7 @@ lacking answer = at answer.0 (one_has 1 answer.0 answer.1.0) answer.1.1 where
       (sym e) shown.1.0)
   at place e (inr violation) = has_none violation.0 violation.1.0
 
+-- so the check has no answer
 uncovered : IsCovered plain (boot ∷ []) 1 (journal_of before_read) → ⊥
 uncovered covered =
     lacking (covered lacking_later (did 0 0 1 (deed.Check 1 FileCheck measure 1) told.Quiet)

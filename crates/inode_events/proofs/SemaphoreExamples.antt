@@ -7,6 +7,7 @@ use Rattle.inode_events.specs.declared.deed.Deed.TheVariants as deed
 use Rattle.inode_events.specs.declared.told.Event.{Event}
 use Rattle.inode_events.specs.declared.told.Told.TheVariants as told
 
+-- an event that was told done
 abbrev done : Deed → Event
 done d = record { who = nobody; deed = d; told = told.Done }
 
@@ -14,6 +15,7 @@ done d = record { who = nobody; deed = d; told = told.Done }
 abbrev signals : List Event
 signals = done (deed.Wait 1) ∷ done (deed.Post 1) ∷ done (deed.Post 0) ∷ done (deed.Post 1) ∷ []
 
+-- they are legal
 signals_are_legal : LegalSemaphores signals
 signals_are_legal = (refl, (refl, (refl, (refl, tt))))
 
