@@ -30,7 +30,7 @@ use Rattle.run_model.specs.History.{Answer, Thought, call_at, event, event_in, o
 use Rattle.run_model.specs.Scene.{Program, Scene, Station, decided, inode_of, mode_of, rules_with}
 use Rattle.run_model.specs.Served.{events_of, rules_of}
 use Rattle.run_model.specs.Turns.{State, go_check, go_does, go_step, journal_at, state_on}
-use Rattle.run_model.specs.declared.entry.RuleEntry.{RuleEntry}
+use Rattle.policy_cell.specs.declared.cell.RuleEntry.{RuleEntry}
 use Rattle.rule_laws.specs.Kept.{AreSigned, GoLeaves, GoOwns, GoSigns, Owns}
 use Rattle.rule_laws.specs.Moments.{answers_to, answers_told, check_answers, does_answers}
 

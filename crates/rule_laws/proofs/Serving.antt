@@ -16,7 +16,7 @@ use Rattle.run_model.specs.Rounds.{RoundsTo, all_tasks, rounds}
 use Rattle.run_model.specs.Served.{Served, events_of}
 use Rattle.call_steps.specs.declared.ending.Ending.TheVariants as ending
 use Rattle.run_model.specs.Turns.{Moment, State, go, newborn, run_at, start_of, turn, turned, turns_of}
-use Rattle.run_model.specs.declared.entry.RuleEntry.{RuleEntry}
+use Rattle.policy_cell.specs.declared.cell.RuleEntry.{RuleEntry}
 use Rattle.rule_laws.specs.Kept.{HasMade, IsKept, RunsAreServed, TurnsAreServed}
 use Rattle.rule_laws.specs.Moments.{history_after, seen_in}
 use Rattle.rule_laws.specs.Stations.{StationRules}

@@ -29,7 +29,7 @@ use Rattle.call_steps.specs.declared.call.Call.TheVariants as call
 use Rattle.run_model.specs.History.{Answer, Thought, call_at, event, plain_answer, start, step_at, step_in, thought, who_at}
 use Rattle.run_model.specs.Scene.{Program, Scene, Station, decided, inode_of, mode_of, rules_with}
 use Rattle.run_model.specs.Turns.{Moment, State, go, go_check, go_does, go_step, hear_told, journal_at, newborn, run_at, start_of, state_on, turn, turned, turns_of}
-use Rattle.run_model.specs.declared.entry.RuleEntry.{RuleEntry}
+use Rattle.policy_cell.specs.declared.cell.RuleEntry.{RuleEntry}
 use Rattle.rule_laws.specs.Checks.{ChecksFit, IsPlainStep, JournalsGrow, Longer, SeesMore, seen_of}
 use Rattle.rule_laws.specs.Moments.{FitIsSuited, GoFits, GoGrows, GoHears, GoRises, HasChecks, HasSuited, IsFit, StationsRise, TurnFits, TurnsAreFit, answers_to, answers_told, check_answers, does_answers, history_after, seen_in}
 use Rattle.rule_laws.specs.Stations.{CountsAll, StationRules}

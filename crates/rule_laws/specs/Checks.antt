@@ -13,7 +13,7 @@ use Rattle.call_steps.specs.Mind.{Nothing, Does, Checks, Signals, Appends}
 use Rattle.run_model.specs.History.{Answer, plain_answer, step_at, thought}
 use Rattle.run_model.specs.Scene.{Program, Scene, Station, decided, mode_of, rules_with}
 use Rattle.run_model.specs.Served.{AreSuited, Run, rules_known}
-use Rattle.run_model.specs.declared.entry.RuleEntry.{RuleEntry}
+use Rattle.policy_cell.specs.declared.cell.RuleEntry.{RuleEntry}
 
 -- what a task's passes have seen: of each inode's journal, and of the appended rules
 pub record Seen : Type 0 where

@@ -14,7 +14,7 @@ use Rattle.run_model.specs.Ended.{is_done, is_stuck}
 use Rattle.run_model.specs.History.{Thought}
 use Rattle.run_model.specs.Scene.{Program, Scene, Station, inode_of}
 use Rattle.run_model.specs.Served.{Run}
-use Rattle.run_model.specs.declared.entry.RuleEntry.{RuleEntry}
+use Rattle.policy_cell.specs.declared.cell.RuleEntry.{RuleEntry}
 
 -- whether each call of the task is answered, and the replies
 pub record EndedTaskValue : Type 0 where

@@ -14,7 +14,7 @@ use Rattle.call_steps.specs.Mind.{Does, Checks, Signals, Appends}
 use Rattle.call_steps.specs.declared.call.Call.{Call}
 use Rattle.call_steps.specs.declared.reply.Reply.{Reply}
 use Rattle.run_model.specs.Scene.{Program}
-use Rattle.run_model.specs.declared.entry.RuleEntry.{RuleEntry}
+use Rattle.policy_cell.specs.declared.cell.RuleEntry.{RuleEntry}
 
 -- what one step was told: the place where its event or its rule stands, the outcome, and of a check
 -- the action and the number of rules by which it was decided

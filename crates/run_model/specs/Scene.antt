@@ -14,7 +14,7 @@ use Rattle.inode_events.specs.Inode.{Inode}
 use Rattle.inode_events.specs.declared.image.Image.{Image}
 use Rattle.inode_events.specs.declared.settings.Settings.{Settings}
 use Rattle.call_steps.specs.declared.call.Call.{Call}
-use Rattle.run_model.specs.declared.entry.RuleEntry.{RuleEntry}
+use Rattle.policy_cell.specs.declared.cell.RuleEntry.{RuleEntry}
 
 -- a file of the script: its path, the inode as it comes into being, and the file system on which it
 -- lies

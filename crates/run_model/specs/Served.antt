@@ -15,7 +15,7 @@ use Rattle.call_steps.specs.Mind.{Step}
 use Rattle.call_steps.specs.Mind.{Nothing, Does, Checks, Signals, Appends}
 use Rattle.run_model.specs.History.{Answer, Thought, own, own_rules, plain_answer, step_at, thought}
 use Rattle.run_model.specs.Scene.{Program, Scene, Station, decided, mode_of, rules_with}
-use Rattle.run_model.specs.declared.entry.RuleEntry.{RuleEntry}
+use Rattle.policy_cell.specs.declared.cell.RuleEntry.{RuleEntry}
 
 -- a run as it is shown: the journal of each inode, oldest event first, the measurement list, the
 -- appended rules, and where each task stands

@@ -21,7 +21,7 @@ use Rattle.call_steps.specs.Mind.{Nothing, Does, Checks, Signals, Appends}
 use Rattle.run_model.specs.History.{Thought, event, hear, plain_answer, start, step_at, who_at}
 use Rattle.run_model.specs.Served.{Run}
 use Rattle.run_model.specs.Scene.{Program, Scene, Station, decided, inode_of, mode_of, rules_with}
-use Rattle.run_model.specs.declared.entry.RuleEntry.{RuleEntry}
+use Rattle.policy_cell.specs.declared.cell.RuleEntry.{RuleEntry}
 use Rattle.run_model.specs.declared.turn.Turn.{Turn}
 use Rattle.run_model.specs.declared.turn.Turn.TheVariants as turns
 

@@ -1,9 +1,9 @@
-use crate::entry::RuleEntry;
 use call_steps::Reply;
 use ima_templates::Entry;
 use inode_events::EndedInode;
 use inode_meta::Template;
 use pcr_bank::Banks;
+use policy_cell::RuleEntry;
 use std::marker::Model;
 
 /// A task at the end of a run. Contracts see the record of its fields, the replies as a list.

@@ -7,13 +7,12 @@
 #![tactic(auto)]
 
 mod ended;
-mod entry;
 mod turn;
 
 ghost use Rattle.run_model.specs.Laws.{OneEnd, PlacedIsTold, StepIsListed, StillRound, StillTurn};
 
 pub use ended::{Ended, EndedTask};
-pub use entry::RuleEntry;
+pub use policy_cell::RuleEntry;
 pub use turn::Turn;
 
 /// A turn that doesn't move its task changes nothing.
