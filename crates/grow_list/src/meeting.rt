@@ -9,8 +9,8 @@ ghost use Rattle.grow_list.specs.Meetings.{IsMoved, IsListSeat, IsPassSeat, Tall
 use crate::known::{
     Adding, Adds, Closes, Copies, Drawing, Draws, Growing, Hears, Known, Learns, Meets,
 };
-use inode_meta::OutOfMemory;
 use atomic_table::{Seat, Shared};
+use inode_meta::OutOfMemory;
 use std::alloc::AllocError;
 use std::marker::Brand;
 
