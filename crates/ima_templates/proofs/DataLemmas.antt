@@ -1,22 +1,24 @@
 -- Entries of one template with one template data have one digest, one name and one third field.
-use Rattle.std.proofs.Common.{◌≡◌, ℕ, zero, suc, ◌^◌, ◌%◌, ◌/◌, ◌<◌, ◌≤◌, ◌==◌, false, not, if◌then◌else◌, List, [], ◌∷◌, ◌++◌, length, take, drop, replicate, Some, arith, refl, ap, subst, sym, ◌∙◌, append_assoc, length-append, ne_eqb}
-use Rattle.std.proofs.lemmas.List.{append_cancel_left, append_cancel_right}
+use Rattle.std.proofs.Common.{◌≡◌, ℕ, zero, suc, ◌^◌, ◌+◌, ◌-◌, ◌*◌, ◌%◌, ◌/◌, ◌<◌, ◌≤◌, ◌==◌, false, not, if◌then◌else◌, List, [], ◌∷◌, ◌++◌, length, take, drop, replicate, Some, arith, refl, ap, subst, sym, ◌∙◌, append_assoc, length-append, ne_eqb}
+use Rattle.std.proofs.lemmas.List.{length-replicate, append-nil, append_cancel_left, append_cancel_right}
 use Rattle.std.proofs.Math.Seq.{take-append_seam, drop-append_seam}
-use Rattle.std.specs.List.{All, take_while}
+use Rattle.std.specs.List.{All, flat_map, take_while}
 use Rattle.byteorder.specs.Endian.{little_bytes}
 use Rattle.hash_algos.specs.declared.algo.Algo.{Algo}
 use Rattle.hash_algos.specs.declared.algo.Algo.TheVariants.{Md5, Sha1, Sha256, Sha384, Sha512, Sha224}
 use Rattle.hash_algos.specs.declared.digest.Digest.{Digest}
 use Rattle.hash_algos.specs.Algo.{algo_by_name, algo_name, algo_size}
 use Rattle.hash_algos.specs.Digest.{HasDigestSize}
+use Rattle.inode_meta.specs.Fields.{template_fields}
+use Rattle.inode_meta.specs.declared.measurement.Field.{Field}
+use Rattle.inode_meta.specs.declared.measurement.Field.TheVariants as field
 use Rattle.inode_meta.specs.declared.measurement.Template.{Template}
 use Rattle.inode_meta.specs.declared.measurement.Template.TheVariants.{Ima, ImaNg, ImaSig, ImaBuf}
 use Rattle.ima_templates.specs.declared.entry.Entry.{Entry}
-use Rattle.ima_templates.specs.Data.{d_ng, data_by, n_ng, n_padded, sized, template_data}
+use Rattle.ima_templates.specs.Data.{HasLengths, content, d_ng, data_by, field_data, n_ng, n_padded, sized, template_data}
 use Rattle.ima_templates.specs.IsEntry.{IsEntry}
 use Rattle.ima_templates.specs.Path.{IsGraphic}
 use Rattle.ima_templates.specs.Same.{SameFields}
-use Rattle.ima_templates.proofs.FeedsLemmas.{length-d_ng}
 
 -- ---- lists
 
@@ -33,6 +35,11 @@ append_apart xs ys us vs same_length same =
     (front, back)
 
 -- ---- a field with its length
+
+length-d_ng : (digest : Digest) → length (d_ng digest) ≡ length (algo_name digest.algo) + 2 + length digest.bytes
+length-d_ng digest =
+    length-append (algo_name digest.algo ++ 58 ∷ []) (0 ∷ digest.bytes)
+    ∙ omega (arith, length-append (algo_name digest.algo) (58 ∷ []))
 
 little_bytes-apart : (m n : ℕ) → m < 2 ^ 32 → n < 2 ^ 32 → little_bytes 4 m ≡ little_bytes 4 n → m ≡ n
 little_bytes-apart m n fits_m fits_n same =
@@ -141,40 +148,38 @@ entry_named e kept = record {
 
 -- the fields of all templates but `ima`, with what follows them
 ng_fields : (a b : Entry) (us vs : List ℕ) → IsNamed a → IsNamed b
-    → (sized (d_ng a.digest) ++ sized (n_ng a.name)) ++ us ≡ (sized (d_ng b.digest) ++ sized (n_ng b.name)) ++ vs
+    → sized (d_ng a.digest) ++ (sized (n_ng a.name) ++ us) ≡ sized (d_ng b.digest) ++ (sized (n_ng b.name) ++ vs)
     → (a.digest ≡ b.digest) × (a.name ≡ b.name) × (us ≡ vs)
 ng_fields a b us vs kept_a kept_b same =
-    let regrouped : sized (d_ng a.digest) ++ (sized (n_ng a.name) ++ us) ≡ sized (d_ng b.digest) ++ (sized (n_ng b.name) ++ vs) =
-    sym (append_assoc (sized (d_ng a.digest)) (sized (n_ng a.name)) us) ∙ same
-    ∙ append_assoc (sized (d_ng b.digest)) (sized (n_ng b.name)) vs in
     let digests = sized-apart (d_ng a.digest) (d_ng b.digest) (sized (n_ng a.name) ++ us) (sized (n_ng b.name) ++ vs)
-    (length-d_ng-fits a.digest kept_a.digest_size) (length-d_ng-fits b.digest kept_b.digest_size) regrouped in
+    (length-d_ng-fits a.digest kept_a.digest_size) (length-d_ng-fits b.digest kept_b.digest_size) same in
     let names = sized-apart (n_ng a.name) (n_ng b.name) us vs
     (length-n_ng-fits a.name kept_a.name_at_most) (length-n_ng-fits b.name kept_b.name_at_most) digests.1 in
     (d_ng-apart a.digest b.digest digests.0, append_cancel_right a.name b.name (0 ∷ []) names.0, names.1)
 
 -- the same with the third field
 sig_fields : (a b : Entry) → IsEntry a → IsEntry b
-    → (sized (d_ng a.digest) ++ sized (n_ng a.name)) ++ sized a.sig ≡ (sized (d_ng b.digest) ++ sized (n_ng b.name)) ++ sized b.sig
+    → sized (d_ng a.digest) ++ (sized (n_ng a.name) ++ (sized a.sig ++ [])) ≡ sized (d_ng b.digest) ++ (sized (n_ng b.name) ++ (sized b.sig ++ []))
     → SameFields a b
 sig_fields a b kept_a kept_b same =
-    let fields = ng_fields a b (sized a.sig) (sized b.sig) (entry_named a kept_a) (entry_named b kept_b) same in
+    let fields = ng_fields a b (sized a.sig ++ []) (sized b.sig ++ []) (entry_named a kept_a) (entry_named b kept_b) same in
     let fits_a : length a.sig < 2 ^ 32 = omega (arith, kept_a.sig_at_most) in
     let fits_b : length b.sig < 2 ^ 32 = omega (arith, kept_b.sig_at_most) in
-    let sigs = sized-apart a.sig b.sig [] [] fits_a fits_b (ap (λ l. l ++ []) fields.2) in
+    let sigs = sized-apart a.sig b.sig [] [] fits_a fits_b fields.2 in
     (fields.0, fields.1, sigs.0)
 
 -- the fields of `ima`
 ima_fields : (a b : Entry) → IsNamed a → IsNamed b → a.template ≡ Ima → b.template ≡ Ima
-    → a.digest.bytes ++ n_padded a.name ≡ b.digest.bytes ++ n_padded b.name → (a.digest ≡ b.digest) × (a.name ≡ b.name)
+    → a.digest.bytes ++ (n_padded a.name ++ []) ≡ b.digest.bytes ++ (n_padded b.name ++ []) → (a.digest ≡ b.digest) × (a.name ≡ b.name)
 ima_fields a b kept_a kept_b is_a is_b same =
     let algo_a : a.digest.algo ≡ Sha1 = kept_a.digest_of_ima is_a in
     let algo_b : b.digest.algo ≡ Sha1 = kept_b.digest_of_ima is_b in
     let sizes : length a.digest.bytes ≡ length b.digest.bytes =
     kept_a.digest_size ∙ ap algo_size (algo_a ∙ sym algo_b) ∙ sym kept_b.digest_size in
-    let cut = append_apart a.digest.bytes b.digest.bytes (n_padded a.name) (n_padded b.name) sizes same in (
+    let cut = append_apart a.digest.bytes b.digest.bytes (n_padded a.name ++ []) (n_padded b.name ++ []) sizes same in (
       λ i. record { algo = (algo_a ∙ sym algo_b) i; bytes = cut.0 i },
-      filled-apart a.name b.name _ _ kept_a.name_graphic kept_b.name_graphic cut.1,
+      filled-apart a.name b.name _ _ kept_a.name_graphic kept_b.name_graphic
+          (sym (append-nil (n_padded a.name)) ∙ cut.1 ∙ append-nil (n_padded b.name)),
     )
 
 fields_at : (a b : Entry) (t : Template) → IsEntry a → IsEntry b → a.template ≡ t → b.template ≡ t
@@ -183,7 +188,7 @@ fields_at a b Ima kept_a kept_b is_a is_b same =
     let fields = ima_fields a b (entry_named a kept_a) (entry_named b kept_b) is_a is_b same in
     (fields.0, fields.1, kept_a.sig_of_ima is_a ∙ sym (kept_b.sig_of_ima is_b))
 fields_at a b ImaNg kept_a kept_b is_a is_b same =
-    let fields = ng_fields a b [] [] (entry_named a kept_a) (entry_named b kept_b) (ap (λ l. l ++ []) same) in
+    let fields = ng_fields a b [] [] (entry_named a kept_a) (entry_named b kept_b) same in
     (fields.0, fields.1, kept_a.sig_of_ima_ng is_a ∙ sym (kept_b.sig_of_ima_ng is_b))
 fields_at a b ImaSig kept_a kept_b is_a is_b same = sig_fields a b kept_a kept_b same
 fields_at a b ImaBuf kept_a kept_b is_a is_b same = sig_fields a b kept_a kept_b same
@@ -200,11 +205,11 @@ named_at : (a b : Entry) (t : Template) → IsNamed a → IsNamed b → a.templa
     → data_by t a.digest a.name a.sig ≡ data_by t b.digest b.name b.sig → (a.digest ≡ b.digest) × (a.name ≡ b.name)
 named_at a b Ima named_a named_b is_a is_b same = ima_fields a b named_a named_b is_a is_b same
 named_at a b ImaNg named_a named_b is_a is_b same =
-    let fields = ng_fields a b [] [] named_a named_b (ap (λ l. l ++ []) same) in (fields.0, fields.1)
+    let fields = ng_fields a b [] [] named_a named_b same in (fields.0, fields.1)
 named_at a b ImaSig named_a named_b is_a is_b same =
-    let fields = ng_fields a b (sized a.sig) (sized b.sig) named_a named_b same in (fields.0, fields.1)
+    let fields = ng_fields a b (sized a.sig ++ []) (sized b.sig ++ []) named_a named_b same in (fields.0, fields.1)
 named_at a b ImaBuf named_a named_b is_a is_b same =
-    let fields = ng_fields a b (sized a.sig) (sized b.sig) named_a named_b same in (fields.0, fields.1)
+    let fields = ng_fields a b (sized a.sig ++ []) (sized b.sig ++ []) named_a named_b same in (fields.0, fields.1)
 
 -- the same for the digest and the name alone, whatever stands in the third field
 pub template_data-named : (a b : Entry) → IsNamed a → IsNamed b → a.template ≡ b.template → template_data a ≡ template_data b
@@ -219,3 +224,61 @@ pub template_data-same : (a b : Entry) → a.template ≡ b.template → SameFie
 unfolding template_data
 template_data-same a b templates fields =
     λ i. data_by (templates i) (fields.0 i) (fields.1 i) (fields.2 i)
+
+-- ---- how long template data is
+
+length-content-le : (f : Field) (digest : Digest) (name sig : List ℕ) → HasLengths digest name sig → length (content f digest name sig) ≤ 4096
+length-content-le field.Digest digest name sig fits = omega (arith, fits.digest_size, algo_size-le digest.algo)
+length-content-le field.Name digest name sig fits =
+    omega (arith, fits.name_at_most, length-append name (replicate (256 - length name) 0), length-replicate {A = ℕ} (256 - length name) 0)
+length-content-le field.DigestNg digest name sig fits =
+    omega (arith, fits.digest_size, algo_size-le digest.algo, length-algo_name-le digest.algo, length-d_ng digest)
+length-content-le field.NameNg digest name sig fits = omega (arith, fits.name_at_most, length-append name (0 ∷ []))
+length-content-le field.Sig digest name sig fits = fits.sig_at_most
+length-content-le field.Buf digest name sig fits = fits.sig_at_most
+
+-- the length of a field fits in 4 bytes
+pub length-content-fits : (f : Field) (digest : Digest) (name sig : List ℕ) → HasLengths digest name sig → length (content f digest name sig) < 2 ^ 32
+length-content-fits f digest name sig fits = omega (arith, length-content-le f digest name sig fits)
+
+length-sized : (bytes : List ℕ) → length (sized bytes) ≡ 4 + length bytes
+unfolding sized
+length-sized bytes = length-append (little_bytes 4 (length bytes)) bytes
+
+length-field_data-le : (f : Field) (digest : Digest) (name sig : List ℕ) → HasLengths digest name sig → length (field_data f digest name sig) ≤ 4100
+length-field_data-le field.Digest digest name sig fits = omega (arith, length-content-le field.Digest digest name sig fits)
+length-field_data-le field.Name digest name sig fits = omega (arith, length-content-le field.Name digest name sig fits)
+length-field_data-le field.DigestNg digest name sig fits = omega (arith, length-content-le field.DigestNg digest name sig fits, length-sized (d_ng digest))
+length-field_data-le field.NameNg digest name sig fits = omega (arith, length-content-le field.NameNg digest name sig fits, length-sized (n_ng name))
+length-field_data-le field.Sig digest name sig fits = omega (arith, length-content-le field.Sig digest name sig fits, length-sized sig)
+length-field_data-le field.Buf digest name sig fits = omega (arith, length-content-le field.Buf digest name sig fits, length-sized sig)
+
+length-fields-le : (fs : List Field) (digest : Digest) (name sig : List ℕ) → HasLengths digest name sig
+    → length (flat_map (λ f. field_data f digest name sig) fs) ≤ length fs * 4100
+length-fields-le [] digest name sig fits = omega arith
+length-fields-le (f ∷ fs) digest name sig fits =
+    omega (
+      arith,
+      length-append (field_data f digest name sig) (flat_map (λ g. field_data g digest name sig) fs),
+      length-field_data-le f digest name sig fits,
+      length-fields-le fs digest name sig fits,
+    )
+
+length-template_fields-le : (t : Template) → length (template_fields t) ≤ 3
+length-template_fields-le Ima = omega arith
+length-template_fields-le ImaNg = omega arith
+length-template_fields-le ImaSig = omega arith
+length-template_fields-le ImaBuf = omega arith
+
+pub HasLengths-entry : (e : Entry) → IsEntry e → HasLengths e.digest e.name e.sig
+HasLengths-entry e kept = record { digest_size = kept.digest_size; name_at_most = kept.name_at_most; sig_at_most = kept.sig_at_most }
+
+-- the length of the template data fits in 4 bytes
+pub length-template_data-fits : (e : Entry) → IsEntry e → length (template_data e) < 2 ^ 32
+unfolding template_data
+length-template_data-fits e kept =
+    omega (
+      arith,
+      length-fields-le (template_fields e.template) e.digest e.name e.sig (HasLengths-entry e kept),
+      length-template_fields-le e.template,
+    )

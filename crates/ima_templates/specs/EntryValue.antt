@@ -1,5 +1,5 @@
 -- What contracts see of an entry.
-use Rattle.std.specs.Prelude.{ℕ, Bool, List}
+use Rattle.std.specs.Prelude.{ℕ, Bool, false, List}
 use Rattle.hash_algos.specs.declared.digest.Digest.{Digest}
 use Rattle.inode_meta.specs.declared.measurement.Template.{Template}
 
@@ -11,3 +11,8 @@ pub record EntryValue : Type 0 where
   pub name : List ℕ
   pub sig : List ℕ
   pub violation : Bool
+
+-- these fields, of no violation
+abbrev pub fields : ℕ → Template → Digest → List ℕ → List ℕ → EntryValue
+fields pcr template digest name sig =
+    record { pcr = pcr; template = template; digest = digest; name = name; sig = sig; violation = false }

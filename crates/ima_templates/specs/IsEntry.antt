@@ -3,6 +3,7 @@ use Rattle.std.specs.Prelude.{◌≡◌, ◌≢◌, ◌<◌, ◌≤◌, true, []
 use Rattle.std.specs.List.{All}
 use Rattle.hash_algos.specs.declared.algo.Algo.TheVariants.{Sha1}
 use Rattle.hash_algos.specs.Digest.{HasDigestSize, zero_digest}
+use Rattle.inode_meta.specs.declared.measurement.TheConstants.{DEFAULT_PCR}
 use Rattle.inode_meta.specs.declared.measurement.Template.TheVariants.{Ima, ImaNg, ImaBuf}
 use Rattle.ima_templates.specs.declared.entry.Entry.TheInside.{Inside}
 use Rattle.ima_templates.specs.EntryValue.{EntryValue}
@@ -20,7 +21,7 @@ fields_of e = record {
 
 -- what a violation keeps beside
 pub record IsViolation (e : EntryValue) : Type 0 where
-  pub pcr : e.pcr ≡ 10
+  pub pcr : e.pcr ≡ DEFAULT_PCR
   pub digest : e.digest ≡ zero_digest e.digest.algo
   pub sig : e.sig ≡ []
   pub template : e.template ≢ ImaBuf

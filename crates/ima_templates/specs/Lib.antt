@@ -5,6 +5,8 @@ pub mod Shown
 pub mod Entries
 pub mod Data
 pub mod Feeds
+pub mod Appends
+pub mod Kept
 pub mod Digests
 pub mod Same
 pub mod Replay

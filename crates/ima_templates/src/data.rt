@@ -1,46 +1,114 @@
-// The template data, fed to a hash field by field.
+// The fields of a template, written one after another.
 
-ghost use Rattle.std.specs.Prelude.{◌≡◌, ◌+◌, ◌^◌, ◌<◌, ◌≤◌, ◌++◌, length, replicate};
+ghost use Rattle.std.specs.Prelude.{◌≡◌, ◌+◌, ◌^◌, ◌<◌, ◌≤◌, ◌++◌, length, replicate, IfOk, OnOk};
 ghost use Rattle.byteorder.specs.Endian.{little_bytes};
-ghost use Rattle.ima_templates.specs.Data.{d_ng, n_ng, n_padded, sized, template_data};
-ghost use Rattle.ima_templates.specs.Feeds.{Feeds};
+ghost use Rattle.hash_algos.specs.Digest.{digest_of};
+ghost use Rattle.hash_algos.specs.Hash.{hash};
+ghost use Rattle.ima_templates.specs.Data.{HasLengths, content, data_by, field_data, has_length};
 
-use crate::entry::Entry;
+use crate::absorb::{Absorb, Count};
 use byteorder::{ByteOrder, LittleEndian};
-use hash_algos::{Digest, Running};
-use inode_meta::Template;
+use hash_algos::{Algo, Digest, Running};
+use inode_meta::{Field, Template};
+use xattr_store::OutOfMemory;
 
-// The field `n` of `ima` is filled up to this length with zeros.
+// The field `n` is filled up to this length with zeros.
 const NAME_LENGTH: usize = 256;
 
 static ZEROS: [u8; NAME_LENGTH] = [0; NAME_LENGTH];
 
-pub(crate) fn feed_data(running: &mut Running, e: &Entry)
-    ensures { Feeds running.old running.new (template_data e.now) }
+/// Writes the template data of these fields.
+pub(crate) fn absorb_data<S: Absorb>(
+    to: &mut S,
+    template: Template,
+    digest: &Digest,
+    name: &[u8],
+    sig: &[u8],
+) -> Result<(), OutOfMemory>
+    requires { HasLengths digest.now name.now sig.now }
+    ensures ok { OnOk result (S.absorbs to.old to.new (data_by template digest.now name.now sig.now)) }
+    ensures kept { S.keeps to.old to.new }
 {
-    let name = e.name.as_slice();
-    match e.template {
-        Template::Ima => feed_ima(running, &e.digest, name),
-        Template::ImaNg => {
-            feed_digest(running, &e.digest);
-            feed_name(running, name);
-        }
-        Template::ImaSig | Template::ImaBuf => {
-            feed_digest(running, &e.digest);
-            feed_name(running, name);
-            feed_field(running, e.sig.as_slice());
-        }
+    for field in template.fields() {
+        absorb_field(to, *field, digest, name, sig)?;
+    }
+    Ok(())
+}
+
+// Writes a field of the template data, with its length where it has one.
+fn absorb_field<S: Absorb>(
+    to: &mut S,
+    field: Field,
+    digest: &Digest,
+    name: &[u8],
+    sig: &[u8],
+) -> Result<(), OutOfMemory>
+    requires { HasLengths digest.now name.now sig.now }
+    ensures ok { OnOk result (S.absorbs to.old to.new (field_data field digest.now name.now sig.now)) }
+    ensures kept { S.keeps to.old to.new }
+{
+    if has_length(field) {
+        let mut count = Count { bytes: 0 };
+        absorb_content(&mut count, field, digest, name, sig)?;
+        absorb_number(to, count.bytes)?;
+        absorb_content(to, field, digest, name, sig)?;
+        Ok(())
+    } else {
+        absorb_content(to, field, digest, name, sig)
     }
 }
 
-// The fields `d` and `n`, which have no lengths.
-fn feed_ima(running: &mut Running, digest: &Digest, name: &[u8])
-    requires { length name.now ≤ NAME_LENGTH }
-    ensures { Feeds running.old running.new (digest.now.bytes ++ n_padded name.now) }
+// Whether the field stands in the template data with its length.
+fn has_length(field: Field) -> bool
+    ensures { result ≡ has_length field }
 {
-    running.feed(digest.as_slice());
-    running.feed(name);
-    running.feed(zeros(NAME_LENGTH - name.len()));
+    match field {
+        Field::Digest | Field::Name => false,
+        Field::DigestNg | Field::NameNg | Field::Sig | Field::Buf => true,
+    }
+}
+
+// Writes what a field holds.
+fn absorb_content<S: Absorb>(
+    to: &mut S,
+    field: Field,
+    digest: &Digest,
+    name: &[u8],
+    sig: &[u8],
+) -> Result<(), OutOfMemory>
+    ensures ok { OnOk result (S.absorbs to.old to.new (content field digest.now name.now sig.now)) }
+    ensures kept { S.keeps to.old to.new }
+{
+    match field {
+        Field::Digest => to.absorb(digest.as_slice()),
+        Field::Name => absorb_both(to, name, zeros(NAME_LENGTH.saturating_sub(name.len()))),
+        Field::DigestNg => {
+            absorb_both(to, digest.algo().name().as_bytes(), b":")?;
+            absorb_both(to, b"\0", digest.as_slice())
+        }
+        Field::NameNg => absorb_both(to, name, b"\0"),
+        Field::Sig | Field::Buf => to.absorb(sig),
+    }
+}
+
+// Writes the one piece and then the other.
+fn absorb_both<S: Absorb>(to: &mut S, first: &[u8], second: &[u8]) -> Result<(), OutOfMemory>
+    ensures ok { OnOk result (S.absorbs to.old to.new (first.now ++ second.now)) }
+    ensures kept { S.keeps to.old to.new }
+{
+    to.absorb(first)?;
+    to.absorb(second)
+}
+
+// Writes a number in 4 bytes, with the low one first.
+fn absorb_number<S: Absorb>(to: &mut S, number: usize) -> Result<(), OutOfMemory>
+    requires { number < 2 ^ 32 }
+    ensures ok { OnOk result (S.absorbs to.old to.new (little_bytes 4 number)) }
+    ensures kept { S.keeps to.old to.new }
+{
+    let mut bytes = [0; 4];
+    LittleEndian::write_u32(&mut bytes, number as u32);
+    to.absorb(&bytes)
 }
 
 // So many zeros.
@@ -51,43 +119,36 @@ fn zeros(count: usize) -> &'static [u8]
     &ZEROS[..count]
 }
 
-// The field `d-ng` with its length.
-fn feed_digest(running: &mut Running, digest: &Digest)
-    ensures { Feeds running.old running.new (sized (d_ng digest.now)) }
+/// The template digests of these fields.
+pub(crate) fn sums(
+    template: Template,
+    digest: &Digest,
+    name: &[u8],
+    sig: &[u8],
+) -> Result<([u8; 20], [u8; 32]), OutOfMemory>
+    requires { HasLengths digest.now name.now sig.now }
+    ensures sha1 { IfOk result (λ s. s.0 ≡ hash Algo.Sha1 (data_by template digest.now name.now sig.now)) }
+    ensures sha256 { IfOk result (λ s. s.1 ≡ hash Algo.Sha256 (data_by template digest.now name.now sig.now)) }
 {
-    let name = digest.algo().name().as_bytes();
-    let bytes = digest.as_slice();
-    feed_length(running, name.len() + 2 + bytes.len());
-    running.feed(name);
-    running.feed(b":\0");
-    running.feed(bytes);
+    let mut sha1 = [0; 20];
+    let mut sha256 = [0; 32];
+    sha1.copy_from_slice(sum(Algo::Sha1, template, digest, name, sig)?.as_slice());
+    sha256.copy_from_slice(sum(Algo::Sha256, template, digest, name, sig)?.as_slice());
+    Ok((sha1, sha256))
 }
 
-// The field `n-ng` with its length.
-fn feed_name(running: &mut Running, name: &[u8])
-    requires { length name.now + 1 < 2 ^ 32 }
-    ensures { Feeds running.old running.new (sized (n_ng name.now)) }
+// The hash of the template data of these fields.
+fn sum(
+    algo: Algo,
+    template: Template,
+    digest: &Digest,
+    name: &[u8],
+    sig: &[u8],
+) -> Result<Digest, OutOfMemory>
+    requires { HasLengths digest.now name.now sig.now }
+    ensures { IfOk result (λ d. d ≡ digest_of algo (data_by template digest.now name.now sig.now)) }
 {
-    feed_length(running, name.len() + 1);
-    running.feed(name);
-    running.feed(b"\0");
-}
-
-// A field with its length.
-fn feed_field(running: &mut Running, field: &[u8])
-    requires { length field.now < 2 ^ 32 }
-    ensures { Feeds running.old running.new (sized field.now) }
-{
-    feed_length(running, field.len());
-    running.feed(field);
-}
-
-// The length of a field, in 4 bytes with the low one first.
-fn feed_length(running: &mut Running, length: usize)
-    requires { length < 2 ^ 32 }
-    ensures { Feeds running.old running.new (little_bytes 4 length) }
-{
-    let mut bytes = [0; 4];
-    LittleEndian::write_u32(&mut bytes, length as u32);
-    running.feed(&bytes);
+    let mut running = Running::new(algo);
+    absorb_data(&mut running, template, digest, name, sig)?;
+    Ok(running.finish())
 }

@@ -29,18 +29,14 @@ pub fn build(
     requires sig { length sig.now ≤ 4096 }
     ensures { IfOk result (λ e. e ≡ entry_of pcr template file.now sha1.now path.now sig.now) }
 {
-    Ok(Entry {
-        pcr,
-        template,
-        digest: shown_digest(template, file, sha1),
-        name: Bytes::from_slice(alloc, shown_name(template, path))?,
-        sig: Bytes::from_slice(alloc, shown_sig(template, sig))?,
-        violation: false,
-    })
+    let digest = shown_digest(template, file, sha1);
+    let name = Bytes::from_slice(alloc, shown_name(template, path))?;
+    let sig = Bytes::from_slice(alloc, shown_sig(template, sig))?;
+    Entry::of_fields(pcr, template, digest, name, sig)
 }
 
 /// The violation of a file, under the default template and with zeros in place of a digest by the
-/// default algorithm. It is always in register 10, whatever a rule says.
+/// default algorithm. It is always in the default register, whatever a rule says.
 pub fn violation(
     alloc: Global,
     template: Template,
@@ -59,5 +55,7 @@ pub fn violation(
         name: Bytes::from_slice(alloc, shown_name(template, path))?,
         sig: Bytes::from_slice(alloc, &[])?,
         violation: true,
+        sha1: [0; 20],
+        sha256: [0; 32],
     })
 }

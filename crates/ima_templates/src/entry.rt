@@ -1,20 +1,22 @@
 // An entry of the measurement list.
 
-ghost use Rattle.std.specs.Prelude.{◌≡◌, ◌↔◌, IsTrue};
-ghost use Rattle.pcr_bank.specs.Bank.{bank_algo};
+ghost use Rattle.std.specs.Prelude.{◌≡◌, ◌↔◌, ◌^◌, ◌<◌, IfOk, IsTrue, OnOk, length};
+ghost use Rattle.ima_templates.specs.Data.{template_data};
 
-use crate::data::feed_data;
-use hash_algos::{Algo, Digest, Running};
+use crate::absorb::{Absorb, Count};
+use crate::data::{absorb_data, sums};
+use hash_algos::{Algo, Digest};
 use inode_meta::{Bank, Template};
 use pcr_bank::Banks;
 use std::marker::Model;
-use xattr_store::Bytes;
+use xattr_store::{Bytes, OutOfMemory};
 
 /// An entry of the measurement list. It keeps that its register is below 24, that its digest has as
 /// many bytes as its algorithm and is of SHA-1 under `ima`, that its name has 1 to 1,024 bytes from
 /// 0x21 to 0x7e and under `ima` at most 255, that its `sig` has at most 4,096 bytes and none under
 /// `ima` and `ima-ng`, and that a violation has register 10, a digest of zeros, no `sig` and
-/// another template than `ima-buf`. Contracts see the record of its fields.
+/// another template than `ima-buf`. Contracts see the record of its public fields; the others are its
+/// template digests, which are computed once, where the entry is made.
 #[derive(Debug, Drop)]
 pub struct Entry {
     /// The register that the entry extends.
@@ -30,6 +32,8 @@ pub struct Entry {
     /// Whether the entry records that a file was measured while it could change. Its template digest
     /// is then shown as zeros, and registers are extended by bytes 0xff.
     pub violation: bool,
+    pub(crate) sha1: [u8; 20],
+    pub(crate) sha256: [u8; 32],
 }
 
 impl Model for Entry {
@@ -37,11 +41,12 @@ impl Model for Entry {
 
     ghost Value = { EntryValue };
 
-    ghost use Rattle.ima_templates.specs.IsEntry.{IsEntry, fields_of};
+    ghost use Rattle.ima_templates.specs.IsEntry.{fields_of};
+    ghost use Rattle.ima_templates.specs.Kept.{IsKept};
 
     ghost view = { fields_of };
 
-    ghost invariant = { λ e. IsEntry (fields_of e) };
+    ghost invariant = { IsKept };
 }
 
 /// What became of an entry that was to be added, with a place of the list, counted from 0.
@@ -55,22 +60,44 @@ pub enum Placed {
 
 impl Entry {
     ghost use Rattle.ima_templates.specs.Digests.{template_digest};
+    ghost use Rattle.ima_templates.specs.EntryValue.{fields};
     ghost use Rattle.ima_templates.specs.IsEntry.{IsEntry};
     ghost use Rattle.ima_templates.specs.Replay.{extended_by};
     ghost use Rattle.ima_templates.specs.Same.{same, same_data, SameFields};
+
+    /// The entry of these fields that is no violation, with its template digests.
+    pub(crate) fn of_fields(
+        pcr: u8,
+        template: Template,
+        digest: Digest,
+        name: Bytes,
+        sig: Bytes,
+    ) -> Result<Entry, OutOfMemory>
+        requires { IsEntry (fields pcr template digest name sig) }
+        ensures { IfOk result (λ e. e ≡ fields pcr template digest name sig) }
+    {
+        let (sha1, sha256) = sums(template, &digest, name.as_slice(), sig.as_slice())?;
+        Ok(Entry {
+            pcr,
+            template,
+            digest,
+            name,
+            sig,
+            violation: false,
+            sha1,
+            sha256,
+        })
+    }
 
     /// The template digest: the bank's hash of the template data, and zeros for a violation.
     pub fn sum(&self, bank: Bank) -> Digest
         ensures digest { result ≡ template_digest self.now bank }
         ensures entry { IsEntry self.now }
     {
-        let algo = algo_of(bank);
-        if self.violation {
-            return Digest::zeros(algo);
+        match bank {
+            Bank::Sha1 => Digest::from_slice(Algo::Sha1, &self.sha1).unwrap(),
+            Bank::Sha256 => Digest::from_slice(Algo::Sha256, &self.sha256).unwrap(),
         }
-        let mut running = Running::new(algo);
-        feed_data(&mut running, self);
-        running.finish()
     }
 
     /// Extends the entry's register in each bank: by the bank's template digest, and for a violation
@@ -78,13 +105,36 @@ impl Entry {
     pub fn extend(&self, banks: &mut Banks)
         ensures { banks.new ≡ extended_by banks.old self.now }
     {
-        let mut sha1 = [0xff; 20];
-        let mut sha256 = [0xff; 32];
-        if !self.violation {
-            sha1.copy_from_slice(self.sum(Bank::Sha1).as_slice());
-            sha256.copy_from_slice(self.sum(Bank::Sha256).as_slice());
+        if self.violation {
+            banks.extend(self.pcr, &[0xff; 20], &[0xff; 32]);
+        } else {
+            banks.extend(self.pcr, &self.sha1, &self.sha256);
         }
-        banks.extend(self.pcr, &sha1, &sha256);
+    }
+
+    /// Writes the template data.
+    pub fn absorb_data<S: Absorb>(&self, to: &mut S) -> Result<(), OutOfMemory>
+        ensures ok { OnOk result (S.absorbs to.old to.new (template_data self.now)) }
+        ensures kept { S.keeps to.old to.new }
+        ensures fits { length (template_data self.now) < 2 ^ 32 }
+    {
+        absorb_data(
+            to,
+            self.template,
+            &self.digest,
+            self.name.as_slice(),
+            self.sig.as_slice(),
+        )
+    }
+
+    /// How many bytes the template data has.
+    pub fn data_length(&self) -> Result<usize, OutOfMemory>
+        ensures exact { IfOk result (λ n. n ≡ length (template_data self.now)) }
+        ensures fits { IfOk result (λ n. n < 2 ^ 32) }
+    {
+        let mut count = Count { bytes: 0 };
+        self.absorb_data(&mut count)?;
+        Ok(count.bytes)
     }
 
     /// Whether the two are one entry of a list, which holds it once: they have one register, one
@@ -110,15 +160,5 @@ impl Entry {
         self.digest == other.digest
             && self.name.as_slice() == other.name.as_slice()
             && self.sig.as_slice() == other.sig.as_slice()
-    }
-}
-
-// The hash for which the bank is named.
-fn algo_of(bank: Bank) -> Algo
-    ensures { result ≡ bank_algo bank }
-{
-    match bank {
-        Bank::Sha1 => Algo::Sha1,
-        Bank::Sha256 => Algo::Sha256,
     }
 }

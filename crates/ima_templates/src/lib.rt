@@ -3,11 +3,13 @@
 //! (Documentation/security/IMA-templates.rst).
 #![tactic(auto)]
 
+mod absorb;
 mod data;
 mod entries;
 mod entry;
 mod shown;
 
+pub use absorb::Absorb;
 pub use entries::{build, violation};
 pub use entry::{Entry, Placed};
 pub use shown::can_show;

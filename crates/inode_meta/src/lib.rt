@@ -10,6 +10,6 @@ mod step;
 
 pub use appraisal::{EvmStatus, Mode, Need, Slot};
 pub use identity::{Cred, Meta};
-pub use measurement::{Bank, DEFAULT_PCR, Template};
+pub use measurement::{Bank, DEFAULT_PCR, Field, Template};
 pub use memory::OutOfMemory;
 pub use step::Who;

@@ -1,4 +1,5 @@
 ghost use Rattle.std.specs.Prelude.{◌≡◌};
+ghost use Rattle.inode_meta.specs.Fields.{template_fields};
 ghost use Rattle.inode_meta.specs.Words.{bank_word, template_word};
 
 /// The register that measurements extend where no rule names another (the kernel's
@@ -30,6 +31,35 @@ impl Template {
             Template::ImaBuf => "ima-buf",
         }
     }
+
+    /// The template's fields, in the order in which they stand in the template data.
+    pub fn fields(self) -> &'static [Field]
+        ensures { result.now ≡ template_fields self }
+    {
+        match self {
+            Template::Ima => &[Field::Digest, Field::Name],
+            Template::ImaNg => &[Field::DigestNg, Field::NameNg],
+            Template::ImaSig => &[Field::DigestNg, Field::NameNg, Field::Sig],
+            Template::ImaBuf => &[Field::DigestNg, Field::NameNg, Field::Buf],
+        }
+    }
+}
+
+/// A field of a template, by its name in the documentation.
+#[derive(Clone, Copy, Debug, PartialEq, Eq)]
+pub enum Field {
+    /// `d`: the digest by SHA-1, whatever was collected.
+    Digest,
+    /// `n`: the name, in 256 bytes.
+    Name,
+    /// `d-ng`: the digest with its algorithm's name.
+    DigestNg,
+    /// `n-ng`: the name and a zero byte.
+    NameNg,
+    /// `sig`: the signature in `security.ima`.
+    Sig,
+    /// `buf`: the buffer.
+    Buf,
 }
 
 /// A bank of platform configuration registers, named for its hash.

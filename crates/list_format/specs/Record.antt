@@ -3,7 +3,7 @@ use Rattle.std.specs.Prelude.{ℕ, List, ◌++◌}
 use Rattle.byteorder.specs.Endian.{little_bytes}
 use Rattle.inode_meta.specs.declared.measurement.Bank.TheVariants.{Sha1}
 use Rattle.inode_meta.specs.declared.measurement.Template.{Template}
-use Rattle.inode_meta.specs.declared.measurement.Template.TheVariants.{Ima, ImaNg, ImaSig, ImaBuf}
+use Rattle.inode_meta.specs.declared.measurement.Template.TheVariants.{Ima}
 use Rattle.inode_meta.specs.Words.{template_word}
 use Rattle.ima_templates.specs.declared.entry.Entry.{Entry}
 use Rattle.ima_templates.specs.Data.{sized, template_data}
@@ -13,9 +13,7 @@ use Rattle.ima_templates.specs.Digests.{template_digest}
 -- behind it; the others have their template data with a length
 abbrev pub shown_data : Template → Entry → List ℕ
 shown_data Ima e = e.digest.bytes ++ sized e.name
-shown_data ImaNg e = sized (template_data e)
-shown_data ImaSig e = sized (template_data e)
-shown_data ImaBuf e = sized (template_data e)
+shown_data _ e = sized (template_data e)
 
 -- the whole record
 unfoldable pub binary_record : Entry → List ℕ

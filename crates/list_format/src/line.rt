@@ -4,11 +4,11 @@ ghost use Rattle.std.specs.Prelude.{◌≡◌, ◌∷◌, ◌++◌, ◌<◌, ◌
 ghost use Rattle.std.specs.Vec.{vec_len};
 ghost use Rattle.hash_algos.specs.Algo.{algo_name};
 ghost use Rattle.hex.specs.Hex.{encode_lower};
-ghost use Rattle.list_format.specs.Line.{ascii_line, digest_text, line_front, line_head, pcr_text, sig_text};
+ghost use Rattle.list_format.specs.Line.{ascii_line, field_text, fields_text, line_head, pcr_text};
 
 use hash_algos::Digest;
 use ima_templates::Entry;
-use inode_meta::{Bank, Template};
+use inode_meta::{Bank, Field};
 use xattr_store::OutOfMemory;
 
 /// Appends the line of an entry: its register, right in a width of 2, the template digest of SHA-1
@@ -30,21 +30,9 @@ fn append_line(e: &Entry, out: &mut Vec<u8>) -> Result<(), OutOfMemory>
     ensures ok { OnOk result (out.new.items ≡ out.old.items ++ ascii_line e.now) }
     ensures kept { take (vec_len out.old) out.new.items ≡ out.old.items }
 {
-    append_front(e, out)?;
-    append_sig(e, out)?;
-    out.extend_from_slice(b"\n")?;
-    Ok(())
-}
-
-// The line up to the field of the name.
-fn append_front(e: &Entry, out: &mut Vec<u8>) -> Result<(), OutOfMemory>
-    ensures ok { OnOk result (out.new.items ≡ out.old.items ++ line_front e.now) }
-    ensures kept { take (vec_len out.old) out.new.items ≡ out.old.items }
-{
     append_head(e, out)?;
-    append_digest(e, out)?;
-    out.extend_from_slice(b" ")?;
-    out.extend_from_slice(e.name.as_slice())?;
+    append_fields(e, out)?;
+    out.extend_from_slice(b"\n")?;
     Ok(())
 }
 
@@ -60,41 +48,47 @@ fn append_head(e: &Entry, out: &mut Vec<u8>) -> Result<(), OutOfMemory>
     Ok(())
 }
 
-// The field `d` or `d-ng` behind its space.
-fn append_digest(e: &Entry, out: &mut Vec<u8>) -> Result<(), OutOfMemory>
-    ensures ok { OnOk result
-        (out.new.items ≡ out.old.items ++ codes " " ++ digest_text e.now.template e.now.digest) }
+// The fields, each behind a space.
+fn append_fields(e: &Entry, out: &mut Vec<u8>) -> Result<(), OutOfMemory>
+    ensures ok { OnOk result (out.new.items ≡ out.old.items ++ fields_text e.now) }
     ensures kept { take (vec_len out.old) out.new.items ≡ out.old.items }
 {
-    match e.template {
-        Template::Ima => append_hex(out, b' ', e.digest.as_slice()),
-        Template::ImaNg | Template::ImaSig | Template::ImaBuf => append_named_digest(
-            &e.digest, out,
-        ),
+    for field in e.template.fields() {
+        append_field(*field, e, out)?;
     }
+    Ok(())
+}
+
+// A field behind its space.
+fn append_field(field: Field, e: &Entry, out: &mut Vec<u8>) -> Result<(), OutOfMemory>
+    ensures ok { OnOk result (out.new.items ≡ out.old.items ++ 32 ∷ field_text field e.now) }
+    ensures kept { take (vec_len out.old) out.new.items ≡ out.old.items }
+{
+    match field {
+        Field::Digest => append_hex(out, b' ', e.digest.as_slice()),
+        Field::DigestNg => append_named_digest(&e.digest, out),
+        Field::Name | Field::NameNg => append_name(e.name.as_slice(), out),
+        Field::Sig | Field::Buf => append_hex(out, b' ', e.sig.as_slice()),
+    }
+}
+
+// A space and the name.
+fn append_name(name: &[u8], out: &mut Vec<u8>) -> Result<(), OutOfMemory>
+    ensures ok { OnOk result (out.new.items ≡ out.old.items ++ 32 ∷ name.now) }
+    ensures kept { take (vec_len out.old) out.new.items ≡ out.old.items }
+{
+    out.extend_from_slice(b" ")?;
+    out.extend_from_slice(name)
 }
 
 // A space, the algorithm's name, a colon and the digest in hexadecimal.
 fn append_named_digest(digest: &Digest, out: &mut Vec<u8>) -> Result<(), OutOfMemory>
-    ensures ok { OnOk result
-        (out.new.items
-        ≡ out.old.items ++ 32 ∷ algo_name digest.now.algo ++ 58 ∷ encode_lower digest.now.bytes) }
+    ensures ok { OnOk result (out.new.items ≡ out.old.items ++ 32 ∷ algo_name digest.now.algo ++ 58 ∷ encode_lower digest.now.bytes) }
     ensures kept { take (vec_len out.old) out.new.items ≡ out.old.items }
 {
     out.extend_from_slice(b" ")?;
     out.extend_from_slice(digest.algo().name().as_bytes())?;
     append_hex(out, b':', digest.as_slice())
-}
-
-// The third field behind its space, where the template has one.
-fn append_sig(e: &Entry, out: &mut Vec<u8>) -> Result<(), OutOfMemory>
-    ensures ok { OnOk result (out.new.items ≡ out.old.items ++ sig_text e.now) }
-    ensures err { OnErr result (out.new.items ≡ out.old.items) }
-{
-    match e.template {
-        Template::Ima | Template::ImaNg => Ok(()),
-        Template::ImaSig | Template::ImaBuf => append_hex(out, b' ', e.sig.as_slice()),
-    }
 }
 
 // This byte and the bytes in hexadecimal.

@@ -5,8 +5,8 @@ ghost use Rattle.std.specs.Vec.{vec_len};
 ghost use Rattle.ima_templates.specs.Data.{sized};
 ghost use Rattle.list_format.specs.Record.{binary_record, shown_data};
 
-use crate::data::{append_fields, append_number, append_sized, data_length};
-use ima_templates::Entry;
+use crate::data::{append_number, append_sized};
+use ima_templates::{Absorb, Entry};
 use inode_meta::{Bank, Template};
 use xattr_store::OutOfMemory;
 
@@ -44,9 +44,9 @@ fn append_data(e: &Entry, out: &mut Vec<u8>) -> Result<(), OutOfMemory>
 {
     match e.template {
         Template::Ima => append_ima(e, out),
-        Template::ImaNg | Template::ImaSig | Template::ImaBuf => {
-            append_number(out, data_length(e))?;
-            append_fields(e, out)?;
+        _ => {
+            append_number(out, e.data_length()?)?;
+            e.absorb_data(out)?;
             Ok(())
         }
     }

@@ -12,7 +12,7 @@ returns-then-eq c =
     let templates : c.self.inside.template ≡ c.other.inside.template =
     same_true the_type (search rules) _ _ (sym c.if-eq.ensures) in
     same_data-fields c.args.self.now c.args.other.now c.has_same_fields.result
-    (subst (λ (e : Entry). IsEntry e) c.self.view_is c.self.invariant)
-    (subst (λ (e : Entry). IsEntry e) c.other.view_is c.other.invariant)
+    (subst (λ (e : Entry). IsEntry e) c.self.view_is c.self.invariant.entry)
+    (subst (λ (e : Entry). IsEntry e) c.other.view_is c.other.invariant.entry)
     (ap (λ (e : Entry). e.template) (sym c.self.view_is) ∙ templates ∙ ap (λ (e : Entry). e.template) c.other.view_is)
     c.has_same_fields.ensures

@@ -32,7 +32,7 @@ with_buckets-requires-clause-power c = (1, refl)
 
 pub invariant_of-book : goal.invariant_of-book
 invariant_of-book c =
-    IsBook-start _ c.args.boot (subst IsEntry c.boot.view_is c.boot.invariant)
+    IsBook-start _ c.args.boot (subst IsEntry c.boot.view_is c.boot.invariant.entry)
     (c.extend.ensures ∙ ap (λ (b : Banks). extended_by b c.args.boot) c.new-banks.ensures)
     (c.push.ensures.keys ∙ (λ i. (ap (λ t. t.keys) c.in_ok-places.ensures) i ++ c.key_of.ensures i ∷ []))
     (c.push-2.ensures.list ∙ ap (λ (l : List Entry). l ++ c.args.boot ∷ []) (list_is c))
