@@ -1,7 +1,7 @@
 ghost use Rattle.std.specs.List.{starts_with};
 ghost use Rattle.std.specs.Option.{option_copied};
 ghost use Rattle.std.specs.Prelude.{◌≡◌, Some, drop, nat_eq};
-ghost use Rattle.label_values.specs.Verdicts.{by_algorithm, judge, judge_labelled, judge_summed, judge_unlabelled, mend_for, mended};
+ghost use Rattle.label_values.specs.Verdicts.{by_algorithm, judge, judge_labelled, judge_summed, judge_unlabelled, mend_for};
 
 use hash_algos::{Algo, AlgoSet, Digest};
 use inode_meta::{EvmStatus, Need};
@@ -100,7 +100,9 @@ pub fn verdict(
 }
 
 /// What mode fix writes on the verdict `found`, where `sound` is the verdict under a right HMAC and
-/// `kind` is what the label says. A verdict that is still in force may differ from one that
+/// `kind` is what the label says: nothing on a verdict Pass, on a denied algorithm and over a
+/// signature; where the HMAC is of the older form, the HMAC alone, and only where nothing else was
+/// wrong; else the label and the HMAC. A verdict that is still in force may differ from one that
 /// [`verdict`] gives anew.
 pub fn mend_for(found: Verdict, sound: Verdict, status: EvmStatus, kind: Label) -> Mend
     ensures { result ≡ mend_for found sound status kind }
@@ -116,34 +118,4 @@ pub fn mend_for(found: Verdict, sound: Verdict, status: EvmStatus, kind: Label) 
             _ => Mend::Label,
         },
     }
-}
-
-/// What mode fix writes: nothing on a verdict Pass, on a denied algorithm and over a signature;
-/// where the HMAC is of the older form, the HMAC alone, and only where nothing else was wrong; else
-/// the label and the HMAC. The arguments are those of [`verdict`].
-pub fn mend(
-    need: Need,
-    algos: Option<AlgoSet>,
-    label: Option<&[u8]>,
-    status: EvmStatus,
-    file: &Digest,
-    default: Algo,
-    size: u64,
-    new: bool,
-) -> Mend
-    ensures { result ≡ mended need algos
-        (option_copied label.entry) status file.now default size new }
-{
-    let found = verdict(need, algos, label, status, file, default, size, new);
-    let sound = verdict(
-        need,
-        algos,
-        label,
-        EvmStatus::Pass,
-        file,
-        default,
-        size,
-        new,
-    );
-    mend_for(found, sound, status, read_label(label, default))
 }

@@ -6,4 +6,4 @@ mod appraisal;
 #[cfg(test)]
 mod tests;
 
-pub use appraisal::{mend, mend_for, verdict};
+pub use appraisal::{mend_for, verdict};

@@ -2,7 +2,7 @@ use super::*;
 use evm_verify::Evm;
 use hash_algos::{Algo, AlgoSet, Digest};
 use inode_meta::{EvmStatus, Meta, Need};
-use label_values::{Cause, Mend, Verdict, collect_algo};
+use label_values::{Cause, Mend, Verdict, collect_algo, read_label};
 use std::alloc::Global;
 use std::test::Fail;
 use xattr_store::{Attrs, Bytes};
@@ -208,16 +208,13 @@ fn labels_with_a_key(rt: HostRuntime) -> Result<(), Fail> {
 
 // What mode fix writes on `abc` with this label.
 fn mended(status: EvmStatus, algos: Option<AlgoSet>, ima: Option<&[u8]>) -> Option<Mend> {
-    let digest = digest_of_abc(collect_algo(ima, Algo::Sha256))?;
-    Some(mend(
-        Need::Any,
-        algos,
-        ima,
+    let found = judged(status, Need::Any, algos, ima)?;
+    let sound = judged(EvmStatus::Pass, Need::Any, algos, ima)?;
+    Some(mend_for(
+        found,
+        sound,
         status,
-        &digest,
-        Algo::Sha256,
-        3,
-        false,
+        read_label(ima, Algo::Sha256),
     ))
 }
 

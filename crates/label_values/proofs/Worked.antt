@@ -1,13 +1,19 @@
 -- The definitions at labels that are written out, each by computation.
 use Rattle.std.proofs.Common.{◌≡◌, ℕ, Bool, true, false, List, [], ◌∷◌, ◌++◌, replicate, refl}
 use Rattle.std.specs.Prelude.{Option, Some, None}
+use Rattle.hash_algos.specs.declared.algo.Algo.{Algo}
 use Rattle.hash_algos.specs.declared.algo.Algo.TheVariants.{Md5, Sha1, Sha256, Sha512}
+use Rattle.hash_algos.specs.declared.algo_set.AlgoSet.{AlgoSet}
+use Rattle.hash_algos.specs.declared.digest.Digest.{Digest}
+use Rattle.inode_meta.specs.declared.appraisal.EvmStatus.{EvmStatus}
 use Rattle.inode_meta.specs.declared.appraisal.EvmStatus.TheVariants as status
+use Rattle.inode_meta.specs.declared.appraisal.Need.{Need}
 use Rattle.inode_meta.specs.declared.appraisal.Need.TheVariants as need
 use Rattle.label_values.specs.Labels.{collect_algo, label_of, read_label}
-use Rattle.label_values.specs.Verdicts.{judge, mended}
+use Rattle.label_values.specs.Verdicts.{judge, mend_for}
 use Rattle.label_values.specs.declared.label.Label.TheVariants as label
 use Rattle.label_values.specs.declared.verdict.Cause.TheVariants as cause
+use Rattle.label_values.specs.declared.verdict.Mend.{Mend}
 use Rattle.label_values.specs.declared.verdict.Mend.TheVariants as mend
 use Rattle.label_values.specs.declared.verdict.Verdict.{Verdict}
 use Rattle.label_values.specs.declared.verdict.Verdict.TheVariants.{Pass, Deny}
@@ -108,6 +114,12 @@ new_and_empty : judge need.Signature None None status.Fail (record {
   bytes = sha1_of_file;
 }) Sha1 0 true ≡ Pass
 new_and_empty = refl
+
+-- what mode fix writes on the verdict of this step
+abbrev mended : Need → Option AlgoSet → Option (List ℕ) → EvmStatus → Digest → Algo → ℕ → Bool → Mend
+mended n algos bytes s file default size new =
+    mend_for (judge n algos bytes s file default size new)
+    (judge n algos bytes status.Pass file default size new) s (read_label bytes default)
 
 -- a right label under an HMAC of the older form: the HMAC alone is written
 migrated : mended need.Any None (Some (1 ∷ sha1_of_file)) status.Old (record {

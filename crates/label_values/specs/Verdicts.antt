@@ -135,9 +135,3 @@ abbrev pub mend_for : Verdict → Verdict → EvmStatus → Label → Mend
 mend_for Pass sound status label = mend.Nothing
 mend_for (Deny cause.DeniedHashAlgorithm) sound status label = mend.Nothing
 mend_for (Deny _) sound status label = if is_old status then mend_old sound else mend_label label
-
-abbrev pub mended : Need → Option AlgoSet → Option (List ℕ) → EvmStatus → Digest → Algo → ℕ → Bool
-    → Mend
-mended need algos bytes status file default size new =
-    mend_for (judge need algos bytes status file default size new)
-    (judge need algos bytes evm.Pass file default size new) status (read_label bytes default)

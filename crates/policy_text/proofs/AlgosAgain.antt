@@ -3,7 +3,7 @@ use Rattle.std.proofs.Common.{◌≡◌, Bool, true, false, refl}
 use Rattle.std.proofs.lemmas.Bool.{false≢true}
 use Rattle.hash_algos.specs.declared.algo_set.AlgoSet.{AlgoSet}
 use Rattle.policy_text.specs.RuleValue.{has_algos}
-use Rattle.policy_text.specs.Spelling.{algos_text}
+use Rattle.policy_text.specs.ValueTexts.{algos_text}
 use Rattle.policy_text.specs.Values.{algos_of}
 use Rattle.policy_text.proofs.ValuesAgain.{Again}
 

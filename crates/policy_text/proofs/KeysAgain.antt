@@ -1,8 +1,8 @@
--- What is printed of a rule is read as that rule, key by key.
-use Rattle.std.proofs.Common.{◌≡◌, ℕ, ◌^◌, Bool, true, false, not, ◌||◌, ◌&&◌, List, ◌∷◌, ◌++◌, codes, Option, Some, None, is_none, Result, Ok, nat_le, nat_lt, refl, ap, ◌∙◌, arith}
+-- What is printed of a rule's keys is read as those keys: a lemma for each key, and one induction over the table.
+use Rattle.std.proofs.Common.{◌≡◌, ℕ, ◌^◌, Bool, true, false, not, ◌||◌, ◌&&◌, List, [], ◌∷◌, ◌++◌, codes, Option, Some, None, is_none, is_some, Ok, nat_le, nat_lt, refl, sym, ap, ◌∙◌, inl, inr, arith}
 use Rattle.std.specs.Fmt.{decimal}
 use Rattle.std.specs.List.{list_all}
-use Rattle.std.proofs.lemmas.Bool.{leb-true, ltb-true, false≢true}
+use Rattle.std.proofs.lemmas.Bool.{cases_Bool, leb-true, ltb-true, false≢true}
 use Rattle.hash_algos.specs.declared.algo_set.AlgoSet.{AlgoSet}
 use Rattle.inode_meta.specs.Words.{template_word}
 use Rattle.inode_meta.specs.declared.appraisal.Need.{Need}
@@ -10,194 +10,239 @@ use Rattle.inode_meta.specs.declared.appraisal.Need.TheVariants as need
 use Rattle.inode_meta.specs.declared.measurement.Template.{Template}
 use Rattle.inode_meta.specs.declared.measurement.Template.TheVariants as template
 use Rattle.text_forms.specs.FileSystems.{magic_text, uuid_text}
-use Rattle.text_forms.specs.Lines.{◌>>=◌}
-use Rattle.text_forms.specs.Numbers.{number_of}
-use Rattle.text_forms.specs.Tokens.{is_blank, is_inked, tokens}
-use Rattle.text_forms.specs.Words.{is_word, is_visible}
-use Rattle.text_forms.proofs.Cuts.{begins, tokens-word}
+use Rattle.text_forms.specs.Words.{is_word}
 use Rattle.text_forms.proofs.FileSystems.{magic_again, uuid_again}
-use Rattle.text_forms.proofs.Visible.{inked_from_visible}
-use Rattle.policy_text.specs.declared.fault.RuleCause.{RuleCause}
+use Rattle.policy_text.specs.declared.key.Key.{Key}
+use Rattle.policy_text.specs.declared.key.Key.TheVariants as key
 use Rattle.policy_text.specs.declared.rule.Func.{Func}
 use Rattle.policy_text.specs.declared.rule.IdTest.{IdTest}
-use Rattle.policy_text.specs.declared.rule.IdTest.TheVariants as id
 use Rattle.policy_text.specs.declared.rule.MaskTest.{MaskTest}
-use Rattle.policy_text.specs.Grammar.{with_token, with_tokens}
-use Rattle.policy_text.specs.RuleValue.{RuleValue, if_there, is_mask_bit, is_id, is_any, is_appraise, is_measure, has_algos, is_named_template}
-use Rattle.policy_text.specs.Spelling.{keyed, flagged, func_word, mask_text, id_text, algos_text}
+use Rattle.policy_text.specs.Grammar.{plain_rule, with_token, with_tokens}
+use Rattle.policy_text.specs.Key.{keys, row, told}
+use Rattle.policy_text.specs.RuleValue.{RuleValue, IsRule, if_there, is_mask_bit, is_id, is_any, is_appraise, is_measure, has_algos, is_named_template}
+use Rattle.policy_text.specs.Spelling.{is_visible_word, key_word, key_words}
+use Rattle.policy_text.specs.ValueTexts.{algos_text, func_word, id_text, mask_text}
 use Rattle.policy_text.proofs.AlgosAgain.{algos_again}
-use Rattle.policy_text.proofs.ValuesAgain.{func_again, mask_again, number_again, template_again}
+use Rattle.policy_text.proofs.Joined.{left, right}
+use Rattle.policy_text.proofs.ValuesAgain.{func_again, id_again, mask_again, number_again, sign_again}
 
--- a token behind one space
-took : (r s : RuleValue) (c : ℕ) (w rest : List ℕ) → list_all is_inked (c ∷ w) ≡ true → begins is_blank rest ≡ true → with_token r (c ∷ w) ≡ Ok s
-    → with_tokens r (tokens ((32 ∷ c ∷ w) ++ rest)) ≡ with_tokens s (tokens rest)
-took r s c w rest inked b read =
-    ap (λ (ts : List (List ℕ)). with_tokens r ts) (tokens-word c w rest inked b)
-    ∙ ap (λ (o : Result RuleValue RuleCause). o >>= λ u. with_tokens u (tokens rest)) read
+-- the rule s, with what the rule r has by the key
+abbrev pub put : Key → RuleValue → RuleValue → RuleValue
+put key.Func r s = record s { func = r.func }
+put key.Mask r s = record s { mask = r.mask }
+put key.FsMagic r s = record s { fsmagic = r.fsmagic }
+put key.FsUuid r s = record s { fsuuid = r.fsuuid }
+put key.FsName r s = record s { fsname = r.fsname }
+put key.Uid r s = record s { uid = r.uid }
+put key.Euid r s = record s { euid = r.euid }
+put key.Gid r s = record s { gid = r.gid }
+put key.Egid r s = record s { egid = r.egid }
+put key.Fowner r s = record s { fowner = r.fowner }
+put key.Fgroup r s = record s { fgroup = r.fgroup }
+put key.AppraiseType r s = record s { need = r.need }
+put key.AppraiseFlag r s = record s { blacklist = r.blacklist }
+put key.AppraiseAlgos r s = record s { algos = r.algos }
+put key.Directio r s = record s { directio = r.directio }
+put key.Pcr r s = record s { pcr = r.pcr }
+put key.Template r s = record s { template = r.template }
 
-pub begins_keyed : {A : Type 0} (key : List ℕ) (spell : A → List ℕ) (o : Option A) (rest : List ℕ) → begins is_blank rest ≡ true
-    → begins is_blank (keyed (32 ∷ key) spell o ++ rest) ≡ true
-begins_keyed key spell None rest b = b
-begins_keyed key spell (Some x) rest b = refl
+-- the word is visible, and the rule s reads it and is then t
+abbrev Reads : List ℕ → RuleValue → RuleValue → Type 0
+Reads word s t = (is_visible_word word ≡ true) × (with_token s word ≡ Ok t)
 
-pub begins_flagged : (text : List ℕ) (f : Bool) (rest : List ℕ) → begins is_blank rest ≡ true → begins is_blank (flagged (32 ∷ text) f ++ rest) ≡ true
-begins_flagged text false rest b = b
-begins_flagged text true rest b = refl
+-- a key that stands in the rule belongs to its action
+none_or : {A : Type 0} (o : Option A) (b : Bool) → is_some o ≡ true → (is_none o || b) ≡ true → b ≡ true
+none_or None b h k = absurd (false≢true h)
+none_or (Some x) b h k = k
 
-and_right : (a b : Bool) → (a && b) ≡ true → b ≡ true
-and_right true b h = h
-and_right false b h = absurd (false≢true h)
+not_or : (a b : Bool) → not a ≡ true → (a || b) ≡ true → b ≡ true
+not_or true b h k = absurd (false≢true h)
+not_or false b h k = k
 
--- a word is visible
-pub word_visible : (w : List ℕ) → is_word 255 w ≡ true → list_all is_visible w ≡ true
-word_visible w h = and_right _ _ h
+so_or : (a b : Bool) → a ≡ true → (not a || b) ≡ true → b ≡ true
+so_or true b h k = k
+so_or false b h k = absurd (false≢true h)
 
-pub id_visible : (t : IdTest) → is_id t ≡ true → list_all is_visible (id_text t) ≡ true
-id_visible (id.Is n) h = (number_again 0xffff_ffff n (leb-true _ _ h) (omega arith)).0
-id_visible (id.Above n) h = (number_again 0xffff_ffff n (leb-true _ _ h) (omega arith)).0
-id_visible (id.Below n) h = (number_again 0xffff_ffff n (leb-true _ _ h) (omega arith)).0
+module _ (s : RuleValue) where
+  func_read : (o : Option Func) → is_some s.func ≡ false → is_some o ≡ true → Reads (codes "func=" ++ told func_word o) s (record s { func = o })
+  func_read None e h = absurd (false≢true h)
+  func_read (Some x) e h = ((func_again x).0, rw (e, (func_again x).1) refl)
 
-id_number_read : (n : ℕ) → nat_le n 0xffff_ffff ≡ true → number_of 10 0xffff_ffff (decimal n) ≡ Some n
-id_number_read n h = (number_again 0xffff_ffff n (leb-true _ _ h) (omega arith)).1
+  mask_read : (o : Option MaskTest) → is_some s.mask ≡ false → is_some o ≡ true → if_there (λ m. is_mask_bit m.bits) o ≡ true
+      → Reads (codes "mask=" ++ told mask_text o) s (record s { mask = o })
+  mask_read None e h k = absurd (false≢true h)
+  mask_read (Some x) e h k = ((mask_again x k).0, rw (e, (mask_again x k).1) refl)
 
-module _ (r : RuleValue) where
-  pub adds_func : (o : Option Func) (rest : List ℕ) → r.func ≡ None → begins is_blank rest ≡ true
-      → with_tokens r (tokens (keyed (codes " func=") func_word o ++ rest)) ≡ with_tokens (record r { func = o }) (tokens rest)
-  adds_func None rest e b = ap (λ (o : Option Func). with_tokens (record r { func = o }) (tokens rest)) e
-  adds_func (Some x) rest e b =
-      took r (record r { func = Some x }) 102 (codes "unc=" ++ func_word x) rest (inked_from_visible (func_word x) (func_again x).0) b (rw (e, (func_again x).1) refl)
+  magic_read : (o : Option ℕ) → is_some s.fsmagic ≡ false → is_some o ≡ true → if_there (λ n. nat_le n 0xffff_ffff_ffff_ffff) o ≡ true
+      → Reads (codes "fsmagic=" ++ told magic_text o) s (record s { fsmagic = o })
+  magic_read None e h k = absurd (false≢true h)
+  magic_read (Some x) e h k = ((magic_again x (leb-true _ _ k)).0, rw (e, (magic_again x (leb-true _ _ k)).1) refl)
 
-  pub adds_mask : (o : Option MaskTest) (rest : List ℕ) → r.mask ≡ None → if_there (λ m. is_mask_bit m.bits) o ≡ true → begins is_blank rest ≡ true
-      → with_tokens r (tokens (keyed (codes " mask=") mask_text o ++ rest)) ≡ with_tokens (record r { mask = o }) (tokens rest)
-  adds_mask None rest e h b = ap (λ (o : Option MaskTest). with_tokens (record r { mask = o }) (tokens rest)) e
-  adds_mask (Some x) rest e h b =
-      took r (record r { mask = Some x }) 109 (codes "ask=" ++ mask_text x) rest (inked_from_visible (mask_text x) (mask_again x h).0) b (rw (e, (mask_again x h).1) refl)
+  uuid_read : (o : Option ℕ) → is_some s.fsuuid ≡ false → is_some o ≡ true → if_there (λ n. nat_lt n (2 ^ 128)) o ≡ true
+      → Reads (codes "fsuuid=" ++ told uuid_text o) s (record s { fsuuid = o })
+  uuid_read None e h k = absurd (false≢true h)
+  uuid_read (Some x) e h k = ((uuid_again x (ltb-true _ _ k)).0, rw (e, (uuid_again x (ltb-true _ _ k)).1) refl)
 
-  pub adds_magic : (o : Option ℕ) (rest : List ℕ) → r.fsmagic ≡ None → if_there (λ n. nat_le n 0xffff_ffff_ffff_ffff) o ≡ true → begins is_blank rest ≡ true
-      → with_tokens r (tokens (keyed (codes " fsmagic=") magic_text o ++ rest)) ≡ with_tokens (record r { fsmagic = o }) (tokens rest)
-  adds_magic None rest e h b = ap (λ (o : Option ℕ). with_tokens (record r { fsmagic = o }) (tokens rest)) e
-  adds_magic (Some x) rest e h b =
-      took r (record r { fsmagic = Some x }) 102 (codes "smagic=" ++ magic_text x) rest (inked_from_visible (magic_text x) (magic_again x (leb-true _ _ h)).0) b (rw (e, (magic_again x (leb-true _ _ h)).1) refl)
+  name_read : (o : Option (List ℕ)) → is_some s.fsname ≡ false → is_some o ≡ true → if_there (is_word 255) o ≡ true
+      → Reads (codes "fsname=" ++ told (λ n. n) o) s (record s { fsname = o })
+  name_read None e h k = absurd (false≢true h)
+  name_read (Some x) e h k = (right _ _ k, rw (e, k) refl)
 
-  pub adds_uuid : (o : Option ℕ) (rest : List ℕ) → r.fsuuid ≡ None → if_there (λ n. nat_lt n (2 ^ 128)) o ≡ true → begins is_blank rest ≡ true
-      → with_tokens r (tokens (keyed (codes " fsuuid=") uuid_text o ++ rest)) ≡ with_tokens (record r { fsuuid = o }) (tokens rest)
-  adds_uuid None rest e h b = ap (λ (o : Option ℕ). with_tokens (record r { fsuuid = o }) (tokens rest)) e
-  adds_uuid (Some x) rest e h b =
-      took r (record r { fsuuid = Some x }) 102 (codes "suuid=" ++ uuid_text x) rest (inked_from_visible (uuid_text x) (uuid_again x (ltb-true _ _ h)).0) b (rw (e, (uuid_again x (ltb-true _ _ h)).1) refl)
+  uid_read : (o : Option IdTest) → is_some s.uid ≡ false → is_some o ≡ true → if_there is_id o ≡ true → Reads (codes "uid" ++ told id_text o) s (record s { uid = o })
+  uid_read None e h k = absurd (false≢true h)
+  uid_read (Some t) e h k = ((id_again t k).0, rw (sign_again t, e, (id_again t k).1) refl)
 
-  pub adds_name : (o : Option (List ℕ)) (rest : List ℕ) → r.fsname ≡ None → if_there (is_word 255) o ≡ true → begins is_blank rest ≡ true
-      → with_tokens r (tokens (keyed (codes " fsname=") (λ n. n) o ++ rest)) ≡ with_tokens (record r { fsname = o }) (tokens rest)
-  adds_name None rest e h b = ap (λ (o : Option (List ℕ)). with_tokens (record r { fsname = o }) (tokens rest)) e
-  adds_name (Some x) rest e h b =
-      took r (record r { fsname = Some x }) 102 (codes "sname=" ++ x) rest (inked_from_visible x (and_right _ _ h)) b (rw (e, h) refl)
+  euid_read : (o : Option IdTest) → is_some s.euid ≡ false → is_some o ≡ true → if_there is_id o ≡ true → Reads (codes "euid" ++ told id_text o) s (record s { euid = o })
+  euid_read None e h k = absurd (false≢true h)
+  euid_read (Some t) e h k = ((id_again t k).0, rw (sign_again t, e, (id_again t k).1) refl)
 
-  uid_read : (t : IdTest) → r.uid ≡ None → is_id t ≡ true → with_token r (codes "uid" ++ id_text t) ≡ Ok (record r { uid = Some t })
-  uid_read (id.Is n) e h = rw (e, id_number_read n h) refl
-  uid_read (id.Above n) e h = rw (e, id_number_read n h) refl
-  uid_read (id.Below n) e h = rw (e, id_number_read n h) refl
+  gid_read : (o : Option IdTest) → is_some s.gid ≡ false → is_some o ≡ true → if_there is_id o ≡ true → Reads (codes "gid" ++ told id_text o) s (record s { gid = o })
+  gid_read None e h k = absurd (false≢true h)
+  gid_read (Some t) e h k = ((id_again t k).0, rw (sign_again t, e, (id_again t k).1) refl)
 
-  pub adds_uid : (o : Option IdTest) (rest : List ℕ) → r.uid ≡ None → if_there is_id o ≡ true → begins is_blank rest ≡ true
-      → with_tokens r (tokens (keyed (codes " uid") id_text o ++ rest)) ≡ with_tokens (record r { uid = o }) (tokens rest)
-  adds_uid None rest e h b = ap (λ (o : Option IdTest). with_tokens (record r { uid = o }) (tokens rest)) e
-  adds_uid (Some t) rest e h b =
-      took r (record r { uid = Some t }) 117 (codes "id" ++ id_text t) rest (inked_from_visible (id_text t) (id_visible t h)) b (uid_read t e h)
+  egid_read : (o : Option IdTest) → is_some s.egid ≡ false → is_some o ≡ true → if_there is_id o ≡ true → Reads (codes "egid" ++ told id_text o) s (record s { egid = o })
+  egid_read None e h k = absurd (false≢true h)
+  egid_read (Some t) e h k = ((id_again t k).0, rw (sign_again t, e, (id_again t k).1) refl)
 
-  euid_read : (t : IdTest) → r.euid ≡ None → is_id t ≡ true → with_token r (codes "euid" ++ id_text t) ≡ Ok (record r { euid = Some t })
-  euid_read (id.Is n) e h = rw (e, id_number_read n h) refl
-  euid_read (id.Above n) e h = rw (e, id_number_read n h) refl
-  euid_read (id.Below n) e h = rw (e, id_number_read n h) refl
+  fowner_read : (o : Option IdTest) → is_some s.fowner ≡ false → is_some o ≡ true → if_there is_id o ≡ true → Reads (codes "fowner" ++ told id_text o) s (record s { fowner = o })
+  fowner_read None e h k = absurd (false≢true h)
+  fowner_read (Some t) e h k = ((id_again t k).0, rw (sign_again t, e, (id_again t k).1) refl)
 
-  pub adds_euid : (o : Option IdTest) (rest : List ℕ) → r.euid ≡ None → if_there is_id o ≡ true → begins is_blank rest ≡ true
-      → with_tokens r (tokens (keyed (codes " euid") id_text o ++ rest)) ≡ with_tokens (record r { euid = o }) (tokens rest)
-  adds_euid None rest e h b = ap (λ (o : Option IdTest). with_tokens (record r { euid = o }) (tokens rest)) e
-  adds_euid (Some t) rest e h b =
-      took r (record r { euid = Some t }) 101 (codes "uid" ++ id_text t) rest (inked_from_visible (id_text t) (id_visible t h)) b (euid_read t e h)
+  fgroup_read : (o : Option IdTest) → is_some s.fgroup ≡ false → is_some o ≡ true → if_there is_id o ≡ true → Reads (codes "fgroup" ++ told id_text o) s (record s { fgroup = o })
+  fgroup_read None e h k = absurd (false≢true h)
+  fgroup_read (Some t) e h k = ((id_again t k).0, rw (sign_again t, e, (id_again t k).1) refl)
 
-  gid_read : (t : IdTest) → r.gid ≡ None → is_id t ≡ true → with_token r (codes "gid" ++ id_text t) ≡ Ok (record r { gid = Some t })
-  gid_read (id.Is n) e h = rw (e, id_number_read n h) refl
-  gid_read (id.Above n) e h = rw (e, id_number_read n h) refl
-  gid_read (id.Below n) e h = rw (e, id_number_read n h) refl
+  type_read : (n : Need) → not (is_any s.need) ≡ false → not (is_any n) ≡ true → is_appraise s.act ≡ true → Reads (codes "appraise_type=imasig") s (record s { need = n })
+  type_read need.Any e h a = absurd (false≢true h)
+  type_read need.Signature e h a = (refl, rw (a, e) refl)
 
-  pub adds_gid : (o : Option IdTest) (rest : List ℕ) → r.gid ≡ None → if_there is_id o ≡ true → begins is_blank rest ≡ true
-      → with_tokens r (tokens (keyed (codes " gid") id_text o ++ rest)) ≡ with_tokens (record r { gid = o }) (tokens rest)
-  adds_gid None rest e h b = ap (λ (o : Option IdTest). with_tokens (record r { gid = o }) (tokens rest)) e
-  adds_gid (Some t) rest e h b =
-      took r (record r { gid = Some t }) 103 (codes "id" ++ id_text t) rest (inked_from_visible (id_text t) (id_visible t h)) b (gid_read t e h)
+  flag_read : (f : Bool) → s.blacklist ≡ false → f ≡ true → is_appraise s.act ≡ true → Reads (codes "appraise_flag=check_blacklist") s (record s { blacklist = f })
+  flag_read false e h a = absurd (false≢true h)
+  flag_read true e h a = (refl, rw (a, e) refl)
 
-  egid_read : (t : IdTest) → r.egid ≡ None → is_id t ≡ true → with_token r (codes "egid" ++ id_text t) ≡ Ok (record r { egid = Some t })
-  egid_read (id.Is n) e h = rw (e, id_number_read n h) refl
-  egid_read (id.Above n) e h = rw (e, id_number_read n h) refl
-  egid_read (id.Below n) e h = rw (e, id_number_read n h) refl
+  algos_read : (o : Option AlgoSet) → is_some s.algos ≡ false → is_some o ≡ true → is_appraise s.act ≡ true → if_there has_algos o ≡ true
+      → Reads (codes "appraise_algos=" ++ told algos_text o) s (record s { algos = o })
+  algos_read None e h a k = absurd (false≢true h)
+  algos_read (Some x) e h a k = ((algos_again x k).0, rw (a, e, (algos_again x k).1) refl)
 
-  pub adds_egid : (o : Option IdTest) (rest : List ℕ) → r.egid ≡ None → if_there is_id o ≡ true → begins is_blank rest ≡ true
-      → with_tokens r (tokens (keyed (codes " egid") id_text o ++ rest)) ≡ with_tokens (record r { egid = o }) (tokens rest)
-  adds_egid None rest e h b = ap (λ (o : Option IdTest). with_tokens (record r { egid = o }) (tokens rest)) e
-  adds_egid (Some t) rest e h b =
-      took r (record r { egid = Some t }) 101 (codes "gid" ++ id_text t) rest (inked_from_visible (id_text t) (id_visible t h)) b (egid_read t e h)
+  directio_read : (f : Bool) → s.directio ≡ false → f ≡ true → Reads (codes "permit_directio" ++ []) s (record s { directio = f })
+  directio_read false e h = absurd (false≢true h)
+  directio_read true e h = (refl, rw e refl)
 
-  fowner_read : (t : IdTest) → r.fowner ≡ None → is_id t ≡ true → with_token r (codes "fowner" ++ id_text t) ≡ Ok (record r { fowner = Some t })
-  fowner_read (id.Is n) e h = rw (e, id_number_read n h) refl
-  fowner_read (id.Above n) e h = rw (e, id_number_read n h) refl
-  fowner_read (id.Below n) e h = rw (e, id_number_read n h) refl
+  pcr_read : (o : Option ℕ) → is_some s.pcr ≡ false → is_some o ≡ true → is_measure s.act ≡ true → if_there (λ n. nat_lt n 24) o ≡ true
+      → Reads (codes "pcr=" ++ told decimal o) s (record s { pcr = o })
+  pcr_read None e h a k = absurd (false≢true h)
+  pcr_read (Some n) e h a k = let again = number_again 23 n (omega (arith, ltb-true n 24 k)) (omega arith) in (again.0, rw (a, e, again.1) refl)
 
-  pub adds_fowner : (o : Option IdTest) (rest : List ℕ) → r.fowner ≡ None → if_there is_id o ≡ true → begins is_blank rest ≡ true
-      → with_tokens r (tokens (keyed (codes " fowner") id_text o ++ rest)) ≡ with_tokens (record r { fowner = o }) (tokens rest)
-  adds_fowner None rest e h b = ap (λ (o : Option IdTest). with_tokens (record r { fowner = o }) (tokens rest)) e
-  adds_fowner (Some t) rest e h b =
-      took r (record r { fowner = Some t }) 102 (codes "owner" ++ id_text t) rest (inked_from_visible (id_text t) (id_visible t h)) b (fowner_read t e h)
+  template_read : (o : Option Template) → is_some s.template ≡ false → is_some o ≡ true → is_measure s.act ≡ true → if_there is_named_template o ≡ true
+      → Reads (codes "template=" ++ told template_word o) s (record s { template = o })
+  template_read None e h a k = absurd (false≢true h)
+  template_read (Some template.Ima) e h a k = (refl, rw (a, e) refl)
+  template_read (Some template.ImaNg) e h a k = (refl, rw (a, e) refl)
+  template_read (Some template.ImaSig) e h a k = (refl, rw (a, e) refl)
+  template_read (Some template.ImaBuf) e h a k = absurd (false≢true k)
 
-  fgroup_read : (t : IdTest) → r.fgroup ≡ None → is_id t ≡ true → with_token r (codes "fgroup" ++ id_text t) ≡ Ok (record r { fgroup = Some t })
-  fgroup_read (id.Is n) e h = rw (e, id_number_read n h) refl
-  fgroup_read (id.Above n) e h = rw (e, id_number_read n h) refl
-  fgroup_read (id.Below n) e h = rw (e, id_number_read n h) refl
+-- a key that the rule r has is read
+word_read : (k : Key) (r s : RuleValue) → IsRule r → s.act ≡ r.act → (row k).is_in s ≡ false → (row k).is_in r ≡ true → Reads (key_word k r) s (put k r s)
+word_read key.Func r s ok act e h = func_read s r.func e h
+word_read key.Mask r s ok act e h = mask_read s r.mask e h ok.mask
+word_read key.FsMagic r s ok act e h = magic_read s r.fsmagic e h ok.fsmagic
+word_read key.FsUuid r s ok act e h = uuid_read s r.fsuuid e h ok.fsuuid
+word_read key.FsName r s ok act e h = name_read s r.fsname e h ok.fsname
+word_read key.Uid r s ok act e h = uid_read s r.uid e h ok.uid
+word_read key.Euid r s ok act e h = euid_read s r.euid e h ok.euid
+word_read key.Gid r s ok act e h = gid_read s r.gid e h ok.gid
+word_read key.Egid r s ok act e h = egid_read s r.egid e h ok.egid
+word_read key.Fowner r s ok act e h = fowner_read s r.fowner e h ok.fowner
+word_read key.Fgroup r s ok act e h = fgroup_read s r.fgroup e h ok.fgroup
+word_read key.AppraiseType r s ok act e h = type_read s r.need e h (ap is_appraise act ∙ not_or (is_any r.need) (is_appraise r.act) h ok.need)
+word_read key.AppraiseFlag r s ok act e h = flag_read s r.blacklist e h (ap is_appraise act ∙ so_or r.blacklist (is_appraise r.act) h ok.blacklist)
+word_read key.AppraiseAlgos r s ok act e h =
+    algos_read s r.algos e h (ap is_appraise act ∙ none_or r.algos (is_appraise r.act) h ok.appraise_algos) ok.algos
+word_read key.Directio r s ok act e h = directio_read s r.directio e h
+word_read key.Pcr r s ok act e h = pcr_read s r.pcr e h (ap is_measure act ∙ none_or r.pcr (is_measure r.act) h ok.measure_pcr) ok.pcr
+word_read key.Template r s ok act e h =
+    template_read s r.template e h (ap is_measure act ∙ none_or r.template (is_measure r.act) h ok.measure_template) ok.template
 
-  pub adds_fgroup : (o : Option IdTest) (rest : List ℕ) → r.fgroup ≡ None → if_there is_id o ≡ true → begins is_blank rest ≡ true
-      → with_tokens r (tokens (keyed (codes " fgroup") id_text o ++ rest)) ≡ with_tokens (record r { fgroup = o }) (tokens rest)
-  adds_fgroup None rest e h b = ap (λ (o : Option IdTest). with_tokens (record r { fgroup = o }) (tokens rest)) e
-  adds_fgroup (Some t) rest e h b =
-      took r (record r { fgroup = Some t }) 102 (codes "group" ++ id_text t) rest (inked_from_visible (id_text t) (id_visible t h)) b (fgroup_read t e h)
+-- a field that is none in both rules
+none_is : {A : Type 0} (o p : Option A) → is_some o ≡ false → is_some p ≡ false → o ≡ p
+none_is None None e h = refl
+none_is None (Some y) e h = absurd (false≢true (sym h))
+none_is (Some x) p e h = absurd (false≢true (sym e))
 
-  pub adds_type : (n : Need) (rest : List ℕ) → r.need ≡ need.Any → (is_any n || is_appraise r.act) ≡ true → begins is_blank rest ≡ true
-      → with_tokens r (tokens (flagged (codes " appraise_type=imasig") (not (is_any n)) ++ rest)) ≡ with_tokens (record r { need = n }) (tokens rest)
-  adds_type need.Any rest e h b = ap (λ (n : Need). with_tokens (record r { need = n }) (tokens rest)) e
-  adds_type need.Signature rest e h b =
-      took r (record r { need = need.Signature }) 97 (codes "ppraise_type=imasig") rest refl b (rw (h, e) refl)
+any_is : (m n : Need) → not (is_any m) ≡ false → not (is_any n) ≡ false → m ≡ n
+any_is need.Any need.Any e h = refl
+any_is need.Any need.Signature e h = absurd (false≢true (sym h))
+any_is need.Signature n e h = absurd (false≢true (sym e))
 
-  pub adds_flag : (f : Bool) (rest : List ℕ) → r.blacklist ≡ false → (not f || is_appraise r.act) ≡ true → begins is_blank rest ≡ true
-      → with_tokens r (tokens (flagged (codes " appraise_flag=check_blacklist") f ++ rest)) ≡ with_tokens (record r { blacklist = f }) (tokens rest)
-  adds_flag false rest e h b = ap (λ (f : Bool). with_tokens (record r { blacklist = f }) (tokens rest)) e
-  adds_flag true rest e h b =
-      took r (record r { blacklist = true }) 97 (codes "ppraise_flag=check_blacklist") rest refl b (rw (h, e) refl)
+-- a key that neither rule has leaves the rule as it is
+put_none : (k : Key) (r s : RuleValue) → (row k).is_in s ≡ false → (row k).is_in r ≡ false → put k r s ≡ s
+put_none key.Func r s e h = ap (λ (o : Option Func). record s { func = o }) (none_is r.func s.func h e)
+put_none key.Mask r s e h = ap (λ (o : Option MaskTest). record s { mask = o }) (none_is r.mask s.mask h e)
+put_none key.FsMagic r s e h = ap (λ (o : Option ℕ). record s { fsmagic = o }) (none_is r.fsmagic s.fsmagic h e)
+put_none key.FsUuid r s e h = ap (λ (o : Option ℕ). record s { fsuuid = o }) (none_is r.fsuuid s.fsuuid h e)
+put_none key.FsName r s e h = ap (λ (o : Option (List ℕ)). record s { fsname = o }) (none_is r.fsname s.fsname h e)
+put_none key.Uid r s e h = ap (λ (o : Option IdTest). record s { uid = o }) (none_is r.uid s.uid h e)
+put_none key.Euid r s e h = ap (λ (o : Option IdTest). record s { euid = o }) (none_is r.euid s.euid h e)
+put_none key.Gid r s e h = ap (λ (o : Option IdTest). record s { gid = o }) (none_is r.gid s.gid h e)
+put_none key.Egid r s e h = ap (λ (o : Option IdTest). record s { egid = o }) (none_is r.egid s.egid h e)
+put_none key.Fowner r s e h = ap (λ (o : Option IdTest). record s { fowner = o }) (none_is r.fowner s.fowner h e)
+put_none key.Fgroup r s e h = ap (λ (o : Option IdTest). record s { fgroup = o }) (none_is r.fgroup s.fgroup h e)
+put_none key.AppraiseType r s e h = ap (λ (n : Need). record s { need = n }) (any_is r.need s.need h e)
+put_none key.AppraiseFlag r s e h = ap (λ (f : Bool). record s { blacklist = f }) (h ∙ sym e)
+put_none key.AppraiseAlgos r s e h = ap (λ (o : Option AlgoSet). record s { algos = o }) (none_is r.algos s.algos h e)
+put_none key.Directio r s e h = ap (λ (f : Bool). record s { directio = f }) (h ∙ sym e)
+put_none key.Pcr r s e h = ap (λ (o : Option ℕ). record s { pcr = o }) (none_is r.pcr s.pcr h e)
+put_none key.Template r s e h = ap (λ (o : Option Template). record s { template = o }) (none_is r.template s.template h e)
 
-  pub adds_algos : (o : Option AlgoSet) (rest : List ℕ) → r.algos ≡ None → (is_none o || is_appraise r.act) ≡ true → if_there has_algos o ≡ true → begins is_blank rest ≡ true
-      → with_tokens r (tokens (keyed (codes " appraise_algos=") algos_text o ++ rest)) ≡ with_tokens (record r { algos = o }) (tokens rest)
-  adds_algos None rest e h k b = ap (λ (o : Option AlgoSet). with_tokens (record r { algos = o }) (tokens rest)) e
-  adds_algos (Some s) rest e h k b =
-      took r (record r { algos = Some s }) 97 (codes "ppraise_algos=" ++ algos_text s) rest (inked_from_visible (algos_text s) (algos_again s k).0) b
-      (rw (h, e, (algos_again s k).1) refl)
+put_act : (k : Key) (r s : RuleValue) → (put k r s).act ≡ s.act
+put_act key.Func r s = refl
+put_act key.Mask r s = refl
+put_act key.FsMagic r s = refl
+put_act key.FsUuid r s = refl
+put_act key.FsName r s = refl
+put_act key.Uid r s = refl
+put_act key.Euid r s = refl
+put_act key.Gid r s = refl
+put_act key.Egid r s = refl
+put_act key.Fowner r s = refl
+put_act key.Fgroup r s = refl
+put_act key.AppraiseType r s = refl
+put_act key.AppraiseFlag r s = refl
+put_act key.AppraiseAlgos r s = refl
+put_act key.Directio r s = refl
+put_act key.Pcr r s = refl
+put_act key.Template r s = refl
 
-  pub adds_directio : (f : Bool) (rest : List ℕ) → r.directio ≡ false → begins is_blank rest ≡ true
-      → with_tokens r (tokens (flagged (codes " permit_directio") f ++ rest)) ≡ with_tokens (record r { directio = f }) (tokens rest)
-  adds_directio false rest e b = ap (λ (f : Bool). with_tokens (record r { directio = f }) (tokens rest)) e
-  adds_directio true rest e b = took r (record r { directio = true }) 112 (codes "ermit_directio") rest refl b (rw e refl)
+-- ---- the induction over the table
 
-  pub adds_pcr : (o : Option ℕ) (rest : List ℕ) → r.pcr ≡ None → (is_none o || is_measure r.act) ≡ true → if_there (λ n. nat_lt n 24) o ≡ true → begins is_blank rest ≡ true
-      → with_tokens r (tokens (keyed (codes " pcr=") decimal o ++ rest)) ≡ with_tokens (record r { pcr = o }) (tokens rest)
-  adds_pcr None rest e h k b = ap (λ (o : Option ℕ). with_tokens (record r { pcr = o }) (tokens rest)) e
-  adds_pcr (Some n) rest e h k b =
-      let again = number_again 23 n (omega (arith, ltb-true n 24 k)) (omega arith) in
-      took r (record r { pcr = Some n }) 112 (codes "cr=" ++ decimal n) rest (inked_from_visible (decimal n) again.0) b (rw (h, e, again.1) refl)
+-- the rule s with what the rule r has by the keys, one after the other
+abbrev fill : List Key → RuleValue → RuleValue → RuleValue
+fill [] r s = s
+fill (k ∷ ks) r s = fill ks r (put k r s)
 
-  template_read : (t : Template) → r.template ≡ None → is_measure r.act ≡ true → is_named_template t ≡ true
-      → with_token r (codes "template=" ++ template_word t) ≡ Ok (record r { template = Some t })
-  template_read template.Ima e h k = rw (h, e) refl
-  template_read template.ImaNg e h k = rw (h, e) refl
-  template_read template.ImaSig e h k = rw (h, e) refl
-  template_read template.ImaBuf e h k = absurd (false≢true k)
+-- each key is missing when its turn comes
+abbrev is_fresh : List Key → RuleValue → RuleValue → Bool
+is_fresh [] r s = true
+is_fresh (k ∷ ks) r s = not ((row k).is_in s) && is_fresh ks r (put k r s)
 
-  pub adds_template : (o : Option Template) (rest : List ℕ) → r.template ≡ None → (is_none o || is_measure r.act) ≡ true → if_there is_named_template o ≡ true → begins is_blank rest ≡ true
-      → with_tokens r (tokens (keyed (codes " template=") template_word o ++ rest)) ≡ with_tokens (record r { template = o }) (tokens rest)
-  adds_template None rest e h k b = ap (λ (o : Option Template). with_tokens (record r { template = o }) (tokens rest)) e
-  adds_template (Some t) rest e h k b =
-      took r (record r { template = Some t }) 116 (codes "emplate=" ++ template_word t) rest (inked_from_visible (template_word t) (template_again t k).0) b
-      (template_read t e h k)
+not_true : (b : Bool) → not b ≡ true → b ≡ false
+not_true true h = absurd (false≢true h)
+not_true false h = refl
+
+abbrev Again : List Key → RuleValue → RuleValue → Type 0
+Again ks r s = (list_all is_visible_word (key_words ks r) ≡ true) × (with_tokens s (key_words ks r) ≡ Ok (fill ks r s))
+
+keys_read : (ks : List Key) (r s : RuleValue) → IsRule r → s.act ≡ r.act → is_fresh ks r s ≡ true → Again ks r s
+keys_read [] r s ok act fresh = (refl, refl)
+keys_read (k ∷ ks) r s ok act fresh =
+    let missing = not_true ((row k).is_in s) (left _ _ fresh) in
+    let others = keys_read ks r (put k r s) ok (put_act k r s ∙ act) (right _ _ fresh) in
+    elim (cases_Bool ((row k).is_in r)) [
+      | inl has ↦ let read = word_read k r s ok act missing has in rw has (rw read.0 others.0, rw read.1 others.1)
+      | inr hasnt ↦ rw hasnt (others.0, ap (λ (t : RuleValue). with_tokens t (key_words ks r)) (sym (put_none k r s missing hasnt)) ∙ others.1)
+    ]
+
+-- the keys of a rule, from its action on
+pub keys_again : (r : RuleValue) → IsRule r → (list_all is_visible_word (key_words keys r) ≡ true) × (with_tokens (plain_rule r.act) (key_words keys r) ≡ Ok r)
+keys_again r ok = keys_read keys r (plain_rule r.act) ok refl refl

@@ -2,7 +2,7 @@
 use Rattle.std.proofs.Common.{◌≡◌, ℕ, ◌^◌, ◌<◌, ◌≤◌, Bool, true, false, ◌==◌, List, Option, Some, refl, subst, inl, inr, arith}
 use Rattle.std.specs.Fmt.{decimal}
 use Rattle.std.specs.List.{list_all}
-use Rattle.std.proofs.lemmas.Bool.{cases_Bool, false≢true}
+use Rattle.std.proofs.lemmas.Bool.{cases_Bool, false≢true, leb-true}
 use Rattle.std.proofs.lemmas.Bool.Decides.{nat_tests}
 use Rattle.inode_meta.specs.Words.{template_word}
 use Rattle.inode_meta.specs.declared.measurement.Template.{Template}
@@ -15,9 +15,12 @@ use Rattle.policy_text.specs.declared.rule.Act.TheVariants as act
 use Rattle.policy_text.specs.declared.rule.Func.{Func}
 use Rattle.policy_text.specs.declared.rule.Func.TheVariants as func
 use Rattle.policy_text.specs.declared.rule.MaskTest.{MaskTest}
-use Rattle.policy_text.specs.RuleValue.{is_mask_bit, is_named_template}
-use Rattle.policy_text.specs.Spelling.{act_word, func_word, mask_text}
-use Rattle.policy_text.specs.Values.{act_of, func_of, mask_of, template_of}
+use Rattle.policy_text.specs.declared.rule.IdTest.{IdTest}
+use Rattle.policy_text.specs.declared.rule.IdTest.TheVariants as id
+use Rattle.policy_text.specs.RuleValue.{is_id, is_mask_bit, is_named_template}
+use Rattle.policy_text.specs.Spelling.{act_word}
+use Rattle.policy_text.specs.ValueTexts.{func_word, id_text, mask_text}
+use Rattle.policy_text.specs.Values.{act_of, func_of, id_of, is_sign, mask_of, template_of}
 
 -- a text that is visible, and what it is read as
 abbrev pub Again : {A : Type 0} → (List ℕ → Option A) → List ℕ → A → Type 0
@@ -99,3 +102,14 @@ pub number_again : (most n : ℕ) → n ≤ most → most ≤ 0xffff_ffff → Ag
 number_again most n le small =
     let fits : n < 10 ^ 64 = omega arith in
     (visible-digits 10 n (omega arith) (omega arith) fits, number_of-digits 10 n (omega arith) (omega arith) fits most le)
+
+-- a user or a group: what is printed begins with its sign
+pub sign_again : (t : IdTest) → is_sign (id_text t) ≡ true
+sign_again (id.Is n) = refl
+sign_again (id.Above n) = refl
+sign_again (id.Below n) = refl
+
+pub id_again : (t : IdTest) → is_id t ≡ true → Again id_of (id_text t) t
+id_again (id.Is n) h = let again = number_again 0xffff_ffff n (leb-true _ _ h) (omega arith) in (again.0, rw again.1 refl)
+id_again (id.Above n) h = let again = number_again 0xffff_ffff n (leb-true _ _ h) (omega arith) in (again.0, rw again.1 refl)
+id_again (id.Below n) h = let again = number_again 0xffff_ffff n (leb-true _ _ h) (omega arith) in (again.0, rw again.1 refl)

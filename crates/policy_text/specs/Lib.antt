@@ -8,4 +8,5 @@ pub mod RuleInside
 pub mod RuleValue
 pub mod Spelling
 pub mod Tests
+pub mod ValueTexts
 pub mod Values

@@ -8,9 +8,9 @@ use Rattle.hash_algos.specs.Algo.{algo_by_name}
 use Rattle.hash_algos.specs.AlgoSet.{no_algos, with_algo}
 use Rattle.inode_meta.specs.declared.measurement.Template.{Template}
 use Rattle.inode_meta.specs.declared.measurement.Template.TheVariants as template
+use Rattle.text_forms.specs.Numbers.{number_of}
 use Rattle.text_forms.specs.Options.{◌>>=◌}
-use Rattle.policy_text.specs.declared.key.Sign.{Sign}
-use Rattle.policy_text.specs.declared.key.Sign.TheVariants as sign
+use Rattle.text_forms.specs.Words.{is_word}
 use Rattle.policy_text.specs.declared.rule.Act.{Act}
 use Rattle.policy_text.specs.declared.rule.Act.TheVariants as act
 use Rattle.policy_text.specs.declared.rule.Func.{Func}
@@ -54,10 +54,26 @@ mask_of (c ∷ cs) =
     if c == 94 then option_map (λ b. record { exact = false; bits = b }) (mask_bits_of cs)
     else option_map (λ b. record { exact = true; bits = b }) (mask_bits_of (c ∷ cs))
 
-abbrev pub id_test : Sign → ℕ → IdTest
-id_test sign.Is n = id.Is n
-id_test sign.Above n = id.Above n
-id_test sign.Below n = id.Below n
+-- a word of at most 255 bytes
+abbrev pub name_of : List ℕ → Option (List ℕ)
+name_of word = if is_word 255 word then Some word else None
+
+-- whether the text begins with `=`, `>` or `<`
+abbrev pub is_sign : List ℕ → Bool
+is_sign [] = false
+is_sign (c ∷ digits) = (c == 61) || (c == 62) || (c == 60)
+
+abbrev pub id_number_of : List ℕ → Option ℕ
+id_number_of digits = number_of 10 0xffff_ffff digits
+
+-- a sign, and the number of a user or a group
+abbrev pub id_of : List ℕ → Option IdTest
+id_of [] = None
+id_of (c ∷ digits) =
+    if c == 61 then option_map id.Is (id_number_of digits)
+    else if c == 62 then option_map id.Above (id_number_of digits)
+    else if c == 60 then option_map id.Below (id_number_of digits)
+    else None
 
 -- the set of the names' algorithms and those of s
 abbrev pub algos_from : AlgoSet → List (List ℕ) → Option AlgoSet

@@ -1,6 +1,9 @@
-ghost use Rattle.std.specs.Prelude.{◌≡◌};
+//! The keys of a rule: for each its name, the actions that it belongs to, and its place in the table.
+
+ghost use Rattle.std.specs.Prelude.{◌≡◌, ◌&&◌, length, take, drop, if◌then◌else◌, None, Some};
 ghost use Rattle.std.specs.Option.{option_map};
-ghost use Rattle.policy_text.specs.Key.{belongs, id_key_of, is_object_key, is_other_key, is_subject_key, is_unsupported_key, key_of, sign_of, starts, subject_of, value_key_of};
+ghost use Rattle.policy_text.specs.Key.{fits, is_object_key, is_other_key, is_subject_key, is_unsupported_key, key_of, row, starts, value_in};
+ghost use Rattle.policy_text.specs.Values.{is_sign};
 
 use crate::rule::Act;
 
@@ -12,7 +15,12 @@ pub enum Key {
     FsMagic,
     FsUuid,
     FsName,
-    Id(Subject, Sign),
+    Uid,
+    Euid,
+    Gid,
+    Egid,
+    Fowner,
+    Fgroup,
     AppraiseType,
     AppraiseFlag,
     AppraiseAlgos,
@@ -21,29 +29,79 @@ pub enum Key {
     Template,
 }
 
-/// The user or group that an id key is about.
+/// What stands behind the name of a key.
 #[derive(Clone, Copy, Debug, PartialEq, Eq)]
-pub enum Subject {
-    Uid,
-    Euid,
-    Gid,
-    Egid,
-    Fowner,
-    Fgroup,
-}
-
-/// The sign between an id key and its number.
-#[derive(Clone, Copy, Debug, PartialEq, Eq)]
-pub enum Sign {
-    Is,
-    Above,
-    Below,
+pub enum Shape {
+    /// Any value.
+    Valued,
+    /// A sign, `=`, `>` or `<`, and then a number.
+    Signed,
+    /// Nothing.
+    Bare,
 }
 
 impl Key {
+    /// All keys, in the order in which they are printed.
+    pub const ALL: [Key; 17] = [
+        Key::Func,
+        Key::Mask,
+        Key::FsMagic,
+        Key::FsUuid,
+        Key::FsName,
+        Key::Uid,
+        Key::Euid,
+        Key::Gid,
+        Key::Egid,
+        Key::Fowner,
+        Key::Fgroup,
+        Key::AppraiseType,
+        Key::AppraiseFlag,
+        Key::AppraiseAlgos,
+        Key::Directio,
+        Key::Pcr,
+        Key::Template,
+    ];
+
+    /// With what a token of the key begins.
+    pub fn name(self) -> &'static str
+        ensures { result.now ≡ (row self).name }
+    {
+        match self {
+            Key::Func => "func=",
+            Key::Mask => "mask=",
+            Key::FsMagic => "fsmagic=",
+            Key::FsUuid => "fsuuid=",
+            Key::FsName => "fsname=",
+            Key::Uid => "uid",
+            Key::Euid => "euid",
+            Key::Gid => "gid",
+            Key::Egid => "egid",
+            Key::Fowner => "fowner",
+            Key::Fgroup => "fgroup",
+            Key::AppraiseType => "appraise_type=",
+            Key::AppraiseFlag => "appraise_flag=",
+            Key::AppraiseAlgos => "appraise_algos=",
+            Key::Directio => "permit_directio",
+            Key::Pcr => "pcr=",
+            Key::Template => "template=",
+        }
+    }
+
+    fn shape(self) -> Shape
+        ensures { result ≡ (row self).shape }
+    {
+        match self {
+            Key::Uid | Key::Euid | Key::Gid | Key::Egid | Key::Fowner | Key::Fgroup => {
+                Shape::Signed
+            }
+            Key::Directio => Shape::Bare,
+            _ => Shape::Valued,
+        }
+    }
+
     /// Whether a rule of this action can have the key.
     pub fn belongs(self, act: Act) -> bool
-        ensures { result ≡ belongs self act }
+        ensures { result ≡ (row self).belongs act }
     {
         match self {
             Key::AppraiseType | Key::AppraiseFlag | Key::AppraiseAlgos => act == Act::Appraise,
@@ -51,6 +109,51 @@ impl Key {
             _ => true,
         }
     }
+
+    fn value_in(self, token: &[u8]) -> Option<&[u8]>
+        ensures { option_map (λ v. v.now) result ≡ value_in self token.now }
+    {
+        let value = token.strip_prefix(self.name().as_bytes())?;
+        if self.shape().fits(value) {
+            Some(value)
+        } else {
+            None
+        }
+    }
+}
+
+impl Shape {
+    fn fits(self, value: &[u8]) -> bool
+        ensures { result ≡ fits self value.now }
+    {
+        match self {
+            Shape::Valued => true,
+            Shape::Signed => is_sign(value),
+            Shape::Bare => value.is_empty(),
+        }
+    }
+}
+
+fn is_sign(value: &[u8]) -> bool
+    ensures { result ≡ is_sign value.now }
+{
+    match value {
+        [b'=' | b'>' | b'<', ..] => true,
+        _ => false,
+    }
+}
+
+/// The key of a token and its value: the sign of an id key belongs to its value, and a key that takes
+/// no value has an empty one.
+pub fn key_of(token: &[u8]) -> Option<(Key, &[u8])>
+    ensures { option_map (λ k. (k.0, k.1.now)) result ≡ key_of token.now }
+{
+    for key in Key::ALL {
+        if let Some(value) = key.value_in(token) {
+            return Some((key, value));
+        }
+    }
+    None
 }
 
 /// Whether the token has a key of the kernel's that is left out here.
@@ -88,96 +191,4 @@ fn starts(token: &[u8], name: &[u8]) -> bool
     ensures { result ≡ starts token.now name.now }
 {
     token.starts_with(name)
-}
-
-/// The key of a token and its value, which is empty for a key that takes none.
-pub fn key_of(token: &[u8]) -> Option<(Key, &[u8])>
-    ensures { option_map (λ k. (k.0, k.1.now)) result ≡ key_of token.now }
-{
-    if token == b"permit_directio".as_slice() {
-        return Some((Key::Directio, &[]));
-    }
-    if let Some(found) = value_key_of(token) {
-        return Some(found);
-    }
-    id_key_of(token)
-}
-
-fn value_key_of(token: &[u8]) -> Option<(Key, &[u8])>
-    ensures { option_map (λ k. (k.0, k.1.now)) result ≡ value_key_of token.now }
-{
-    if let Some(value) = token.strip_prefix(b"func=") {
-        return Some((Key::Func, value));
-    }
-    if let Some(value) = token.strip_prefix(b"mask=") {
-        return Some((Key::Mask, value));
-    }
-    if let Some(value) = token.strip_prefix(b"fsmagic=") {
-        return Some((Key::FsMagic, value));
-    }
-    if let Some(value) = token.strip_prefix(b"fsuuid=") {
-        return Some((Key::FsUuid, value));
-    }
-    if let Some(value) = token.strip_prefix(b"fsname=") {
-        return Some((Key::FsName, value));
-    }
-    if let Some(value) = token.strip_prefix(b"appraise_type=") {
-        return Some((Key::AppraiseType, value));
-    }
-    if let Some(value) = token.strip_prefix(b"appraise_flag=") {
-        return Some((Key::AppraiseFlag, value));
-    }
-    if let Some(value) = token.strip_prefix(b"appraise_algos=") {
-        return Some((Key::AppraiseAlgos, value));
-    }
-    if let Some(value) = token.strip_prefix(b"pcr=") {
-        return Some((Key::Pcr, value));
-    }
-    if let Some(value) = token.strip_prefix(b"template=") {
-        return Some((Key::Template, value));
-    }
-    None
-}
-
-fn id_key_of(token: &[u8]) -> Option<(Key, &[u8])>
-    ensures { option_map (λ k. (k.0, k.1.now)) result ≡ id_key_of token.now }
-{
-    let (subject, rest) = subject_of(token)?;
-    let (sign, value) = sign_of(rest)?;
-    Some((Key::Id(subject, sign), value))
-}
-
-fn subject_of(token: &[u8]) -> Option<(Subject, &[u8])>
-    ensures { option_map (λ k. (k.0, k.1.now)) result ≡ subject_of token.now }
-{
-    if let Some(rest) = token.strip_prefix(b"uid") {
-        return Some((Subject::Uid, rest));
-    }
-    if let Some(rest) = token.strip_prefix(b"euid") {
-        return Some((Subject::Euid, rest));
-    }
-    if let Some(rest) = token.strip_prefix(b"gid") {
-        return Some((Subject::Gid, rest));
-    }
-    if let Some(rest) = token.strip_prefix(b"egid") {
-        return Some((Subject::Egid, rest));
-    }
-    if let Some(rest) = token.strip_prefix(b"fowner") {
-        return Some((Subject::Fowner, rest));
-    }
-    if let Some(rest) = token.strip_prefix(b"fgroup") {
-        return Some((Subject::Fgroup, rest));
-    }
-    None
-}
-
-fn sign_of(text: &[u8]) -> Option<(Sign, &[u8])>
-    ensures { option_map (λ k. (k.0, k.1.now)) result ≡ sign_of text.now }
-{
-    match text {
-        [b'=', value @ ..] => Some((Sign::Is, value)),
-        [b'>', value @ ..] => Some((Sign::Above, value)),
-        [b'<', value @ ..] => Some((Sign::Below, value)),
-        _ => None,
-    }
 }

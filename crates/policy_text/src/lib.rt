@@ -6,6 +6,7 @@
 #![tactic(auto)]
 
 mod access;
+mod condition;
 mod fault;
 mod key;
 mod line;
@@ -18,11 +19,10 @@ mod values;
 mod words;
 mod write;
 
-pub use access::{
-    Access, Action, MAY_APPEND, MAY_EXEC, MAY_READ, MAY_WRITE, Purpose, Super,
-};
+pub use access::{Access, Action, MAY_APPEND, MAY_EXEC, MAY_READ, MAY_WRITE, Purpose, Super};
 pub use fault::{Fault, PolicyErr, RuleCause};
 pub use inode_meta::OutOfMemory;
+pub use key::Key;
 pub use policy::{Policy, RULES};
 pub use read::{parse, parse_rule};
 pub use rule::{Act, Func, IdTest, MaskTest, Rule};

@@ -5,16 +5,16 @@ ghost use Rattle.text_forms.specs.Tokens.{tokens};
 ghost use Rattle.policy_text.specs.declared.fault.RuleCause.TheVariants as cause;
 ghost use Rattle.policy_text.specs.declared.key.Key.TheVariants as key;
 ghost use Rattle.policy_text.specs.Gives.{LineGives};
-ghost use Rattle.policy_text.specs.Grammar.{has_key, is_skipped, is_unsupported_value, plain_rule, rule_of, with_id, with_key, with_token, with_value};
-ghost use Rattle.policy_text.specs.Key.{belongs};
+ghost use Rattle.policy_text.specs.Grammar.{is_skipped, plain_rule, rule_of, with_key, with_token};
+ghost use Rattle.policy_text.specs.Key.{row, with_id};
 ghost use Rattle.policy_text.specs.RuleValue.{has_algos, is_appraise, is_id, is_mask_bit, is_measure, is_named_template};
-ghost use Rattle.policy_text.specs.Values.{id_test};
 
 use crate::fault::{LineErr, RuleCause};
-use crate::key::{Key, Sign, Subject, is_unsupported_key, key_of};
+use crate::key::{Key, is_unsupported_key, key_of};
 use crate::rule::{Act, IdTest, MaskTest, Rule};
 use crate::values::{
-    act_of, algos_of, func_of, is_unsupported_template, is_unsupported_type, mask_of, template_of,
+    act_of, algos_of, func_of, id_of, is_unsupported_template, is_unsupported_type, mask_of,
+    template_of,
 };
 use hash_algos::AlgoSet;
 use inode_meta::{Need, Template};
@@ -47,19 +47,9 @@ pub fn is_skipped(line: &[u8]) -> bool
     }
 }
 
-fn id_test(sign: Sign, number: u32) -> IdTest
-    ensures value { result ≡ id_test sign number }
-    ensures id { IsTrue (is_id result) }
-{
-    match sign {
-        Sign::Is => IdTest::Is(number),
-        Sign::Above => IdTest::Above(number),
-        Sign::Below => IdTest::Below(number),
-    }
-}
-
-fn is_unsupported_value(key: Key, value: &[u8]) -> bool
-    ensures { result ≡ is_unsupported_value key value.now }
+// A value of the kernel's that is left out here.
+fn is_left_out(key: Key, value: &[u8]) -> bool
+    ensures { result ≡ (row key).left_out value.now }
 {
     match key {
         Key::AppraiseType => is_unsupported_type(value),
@@ -111,17 +101,18 @@ impl Rule {
         if !key.belongs(self.act) {
             return Err(LineErr::Refused(RuleCause::NotForAction));
         }
-        if self.has_key(key) {
+        if self.has(key) {
             return Err(LineErr::Refused(RuleCause::Twice));
         }
-        if is_unsupported_value(key, value) {
+        if is_left_out(key, value) {
             return Err(LineErr::Refused(RuleCause::Unsupported));
         }
         self.with_value(alloc, key, value)
     }
 
-    fn has_key(&self, key: Key) -> bool
-        ensures { result ≡ has_key key self.now }
+    /// Whether the rule has the key. An id key is one key whichever its sign.
+    pub fn has(&self, key: Key) -> bool
+        ensures { result ≡ (row key).is_in self.now }
     {
         match key {
             Key::Func => self.func.is_some(),
@@ -129,12 +120,12 @@ impl Rule {
             Key::FsMagic => self.fsmagic.is_some(),
             Key::FsUuid => self.fsuuid.is_some(),
             Key::FsName => self.fsname.is_some(),
-            Key::Id(Subject::Uid, _) => self.uid.is_some(),
-            Key::Id(Subject::Euid, _) => self.euid.is_some(),
-            Key::Id(Subject::Gid, _) => self.gid.is_some(),
-            Key::Id(Subject::Egid, _) => self.egid.is_some(),
-            Key::Id(Subject::Fowner, _) => self.fowner.is_some(),
-            Key::Id(Subject::Fgroup, _) => self.fgroup.is_some(),
+            Key::Uid => self.uid.is_some(),
+            Key::Euid => self.euid.is_some(),
+            Key::Gid => self.gid.is_some(),
+            Key::Egid => self.egid.is_some(),
+            Key::Fowner => self.fowner.is_some(),
+            Key::Fgroup => self.fgroup.is_some(),
             Key::AppraiseType => self.need != Need::Any,
             Key::AppraiseFlag => self.blacklist,
             Key::AppraiseAlgos => self.algos.is_some(),
@@ -147,8 +138,8 @@ impl Rule {
 
 impl Rule {
     fn with_value(self, alloc: Global, key: Key, value: &[u8]) -> Result<Rule, LineErr>
-        requires { belongs key self.act ≡ true }
-        ensures { LineGives result (ok_or (with_value key value.now self) cause.BadValue) }
+        requires { (row key).belongs self.act ≡ true }
+        ensures { LineGives result (ok_or ((row key).read value.now self) cause.BadValue) }
     {
         let bad = RuleCause::BadValue;
         match key {
@@ -170,9 +161,9 @@ impl Rule {
                 Ok(self.with_uuid(uuid))
             }
             Key::FsName => self.with_name(alloc, value),
-            Key::Id(subject, sign) => {
-                let number = number_of(value, 10, u64::from(u32::MAX)).ok_or(bad)?;
-                Ok(self.with_id(subject, id_test(sign, number as u32)))
+            Key::Uid | Key::Euid | Key::Gid | Key::Egid | Key::Fowner | Key::Fgroup => {
+                let test = id_of(value).ok_or(bad)?;
+                Ok(self.with_id(key, test))
             }
             Key::AppraiseType => self.with_type(value),
             Key::AppraiseFlag => self.with_flag(value),
@@ -180,11 +171,7 @@ impl Rule {
                 let algos = algos_of(value).ok_or(bad)?;
                 Ok(self.with_algos(algos))
             }
-            Key::Directio => {
-                let mut rule = self;
-                rule.directio = true;
-                Ok(rule)
-            }
+            Key::Directio => self.with_directio(value),
             Key::Pcr => {
                 let pcr = number_of(value, 10, 23).ok_or(bad)?;
                 Ok(self.with_pcr(pcr as u8))
@@ -222,7 +209,7 @@ impl Rule {
     }
 
     fn with_name(self, alloc: Global, name: &[u8]) -> Result<Rule, LineErr>
-        ensures { LineGives result (ok_or (with_value key.FsName name.now self) cause.BadValue) }
+        ensures { LineGives result (ok_or ((row key.FsName).read name.now self) cause.BadValue) }
     {
         if !is_word(name, 255) {
             return Err(LineErr::Refused(RuleCause::BadValue));
@@ -232,25 +219,27 @@ impl Rule {
         Ok(rule)
     }
 
-    fn with_id(self, subject: Subject, test: IdTest) -> Rule
+    // The other keys are no id keys.
+    fn with_id(self, key: Key, test: IdTest) -> Rule
         requires { IsTrue (is_id test) }
-        ensures { result ≡ with_id subject test self }
+        ensures { result ≡ with_id key test self }
     {
         let mut rule = self;
-        match subject {
-            Subject::Uid => rule.uid = Some(test),
-            Subject::Euid => rule.euid = Some(test),
-            Subject::Gid => rule.gid = Some(test),
-            Subject::Egid => rule.egid = Some(test),
-            Subject::Fowner => rule.fowner = Some(test),
-            Subject::Fgroup => rule.fgroup = Some(test),
+        match key {
+            Key::Uid => rule.uid = Some(test),
+            Key::Euid => rule.euid = Some(test),
+            Key::Gid => rule.gid = Some(test),
+            Key::Egid => rule.egid = Some(test),
+            Key::Fowner => rule.fowner = Some(test),
+            Key::Fgroup => rule.fgroup = Some(test),
+            _ => (),
         }
         rule
     }
 
     fn with_type(self, value: &[u8]) -> Result<Rule, LineErr>
         requires { is_appraise self.act ≡ true }
-        ensures { LineGives result (ok_or (with_value key.AppraiseType value.now self) cause.BadValue) }
+        ensures { LineGives result (ok_or ((row key.AppraiseType).read value.now self) cause.BadValue) }
     {
         if value != b"imasig".as_slice() {
             return Err(LineErr::Refused(RuleCause::BadValue));
@@ -262,13 +251,24 @@ impl Rule {
 
     fn with_flag(self, value: &[u8]) -> Result<Rule, LineErr>
         requires { is_appraise self.act ≡ true }
-        ensures { LineGives result (ok_or (with_value key.AppraiseFlag value.now self) cause.BadValue) }
+        ensures { LineGives result (ok_or ((row key.AppraiseFlag).read value.now self) cause.BadValue) }
     {
         if value != b"check_blacklist".as_slice() {
             return Err(LineErr::Refused(RuleCause::BadValue));
         }
         let mut rule = self;
         rule.blacklist = true;
+        Ok(rule)
+    }
+
+    fn with_directio(self, value: &[u8]) -> Result<Rule, LineErr>
+        ensures { LineGives result (ok_or ((row key.Directio).read value.now self) cause.BadValue) }
+    {
+        if !value.is_empty() {
+            return Err(LineErr::Refused(RuleCause::BadValue));
+        }
+        let mut rule = self;
+        rule.directio = true;
         Ok(rule)
     }
 

@@ -1,11 +1,12 @@
 ghost use Rattle.std.specs.Prelude.{◌≡◌, IfSome, IsTrue};
 ghost use Rattle.std.specs.Option.{option_map};
-ghost use Rattle.policy_text.specs.RuleValue.{has_algos, is_mask_bit, is_named_template};
-ghost use Rattle.policy_text.specs.Values.{act_of, algos_of, func_of, is_unsupported_template, is_unsupported_type, mask_bits_of, mask_of, template_of};
+ghost use Rattle.policy_text.specs.RuleValue.{has_algos, is_id, is_mask_bit, is_named_template};
+ghost use Rattle.policy_text.specs.Values.{act_of, algos_of, func_of, id_number_of, id_of, is_unsupported_template, is_unsupported_type, mask_bits_of, mask_of, template_of};
 
-use crate::rule::{Act, Func, MaskTest};
+use crate::rule::{Act, Func, IdTest, MaskTest};
 use hash_algos::{AlgoSet, by_name};
 use inode_meta::Template;
+use text_forms::number_of;
 
 /// The action that the word names.
 pub fn act_of(word: &[u8]) -> Option<Act>
@@ -105,6 +106,26 @@ pub fn mask_of(text: &[u8]) -> Option<MaskTest>
             Some(MaskTest { exact: true, bits })
         }
     }
+}
+
+/// The test of a user or a group: a sign and a number below 2^32, in digits with any zeros in front.
+pub fn id_of(text: &[u8]) -> Option<IdTest>
+    ensures value { result ≡ id_of text.now }
+    ensures id { IfSome result (λ test. IsTrue (is_id test)) }
+{
+    match text {
+        [b'=', digits @ ..] => Some(IdTest::Is(id_number_of(digits)?)),
+        [b'>', digits @ ..] => Some(IdTest::Above(id_number_of(digits)?)),
+        [b'<', digits @ ..] => Some(IdTest::Below(id_number_of(digits)?)),
+        _ => None,
+    }
+}
+
+fn id_number_of(digits: &[u8]) -> Option<u32>
+    ensures { result ≡ id_number_of digits.now }
+{
+    let number = number_of(digits, 10, u64::from(u32::MAX))?;
+    Some(number as u32)
 }
 
 /// The algorithms that the text names, parted by commas, at least one.

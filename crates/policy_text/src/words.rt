@@ -1,5 +1,6 @@
 ghost use Rattle.std.specs.Prelude.{◌≡◌};
-ghost use Rattle.policy_text.specs.Spelling.{act_word, cause_word, func_word, mask_bits_word};
+ghost use Rattle.policy_text.specs.Spelling.{act_word, cause_word};
+ghost use Rattle.policy_text.specs.ValueTexts.{func_word, mask_bits_word};
 
 use crate::fault::RuleCause;
 use crate::rule::{Act, Func};

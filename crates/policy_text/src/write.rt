@@ -1,19 +1,24 @@
 //! Printing rules.
 
-ghost use Rattle.std.specs.Prelude.{◌≡◌, [], ◌∷◌, ◌++◌, codes, not, true, Ok, IfOk, OnOk, OnErr};
+ghost use Rattle.std.specs.Prelude.{◌≡◌, [], ◌∷◌, ◌++◌, true, flat_map, Ok, IfOk, OnOk, OnErr};
 ghost use Rattle.std.specs.Fmt.{decimal};
+ghost use Rattle.std.specs.List.{list_all};
 ghost use Rattle.inode_meta.specs.Words.{template_word};
 ghost use Rattle.text_forms.specs.FileSystems.{magic_text, uuid_text};
 ghost use Rattle.text_forms.specs.Lines.{is_one_line};
+ghost use Rattle.text_forms.specs.Words.{words};
 ghost use Rattle.policy_text.specs.Grammar.{policy_of, rule_of};
-ghost use Rattle.policy_text.specs.RuleValue.{IsRule, is_any};
-ghost use Rattle.policy_text.specs.Spelling.{algos_text, flagged, func_word, id_text, ids_text, keyed, mask_text, options_text, place_text, policy_text, rule_text};
+ghost use Rattle.policy_text.specs.Key.{keys, row, told};
+ghost use Rattle.policy_text.specs.RuleValue.{IsRule};
+ghost use Rattle.policy_text.specs.Spelling.{is_visible_word, key_text, policy_text, rule_text, rule_words};
+ghost use Rattle.policy_text.specs.ValueTexts.{algos_text, func_word, id_text, mask_text};
 
+use crate::key::Key;
 use crate::policy::Policy;
 use crate::rule::{Func, IdTest, MaskTest, Rule};
 use crate::words::mask_bits_word;
 use hash_algos::{Algo, AlgoSet};
-use inode_meta::{Need, OutOfMemory, Template};
+use inode_meta::{OutOfMemory, Template};
 use std::alloc::{AllocError, Global};
 use std::io::{self, Write};
 use text_forms::{FsUuid, Magic};
@@ -49,6 +54,9 @@ fn push_line(text: &mut Vec<u8>, rule: &Rule) -> Result<(), AllocError>
 pub fn print_rule(alloc: Global, rule: &Rule, out: &mut Vec<u8>) -> Result<(), OutOfMemory>
     ensures text { OnOk result (out.new.items ≡ out.old.items ++ rule_text rule.now) }
     ensures again { rule_of (rule_text rule.now) ≡ Ok rule.now }
+    // The text is words, parted by one space each, and no newline is in it.
+    ensures words { words (rule_text rule.now) ≡ rule_words rule.now }
+    ensures visible { list_all is_visible_word (rule_words rule.now) ≡ true }
     ensures one_line { is_one_line (rule_text rule.now) ≡ true }
     ensures err { OnErr result (out.new.items ≡ out.old.items) }
 {
@@ -64,162 +72,138 @@ fn push_rule(out: &mut Vec<u8>, rule: &Rule) -> io::Result<()>
     ensures rule { IsRule rule.now }
 {
     out.write_all(rule.act.word().as_bytes())?;
-    push_places(out, rule)?;
-    push_ids(out, rule)?;
-    push_options(out, rule)?;
+    push_keys(out, rule)?;
     Ok(())
 }
 
-fn push_places(out: &mut Vec<u8>, rule: &Rule) -> io::Result<()>
-    ensures { OnOk result (out.new.items ≡ out.old.items ++ place_text rule.now) }
+fn push_keys(out: &mut Vec<u8>, rule: &Rule) -> io::Result<()>
+    ensures { OnOk result (out.new.items ≡ out.old.items ++ flat_map (key_text rule.now) keys) }
 {
-    push_func(out, rule.func)?;
-    push_mask(out, rule.mask)?;
-    push_magic(out, rule.fsmagic)?;
-    push_uuid(out, rule.fsuuid)?;
-    push_name(out, &rule.fsname)?;
+    for key in Key::ALL {
+        push_key(out, rule, key)?;
+    }
     Ok(())
 }
 
-fn push_ids(out: &mut Vec<u8>, rule: &Rule) -> io::Result<()>
-    ensures { OnOk result (out.new.items ≡ out.old.items ++ ids_text rule.now) }
+fn push_key(out: &mut Vec<u8>, rule: &Rule, key: Key) -> io::Result<()>
+    ensures { OnOk result (out.new.items ≡ out.old.items ++ key_text rule.now key) }
 {
-    push_id(out, b" uid", rule.uid)?;
-    push_id(out, b" euid", rule.euid)?;
-    push_id(out, b" gid", rule.gid)?;
-    push_id(out, b" egid", rule.egid)?;
-    push_id(out, b" fowner", rule.fowner)?;
-    push_id(out, b" fgroup", rule.fgroup)?;
-    Ok(())
+    if !rule.has(key) {
+        return Ok(());
+    }
+    out.write_all(b" ")?;
+    out.write_all(key.name().as_bytes())?;
+    push_value(out, rule, key)
 }
 
-fn push_options(out: &mut Vec<u8>, rule: &Rule) -> io::Result<()>
-    ensures { OnOk result (out.new.items ≡ out.old.items ++ options_text rule.now) }
+// The value of a key that the rule has.
+fn push_value(out: &mut Vec<u8>, rule: &Rule, key: Key) -> io::Result<()>
+    ensures { OnOk result (out.new.items ≡ out.old.items ++ (row key).spelled rule.now) }
 {
-    push_flag(out, b" appraise_type=imasig", is_signature(rule.need))?;
-    push_flag(out, b" appraise_flag=check_blacklist", rule.blacklist)?;
-    push_algos(out, rule.algos)?;
-    push_flag(out, b" permit_directio", rule.directio)?;
-    push_pcr(out, rule.pcr)?;
-    push_template(out, rule.template)?;
-    Ok(())
-}
-
-fn is_signature(need: Need) -> bool
-    ensures { result ≡ not (is_any need) }
-{
-    match need {
-        Need::Any => false,
-        Need::Signature => true,
+    match key {
+        Key::Func => push_func(out, rule.func),
+        Key::Mask => push_mask(out, rule.mask),
+        Key::FsMagic => push_magic(out, rule.fsmagic),
+        Key::FsUuid => push_uuid(out, rule.fsuuid),
+        Key::FsName => push_name(out, &rule.fsname),
+        Key::Uid => push_id(out, rule.uid),
+        Key::Euid => push_id(out, rule.euid),
+        Key::Gid => push_id(out, rule.gid),
+        Key::Egid => push_id(out, rule.egid),
+        Key::Fowner => push_id(out, rule.fowner),
+        Key::Fgroup => push_id(out, rule.fgroup),
+        Key::AppraiseType => out.write_all(b"imasig"),
+        Key::AppraiseFlag => out.write_all(b"check_blacklist"),
+        Key::AppraiseAlgos => push_algos(out, rule.algos),
+        Key::Directio => Ok(()),
+        Key::Pcr => push_pcr(out, rule.pcr),
+        Key::Template => push_template(out, rule.template),
     }
 }
 
 fn push_func(out: &mut Vec<u8>, func: Option<Func>) -> io::Result<()>
-    ensures { OnOk result (out.new.items ≡ out.old.items ++ keyed (codes " func=") func_word func) }
+    ensures { OnOk result (out.new.items ≡ out.old.items ++ told func_word func) }
 {
     match func {
-        Some(func) => write!(out, " func={}", func.word()),
+        Some(func) => out.write_all(func.word().as_bytes()),
         None => Ok(()),
     }
 }
 
 fn push_mask(out: &mut Vec<u8>, mask: Option<MaskTest>) -> io::Result<()>
-    ensures { OnOk result (out.new.items ≡ out.old.items ++ keyed (codes " mask=") mask_text mask) }
+    ensures { OnOk result (out.new.items ≡ out.old.items ++ told mask_text mask) }
 {
     match mask {
         Some(mask) => {
             let sign = if mask.exact { "" } else { "^" };
-            write!(out, " mask={sign}{}", mask_bits_word(mask.bits))
+            write!(out, "{sign}{}", mask_bits_word(mask.bits))
         }
         None => Ok(()),
     }
 }
 
 fn push_magic(out: &mut Vec<u8>, magic: Option<u64>) -> io::Result<()>
-    ensures { OnOk result (out.new.items ≡ out.old.items ++ keyed (codes " fsmagic=") magic_text magic) }
+    ensures { OnOk result (out.new.items ≡ out.old.items ++ told magic_text magic) }
 {
     match magic {
-        Some(magic) => write!(out, " fsmagic={}", Magic(magic)),
+        Some(magic) => write!(out, "{}", Magic(magic)),
         None => Ok(()),
     }
 }
 
 fn push_uuid(out: &mut Vec<u8>, uuid: Option<u128>) -> io::Result<()>
-    ensures { OnOk result (out.new.items ≡ out.old.items ++ keyed (codes " fsuuid=") uuid_text uuid) }
+    ensures { OnOk result (out.new.items ≡ out.old.items ++ told uuid_text uuid) }
 {
     match uuid {
-        Some(uuid) => write!(out, " fsuuid={}", FsUuid(uuid)),
+        Some(uuid) => write!(out, "{}", FsUuid(uuid)),
         None => Ok(()),
     }
 }
 
 fn push_name(out: &mut Vec<u8>, name: &Option<Bytes>) -> io::Result<()>
-    ensures { OnOk result (out.new.items ≡ out.old.items ++ keyed (codes " fsname=") (λ n. n) name.now) }
+    ensures { OnOk result (out.new.items ≡ out.old.items ++ told (λ n. n) name.now) }
 {
     match name {
-        Some(name) => {
-            out.write_all(b" fsname=")?;
-            out.write_all(name.as_slice())?;
-            Ok(())
-        }
+        Some(name) => out.write_all(name.as_slice()),
         None => Ok(()),
     }
 }
 
-fn push_id(out: &mut Vec<u8>, key: &[u8], test: Option<IdTest>) -> io::Result<()>
-    ensures { OnOk result (out.new.items ≡ out.old.items ++ keyed key.now id_text test) }
+fn push_id(out: &mut Vec<u8>, test: Option<IdTest>) -> io::Result<()>
+    ensures { OnOk result (out.new.items ≡ out.old.items ++ told id_text test) }
 {
     match test {
-        Some(test) => {
-            out.write_all(key)?;
-            push_test(out, test)?;
-            Ok(())
-        }
+        Some(IdTest::Is(number)) => write!(out, "={number}"),
+        Some(IdTest::Above(number)) => write!(out, ">{number}"),
+        Some(IdTest::Below(number)) => write!(out, "<{number}"),
         None => Ok(()),
     }
-}
-
-fn push_test(out: &mut Vec<u8>, test: IdTest) -> io::Result<()>
-    ensures { OnOk result (out.new.items ≡ out.old.items ++ id_text test) }
-{
-    match test {
-        IdTest::Is(number) => write!(out, "={number}"),
-        IdTest::Above(number) => write!(out, ">{number}"),
-        IdTest::Below(number) => write!(out, "<{number}"),
-    }
-}
-
-fn push_flag(out: &mut Vec<u8>, flag: &[u8], is_set: bool) -> io::Result<()>
-    ensures { OnOk result (out.new.items ≡ out.old.items ++ flagged flag.now is_set) }
-{
-    if is_set { out.write_all(flag) } else { Ok(()) }
 }
 
 fn push_pcr(out: &mut Vec<u8>, pcr: Option<u8>) -> io::Result<()>
-    ensures { OnOk result (out.new.items ≡ out.old.items ++ keyed (codes " pcr=") decimal pcr) }
+    ensures { OnOk result (out.new.items ≡ out.old.items ++ told decimal pcr) }
 {
     match pcr {
-        Some(pcr) => write!(out, " pcr={pcr}"),
+        Some(pcr) => write!(out, "{pcr}"),
         None => Ok(()),
     }
 }
 
 fn push_template(out: &mut Vec<u8>, template: Option<Template>) -> io::Result<()>
-    ensures { OnOk result (out.new.items ≡ out.old.items ++ keyed (codes " template=") template_word template) }
+    ensures { OnOk result (out.new.items ≡ out.old.items ++ told template_word template) }
 {
     match template {
-        Some(template) => write!(out, " template={}", template.word()),
+        Some(template) => out.write_all(template.word().as_bytes()),
         None => Ok(()),
     }
 }
 
 fn push_algos(out: &mut Vec<u8>, algos: Option<AlgoSet>) -> io::Result<()>
-    ensures { OnOk result (out.new.items ≡ out.old.items ++ keyed (codes " appraise_algos=") algos_text algos) }
+    ensures { OnOk result (out.new.items ≡ out.old.items ++ told algos_text algos) }
 {
     let Some(algos) = algos else {
         return Ok(());
     };
-    out.write_all(b" appraise_algos=")?;
     let mut comma = b"".as_slice();
     for algo in Algo::ALL {
         if algos.has(algo) {

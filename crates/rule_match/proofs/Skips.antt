@@ -5,7 +5,8 @@ use Rattle.std.specs.Prelude.{slice_get}
 use Rattle.policy_text.specs.RuleValue.{RuleValue, if_there}
 use Rattle.policy_text.specs.declared.access.Access.{Access}
 use Rattle.policy_text.specs.declared.rule.Func.{Func}
-use Rattle.rule_match.specs.Conditions.{rule_matches, same_func}
+use Rattle.policy_text.specs.Tests.{same_func}
+use Rattle.rule_match.specs.Conditions.{rule_matches}
 use Rattle.rule_match.specs.Decision.{Family, Measuring, Appraising, Auditing, Hashing, action_of, carried_out, decide_of, decides, first_of, is_of}
 use Rattle.rule_match.specs.Group.{same_group}
 use Rattle.rule_match.specs.Groups.{group_of, group_of_both, group_of_func, group_of_magic, group_of_neither}
@@ -32,8 +33,8 @@ pub matches_not : (a : Access) (r : RuleValue)
     → rule_matches r a ≡ false
 matches_not a r both by_func by_magic neither =
     ⊎_elim
-    (λ hook. and_left _ _ (and_left _ _ (and_left _ _ (and_left _ _ hook))))
-    (λ place. and_left _ _ (and_left _ _ (and_right _ _ (and_left _ _ (and_left _ _ place)))))
+    (λ hook. and_left _ _ hook)
+    (λ place. and_right _ _ (and_right _ _ (and_left _ _ place)))
     (fails a r.func r.fsmagic both by_func by_magic neither)
 
 first-skip : (a : Access) (r : RuleValue) (rules : List RuleValue) → rule_matches r a ≡ false → (f : Family) → first_of f (r ∷ rules) a ≡ first_of f rules a

@@ -1,60 +1,23 @@
 ghost use Rattle.std.specs.Prelude.{◌≡◌};
-ghost use Rattle.policy_text.specs.RuleValue.{if_there};
-ghost use Rattle.policy_text.specs.Tests.{id_holds};
-ghost use Rattle.rule_match.specs.Conditions.{hook_matches, owner_matches, place_matches, rule_matches, task_matches};
+ghost use Rattle.std.specs.List.{list_all};
+ghost use Rattle.policy_text.specs.Key.{row};
+ghost use Rattle.rule_match.specs.Conditions.{rule_matches};
 
-use inode_meta::Cred;
-use policy_text::{Access, Func, IdTest, Rule, Super};
+use policy_text::{Access, Key, Rule};
 
-/// Whether the rule matches the access: each condition that it gives holds, and one that it doesn't give holds of every
-/// access. `permit_directio` and `appraise_flag=` are options, and no conditions.
+/// Whether the rule matches the access: what it says by each of its keys holds. A key that it doesn't
+/// have holds of every access, and so do the options.
 ///
-/// `euid` and `egid` compare the effective numbers alone. For a task that may set its ids the kernel also looks at the
-/// real and the saved ones.
+/// `euid` and `egid` compare the effective numbers alone. For a task that may set its ids the kernel
+/// also looks at the real and the saved ones.
 pub fn matches(r: &Rule, a: &Access) -> bool
     ensures { result ≡ rule_matches r.now a.now }
 {
-    hook_fits(r, a.func, a.mask)
-        && place_fits(r, a.place)
-        && task_fits(r, a.cred)
-        && owner_fits(r, a.owner, a.group)
+    all_hold(&Key::ALL, r, a)
 }
 
-fn hook_fits(r: &Rule, func: Func, mask: u8) -> bool
-    ensures { result ≡ hook_matches r.now func mask }
+fn all_hold(keys: &[Key], r: &Rule, a: &Access) -> bool
+    ensures { result ≡ list_all (λ k. (row k).holds r.now a.now) keys.now }
 {
-    r.func.is_none_or(|f| f == func) && r.mask.is_none_or(|test| test.holds(mask))
-}
-
-fn place_fits(r: &Rule, place: &Super) -> bool
-    ensures { result ≡ place_matches r.now place.now }
-{
-    let is_named = match &r.fsname {
-        Some(name) => name.as_slice() == place.name.as_slice(),
-        None => true,
-    };
-    r.fsmagic.is_none_or(|n| n == place.magic)
-        && r.fsuuid.is_none_or(|n| n == place.uuid)
-        && is_named
-}
-
-fn task_fits(r: &Rule, cred: &Cred) -> bool
-    ensures { result ≡ task_matches r.now cred.now }
-{
-    id_fits(r.uid, cred.uid)
-        && id_fits(r.euid, cred.euid)
-        && id_fits(r.gid, cred.gid)
-        && id_fits(r.egid, cred.egid)
-}
-
-fn owner_fits(r: &Rule, owner: u32, group: u32) -> bool
-    ensures { result ≡ owner_matches r.now owner group }
-{
-    id_fits(r.fowner, owner) && id_fits(r.fgroup, group)
-}
-
-fn id_fits(test: Option<IdTest>, id: u32) -> bool
-    ensures { result ≡ if_there (λ t. id_holds t id) test }
-{
-    test.is_none_or(|t| t.holds(id))
+    keys.iter().all(|key| key.holds(r, a))
 }

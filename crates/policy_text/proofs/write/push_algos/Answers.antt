@@ -1,4 +1,4 @@
-use Rattle.std.proofs.Common.{◌≡◌, sym, ◌∙◌, arith, append_assoc, get_or}
+use Rattle.std.proofs.Common.{◌≡◌, sym, ◌∙◌, arith, get_or}
 use Rattle.hash_algos.specs.declared.algo.Algo.TheVariants as algo
 use Rattle.hash_algos.specs.Algo.{algos, algo_name}
 use Rattle.policy_text.proofs.Commas.{names_to, names_more_in, names_more_out, printed}
@@ -11,7 +11,7 @@ loop-algo-preserved c =
       | then-has+in_ok-push_after w ↦
           let ns = names_to c.in-Some.algos c.loop-algo.algo-index in
           let more = names_more_in c.in-Some.algos algos c.loop-algo.algo-index c.loop-algo-test.true (sym c.has.ensures ∙ w.if-has.true) in
-          let p = printed c.write_all.new.self.items c.loop-algo.out.items c.loop-algo.comma.now w.push_after.new.out.items ns _ (algo_name (get_or algos c.loop-algo.algo-index algo.Md5))
+          let p = printed c.args.out.now.items c.loop-algo.out.items c.loop-algo.comma.now w.push_after.new.out.items ns _ (algo_name (get_or algos c.loop-algo.algo-index algo.Md5))
           c.loop-algo.invariant.text c.loop-algo.invariant.comma more (rw w.name.ensures at w.in_ok-push_after.ensures) in
           rw (w.out-is, w.comma-is) (record { text = p.0; comma = p.1 })
       | else-has w ↦
@@ -22,4 +22,4 @@ loop-algo-preserved c =
 pub returns : goal.returns
 returns c =
     let all : c.loop-algo.algo-index ≡ 6 = omega arith in
-    rw c.in-Some.is (c.loop-algo.invariant.text ∙ rw (all, c.in_ok-write_all.ensures.bytes) (append_assoc c.args.out.now.items _ _))
+    rw c.in-Some.is (rw all at c.loop-algo.invariant.text)
