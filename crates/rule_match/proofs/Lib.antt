@@ -1,6 +1,7 @@
 mod Examples
-pub mod Lines
-pub mod Links
 pub mod Lookups
+pub mod Places
+pub mod Lines
 pub mod Skips
 pub mod Walks
+pub mod Steps

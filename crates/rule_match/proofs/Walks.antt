@@ -1,148 +1,143 @@
--- A walk from the last line to the first, through the candidates alone.
-use Rattle.std.proofs.Common.{◌≡◌, ℕ, suc, ◌<◌, ◌≤◌, ◌||◌, Bool, true, false, List, ◌∷◌, length, drop, get_or, Option, Some, refl, sym, ap, subst, ◌∙◌, arith}
-use Rattle.std.proofs.lemmas.Bool.{or_parts}
-use Rattle.std.proofs.lemmas.Option.{slice_get-get_or, slice_get_read}
-use Rattle.std.specs.Option.{option_map_or}
-use Rattle.std.specs.Prelude.{slice_get}
+-- What a walk from the first line on has found, and when no later line counts.
+use Rattle.std.proofs.Common.{◌≡◌, ℕ, zero, suc, ◌+◌, ◌&&◌, Bool, true, false, List, [], ◌∷◌, ◌++◌, length, Option, Some, None, cond, refl, sym, ap, ◌∙◌, arith}
+use Rattle.std.proofs.lemmas.Bool.{and_right}
+use Rattle.std.specs.List.{position_from}
+use Rattle.std.specs.Option.{option_and_then, option_or}
+use Rattle.std.specs.Prelude.{is_some, slice_get}
 use Rattle.policy_text.specs.ActionValue.{ActionValue}
 use Rattle.policy_text.specs.RuleValue.{RuleValue}
 use Rattle.policy_text.specs.declared.access.Access.{Access}
 use Rattle.rule_match.specs.Conditions.{rule_matches}
-use Rattle.rule_match.specs.Decision.{decide_of}
-use Rattle.rule_match.specs.Group.{same_group}
-use Rattle.rule_match.specs.Groups.{IsLast, IsLinked, StandsBelow, group_of, group_of_both, group_of_func, group_of_magic, group_of_neither, has_group, latest_of, next_of}
-use Rattle.rule_match.specs.declared.group.Candidates.{Candidates}
-use Rattle.rule_match.specs.declared.group.Group.{Group}
-use Rattle.rule_match.proofs.Lines.{later_last, end_above, end_above-le, none_above, last_lower, next_last}
-use Rattle.rule_match.proofs.Lookups.{drop_at_get}
-use Rattle.rule_match.specs.SameGroup.{same_group-true}
-use Rattle.rule_match.proofs.Skips.{decide-drop, matches_not}
+use Rattle.rule_match.specs.Decision.{action_of, carried_out, decide_of, decides, is_of, place_of_first}
+use Rattle.rule_match.specs.Deciders.{AreDeciders, after_line, carried_at, decided_with, is_complete}
+use Rattle.rule_match.specs.declared.deciders.Deciders.{Deciders}
+use Rattle.rule_match.specs.declared.family.Family.{Family}
+use Rattle.rule_match.specs.declared.family.Family.TheVariants.{Measuring, Appraising, Auditing, Hashing}
+use Rattle.rule_match.proofs.Places.{find_at_position, position-append, position-none}
 
--- the end of the lines that the walk hasn't passed
-abbrev pub end_of : Candidates → ℕ
-end_of c = end_above (latest_of c)
+or-none : {X : Type 0} (o : Option X) → option_or o None ≡ o
+or-none None = refl
+or-none (Some x) = refl
 
--- the walk has the decision of the rules that it has passed
-pub record Walks (rules : List RuleValue) (a : Access) (c : Candidates) (action : ActionValue) : Type 0 where
-  pub within : end_of c ≤ length rules
-  pub stands : StandsBelow (end_of c) rules a c
-  pub decided : action ≡ decide_of (drop (end_of c) rules) a
+some-or : {X : Type 0} (o p : Option X) → is_some o ≡ true → option_or o p ≡ o
+some-or None p some = absurd cc
+some-or (Some x) p some = refl
 
--- whether the line's rule can match
-abbrev is_candidate : List RuleValue → Access → ℕ → Bool
-is_candidate rules a i =
-    (has_group rules (group_of_both a) i || has_group rules (group_of_func a) i)
-    || (has_group rules (group_of_magic a) i || has_group rules group_of_neither i)
+no_family : (i : Bool) → (i && false) ≡ false
+no_family true = refl
+no_family false = refl
 
-latest_last : (end : ℕ) (rules : List RuleValue) (a : Access) (c : Candidates) → StandsBelow end rules a c → IsLast (is_candidate rules a) end (latest_of c)
-latest_last end rules a c stands =
-    later_last _ _ end _ _ (later_last _ _ end c.both c.func stands.both stands.func) (later_last _ _ end c.magic c.neither stands.magic stands.neither)
+module _ (a : Access) where
+  -- one family's place, behind rules that don't match
+  skipped : (f : Family) (front back : List RuleValue) (o : Option ℕ) → ((i : ℕ) (r : RuleValue) → slice_get back i ≡ Some r → rule_matches r a ≡ false)
+      → o ≡ place_of_first f front a → o ≡ place_of_first f (front ++ back) a
+  skipped f front back o none is =
+      is ∙ sym (or-none (place_of_first f front a))
+      ∙ ap (option_or (place_of_first f front a)) (sym (position-none (decides f a) (0 + length front) back (λ i r at. and_right (is_of f r.act) (rule_matches r a) (none i r at))))
+      ∙ sym (position-append (decides f a) 0 front back)
 
-pub end_of-le : (end : ℕ) (rules : List RuleValue) (a : Access) (c : Candidates) → StandsBelow end rules a c → end_of c ≤ end
-end_of-le end rules a c stands = end_above-le (is_candidate rules a) end (latest_of c) (latest_last end rules a c stands)
+  -- rules that don't match decide nothing
+  pub deciders-skip : (front back : List RuleValue) (d : Deciders) → ((i : ℕ) (r : RuleValue) → slice_get back i ≡ Some r → rule_matches r a ≡ false)
+      → AreDeciders a front d → AreDeciders a (front ++ back) d
+  deciders-skip front back d none are = record {
+    measuring = skipped Measuring front back d.measuring none are.measuring;
+    appraising = skipped Appraising front back d.appraising none are.appraising;
+    auditing = skipped Auditing front back d.auditing none are.auditing;
+    hashing = skipped Hashing front back d.hashing none are.hashing;
+  }
 
--- a line that isn't a candidate is in none of the groups
-record HasNone (rules : List RuleValue) (a : Access) (i : ℕ) : Type 0 where
-  both : has_group rules (group_of_both a) i ≡ false
-  func : has_group rules (group_of_func a) i ≡ false
-  magic : has_group rules (group_of_magic a) i ≡ false
-  neither : has_group rules group_of_neither i ≡ false
+  -- one family's place, behind any rules, where it is found
+  settled : (f : Family) (front back : List RuleValue) (o : Option ℕ) → is_some o ≡ true → o ≡ place_of_first f front a → o ≡ place_of_first f (front ++ back) a
+  settled f front back o some is =
+      is ∙ sym (some-or (place_of_first f front a) (position_from (decides f a) (0 + length front) back) (ap is_some (sym is) ∙ some))
+      ∙ sym (position-append (decides f a) 0 front back)
 
-has_none : (rules : List RuleValue) (a : Access) (i : ℕ) → is_candidate rules a i ≡ false → HasNone rules a i
-has_none rules a i is =
-    let parts = or_parts _ _ is in
-    let by_func = or_parts _ _ parts.0 in
-    let by_none = or_parts _ _ parts.1 in
-    record { both = by_func.0; func = by_func.1; magic = by_none.0; neither = by_none.1 }
+  -- once each family has its line, no later rule counts
+  pub deciders-complete : (front back : List RuleValue) (d : Deciders) → is_complete d ≡ true → AreDeciders a front d → AreDeciders a (front ++ back) d
+  deciders-complete front back d whole are =
+      let three = and_true_left _ _ whole in
+      let two = and_true_left _ _ three in
+      record {
+        measuring = settled Measuring front back d.measuring (and_true_left _ _ two) are.measuring;
+        appraising = settled Appraising front back d.appraising (and_true_right _ _ two) are.appraising;
+        auditing = settled Auditing front back d.auditing (and_true_right _ _ three) are.auditing;
+        hashing = settled Hashing front back d.hashing (and_true_right _ _ whole) are.hashing;
+      }
+    where
+      and_true_left : (x y : Bool) → (x && y) ≡ true → x ≡ true
+      and_true_left true y is = refl
+      and_true_left false y is = is
 
-has_group-at : (rules : List RuleValue) (g : Group) (i : ℕ) (r : RuleValue) → slice_get rules i ≡ Some r → has_group rules g i ≡ same_group (group_of r) g
-has_group-at rules g i r is = ap (λ (o : Option RuleValue). option_map_or (λ s. same_group (group_of s) g) o false) is
+      and_true_right : (x y : Bool) → (x && y) ≡ true → y ≡ true
+      and_true_right true y is = is
+      and_true_right false y is = absurd cc
 
-none_matches : (rules : List RuleValue) (a : Access) (i : ℕ) (r : RuleValue) → slice_get rules i ≡ Some r → HasNone rules a i → rule_matches r a ≡ false
-none_matches rules a i r is none =
-    matches_not
-    a
-    r
-    (sym (has_group-at rules (group_of_both a) i r is) ∙ none.both)
-    (sym (has_group-at rules (group_of_func a) i r is) ∙ none.func)
-    (sym (has_group-at rules (group_of_magic a) i r is) ∙ none.magic)
-    (sym (has_group-at rules group_of_neither i r is) ∙ none.neither)
+  -- one family's place, after one more rule that matches
+  passed : (f : Family) (front : List RuleValue) (r : RuleValue) (line : ℕ) (o : Option ℕ) → rule_matches r a ≡ true → line ≡ length front
+      → o ≡ place_of_first f front a → decided_with o f r.act line ≡ place_of_first f (front ++ r ∷ []) a
+  passed f front r line o matches end is =
+      choose (is_of f r.act) (ap (λ (b : Bool). is_of f r.act && b) matches)
+      ∙ sym (position-append (decides f a) 0 front (r ∷ []))
+    where
+      here : line ≡ 0 + length front
+      here = omega (arith, end)
 
--- a walk that has passed the lines from `end` on goes on at the latest of its candidates
-pub settles : (rules : List RuleValue) (a : Access) (c : Candidates) (action : ActionValue) (end : ℕ)
-    → end ≤ length rules → StandsBelow end rules a c → action ≡ decide_of (drop end rules) a → Walks rules a c action
-settles rules a c action end within stands decided = record {
-  within = omega (arith, lower);
-  stands = record {
-    both = last_lower (has_group rules (group_of_both a)) (end_of c) end c.both lower (λ i above below. (none i above below).both) stands.both;
-    func = last_lower (has_group rules (group_of_func a)) (end_of c) end c.func lower (λ i above below. (none i above below).func) stands.func;
-    magic = last_lower (has_group rules (group_of_magic a)) (end_of c) end c.magic lower (λ i above below. (none i above below).magic) stands.magic;
-    neither = last_lower (has_group rules group_of_neither) (end_of c) end c.neither lower (λ i above below. (none i above below).neither) stands.neither;
-  };
-  decided = decided ∙ sym (decide-drop a rules (end_of c) end lower (λ i r above below is. none_matches rules a i r is (none i above below)));
-}
-  where
-    latest : IsLast (is_candidate rules a) end (latest_of c)
-    latest = latest_last end rules a c stands
+      choose : (b : Bool) → decides f a r ≡ (b && true)
+          → cond b (option_or o (Some line)) o ≡ option_or (place_of_first f front a) (position_from (decides f a) (0 + length front) (r ∷ []))
+      choose true test =
+          (λ i. option_or (is i) (Some (here i)))
+          ∙ ap (λ (b : Bool). option_or (place_of_first f front a) (cond b (Some (0 + length front)) None)) (sym test)
+      choose false test =
+          is ∙ sym (or-none (place_of_first f front a))
+          ∙ ap (λ (b : Bool). option_or (place_of_first f front a) (cond b (Some (0 + length front)) None)) (sym test)
 
-    lower : end_of c ≤ end
-    lower = end_of-le end rules a c stands
+  -- what is found, after one more rule
+  pub deciders-next : (front : List RuleValue) (r : RuleValue) (line : ℕ) (d : Deciders) → line ≡ length front
+      → AreDeciders a front d → AreDeciders a (front ++ r ∷ []) (after_line a line r d)
+  deciders-next front r line d end are = choose (rule_matches r a) refl where
+    only : (i : ℕ) (s : RuleValue) → rule_matches r a ≡ false → slice_get (r ∷ []) i ≡ Some s → rule_matches s a ≡ false
+    only i s fails at = let same : r ≡ s = the_one i s at in ap (λ t. rule_matches t a) (sym same) ∙ fails
+      where
+        the_one : (i : ℕ) (s : RuleValue) → slice_get (r ∷ []) i ≡ Some s → r ≡ s
+        the_one zero s at = cc
+        the_one (suc i) s at = absurd cc
 
-    none : (i : ℕ) → end_of c ≤ i → i < end → HasNone rules a i
-    none i above below = has_none rules a i (none_above (is_candidate rules a) end (latest_of c) latest i above below)
+    choose : (b : Bool) → rule_matches r a ≡ b → AreDeciders a (front ++ r ∷ []) (cond b (record {
+      measuring = decided_with d.measuring Measuring r.act line;
+      appraising = decided_with d.appraising Appraising r.act line;
+      auditing = decided_with d.auditing Auditing r.act line;
+      hashing = decided_with d.hashing Hashing r.act line;
+    }) d)
+    choose true matches = record {
+      measuring = passed Measuring front r line d.measuring matches end are.measuring;
+      appraising = passed Appraising front r line d.appraising matches end are.appraising;
+      auditing = passed Auditing front r line d.auditing matches end are.auditing;
+      hashing = passed Hashing front r line d.hashing matches end are.hashing;
+    }
+    choose false fails = deciders-skip front (r ∷ []) d (λ i s at. only i s fails at) are
 
--- the line above in the group is the same for each group that the line has
-linked_at : (rules : List RuleValue) (earlier : List (Option ℕ)) (line : ℕ) (r : RuleValue) (e : Option ℕ)
-    → IsLinked rules earlier → slice_get rules line ≡ Some r → slice_get earlier line ≡ Some e
-    → (g : Group) → has_group rules g line ≡ true → IsLast (has_group rules g) line e
-linked_at rules earlier line r e linked is above g has =
-    let same : group_of r ≡ g = same_group-true (group_of r) g (sym (has_group-at rules g line r is) ∙ has) in
-    subst (λ (h : Group). IsLast (has_group rules h) line e) same (linked line r e is above)
+  -- the action of the rules at these places is what the rules have done
+  carried : (f : Family) (rules : List RuleValue) (o : Option ℕ) → o ≡ place_of_first f rules a → carried_at rules o ≡ carried_out (option_and_then (slice_get rules) (place_of_first f rules a))
+  carried f rules o is = ap (carried_at rules) is
 
--- the candidates below the line that the walk has come to
-stands_next : (rules : List RuleValue) (earlier : List (Option ℕ)) (a : Access) (c : Candidates) (line : ℕ) (r : RuleValue) (e : Option ℕ)
-    → IsLinked rules earlier → slice_get rules line ≡ Some r → slice_get earlier line ≡ Some e → StandsBelow (suc line) rules a c
-    → StandsBelow line rules a (record { both = next_of c.both line e; func = next_of c.func line e; magic = next_of c.magic line e; neither = next_of c.neither line e })
-stands_next rules earlier a c line r e linked is above stands = record {
-  both = next_last _ line c.both e stands.both (there (group_of_both a));
-  func = next_last _ line c.func e stands.func (there (group_of_func a));
-  magic = next_last _ line c.magic e stands.magic (there (group_of_magic a));
-  neither = next_last _ line c.neither e stands.neither (there group_of_neither);
-}
-  where
-    there : (g : Group) → has_group rules g line ≡ true → IsLast (has_group rules g) line e
-    there = linked_at rules earlier line r e linked is above
+  pub decided_by : (rules : List RuleValue) (d : Deciders) → AreDeciders a rules d
+      → action_of (carried_at rules d.measuring) (carried_at rules d.appraising) (carried_at rules d.auditing) (carried_at rules d.hashing) ≡ decide_of rules a
+  decided_by rules d are =
+      let found = λ (f : Family). find_at_position (decides f a) [] rules in
+      λ i. action_of (carried_out ((ap (option_and_then (slice_get rules)) are.measuring ∙ found Measuring) i)) (carried_out ((ap (option_and_then (slice_get rules)) are.appraising ∙ found Appraising) i))
+      (carried_out ((ap (option_and_then (slice_get rules)) are.auditing ∙ found Auditing) i)) (carried_out ((ap (option_and_then (slice_get rules)) are.hashing ∙ found Hashing) i))
 
--- the walk looks at the latest line and goes on above it
-pub walks_on : (rules : List RuleValue) (earlier : List (Option ℕ)) (a : Access) (c next : Candidates) (action decided : ActionValue) (line : ℕ) (r : RuleValue) (d : Option ℕ)
-    → length earlier ≡ length rules → IsLinked rules earlier → Walks rules a c action → Some line ≡ latest_of c → r ≡ get_or rules line r
-    → (let e = get_or earlier line d in next ≡ record { both = next_of c.both line e; func = next_of c.func line e; magic = next_of c.magic line e; neither = next_of c.neither line e })
-    → ((rest : List RuleValue) → action ≡ decide_of rest a → decided ≡ decide_of (r ∷ rest) a)
-    → (end_of next < end_of c) × Walks rules a next decided
-walks_on rules earlier a c next action decided line r d even linked walks latest read moved decides =
-    (omega (arith, here, end_of-le line rules a next stands), settles rules a next decided line (omega (arith, below)) stands decided_above)
-  where
-    here : end_of c ≡ suc line
-    here = ap end_above (sym latest)
-
-    below : suc line ≤ length rules
-    below = let within : end_of c ≤ length rules = walks.within in omega (arith, here)
-
-    is : slice_get rules line ≡ Some r
-    is = slice_get_read rules (length rules) line r refl (omega (arith, below)) read
-
-    above : slice_get earlier line ≡ Some (get_or earlier line d)
-    above = slice_get-get_or earlier line d (omega (arith, even, below))
-
-    stands : StandsBelow line rules a next
-    stands =
-        subst
-        (λ (k : Candidates). StandsBelow line rules a k)
-        (sym moved)
-        (stands_next rules earlier a c line r (get_or earlier line d) linked is above (subst (λ (end : ℕ). StandsBelow end rules a c) here walks.stands))
-
-    passed : action ≡ decide_of (drop (suc line) rules) a
-    passed = subst (λ (end : ℕ). action ≡ decide_of (drop end rules) a) here walks.decided
-
-    decided_above : decided ≡ decide_of (drop line rules) a
-    decided_above = decides (drop (suc line) rules) passed ∙ sym (ap (λ (left : List RuleValue). decide_of left a) (drop_at_get rules line r is))
+-- the families apart make one action
+pub action_joined : (v : ActionValue) (m p u h : Option RuleValue) (audit hash : Bool) → v ≡ action_of m p None None → audit ≡ is_some u → hash ≡ is_some h
+    → record { measure = v.measure; pcr = v.pcr; template = v.template; appraise = v.appraise; need = v.need; algos = v.algos; audit = audit; hash = hash } ≡ action_of m p u h
+action_joined v m p u h audit hash same audits hashes =
+    λ i. record {
+      measure = (same i).measure;
+      pcr = (same i).pcr;
+      template = (same i).template;
+      appraise = (same i).appraise;
+      need = (same i).need;
+      algos = (same i).algos;
+      audit = audits i;
+      hash = hashes i;
+    }

@@ -1,6 +1,7 @@
 -- First match: what the rules have done with an access. Per family of actions the first line that
 -- matches decides, and later lines of that family are ignored. No family has an effect on another.
-use Rattle.std.specs.Prelude.{Bool, true, false, ◌&&◌, List, Option, Some, None, is_some, unwrap_or, find, if◌then◌else◌}
+use Rattle.std.specs.Prelude.{ℕ, Bool, true, false, ◌&&◌, List, Option, Some, None, is_some, unwrap_or, find, if◌then◌else◌}
+use Rattle.std.specs.List.{position_from}
 use Rattle.std.specs.Option.{option_and_then, option_map_or}
 use Rattle.inode_meta.specs.declared.appraisal.Need.TheVariants as need
 use Rattle.inode_meta.specs.declared.measurement.TheConstants.{DEFAULT_PCR}
@@ -10,13 +11,8 @@ use Rattle.policy_text.specs.declared.access.Access.{Access}
 use Rattle.policy_text.specs.declared.rule.Act.{Act}
 use Rattle.policy_text.specs.declared.rule.Act.TheVariants as act
 use Rattle.rule_match.specs.Conditions.{rule_matches}
-
--- an action and its `dont_` form
-pub data Family : Type 0 where
-  Measuring : Family
-  Appraising : Family
-  Auditing : Family
-  Hashing : Family
+use Rattle.rule_match.specs.declared.family.Family.{Family}
+use Rattle.rule_match.specs.declared.family.Family.TheVariants.{Measuring, Appraising, Auditing, Hashing}
 
 -- whether the action is of the family
 abbrev pub is_of : Family → Act → Bool
@@ -44,6 +40,10 @@ decides f a r = is_of f r.act && rule_matches r a
 
 abbrev pub first_of : Family → List RuleValue → Access → Option RuleValue
 first_of f rules a = find (decides f a) rules
+
+-- the place of that line, counted from 0
+abbrev pub place_of_first : Family → List RuleValue → Access → Option ℕ
+place_of_first f rules a = position_from (decides f a) 0 rules
 
 -- the rule, where it has something done
 abbrev pub carried_out : Option RuleValue → Option RuleValue

@@ -1,6 +1,8 @@
 pub mod Conditions
 pub mod Decision
+pub mod Deciders
 pub mod Group
 pub mod Groups
+pub mod Kept
 pub mod Indexed
 pub mod SameGroup

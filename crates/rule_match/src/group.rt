@@ -1,6 +1,6 @@
 ghost use Rattle.std.specs.Prelude.{◌≡◌};
 ghost use Rattle.rule_match.specs.Group.{group_writes};
-ghost use Rattle.rule_match.specs.Groups.{group_of, later_of, latest_of, next_of};
+ghost use Rattle.rule_match.specs.Groups.{group_of, earlier_of, earliest_of, lines_after};
 ghost use Rattle.rule_match.specs.SameGroup.{same_group-hashed};
 
 use policy_text::{Func, Rule};
@@ -38,61 +38,60 @@ impl Hash for Group {
     }
 }
 
-/// The lines at which a walk from the last line to the first looks next: of each group whose rules can match the access
-/// the last line that the walk hasn't passed.
+/// The lines at which a walk from the first line to the last looks next: of each group whose rules can match the
+/// access those lines that the walk hasn't passed.
 #[derive(Clone, Copy)]
-pub struct Candidates {
+pub struct Candidates<'a> {
     /// Of the rules with the access's function and magic number.
-    pub both: Option<usize>,
+    pub both: &'a [usize],
     /// Of the rules with its function and no `fsmagic=`.
-    pub func: Option<usize>,
+    pub func: &'a [usize],
     /// Of the rules with its magic number and no `func=`.
-    pub magic: Option<usize>,
+    pub magic: &'a [usize],
     /// Of the rules with neither.
-    pub neither: Option<usize>,
+    pub neither: &'a [usize],
 }
 
-impl Candidates {
-    /// The last of the lines.
-    pub fn latest(self) -> Option<usize>
-        ensures { result ≡ latest_of self }
+impl<'a> Candidates<'a> {
+    /// The first of the lines.
+    pub fn earliest(self) -> Option<usize>
+        ensures { result ≡ earliest_of self.entry }
     {
-        later(later(self.both, self.func), later(self.magic, self.neither))
+        let by_func = earlier(self.both.first().copied(), self.func.first().copied());
+        let by_none = earlier(self.magic.first().copied(), self.neither.first().copied());
+        earlier(by_func, by_none)
     }
 
-    /// The lines to look at after `line`, whose predecessor in its group is `earlier`.
-    pub fn before(self, line: usize, earlier: Option<usize>) -> Candidates
-        ensures { result ≡ record {
-          both = next_of self.both line earlier;
-          func = next_of self.func line earlier;
-          magic = next_of self.magic line earlier;
-          neither = next_of self.neither line earlier;
-        } }
+    /// The lines to look at after `line`.
+    pub fn after(self, line: usize) -> Candidates<'a>
+        ensures both { result.both.now ≡ lines_after line self.entry.both.now }
+        ensures func { result.func.now ≡ lines_after line self.entry.func.now }
+        ensures magic { result.magic.now ≡ lines_after line self.entry.magic.now }
+        ensures neither { result.neither.now ≡ lines_after line self.entry.neither.now }
     {
         Candidates {
-            both: next(self.both, line, earlier),
-            func: next(self.func, line, earlier),
-            magic: next(self.magic, line, earlier),
-            neither: next(self.neither, line, earlier),
+            both: after(self.both, line),
+            func: after(self.func, line),
+            magic: after(self.magic, line),
+            neither: after(self.neither, line),
         }
     }
 }
 
-fn next(candidate: Option<usize>, line: usize, earlier: Option<usize>) -> Option<usize>
-    ensures { result ≡ next_of candidate line earlier }
+fn after(lines: &[usize], line: usize) -> &[usize]
+    ensures { result.now ≡ lines_after line lines.now }
 {
-    if candidate == Some(line) {
-        earlier
-    } else {
-        candidate
+    match lines.first() {
+        Some(first) if *first == line => &lines[1..],
+        _ => lines,
     }
 }
 
-fn later(m: Option<usize>, n: Option<usize>) -> Option<usize>
-    ensures { result ≡ later_of m n }
+fn earlier(m: Option<usize>, n: Option<usize>) -> Option<usize>
+    ensures { result ≡ earlier_of m n }
 {
     match (m, n) {
-        (Some(m), Some(n)) => Some(if m < n { n } else { m }),
+        (Some(m), Some(n)) => Some(if n < m { n } else { m }),
         (Some(m), None) => Some(m),
         (None, n) => n,
     }

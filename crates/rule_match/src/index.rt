@@ -1,24 +1,28 @@
-ghost use Rattle.std.specs.Prelude.{◌≡◌, [], ◌∷◌, ◌++◌, IfOk, OnOk, OnErr, length};
-ghost use Rattle.rule_match.specs.Decision.{decide_of};
-ghost use Rattle.rule_match.specs.Groups.{IsLast, IsLinked, StandsBelow, has_group};
+ghost use Rattle.std.specs.Prelude.{◌≡◌, [], ◌∷◌, ◌++◌, IfOk, OnOk, OnErr, drop, length, if◌then◌else◌};
+ghost use Rattle.rule_match.specs.Deciders.{AreDeciders};
+ghost use Rattle.rule_match.specs.Decision.{decide_of, place_of_first};
+ghost use Rattle.rule_match.specs.Group.{same_group};
+ghost use Rattle.rule_match.specs.Groups.{StandsAt, lines_from};
+ghost use Rattle.rule_match.specs.Kept.{lines_at};
+ghost use Rattle.rule_match.specs.declared.group.Group.{Group as AnyGroup};
 
-use crate::decision::{nothing_done, preceded_by};
+use crate::deciders::Deciders;
+use crate::family::Family;
 use crate::group::{Candidates, Group};
 use policy_text::{Access, Action, Func, OutOfMemory, Policy, Rule};
-use std::alloc::Global;
+use std::alloc::{AllocError, Global};
 use std::collections::HashMap;
 use std::marker::Model;
 
 /// A list of rules that finds those that can match an access. Contracts see the list. It has no limit of its own.
 ///
-/// Rules are grouped by their `func=` and inside by their `fsmagic=`. The index keeps the last line of each group, and
-/// for each line the one before it in its group, so that a decision goes from the last line to the first through the
-/// rules of at most four groups.
+/// Rules are grouped by their `func=` and inside by their `fsmagic=`. The index keeps the lines of each group, so that a
+/// decision goes from the first line to the last through the rules of at most four groups, and no further than to the
+/// line by which all four families are decided.
 #[derive(Drop)]
 pub struct Index {
     rules: Vec<Rule>,
-    earlier: Vec<Option<usize>>,
-    newest: HashMap<Group, usize>,
+    lines: HashMap<Group, Vec<usize>>,
 }
 
 impl Model for Index {
@@ -35,17 +39,16 @@ impl Model for Index {
 }
 
 impl Index {
-    /// An index of copies of the policy's rules.
+    /// An index of the policy's rules, which it takes over.
     pub fn start(alloc: Global, p: Policy) -> Result<Index, OutOfMemory>
         ensures { IfOk result (λ index. index ≡ p) }
     {
         let mut index = Index {
             rules: Vec::new(alloc),
-            earlier: Vec::new(alloc),
-            newest: HashMap::new(alloc),
+            lines: HashMap::new(alloc),
         };
-        for rule in p.rules() {
-            index.append(rule)?;
+        for rule in p.into_rules() {
+            index.push(rule)?;
         }
         Ok(index)
     }
@@ -62,13 +65,18 @@ impl Index {
         ensures ok { OnOk result (self.new ≡ self.old ++ r.now ∷ []) }
         ensures err { OnErr result (self.new ≡ self.old) }
     {
-        let line = self.rules.len();
         let copy = r.copy(*self.rules.allocator())?;
+        self.push(copy)
+    }
+
+    fn push(&mut self, rule: Rule) -> Result<(), OutOfMemory>
+        ensures ok { OnOk result (self.new ≡ self.old ++ rule ∷ []) }
+        ensures err { OnErr result (self.new ≡ self.old) }
+    {
         self.rules.reserve(1)?;
-        self.earlier.reserve(1)?;
-        let earlier = self.newest.insert(Group::of(r), line)?;
-        self.earlier.push(earlier)?;
-        self.rules.push(copy)?;
+        let alloc = *self.rules.allocator();
+        add_line(alloc, &mut self.lines, Group::of(&rule), self.rules.len())?;
+        self.rules.push_reserved(rule);
         Ok(())
     }
 
@@ -77,34 +85,80 @@ impl Index {
     pub fn decide(&self, a: &Access) -> Action
         ensures { result ≡ decide_of self.now a.now }
     {
-        let from = Candidates {
-            both: self.newest_of(Some(a.func), Some(a.place.magic)),
-            func: self.newest_of(Some(a.func), None),
-            magic: self.newest_of(None, Some(a.place.magic)),
-            neither: self.newest_of(None, None),
-        };
-        walk_back(&self.rules, &self.earlier, from, a)
+        self.deciders(a).action(&self.rules)
     }
 
-    fn newest_of(&self, func: Option<Func>, magic: Option<u64>) -> Option<usize>
-        ensures { IsLast (has_group self.now (record { func = func; magic = magic })) (length self.now) result }
+    /// The place of the line that decides for the family, counted from 0: the first that matches.
+    pub fn decider(&self, family: Family, a: &Access) -> Option<usize>
+        ensures { result ≡ place_of_first family self.now a.now }
     {
-        self.newest.get(&Group { func, magic }).copied()
+        let found = self.deciders(a);
+        match family {
+            Family::Measuring => found.measuring,
+            Family::Appraising => found.appraising,
+            Family::Auditing => found.auditing,
+            Family::Hashing => found.hashing,
+        }
+    }
+
+    // The places of the lines that decide.
+    fn deciders(&self, a: &Access) -> Deciders
+        ensures { AreDeciders a.now self.now result }
+    {
+        let from = Candidates {
+            both: self.lines_of(Some(a.func), Some(a.place.magic)),
+            func: self.lines_of(Some(a.func), None),
+            magic: self.lines_of(None, Some(a.place.magic)),
+            neither: self.lines_of(None, None),
+        };
+        walk(&self.rules, from, a)
+    }
+
+    fn lines_of(&self, func: Option<Func>, magic: Option<u64>) -> &[usize]
+        ensures { result.now ≡ lines_from (record { func = func; magic = magic }) 0 self.now }
+    {
+        match self.lines.get(&Group { func, magic }) {
+            Some(lines) => lines.as_slice(),
+            None => &[],
+        }
     }
 }
 
-/// The decision, from the last line of the candidates' groups to the first.
-fn walk_back(rules: &[Rule], earlier: &[Option<usize>], from: Candidates, a: &Access) -> Action
-    requires even { length earlier.now ≡ length rules.now }
-    requires linked { IsLinked rules.now earlier.now }
-    requires from { StandsBelow (length rules.now) rules.now a.now from }
-    ensures { result ≡ decide_of rules.now a.now }
+// The line joins those of its group.
+fn add_line(
+    alloc: Global,
+    lines: &mut HashMap<Group, Vec<usize>>,
+    group: Group,
+    line: usize,
+) -> Result<(), OutOfMemory>
+    ensures ok { OnOk result ((g : AnyGroup) → lines_at lines.new g ≡ lines_at lines.old g ++ (if same_group group g then line ∷ [] else [])) }
+    ensures err { OnErr result ((g : AnyGroup) → lines_at lines.new g ≡ lines_at lines.old g) }
+{
+    if let Some(of_group) = lines.get_mut(&group) {
+        return match of_group.push(line) {
+            Ok(()) => Ok(()),
+            Err(_) => Err(AllocError),
+        };
+    }
+    let mut of_group = Vec::new(alloc);
+    of_group.push(line)?;
+    lines.insert(group, of_group)?;
+    Ok(())
+}
+
+// The lines that decide, from the first of the candidates on until all four families are decided.
+fn walk(rules: &[Rule], from: Candidates<'_>, a: &Access) -> Deciders
+    requires { StandsAt 0 rules.now a.now from }
+    ensures { AreDeciders a.now rules.now result }
 {
     let mut candidates = from;
-    let mut action = nothing_done();
-    while let Some(line) = candidates.latest() {
-        action = preceded_by(action, &rules[line], a);
-        candidates = candidates.before(line, earlier[line]);
+    let mut found = Deciders::none();
+    while let Some(line) = candidates.earliest() {
+        found = found.with(line, &rules[line], a);
+        if found.is_complete() {
+            return found;
+        }
+        candidates = candidates.after(line);
     }
-    action
+    found
 }

@@ -3,7 +3,9 @@
 #![tactic(auto)]
 
 mod conditions;
+mod deciders;
 mod decision;
+mod family;
 mod group;
 mod index;
 #[cfg(test)]
@@ -11,4 +13,5 @@ mod tests;
 
 pub use conditions::matches;
 pub use decision::decide;
+pub use family::Family;
 pub use index::Index;

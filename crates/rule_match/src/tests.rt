@@ -1,4 +1,4 @@
-use crate::{Index, decide, matches};
+use crate::{Family, Index, decide, matches};
 use inode_meta::{Cred, Need};
 use policy_text::{Access, Act, Func, IdTest, MaskTest, OutOfMemory, Policy, RULES, Rule, Super};
 use std::alloc::Global;
@@ -213,5 +213,7 @@ fn an_appended_rule_counts(rt: HostRuntime) -> Result<(), Fail> {
     index.append(&line(Act::DontMeasure))?;
     assert_eq!(rt; index.rules().len(), 11);
     assert!(rt; index.decide(&asked).measure);
+    assert_eq!(rt; index.decider(Family::Measuring, &asked), Some(9));
+    assert_eq!(rt; index.decider(Family::Hashing, &asked), None);
     Ok(())
 }

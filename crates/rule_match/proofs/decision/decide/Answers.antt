@@ -1,17 +1,22 @@
-use Rattle.std.proofs.Common.{◌≡◌, [], List, ◌∷◌, ◌++◌, append-nil, append_assoc, ◌∙◌, ap}
-use Rattle.policy_text.specs.RuleValue.{RuleValue}
+use Rattle.std.proofs.Common.{◌+◌, sym, ap, ◌∙◌}
+use Rattle.rule_match.specs.Decision.{decide_of}
+use Rattle.rule_match.proofs.Steps.{found_all, found_end, found_next}
+use Rattle.rule_match.proofs.Walks.{decided_by}
 use Rattle.rule_match.proofs.decision.decide.Goals as goal
 
-pub loop-rule-init : goal.loop-rule-init
-loop-rule-init c =
-    let ends : c.into_iter-rule-iterator.result.iter.rest.now ++ [] ≡ c.into_iter-rule-iterator.result.iter.rest.now = append-nil _ in
-    ([], cc, c.nothing_done-action.ensures c.args.a.now)
+pub loop-line-preserved : goal.loop-line-preserved
+loop-line-preserved c =
+    found_next c.rules-rules.result.now c.args.a.now c.loop-line.line c.index-rules-line.result c.loop-line.found c.with-found.result c.loop-line-test.true c.index-rules-line.is c.with-found.ensures c.loop-line.invariant
 
-pub loop-rule-preserved : goal.loop-rule-preserved
-loop-rule-preserved c =
-    let walked = c.loop-rule.invariant.0 in
-    let one = c.in-Some.rule.now ∷ [] in (
-      c.in-Some.rule.now ∷ walked,
-      c.loop-rule.invariant.1 ∙ ap (λ (left : List RuleValue). left ++ walked) c.in-Some.ensures.steps ∙ append_assoc c.next.new.self.iter.rest.now one walked,
-      c.preceded_by-action.ensures walked c.loop-rule.invariant.2,
-    )
+pub returns : goal.returns
+returns c =
+    c.action-2.ensures
+    ∙ decided_by c.args.a.now c.rules-rules.result.now c.loop-line.found (found_end c.rules-rules.result.now c.args.a.now c.loop-line.line c.loop-line.found c.loop-line-test.false c.loop-line.invariant)
+    ∙ ap (λ rules. decide_of rules c.args.a.now) c.rules-rules.ensures.rules
+
+pub returns-then-is_complete : goal.returns-then-is_complete
+returns-then-is_complete c =
+    let found = found_next c.rules-rules.result.now c.args.a.now c.loop-line.line c.index-rules-line.result c.loop-line.found c.with-found.result c.loop-line-test.true c.index-rules-line.is c.with-found.ensures c.loop-line.invariant in
+    c.action.ensures
+    ∙ decided_by c.args.a.now c.rules-rules.result.now c.with-found.result (found_all c.rules-rules.result.now c.args.a.now (c.loop-line.line + 1) c.with-found.result (sym c.if-is_complete.ensures) found)
+    ∙ ap (λ rules. decide_of rules c.args.a.now) c.rules-rules.ensures.rules

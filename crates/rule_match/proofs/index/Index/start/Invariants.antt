@@ -1,5 +1,8 @@
-use Rattle.std.proofs.Common.{◌≡◌, take}
+use Rattle.std.proofs.Common.{◌≡◌, ◌++◌}
 use Rattle.rule_match.proofs.index.Index.start.Given as goal
 
 abbrev pub invariant-loop-rule : goal.invariant-loop-rule
-invariant-loop-rule l = l.index ≡ take l.rule-index l.rule-items
+invariant-loop-rule l = record {
+  split : l.fn.p ≡ l.yielded ++ l.rule-iterator.rest.items;
+  index : l.index ≡ l.yielded;
+}
