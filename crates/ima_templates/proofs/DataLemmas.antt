@@ -23,7 +23,8 @@ use Rattle.ima_templates.specs.Same.{SameFields}
 -- ---- lists
 
 -- two lists cut at one place
-append_apart : {X : Type 0} (xs ys : List X) (us vs : List X) → length xs ≡ length ys → xs ++ us ≡ ys ++ vs
+append_apart : {X : Type 0} (xs ys : List X) (us vs : List X) → length xs ≡ length ys
+    → xs ++ us ≡ ys ++ vs
     → (xs ≡ ys) × (us ≡ vs)
 append_apart xs ys us vs same_length same =
     let front : xs ≡ ys =
@@ -36,12 +37,16 @@ append_apart xs ys us vs same_length same =
 
 -- ---- a field with its length
 
-length-d_ng : (digest : Digest) → length (d_ng digest) ≡ length (algo_name digest.algo) + 2 + length digest.bytes
+-- how long `d-ng` is
+length-d_ng : (digest : Digest)
+    → length (d_ng digest) ≡ length (algo_name digest.algo) + 2 + length digest.bytes
 length-d_ng digest =
     length-append (algo_name digest.algo ++ 58 ∷ []) (0 ∷ digest.bytes)
     ∙ omega (arith, length-append (algo_name digest.algo) (58 ∷ []))
 
-little_bytes-apart : (m n : ℕ) → m < 2 ^ 32 → n < 2 ^ 32 → little_bytes 4 m ≡ little_bytes 4 n → m ≡ n
+-- numbers that fit in 4 bytes are told apart by them
+little_bytes-apart : (m n : ℕ) → m < 2 ^ 32 → n < 2 ^ 32 → little_bytes 4 m ≡ little_bytes 4 n
+    → m ≡ n
 little_bytes-apart m n fits_m fits_n same =
     let b0 : m % 256 ≡ n % 256 = cc same in
     let b1 : m / 256 % 256 ≡ n / 256 % 256 = cc same in
@@ -50,22 +55,28 @@ little_bytes-apart m n fits_m fits_n same =
     omega arith
 
 -- two fields with their lengths, each followed by more
-sized-apart : (f g us vs : List ℕ) → length f < 2 ^ 32 → length g < 2 ^ 32 → sized f ++ us ≡ sized g ++ vs
+sized-apart : (f g us vs : List ℕ) → length f < 2 ^ 32 → length g < 2 ^ 32
+    → sized f ++ us ≡ sized g ++ vs
     → (f ≡ g) × (us ≡ vs)
 unfolding sized
 sized-apart f g us vs fits_f fits_g same =
-    let regrouped : little_bytes 4 (length f) ++ (f ++ us) ≡ little_bytes 4 (length g) ++ (g ++ vs) =
-    sym (append_assoc (little_bytes 4 (length f)) f us) ∙ same ∙ append_assoc (little_bytes 4 (length g)) g vs in
-    let cut = append_apart (little_bytes 4 (length f)) (little_bytes 4 (length g)) (f ++ us) (g ++ vs) refl regrouped in
+    let regrouped : little_bytes 4 (length f) ++ (f ++ us)
+    ≡ little_bytes 4 (length g) ++ (g ++ vs) =
+    sym (append_assoc (little_bytes 4 (length f)) f us) ∙ same
+    ∙ append_assoc (little_bytes 4 (length g)) g vs in
+    let cut = append_apart (little_bytes 4 (length f)) (little_bytes 4 (length g)) (f ++ us)
+    (g ++ vs) refl regrouped in
     append_apart f g us vs (little_bytes-apart (length f) (length g) fits_f fits_g cut.0) cut.1
 
 -- ---- `d-ng` and `n-ng`
 
 -- what stands in front of the colon is an algorithm's name
-algo_of : (digest : Digest) → algo_by_name (take_while (λ b. not (b == 58)) (d_ng digest)) ≡ Some digest.algo
+algo_of : (digest : Digest)
+    → algo_by_name (take_while (λ b. not (b == 58)) (d_ng digest)) ≡ Some digest.algo
 algo_of digest = named digest.algo digest.bytes where
   named : (a : Algo) (bytes : List ℕ)
-      → algo_by_name (take_while (λ b. not (b == 58)) (d_ng (record { algo = a; bytes = bytes }))) ≡ Some a
+      → algo_by_name (take_while (λ b. not (b == 58)) (d_ng (record { algo = a; bytes = bytes })))
+      ≡ Some a
   named Md5 bytes = refl
   named Sha1 bytes = refl
   named Sha256 bytes = refl
@@ -73,14 +84,18 @@ algo_of digest = named digest.algo digest.bytes where
   named Sha512 bytes = refl
   named Sha224 bytes = refl
 
+-- so the field tells the digest
 d_ng-apart : (a b : Digest) → d_ng a ≡ d_ng b → a ≡ b
 d_ng-apart a b same =
     let one_algo : Some a.algo ≡ Some b.algo =
     sym (algo_of a) ∙ ap (λ f. algo_by_name (take_while (λ c. not (c == 58)) f)) same ∙ algo_of b in
     let algos : a.algo ≡ b.algo = cc one_algo in
-    let rest : (algo_name b.algo ++ 58 ∷ []) ++ 0 ∷ a.bytes ≡ (algo_name b.algo ++ 58 ∷ []) ++ 0 ∷ b.bytes =
+    let rest : (algo_name b.algo ++ 58 ∷ []) ++ 0 ∷ a.bytes
+    ≡ (algo_name b.algo ++ 58 ∷ []) ++ 0 ∷ b.bytes =
     subst (λ (x : Algo). (algo_name x ++ 58 ∷ []) ++ 0 ∷ a.bytes ≡ d_ng b) algos same in
-    let tails : 0 ∷ a.bytes ≡ 0 ∷ b.bytes = append_cancel_left (algo_name b.algo ++ 58 ∷ []) (0 ∷ a.bytes) (0 ∷ b.bytes) rest in
+    let tails : 0 ∷ a.bytes
+    ≡ 0 ∷ b.bytes =
+    append_cancel_left (algo_name b.algo ++ 58 ∷ []) (0 ∷ a.bytes) (0 ∷ b.bytes) rest in
     let bytes : a.bytes ≡ b.bytes = cc tails in
     λ i. record { algo = algos i; bytes = bytes i }
 
@@ -91,7 +106,9 @@ abbrev before_zero : List ℕ → List ℕ
 before_zero [] = []
 before_zero (b ∷ bs) = if b == 0 then [] else b ∷ before_zero bs
 
-name_of : (name : List ℕ) (count : ℕ) → All IsGraphic name → before_zero (name ++ replicate count 0) ≡ name
+-- and the name is that
+name_of : (name : List ℕ) (count : ℕ) → All IsGraphic name
+    → before_zero (name ++ replicate count 0) ≡ name
 name_of [] zero graphic = refl
 name_of [] (suc count) graphic = refl
 name_of (b ∷ bs) count graphic =
@@ -108,9 +125,11 @@ filled-apart m n j k graphic_m graphic_n same =
 
 -- ---- template data
 
+-- the length of `n-ng` fits in 4 bytes
 length-n_ng-fits : (name : List ℕ) → length name ≤ 1024 → length (n_ng name) < 2 ^ 32
 length-n_ng-fits name at_most = omega (arith, length-append name (0 ∷ []))
 
+-- no digest has more than 64 bytes
 algo_size-le : (a : Algo) → algo_size a ≤ 64
 algo_size-le Md5 = omega arith
 algo_size-le Sha1 = omega arith
@@ -119,6 +138,7 @@ algo_size-le Sha384 = omega arith
 algo_size-le Sha512 = omega arith
 algo_size-le Sha224 = omega arith
 
+-- no name of an algorithm has more than 6
 length-algo_name-le : (a : Algo) → length (algo_name a) ≤ 6
 length-algo_name-le Md5 = omega arith
 length-algo_name-le Sha1 = omega arith
@@ -127,17 +147,26 @@ length-algo_name-le Sha384 = omega arith
 length-algo_name-le Sha512 = omega arith
 length-algo_name-le Sha224 = omega arith
 
+-- the length of `d-ng` fits in 4 bytes
 length-d_ng-fits : (digest : Digest) → HasDigestSize digest → length (d_ng digest) < 2 ^ 32
 length-d_ng-fits digest size =
-    omega (arith, size, algo_size-le digest.algo, length-algo_name-le digest.algo, length-d_ng digest)
+    omega (
+      arith,
+      size,
+      algo_size-le digest.algo,
+      length-algo_name-le digest.algo,
+      length-d_ng digest,
+    )
 
--- what an entry keeps of its digest and its name. This is enough for both to be read off the template data
+-- what an entry keeps of its digest and its name. This is enough for both to be read off the
+-- template data
 pub record IsNamed (e : Entry) : Type 0 where
   pub digest_size : HasDigestSize e.digest
   pub digest_of_ima : e.template ≡ Ima → e.digest.algo ≡ Sha1
   pub name_at_most : length e.name ≤ 1024
   pub name_graphic : All IsGraphic e.name
 
+-- each entry keeps this
 pub entry_named : (e : Entry) → IsEntry e → IsNamed e
 entry_named e kept = record {
   digest_size = kept.digest_size;
@@ -148,21 +177,30 @@ entry_named e kept = record {
 
 -- the fields of all templates but `ima`, with what follows them
 ng_fields : (a b : Entry) (us vs : List ℕ) → IsNamed a → IsNamed b
-    → sized (d_ng a.digest) ++ (sized (n_ng a.name) ++ us) ≡ sized (d_ng b.digest) ++ (sized (n_ng b.name) ++ vs)
+    → sized (d_ng a.digest) ++ (sized (n_ng a.name) ++ us)
+    ≡ sized (d_ng b.digest) ++ (sized (n_ng b.name) ++ vs)
     → (a.digest ≡ b.digest) × (a.name ≡ b.name) × (us ≡ vs)
 ng_fields a b us vs kept_a kept_b same =
-    let digests = sized-apart (d_ng a.digest) (d_ng b.digest) (sized (n_ng a.name) ++ us) (sized (n_ng b.name) ++ vs)
-    (length-d_ng-fits a.digest kept_a.digest_size) (length-d_ng-fits b.digest kept_b.digest_size) same in
+    let digests = sized-apart (d_ng a.digest) (d_ng b.digest) (sized (n_ng a.name) ++ us)
+    (sized (n_ng b.name) ++ vs)
+    (length-d_ng-fits a.digest kept_a.digest_size) (length-d_ng-fits b.digest kept_b.digest_size)
+    same in
     let names = sized-apart (n_ng a.name) (n_ng b.name) us vs
-    (length-n_ng-fits a.name kept_a.name_at_most) (length-n_ng-fits b.name kept_b.name_at_most) digests.1 in
-    (d_ng-apart a.digest b.digest digests.0, append_cancel_right a.name b.name (0 ∷ []) names.0, names.1)
+    (length-n_ng-fits a.name kept_a.name_at_most) (length-n_ng-fits b.name kept_b.name_at_most)
+    digests.1 in (
+      d_ng-apart a.digest b.digest digests.0,
+      append_cancel_right a.name b.name (0 ∷ []) names.0,
+      names.1,
+    )
 
 -- the same with the third field
 sig_fields : (a b : Entry) → IsEntry a → IsEntry b
-    → sized (d_ng a.digest) ++ (sized (n_ng a.name) ++ (sized a.sig ++ [])) ≡ sized (d_ng b.digest) ++ (sized (n_ng b.name) ++ (sized b.sig ++ []))
+    → sized (d_ng a.digest) ++ (sized (n_ng a.name) ++ (sized a.sig ++ []))
+    ≡ sized (d_ng b.digest) ++ (sized (n_ng b.name) ++ (sized b.sig ++ []))
     → SameFields a b
 sig_fields a b kept_a kept_b same =
-    let fields = ng_fields a b (sized a.sig ++ []) (sized b.sig ++ []) (entry_named a kept_a) (entry_named b kept_b) same in
+    let fields = ng_fields a b (sized a.sig ++ []) (sized b.sig ++ []) (entry_named a kept_a)
+    (entry_named b kept_b) same in
     let fits_a : length a.sig < 2 ^ 32 = omega (arith, kept_a.sig_at_most) in
     let fits_b : length b.sig < 2 ^ 32 = omega (arith, kept_b.sig_at_most) in
     let sigs = sized-apart a.sig b.sig [] [] fits_a fits_b fields.2 in
@@ -170,18 +208,21 @@ sig_fields a b kept_a kept_b same =
 
 -- the fields of `ima`
 ima_fields : (a b : Entry) → IsNamed a → IsNamed b → a.template ≡ Ima → b.template ≡ Ima
-    → a.digest.bytes ++ (n_padded a.name ++ []) ≡ b.digest.bytes ++ (n_padded b.name ++ []) → (a.digest ≡ b.digest) × (a.name ≡ b.name)
+    → a.digest.bytes ++ (n_padded a.name ++ []) ≡ b.digest.bytes ++ (n_padded b.name ++ [])
+    → (a.digest ≡ b.digest) × (a.name ≡ b.name)
 ima_fields a b kept_a kept_b is_a is_b same =
     let algo_a : a.digest.algo ≡ Sha1 = kept_a.digest_of_ima is_a in
     let algo_b : b.digest.algo ≡ Sha1 = kept_b.digest_of_ima is_b in
     let sizes : length a.digest.bytes ≡ length b.digest.bytes =
     kept_a.digest_size ∙ ap algo_size (algo_a ∙ sym algo_b) ∙ sym kept_b.digest_size in
-    let cut = append_apart a.digest.bytes b.digest.bytes (n_padded a.name ++ []) (n_padded b.name ++ []) sizes same in (
+    let cut = append_apart a.digest.bytes b.digest.bytes (n_padded a.name ++ [])
+    (n_padded b.name ++ []) sizes same in (
       λ i. record { algo = (algo_a ∙ sym algo_b) i; bytes = cut.0 i },
       filled-apart a.name b.name _ _ kept_a.name_graphic kept_b.name_graphic
           (sym (append-nil (n_padded a.name)) ∙ cut.1 ∙ append-nil (n_padded b.name)),
     )
 
+-- the fields, template by template
 fields_at : (a b : Entry) (t : Template) → IsEntry a → IsEntry b → a.template ≡ t → b.template ≡ t
     → data_by t a.digest a.name a.sig ≡ data_by t b.digest b.name b.sig → SameFields a b
 fields_at a b Ima kept_a kept_b is_a is_b same =
@@ -201,18 +242,23 @@ template_data-apart a b kept_a kept_b templates same =
     fields_at a b a.template kept_a kept_b refl (sym templates)
     (same ∙ ap (λ (t : Template). data_by t b.digest b.name b.sig) (sym templates))
 
+-- digest and name, template by template
 named_at : (a b : Entry) (t : Template) → IsNamed a → IsNamed b → a.template ≡ t → b.template ≡ t
-    → data_by t a.digest a.name a.sig ≡ data_by t b.digest b.name b.sig → (a.digest ≡ b.digest) × (a.name ≡ b.name)
+    → data_by t a.digest a.name a.sig ≡ data_by t b.digest b.name b.sig
+    → (a.digest ≡ b.digest) × (a.name ≡ b.name)
 named_at a b Ima named_a named_b is_a is_b same = ima_fields a b named_a named_b is_a is_b same
 named_at a b ImaNg named_a named_b is_a is_b same =
     let fields = ng_fields a b [] [] named_a named_b same in (fields.0, fields.1)
 named_at a b ImaSig named_a named_b is_a is_b same =
-    let fields = ng_fields a b (sized a.sig ++ []) (sized b.sig ++ []) named_a named_b same in (fields.0, fields.1)
+    let fields = ng_fields a b (sized a.sig ++ []) (sized b.sig ++ []) named_a named_b same in
+    (fields.0, fields.1)
 named_at a b ImaBuf named_a named_b is_a is_b same =
-    let fields = ng_fields a b (sized a.sig ++ []) (sized b.sig ++ []) named_a named_b same in (fields.0, fields.1)
+    let fields = ng_fields a b (sized a.sig ++ []) (sized b.sig ++ []) named_a named_b same in
+    (fields.0, fields.1)
 
 -- the same for the digest and the name alone, whatever stands in the third field
-pub template_data-named : (a b : Entry) → IsNamed a → IsNamed b → a.template ≡ b.template → template_data a ≡ template_data b
+pub template_data-named : (a b : Entry) → IsNamed a → IsNamed b → a.template ≡ b.template
+    → template_data a ≡ template_data b
     → (a.digest ≡ b.digest) × (a.name ≡ b.name)
 unfolding template_data
 template_data-named a b named_a named_b templates same =
@@ -220,58 +266,94 @@ template_data-named a b named_a named_b templates same =
     (same ∙ ap (λ (t : Template). data_by t b.digest b.name b.sig) (sym templates))
 
 -- and the fields make the template data
-pub template_data-same : (a b : Entry) → a.template ≡ b.template → SameFields a b → template_data a ≡ template_data b
+pub template_data-same : (a b : Entry) → a.template ≡ b.template → SameFields a b
+    → template_data a ≡ template_data b
 unfolding template_data
 template_data-same a b templates fields =
     λ i. data_by (templates i) (fields.0 i) (fields.1 i) (fields.2 i)
 
 -- ---- how long template data is
 
-length-content-le : (f : Field) (digest : Digest) (name sig : List ℕ) → HasLengths digest name sig → length (content f digest name sig) ≤ 4096
-length-content-le field.Digest digest name sig fits = omega (arith, fits.digest_size, algo_size-le digest.algo)
+-- no field holds more than 4,096 bytes
+length-content-le : (f : Field) (digest : Digest) (name sig : List ℕ) → HasLengths digest name sig
+    → length (content f digest name sig) ≤ 4096
+length-content-le field.Digest digest name sig fits =
+    omega (arith, fits.digest_size, algo_size-le digest.algo)
 length-content-le field.Name digest name sig fits =
-    omega (arith, fits.name_at_most, length-append name (replicate (256 - length name) 0), length-replicate {A = ℕ} (256 - length name) 0)
+    omega (
+      arith,
+      fits.name_at_most,
+      length-append name (replicate (256 - length name) 0),
+      length-replicate {A = ℕ} (256 - length name) 0,
+    )
 length-content-le field.DigestNg digest name sig fits =
-    omega (arith, fits.digest_size, algo_size-le digest.algo, length-algo_name-le digest.algo, length-d_ng digest)
-length-content-le field.NameNg digest name sig fits = omega (arith, fits.name_at_most, length-append name (0 ∷ []))
+    omega (
+      arith,
+      fits.digest_size,
+      algo_size-le digest.algo,
+      length-algo_name-le digest.algo,
+      length-d_ng digest,
+    )
+length-content-le field.NameNg digest name sig fits =
+    omega (arith, fits.name_at_most, length-append name (0 ∷ []))
 length-content-le field.Sig digest name sig fits = fits.sig_at_most
 length-content-le field.Buf digest name sig fits = fits.sig_at_most
 
 -- the length of a field fits in 4 bytes
-pub length-content-fits : (f : Field) (digest : Digest) (name sig : List ℕ) → HasLengths digest name sig → length (content f digest name sig) < 2 ^ 32
+pub length-content-fits : (f : Field) (digest : Digest) (name sig : List ℕ)
+    → HasLengths digest name sig → length (content f digest name sig) < 2 ^ 32
 length-content-fits f digest name sig fits = omega (arith, length-content-le f digest name sig fits)
 
+-- a length has 4 bytes
 length-sized : (bytes : List ℕ) → length (sized bytes) ≡ 4 + length bytes
 unfolding sized
 length-sized bytes = length-append (little_bytes 4 (length bytes)) bytes
 
-length-field_data-le : (f : Field) (digest : Digest) (name sig : List ℕ) → HasLengths digest name sig → length (field_data f digest name sig) ≤ 4100
-length-field_data-le field.Digest digest name sig fits = omega (arith, length-content-le field.Digest digest name sig fits)
-length-field_data-le field.Name digest name sig fits = omega (arith, length-content-le field.Name digest name sig fits)
-length-field_data-le field.DigestNg digest name sig fits = omega (arith, length-content-le field.DigestNg digest name sig fits, length-sized (d_ng digest))
-length-field_data-le field.NameNg digest name sig fits = omega (arith, length-content-le field.NameNg digest name sig fits, length-sized (n_ng name))
-length-field_data-le field.Sig digest name sig fits = omega (arith, length-content-le field.Sig digest name sig fits, length-sized sig)
-length-field_data-le field.Buf digest name sig fits = omega (arith, length-content-le field.Buf digest name sig fits, length-sized sig)
+-- with its length a field has at most 4,100
+length-field_data-le : (f : Field) (digest : Digest) (name sig : List ℕ)
+    → HasLengths digest name sig → length (field_data f digest name sig) ≤ 4100
+length-field_data-le field.Digest digest name sig fits =
+    omega (arith, length-content-le field.Digest digest name sig fits)
+length-field_data-le field.Name digest name sig fits =
+    omega (arith, length-content-le field.Name digest name sig fits)
+length-field_data-le field.DigestNg digest name sig fits =
+    omega (arith, length-content-le field.DigestNg digest name sig fits, length-sized (d_ng digest))
+length-field_data-le field.NameNg digest name sig fits =
+    omega (arith, length-content-le field.NameNg digest name sig fits, length-sized (n_ng name))
+length-field_data-le field.Sig digest name sig fits =
+    omega (arith, length-content-le field.Sig digest name sig fits, length-sized sig)
+length-field_data-le field.Buf digest name sig fits =
+    omega (arith, length-content-le field.Buf digest name sig fits, length-sized sig)
 
-length-fields-le : (fs : List Field) (digest : Digest) (name sig : List ℕ) → HasLengths digest name sig
+-- so many fields have at most so many times that
+length-fields-le : (fs : List Field) (digest : Digest) (name sig : List ℕ)
+    → HasLengths digest name sig
     → length (flat_map (λ f. field_data f digest name sig) fs) ≤ length fs * 4100
 length-fields-le [] digest name sig fits = omega arith
 length-fields-le (f ∷ fs) digest name sig fits =
     omega (
       arith,
-      length-append (field_data f digest name sig) (flat_map (λ g. field_data g digest name sig) fs),
+      length-append (field_data f digest name sig)
+          (flat_map (λ g. field_data g digest name sig) fs),
       length-field_data-le f digest name sig fits,
       length-fields-le fs digest name sig fits,
     )
 
+-- no template has more than three fields
 length-template_fields-le : (t : Template) → length (template_fields t) ≤ 3
 length-template_fields-le Ima = omega arith
 length-template_fields-le ImaNg = omega arith
 length-template_fields-le ImaSig = omega arith
 length-template_fields-le ImaBuf = omega arith
 
+-- each entry has such lengths
 pub HasLengths-entry : (e : Entry) → IsEntry e → HasLengths e.digest e.name e.sig
-HasLengths-entry e kept = record { digest_size = kept.digest_size; name_at_most = kept.name_at_most; sig_at_most = kept.sig_at_most }
+HasLengths-entry e kept =
+    record {
+      digest_size = kept.digest_size;
+      name_at_most = kept.name_at_most;
+      sig_at_most = kept.sig_at_most;
+    }
 
 -- the length of the template data fits in 4 bytes
 pub length-template_data-fits : (e : Entry) → IsEntry e → length (template_data e) < 2 ^ 32

@@ -11,46 +11,58 @@ use Rattle.ima_templates.specs.Entries.{entry_of, violation_of}
 use Rattle.ima_templates.specs.Path.{last_component}
 use Rattle.ima_templates.specs.Same.{add, placed, same}
 
+-- the digest of a boot aggregate
 abbrev zeros : Digest
 zeros = zero_digest algo.Sha256
 
 -- SHA-1 of `abc`
 abbrev abc_sha1 : List ℕ
-abc_sha1 = 0xa9 ∷ 0x99 ∷ 0x3e ∷ 0x36 ∷ 0x47 ∷ 0x06 ∷ 0x81 ∷ 0x6a ∷ 0xba ∷ 0x3e ∷ 0x25 ∷ 0x71 ∷ 0x78 ∷ 0x50 ∷ 0xc2 ∷ 0x6c ∷ 0x9c ∷ 0xd0 ∷ 0xd8 ∷ 0x9d ∷ []
+abc_sha1 =
+    0xa9 ∷ 0x99 ∷ 0x3e ∷ 0x36 ∷ 0x47 ∷ 0x06 ∷ 0x81 ∷ 0x6a ∷ 0xba ∷ 0x3e ∷ 0x25 ∷ 0x71 ∷ 0x78 ∷ 0x50
+    ∷ 0xc2 ∷ 0x6c ∷ 0x9c ∷ 0xd0 ∷ 0xd8 ∷ 0x9d ∷ []
 
+-- the digest of a file `abc`
 abbrev abc : Digest
 abc = record { algo = algo.Sha1; bytes = abc_sha1 }
 
 -- 28000000 "sha256:" 00, 32 zeros, 0f000000 "boot_aggregate" 00
 boot_aggregate_ima_ng : template_data (entry_of 10 ImaNg zeros abc (codes "boot_aggregate") [])
-    ≡ (0x28 ∷ 0 ∷ 0 ∷ 0 ∷ []) ++ codes "sha256:" ++ 0 ∷ [] ++ replicate 32 0 ++ (15 ∷ 0 ∷ 0 ∷ 0 ∷ []) ++ codes "boot_aggregate" ++ 0 ∷ []
+    ≡ (0x28 ∷ 0 ∷ 0 ∷ 0 ∷ []) ++ codes "sha256:" ++ 0 ∷ [] ++ replicate 32 0
+    ++ (15 ∷ 0 ∷ 0 ∷ 0 ∷ []) ++ codes "boot_aggregate" ++ 0 ∷ []
 unfolding template_data sized
 boot_aggregate_ima_ng = refl
 
 -- the 20 bytes of SHA-1, whatever was collected, "/a" and 254 zeros
-a_ima : template_data (entry_of 10 Ima zeros abc (codes "/a") (3 ∷ 2 ∷ [])) ≡ abc_sha1 ++ codes "/a" ++ replicate 254 0
+a_ima : template_data (entry_of 10 Ima zeros abc (codes "/a") (3 ∷ 2 ∷ []))
+    ≡ abc_sha1 ++ codes "/a" ++ replicate 254 0
 unfolding template_data
 a_ima = refl
 
 -- 1a000000 "sha1:" 00, the digest, 03000000 "/a" 00, 02000000 and the signature
 a_ima_sig : template_data (entry_of 9 ImaSig abc abc (codes "/a") (3 ∷ 2 ∷ []))
-    ≡ (26 ∷ 0 ∷ 0 ∷ 0 ∷ []) ++ codes "sha1:" ++ 0 ∷ [] ++ abc_sha1 ++ (3 ∷ 0 ∷ 0 ∷ 0 ∷ []) ++ codes "/a" ++ 0 ∷ [] ++ 2 ∷ 0 ∷ 0 ∷ 0 ∷ 3 ∷ 2 ∷ []
+    ≡ (26 ∷ 0 ∷ 0 ∷ 0 ∷ []) ++ codes "sha1:" ++ 0 ∷ [] ++ abc_sha1 ++ (3 ∷ 0 ∷ 0 ∷ 0 ∷ [])
+    ++ codes "/a" ++ 0 ∷ [] ++ 2 ∷ 0 ∷ 0 ∷ 0 ∷ 3 ∷ 2 ∷ []
 unfolding template_data sized
 a_ima_sig = refl
 
 -- 28000000 "sha256:" 00, 32 zeros, 07000000 "kernel" 00, 03000000 "abc"
 kernel_ima_buf : template_data (entry_of 10 ImaBuf zeros abc (codes "kernel") (codes "abc"))
-    ≡ (0x28 ∷ 0 ∷ 0 ∷ 0 ∷ []) ++ codes "sha256:" ++ 0 ∷ [] ++ replicate 32 0 ++ (7 ∷ 0 ∷ 0 ∷ 0 ∷ []) ++ codes "kernel" ++ 0 ∷ [] ++ (3 ∷ 0 ∷ 0 ∷ 0 ∷ []) ++ codes "abc"
+    ≡ (0x28 ∷ 0 ∷ 0 ∷ 0 ∷ []) ++ codes "sha256:" ++ 0 ∷ [] ++ replicate 32 0 ++ (7 ∷ 0 ∷ 0 ∷ 0 ∷ [])
+    ++ codes "kernel" ++ 0 ∷ [] ++ (3 ∷ 0 ∷ 0 ∷ 0 ∷ []) ++ codes "abc"
 unfolding template_data sized
 kernel_ima_buf = refl
 
-components : (last_component (codes "/usr/bin/cat") ≡ codes "cat") × (last_component (codes "kernel") ≡ codes "kernel") × (last_component (codes "/usr/") ≡ [])
+-- what stands behind the last slash
+components : (last_component (codes "/usr/bin/cat") ≡ codes "cat")
+    × (last_component (codes "kernel") ≡ codes "kernel") × (last_component (codes "/usr/") ≡ [])
 components = (refl, refl, refl)
 
+-- the entry of `/a`
 abbrev a : Entry
 a = entry_of 10 Ima zeros abc (codes "/a") []
 
--- a file that is measured twice stands in the list once, and under another template or register again
+-- a file that is measured twice stands in the list once, and under another template or register
+-- again
 a_twice : (placed (a ∷ []) a ≡ Already 0) × (add (a ∷ []) a ≡ a ∷ [])
     × (placed (a ∷ []) (entry_of 11 Ima zeros abc (codes "/a") []) ≡ Added 1)
     × (placed (a ∷ []) (entry_of 10 ImaNg zeros abc (codes "/a") []) ≡ Added 1)
@@ -58,6 +70,7 @@ unfolding template_data sized same
 a_twice = (refl, refl, refl, refl)
 
 -- a violation is added each time
-violations : placed (violation_of ImaNg algo.Sha256 (codes "/a") ∷ []) (violation_of ImaNg algo.Sha256 (codes "/a")) ≡ Added 1
+violations : placed (violation_of ImaNg algo.Sha256 (codes "/a") ∷ [])
+    (violation_of ImaNg algo.Sha256 (codes "/a")) ≡ Added 1
 unfolding same
 violations = refl

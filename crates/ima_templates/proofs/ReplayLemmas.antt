@@ -12,25 +12,34 @@ use Rattle.ima_templates.specs.Digests.{extension}
 use Rattle.ima_templates.specs.Replay.{banks_of, extended_by, register_after, replay}
 
 -- one entry more at the end
-pub banks_of-push : (list : List Entry) (e : Entry) → banks_of (list ++ e ∷ []) ≡ extended_by (banks_of list) e
+pub banks_of-push : (list : List Entry) (e : Entry)
+    → banks_of (list ++ e ∷ []) ≡ extended_by (banks_of list) e
 banks_of-push list e = fold-append extended_by new_banks list (e ∷ [])
 
+-- the replay of one entry more
 pub replay-push : (list : List Entry) (e : Entry) (bank : Bank) (pcr : ℕ)
     → replay (list ++ e ∷ []) bank pcr ≡ register_after bank pcr (replay list bank pcr) e
-replay-push list e bank pcr = fold-append (register_after bank pcr) (zero_register bank) list (e ∷ [])
+replay-push list e bank pcr =
+    fold-append (register_after bank pcr) (zero_register bank) list (e ∷ [])
 
-register-extended_by : (banks : Banks) (e : Entry) (bank : Bank) (pcr : ℕ) → IsWhole banks → pcr < 24
+-- each register after one entry
+register-extended_by : (banks : Banks) (e : Entry) (bank : Bank) (pcr : ℕ) → IsWhole banks
+    → pcr < 24
     → register (extended_by banks e) bank pcr ≡ register_after bank pcr (register banks bank pcr) e
 register-extended_by banks e bank pcr whole below =
     register-extend_banks banks e.pcr (extension e) bank pcr whole below
 
 -- from any banks on
-register-fold : (list : List Entry) (banks : Banks) (bank : Bank) (pcr : ℕ) → IsWhole banks → pcr < 24
-    → register (fold extended_by banks list) bank pcr ≡ fold (register_after bank pcr) (register banks bank pcr) list
+register-fold : (list : List Entry) (banks : Banks) (bank : Bank) (pcr : ℕ) → IsWhole banks
+    → pcr < 24
+    → register (fold extended_by banks list) bank pcr
+    ≡ fold (register_after bank pcr) (register banks bank pcr) list
 register-fold [] banks bank pcr whole below = refl
 register-fold (e ∷ es) banks bank pcr whole below =
-    register-fold es (extended_by banks e) bank pcr (IsWhole-extend_banks banks e.pcr (extension e) whole) below
-    ∙ ap (λ r. fold (register_after bank pcr) r es) (register-extended_by banks e bank pcr whole below)
+    register-fold es (extended_by banks e) bank pcr
+    (IsWhole-extend_banks banks e.pcr (extension e) whole) below
+    ∙ ap (λ r. fold (register_after bank pcr) r es)
+    (register-extended_by banks e bank pcr whole below)
 
 -- each register of the banks is the replay
 pub register-banks_of : (list : List Entry) (bank : Bank) (pcr : ℕ) → pcr < 24

@@ -12,15 +12,18 @@ use Rattle.ima_templates.specs.IsEntry.{IsEntry}
 use Rattle.ima_templates.specs.Same.{same, same_data, same_template, SameFields}
 use Rattle.ima_templates.proofs.DataLemmas.{template_data-apart, template_data-same}
 
+-- a template is its own
 same_template-refl : (t : Template) → same_template t t ≡ true
 same_template-refl Ima = refl
 same_template-refl ImaNg = refl
 same_template-refl ImaSig = refl
 same_template-refl ImaBuf = refl
 
+-- equal templates pass the test
 same_template-at : (t u : Template) → t ≡ u → same_template t u ≡ true
 same_template-at t u is = ap (λ v. same_template t v) (sym is) ∙ same_template-refl t
 
+-- and no others do
 same_template-true : (t u : Template) → same_template t u ≡ true → t ≡ u
 same_template-true Ima Ima is = refl
 same_template-true ImaNg ImaNg is = refl
@@ -47,6 +50,7 @@ pub record Shares (a b : Entry) : Type 0 where
   pub template : a.template ≡ b.template
   pub one_data : template_data a ≡ template_data b
 
+-- entries that are the same share all that counts
 pub Shares-same : (a b : Entry) → same a b ≡ true → Shares a b
 unfolding same
 Shares-same a b is =
@@ -62,11 +66,14 @@ Shares-same a b is =
       one_data = (bytes_decides (template_data a) (template_data b)).0 parts.1;
     }
 
+-- and entries that share it are the same
 pub same-Shares : (a b : Entry) → Shares a b → same a b ≡ true
 unfolding same
 same-Shares a b shares =
-    and_from _ _ (and_from _ _ (and_from _ _ (ap not shares.no_violation) (ap not shares.no_violation_either)) (eq-eqb a.pcr b.pcr shares.pcr))
-    (and_from _ _ (same_template-at a.template b.template shares.template) ((bytes_decides (template_data a) (template_data b)).1 shares.one_data))
+    and_from _ _ (and_from _ _ (and_from _ _ (ap not shares.no_violation)
+    (ap not shares.no_violation_either)) (eq-eqb a.pcr b.pcr shares.pcr))
+    (and_from _ _ (same_template-at a.template b.template shares.template)
+    ((bytes_decides (template_data a) (template_data b)).1 shares.one_data))
 
 -- two that are the same as a third are the same
 pub same-third : (a b e : Entry) → same a e ≡ true → same b e ≡ true → same a b ≡ true
@@ -85,11 +92,15 @@ same-third a b e is_a is_b =
 pub same_data-fields : (a b : Entry) (r : Bool) → IsEntry a → IsEntry b → a.template ≡ b.template
     → (IsTrue r ↔ SameFields a b) → r ≡ same_data a b
 same_data-fields a b r kept_a kept_b templates decides =
-    rw (same_template-at a.template b.template templates) (by_cases r (bytes_eq (template_data a) (template_data b)) refl refl)
+    rw (same_template-at a.template b.template templates)
+    (by_cases r (bytes_eq (template_data a) (template_data b)) refl refl)
   where
-    by_cases : (s t : Bool) → r ≡ s → bytes_eq (template_data a) (template_data b) ≡ t → r ≡ bytes_eq (template_data a) (template_data b)
+    by_cases : (s t : Bool) → r ≡ s → bytes_eq (template_data a) (template_data b) ≡ t
+        → r ≡ bytes_eq (template_data a) (template_data b)
     by_cases true t is_r is_t =
-        is_r ∙ sym ((bytes_decides (template_data a) (template_data b)).1 (template_data-same a b templates (decides.0 is_r)))
+        is_r ∙ sym ((bytes_decides (template_data a) (template_data b)).1
+        (template_data-same a b templates (decides.0 is_r)))
     by_cases false true is_r is_t =
-        decides.1 (template_data-apart a b kept_a kept_b templates ((bytes_decides (template_data a) (template_data b)).0 is_t)) ∙ sym is_t
+        decides.1 (template_data-apart a b kept_a kept_b templates
+        ((bytes_decides (template_data a) (template_data b)).0 is_t)) ∙ sym is_t
     by_cases false false is_r is_t = is_r ∙ sym is_t

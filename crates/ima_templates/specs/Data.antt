@@ -47,11 +47,13 @@ has_length field.Buf = true
 
 -- a field of the template data
 abbrev pub field_data : Field → Digest → List ℕ → List ℕ → List ℕ
-field_data f digest name sig = if has_length f then sized (content f digest name sig) else content f digest name sig
+field_data f digest name sig =
+    if has_length f then sized (content f digest name sig) else content f digest name sig
 
 -- the template data: the fields one after another
 abbrev pub data_by : Template → Digest → List ℕ → List ℕ → List ℕ
-data_by template digest name sig = flat_map (λ f. field_data f digest name sig) (template_fields template)
+data_by template digest name sig =
+    flat_map (λ f. field_data f digest name sig) (template_fields template)
 
 -- the template data of an entry
 unfoldable pub template_data : Entry → List ℕ

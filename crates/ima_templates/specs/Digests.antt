@@ -12,9 +12,12 @@ use Rattle.ima_templates.specs.Data.{template_data}
 -- the template digest in a bank: the bank's hash of the template data, and zeros for a violation
 abbrev pub template_digest : Entry → Bank → Digest
 template_digest e bank =
-    if e.violation then zero_digest (bank_algo bank) else digest_of (bank_algo bank) (template_data e)
+    if e.violation then zero_digest (bank_algo bank)
+    else digest_of (bank_algo bank) (template_data e)
 
--- what an entry extends its register with in a bank: its template digest, and bytes 0xff for a violation
+-- what an entry extends its register with in a bank: its template digest, and bytes 0xff for a
+-- violation
 abbrev pub extension : Entry → Bank → List ℕ
 extension e bank =
-    if e.violation then replicate (algo_size (bank_algo bank)) 0xff else hash (bank_algo bank) (template_data e)
+    if e.violation then replicate (algo_size (bank_algo bank)) 0xff
+    else hash (bank_algo bank) (template_data e)

@@ -21,7 +21,8 @@ entry_of pcr template file sha1 path sig = record {
   violation = false;
 }
 
--- the violation of a file: the digest is zeros, of the default algorithm where the template names one
+-- the violation of a file: the digest is zeros, of the default algorithm where the template names
+-- one
 abbrev pub violation_of : Template → Algo → List ℕ → Entry
 violation_of template default path = record {
   pcr = DEFAULT_PCR;

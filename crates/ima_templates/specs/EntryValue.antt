@@ -15,4 +15,11 @@ pub record EntryValue : Type 0 where
 -- these fields, of no violation
 abbrev pub fields : ℕ → Template → Digest → List ℕ → List ℕ → EntryValue
 fields pcr template digest name sig =
-    record { pcr = pcr; template = template; digest = digest; name = name; sig = sig; violation = false }
+    record {
+      pcr = pcr;
+      template = template;
+      digest = digest;
+      name = name;
+      sig = sig;
+      violation = false;
+    }

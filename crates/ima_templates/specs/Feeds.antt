@@ -20,5 +20,7 @@ Feeds-nothing a = record {
 pub Feeds-append : (a b c : Running) (x y : List ℕ) → Feeds a b x → Feeds b c y → Feeds a c (x ++ y)
 Feeds-append a b c x y first second = record {
   algo = second.algo ∙ first.algo;
-  taken = λ m held. subst (λ n. HasTaken c n) (append_assoc m x y) (second.taken (m ++ x) (first.taken m held));
+  taken =
+      λ m held. subst (λ n. HasTaken c n) (append_assoc m x y)
+      (second.taken (m ++ x) (first.taken m held));
 }

@@ -18,4 +18,5 @@ pub record IsMeasuredPath (template : Template) (path : List ℕ) : Type 0 where
   pub not_empty : 1 ≤ length path
   pub at_most : length path ≤ 1024
   pub graphic : All IsGraphic path
-  pub component : template ≡ Ima → (1 ≤ length (last_component path)) × (length (last_component path) ≤ 255)
+  pub component : template ≡ Ima
+      → (1 ≤ length (last_component path)) × (length (last_component path) ≤ 255)

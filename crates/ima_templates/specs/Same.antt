@@ -32,7 +32,8 @@ same a b = not a.violation && not b.violation && a.pcr == b.pcr && same_data a b
 abbrev pub place_of_same : List Entry → Entry → Option ℕ
 place_of_same list e = position (λ earlier. same earlier e) list
 
--- what adding an entry answers, by the place of the first that is the same: that place, or else the end
+-- what adding an entry answers, by the place of the first that is the same: that place, or else the
+-- end
 abbrev pub placed_by : Option ℕ → ℕ → Placed
 placed_by (Some place) end = Already place
 placed_by None end = Added end
@@ -55,4 +56,5 @@ gained (Already place) e = []
 
 -- no entry is the same as an earlier one
 abbrev pub IsDistinct : List Entry → Type 0
-IsDistinct list = (a b : ℕ) (x y : Entry) → a < b → slice_get list a ≡ Some x → slice_get list b ≡ Some y → same x y ≡ false
+IsDistinct list = (a b : ℕ) (x y : Entry) → a < b → slice_get list a ≡ Some x
+    → slice_get list b ≡ Some y → same x y ≡ false

@@ -1,4 +1,5 @@
--- What a template shows of a file: its fields are `d` and `n`, or `d-ng`, `n-ng` and perhaps a third.
+-- What a template shows of a file: its fields are `d` and `n`, or `d-ng`, `n-ng` and perhaps a
+-- third.
 use Rattle.std.specs.Prelude.{ℕ, nat_le, if◌then◌else◌, List, [], length}
 use Rattle.hash_algos.specs.declared.digest.Digest.{Digest}
 use Rattle.inode_meta.specs.declared.measurement.Template.{Template}

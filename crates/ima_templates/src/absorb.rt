@@ -9,8 +9,8 @@ use hash_algos::Running;
 use std::alloc::AllocError;
 use xattr_store::OutOfMemory;
 
-/// What takes bytes, one piece after another. After a refusal it may have taken a part of the piece,
-/// and what it had taken before is still there.
+/// What takes bytes, one piece after another. After a refusal it may have taken a part of the
+/// piece, and what it had taken before is still there.
 pub trait Absorb {
     ghost absorbs: { Self → Self → List ℕ → Type 0 };
 
@@ -23,7 +23,8 @@ pub trait Absorb {
 
     ghost nothing: { (a : Self) → absorbs a a [] };
 
-    ghost more: { (a b c : Self) (x y : List ℕ) → absorbs a b x → absorbs b c y → absorbs a c (x ++ y) };
+    ghost more: { (a b c : Self) (x y : List ℕ) → absorbs a b x → absorbs b c y
+        → absorbs a c (x ++ y) };
 
     ghost keeps_all: { (a : Self) → keeps a a };
 
@@ -64,7 +65,8 @@ impl Absorb for Vec<u8> {
 
     ghost keeps_all = { λ a. keeps_all a.items a.len a.ok.0 };
 
-    ghost keeps_further = { λ a b c first second. keeps_further a.items b.items c.items a.len b.len a.ok.0 b.ok.0 first second };
+    ghost keeps_further = { λ a b c first second. keeps_further a.items b.items c.items a.len b.len a.ok.0 b.ok.0
+        first second };
 }
 
 /// A count of the bytes.

@@ -26,7 +26,8 @@ pub(crate) fn absorb_data<S: Absorb>(
     sig: &[u8],
 ) -> Result<(), OutOfMemory>
     requires { HasLengths digest.now name.now sig.now }
-    ensures ok { OnOk result (S.absorbs to.old to.new (data_by template digest.now name.now sig.now)) }
+    ensures ok { OnOk result (S.absorbs to.old to.new
+        (data_by template digest.now name.now sig.now)) }
     ensures kept { S.keeps to.old to.new }
 {
     for field in template.fields() {
@@ -44,7 +45,8 @@ fn absorb_field<S: Absorb>(
     sig: &[u8],
 ) -> Result<(), OutOfMemory>
     requires { HasLengths digest.now name.now sig.now }
-    ensures ok { OnOk result (S.absorbs to.old to.new (field_data field digest.now name.now sig.now)) }
+    ensures ok { OnOk result (S.absorbs to.old to.new
+        (field_data field digest.now name.now sig.now)) }
     ensures kept { S.keeps to.old to.new }
 {
     if has_length(field) {
@@ -127,8 +129,10 @@ pub(crate) fn sums(
     sig: &[u8],
 ) -> Result<([u8; 20], [u8; 32]), OutOfMemory>
     requires { HasLengths digest.now name.now sig.now }
-    ensures sha1 { IfOk result (λ s. s.0 ≡ hash Algo.Sha1 (data_by template digest.now name.now sig.now)) }
-    ensures sha256 { IfOk result (λ s. s.1 ≡ hash Algo.Sha256 (data_by template digest.now name.now sig.now)) }
+    ensures sha1 { IfOk result (λ s. s.0
+        ≡ hash Algo.Sha1 (data_by template digest.now name.now sig.now)) }
+    ensures sha256 { IfOk result (λ s. s.1
+        ≡ hash Algo.Sha256 (data_by template digest.now name.now sig.now)) }
 {
     let mut sha1 = [0; 20];
     let mut sha256 = [0; 32];

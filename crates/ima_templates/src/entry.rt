@@ -15,8 +15,8 @@ use xattr_store::{Bytes, OutOfMemory};
 /// many bytes as its algorithm and is of SHA-1 under `ima`, that its name has 1 to 1,024 bytes from
 /// 0x21 to 0x7e and under `ima` at most 255, that its `sig` has at most 4,096 bytes and none under
 /// `ima` and `ima-ng`, and that a violation has register 10, a digest of zeros, no `sig` and
-/// another template than `ima-buf`. Contracts see the record of its public fields; the others are its
-/// template digests, which are computed once, where the entry is made.
+/// another template than `ima-buf`. Contracts see the record of its public fields; the others are
+/// its template digests, which are computed once, where the entry is made.
 #[derive(Debug, Drop)]
 pub struct Entry {
     /// The register that the entry extends.
@@ -29,8 +29,8 @@ pub struct Entry {
     pub name: Bytes,
     /// The field `sig`: the signature in `security.ima`. Under `ima-buf` the field `buf`.
     pub sig: Bytes,
-    /// Whether the entry records that a file was measured while it could change. Its template digest
-    /// is then shown as zeros, and registers are extended by bytes 0xff.
+    /// Whether the entry records that a file was measured while it could change. Its template
+    /// digest is then shown as zeros, and registers are extended by bytes 0xff.
     pub violation: bool,
     pub(crate) sha1: [u8; 20],
     pub(crate) sha256: [u8; 32],
@@ -100,8 +100,8 @@ impl Entry {
         }
     }
 
-    /// Extends the entry's register in each bank: by the bank's template digest, and for a violation
-    /// by bytes 0xff.
+    /// Extends the entry's register in each bank: by the bank's template digest, and for a
+    /// violation by bytes 0xff.
     pub fn extend(&self, banks: &mut Banks)
         ensures { banks.new ≡ extended_by banks.old self.now }
     {

@@ -6,20 +6,26 @@ use Rattle.ima_templates.specs.declared.entry.Entry.{Entry}
 use Rattle.ima_templates.specs.Data.{sized, template_data}
 use Rattle.list_format.specs.Record.{shown_data}
 
--- two and three appends
+-- two appends
 pub appended-2 : (o o1 o2 x y : List ℕ) → o1 ≡ o ++ x → o2 ≡ o1 ++ y → o2 ≡ o ++ (x ++ y)
 appended-2 o o1 o2 x y first second = second ∙ ap (λ l. l ++ y) first ∙ append_assoc o x y
 
-pub appended-3 : (o o1 o2 o3 x y z : List ℕ) → o1 ≡ o ++ x → o2 ≡ o1 ++ y → o3 ≡ o2 ++ z → o3 ≡ o ++ ((x ++ y) ++ z)
-appended-3 o o1 o2 o3 x y z first second third = appended-2 o o2 o3 (x ++ y) z (appended-2 o o1 o2 x y first second) third
+-- three appends
+pub appended-3 : (o o1 o2 o3 x y z : List ℕ) → o1 ≡ o ++ x → o2 ≡ o1 ++ y → o3 ≡ o2 ++ z
+    → o3 ≡ o ++ ((x ++ y) ++ z)
+appended-3 o o1 o2 o3 x y z first second third =
+    appended-2 o o2 o3 (x ++ y) z (appended-2 o o1 o2 x y first second) third
 
-pub appended-4 : (o o1 o2 o3 o4 x y z u : List ℕ) → o1 ≡ o ++ x → o2 ≡ o1 ++ y → o3 ≡ o2 ++ z → o4 ≡ o3 ++ u
+-- four appends
+pub appended-4 : (o o1 o2 o3 o4 x y z u : List ℕ) → o1 ≡ o ++ x → o2 ≡ o1 ++ y → o3 ≡ o2 ++ z
+    → o4 ≡ o3 ++ u
     → o4 ≡ o ++ (((x ++ y) ++ z) ++ u)
 appended-4 o o1 o2 o3 o4 x y z u first second third fourth =
     appended-2 o o3 o4 ((x ++ y) ++ z) u (appended-3 o o1 o2 o3 x y z first second third) fourth
 
 -- a record has the template data with its length, but for `ima`
-pub shown_data-sized : (e : Entry) (t : Template) → t ≢ Ima → sized (template_data e) ≡ shown_data t e
+pub shown_data-sized : (e : Entry) (t : Template) → t ≢ Ima
+    → sized (template_data e) ≡ shown_data t e
 shown_data-sized e Ima not_ima = absurd (not_ima refl)
 shown_data-sized e ImaNg not_ima = refl
 shown_data-sized e ImaSig not_ima = refl

@@ -15,7 +15,8 @@ use Rattle.ima_templates.specs.Digests.{template_digest}
 abbrev pub pcr_text : ℕ → List ℕ
 pcr_text pcr = (if nat_lt pcr 10 then 32 else 48 + pcr / 10) ∷ (48 + pcr % 10) ∷ []
 
--- the text of a field: digests and third fields in hexadecimal, `d-ng` with its algorithm's name and a colon
+-- the text of a field: digests and third fields in hexadecimal, `d-ng` with its algorithm's name
+-- and a colon
 abbrev pub field_text : Field → Entry → List ℕ
 field_text Digest e = encode_lower e.digest.bytes
 field_text Name e = e.name
@@ -31,7 +32,8 @@ fields_text e = flat_map (λ f. codes " " ++ field_text f e) (template_fields e.
 -- a register, a template digest of SHA-1 and a template's name
 abbrev pub line_head : Entry → List ℕ
 line_head e =
-    pcr_text e.pcr ++ codes " " ++ encode_lower (template_digest e Sha1).bytes ++ codes " " ++ template_word e.template
+    pcr_text e.pcr ++ codes " " ++ encode_lower (template_digest e Sha1).bytes ++ codes " "
+    ++ template_word e.template
 
 -- the whole line
 unfoldable pub ascii_line : Entry → List ℕ

@@ -83,7 +83,8 @@ fn append_name(name: &[u8], out: &mut Vec<u8>) -> Result<(), OutOfMemory>
 
 // A space, the algorithm's name, a colon and the digest in hexadecimal.
 fn append_named_digest(digest: &Digest, out: &mut Vec<u8>) -> Result<(), OutOfMemory>
-    ensures ok { OnOk result (out.new.items ≡ out.old.items ++ 32 ∷ algo_name digest.now.algo ++ 58 ∷ encode_lower digest.now.bytes) }
+    ensures ok { OnOk result (out.new.items
+        ≡ out.old.items ++ 32 ∷ algo_name digest.now.algo ++ 58 ∷ encode_lower digest.now.bytes) }
     ensures kept { take (vec_len out.old) out.new.items ≡ out.old.items }
 {
     out.extend_from_slice(b" ")?;

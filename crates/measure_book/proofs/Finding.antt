@@ -24,35 +24,46 @@ module _ {X : Type 0} (test : X → Bool) where
   abbrev passes : List X → ℕ → Bool
   passes xs place = option_map_or test (slice_get xs place) false
 
+  -- the first place that passes, where the places before it fail
   position_or_len-first : (xs : List X) (place : ℕ) → place < length xs → passes xs place ≡ true
       → ((k : ℕ) → k < place → passes xs k ≡ false) → position_or_len test xs ≡ place
   position_or_len-first [] place within is before = absurd (omega arith)
   position_or_len-first (x ∷ xs) zero within is before =
       ap (λ (b : Bool). cond (not b) (1 + position_or_len test xs) 0) is
   position_or_len-first (x ∷ xs) (suc place) within is before =
-      let rest = position_or_len-first xs place (omega arith) is (λ k below. before (suc k) (omega arith)) in
-      ap (λ (b : Bool). cond (not b) (1 + position_or_len test xs) 0) (before 0 (omega arith)) ∙ omega (arith, rest)
+      let rest = position_or_len-first xs place (omega arith) is
+      (λ k below. before (suc k) (omega arith)) in
+      ap (λ (b : Bool). cond (not b) (1 + position_or_len test xs) 0) (before 0 (omega arith))
+      ∙ omega (arith, rest)
 
-  position_or_len-none : (xs : List X) → ((k : ℕ) → k < length xs → passes xs k ≡ false) → position_or_len test xs ≡ length xs
+  -- the length, where all places fail
+  position_or_len-none : (xs : List X) → ((k : ℕ) → k < length xs → passes xs k ≡ false)
+      → position_or_len test xs ≡ length xs
   position_or_len-none [] each = refl
   position_or_len-none (x ∷ xs) each =
       let rest = position_or_len-none xs (λ k below. each (suc k) (omega arith)) in
-      ap (λ (b : Bool). cond (not b) (1 + position_or_len test xs) 0) (each 0 (omega arith)) ∙ omega (arith, rest)
+      ap (λ (b : Bool). cond (not b) (1 + position_or_len test xs) 0) (each 0 (omega arith))
+      ∙ omega (arith, rest)
 
+  -- the same as an option
   pub position-first : (xs : List X) (place : ℕ) → place < length xs → passes xs place ≡ true
       → ((k : ℕ) → k < place → passes xs k ≡ false) → position test xs ≡ Some place
   position-first xs place within is before =
       let at = position_or_len-first xs place within is before in
-      ap (λ (b : Bool). cond b (Some (position_or_len test xs)) None) (lt-ltb (position_or_len test xs) (length xs) (omega (arith, at, within)))
+      ap (λ (b : Bool). cond b (Some (position_or_len test xs)) None)
+      (lt-ltb (position_or_len test xs) (length xs) (omega (arith, at, within)))
       ∙ ap Some at
 
-  pub position-none : (xs : List X) → ((k : ℕ) → k < length xs → passes xs k ≡ false) → position test xs ≡ None
+  -- and none where all places fail
+  pub position-none : (xs : List X) → ((k : ℕ) → k < length xs → passes xs k ≡ false)
+      → position test xs ≡ None
   position-none xs each =
       ap (λ (b : Bool). cond b (Some (position_or_len test xs)) None)
       (le-ltb (position_or_len test xs) (length xs) (omega (arith, position_or_len-none xs each)))
 
 -- ---- of entries of which no two are the same, at most one is the same as another entry
 
+-- the entry at the place, which is the same
 stands-get : (list : List Entry) (e : Entry) (place : ℕ) → stands_at list e place ≡ true
     → (x : Entry) × (slice_get list place ≡ Some x) × (same x e ≡ true)
 stands-get list e place is = at (slice_get list place) refl is where
@@ -61,7 +72,9 @@ stands-get list e place is = at (slice_get list place) refl is where
   at None none is = absurd (cc)
   at (Some x) some is = (x, some, is)
 
-only-one : (list : List Entry) (e : Entry) (k place : ℕ) → IsDistinct list → k < place → stands_at list e place ≡ true
+-- before a place at which the entry stands it stands nowhere
+only-one : (list : List Entry) (e : Entry) (k place : ℕ) → IsDistinct list → k < place
+    → stands_at list e place ≡ true
     → stands_at list e k ≡ false
 only-one list e k place distinct before is = at (cases_Bool (stands_at list e k)) where
   at : (stands_at list e k ≡ true) ⊎ (stands_at list e k ≡ false) → stands_at list e k ≡ false
@@ -69,7 +82,8 @@ only-one list e k place distinct before is = at (cases_Bool (stands_at list e k)
       let one = stands-get list e k earlier in
       let other = stands-get list e place is in
       let both : same one.0 other.0 ≡ true = same-third one.0 other.0 e one.2 other.2 in
-      let not_both : same one.0 other.0 ≡ false = distinct k place one.0 other.0 before one.1 other.1 in
+      let not_both : same one.0 other.0
+      ≡ false = distinct k place one.0 other.0 before one.1 other.1 in
       absurd (cc)
   at (inr none) = none
 
@@ -78,22 +92,28 @@ pub place_of_same-last : (list : List Entry) (e : Entry) → IsDistinct list
     → last_below (stands_at list e) (length list) ≡ place_of_same list e
 place_of_same-last list e distinct = at (last_below (stands_at list e) (length list)) refl where
   at : (o : Option ℕ) → last_below (stands_at list e) (length list) ≡ o → o ≡ place_of_same list e
-  at None is = sym (position-none (λ x. same x e) list (λ k below. last_below-none (stands_at list e) (length list) k is below))
+  at None is =
+      sym (position-none (λ x. same x e) list (λ k below. last_below-none (stands_at list e)
+      (length list) k is below))
   at (Some place) is =
       let found = last_below-found (stands_at list e) (length list) place is in
-      sym (position-first (λ x. same x e) list place found.below found.passes (λ k below. only-one list e k place distinct below found.passes))
+      sym (position-first (λ x. same x e) list place found.below found.passes
+      (λ k below. only-one list e k place distinct below found.passes))
 
 -- a violation stands nowhere
-pub place_of_same-keyless : (list : List Entry) (e : Entry) → key_of e ≡ None → place_of_same list e ≡ None
+pub place_of_same-keyless : (list : List Entry) (e : Entry) → key_of e ≡ None
+    → place_of_same list e ≡ None
 unfolding key_of
 place_of_same-keyless list e none =
     position-none (λ x. same x e) list (λ k below. at k (cases_Bool (stands_at list e k)))
   where
-    at : (k : ℕ) → (stands_at list e k ≡ true) ⊎ (stands_at list e k ≡ false) → stands_at list e k ≡ false
+    at : (k : ℕ) → (stands_at list e k ≡ true) ⊎ (stands_at list e k ≡ false)
+        → stands_at list e k ≡ false
     at k (inl stands) =
         let there = stands-get list e k stands in
         let has_key : Some (big_number 8 (hash Sha256 (template_data e))) ≡ None =
-        (λ i. cond (sym (Shares-same there.0 e there.2).no_violation_either i) None (Some (big_number 8 (hash Sha256 (template_data e))))) ∙ none in
+        (λ i. cond (sym (Shares-same there.0 e there.2).no_violation_either i) None
+        (Some (big_number 8 (hash Sha256 (template_data e))))) ∙ none in
         absurd (cc)
     at k (inr fails) = fails
 
@@ -104,18 +124,22 @@ abbrev pub last_through : (ℕ → Bool) → Option ℕ → Option ℕ
 last_through test None = None
 last_through test (Some place) = last_below test (suc place)
 
--- a walk through the places of a bucket leaves out none that passes, where those that pass lie in the bucket
-pub last_through-bucket : (test bucket : ℕ → Bool) (end : ℕ) → ((i : ℕ) → test i ≡ true → bucket i ≡ true)
+-- a walk through the places of a bucket leaves out none that passes, where those that pass lie in
+-- the bucket
+pub last_through-bucket : (test bucket : ℕ → Bool) (end : ℕ)
+    → ((i : ℕ) → test i ≡ true → bucket i ≡ true)
     → last_through test (last_below bucket end) ≡ last_below test end
 last_through-bucket test bucket zero within = refl
 last_through-bucket test bucket (suc end) within =
     at (last_through-bucket test bucket end within) (bucket end) refl (cases_Bool (test end))
   where
-    at : last_through test (last_below bucket end) ≡ last_below test end → (b : Bool) → bucket end ≡ b → (test end ≡ true) ⊎ (test end ≡ false)
+    at : last_through test (last_below bucket end) ≡ last_below test end → (b : Bool)
+        → bucket end ≡ b → (test end ≡ true) ⊎ (test end ≡ false)
         → last_through test (cond b (Some end) (last_below bucket end)) ≡ last_below test (suc end)
     at rest true is either = refl
     at rest false is (inl passes) = let in_it = within end passes in absurd (cc)
-    at rest false is (inr fails) = rest ∙ ap (λ (b : Bool). cond b (Some end) (last_below test end)) (sym fails)
+    at rest false is (inr fails) = rest
+        ∙ ap (λ (b : Bool). cond b (Some end) (last_below test end)) (sym fails)
 
 -- entries that are the same have one key
 key_of-same : (x e : Entry) → same x e ≡ true → key_of x ≡ key_of e
@@ -124,38 +148,48 @@ key_of-same x e is =
     let shares = Shares-same x e is in
     (λ i. cond (shares.no_violation i) None (Some (big_number 8 (hash Sha256 (template_data x)))))
     ∙ ap (λ (m : List ℕ). Some (big_number 8 (hash Sha256 m))) shares.one_data
-    ∙ (λ i. cond (sym shares.no_violation_either i) None (Some (big_number 8 (hash Sha256 (template_data e)))))
+    ∙ (λ i. cond (sym shares.no_violation_either i) None
+    (Some (big_number 8 (hash Sha256 (template_data e)))))
 
 -- the candidate stands in the list, in the bucket
 abbrev pub IsCandidate : PlacesValue → ℕ → Option ℕ → Type 0
 IsCandidate places key None = Unit {0}
 IsCandidate places key (Some place) = (place < length places.keys) × (meets places key place ≡ true)
 
+-- what a walk goes to is a candidate
 pub IsCandidate-last_below : (places : PlacesValue) (key end : ℕ) → end ≤ length places.keys
     → IsCandidate places key (last_below (meets places key) end)
 IsCandidate-last_below places key end within = at (last_below (meets places key) end) refl where
   at : (o : Option ℕ) → last_below (meets places key) end ≡ o → IsCandidate places key o
   at None is = tt
   at (Some place) is =
-      let found = last_below-found (meets places key) end place is in (omega (arith, found.below), found.passes)
+      let found = last_below-found (meets places key) end place is in
+      (omega (arith, found.below), found.passes)
 
 -- where the table has the keys of the list, the entry stands in the bucket of its key alone
-pub stands-meets : (places : PlacesValue) (list : List Entry) (e : Entry) (key : ℕ) → places.keys ≡ map key_of list → key_of e ≡ Some key
+pub stands-meets : (places : PlacesValue) (list : List Entry) (e : Entry) (key : ℕ)
+    → places.keys ≡ map key_of list → key_of e ≡ Some key
     → (i : ℕ) → stands_at list e i ≡ true → meets places key i ≡ true
 stands-meets places list e key keys is i stands =
     let earlier = stands-get list e i stands in
     let got : slice_get (map key_of list) i ≡ Some (Some key) =
-    slice_get-map key_of list i ∙ ap (option_map key_of) earlier.1 ∙ ap Some (key_of-same earlier.0 e earlier.2 ∙ is) in
+    slice_get-map key_of list i ∙ ap (option_map key_of) earlier.1
+    ∙ ap Some (key_of-same earlier.0 e earlier.2 ∙ is) in
     let there : get_or places.keys i None ≡ Some key =
-    ap (λ (l : List (Option ℕ)). get_or l i None) keys ∙ get_or_from_slice_get (map key_of list) i (Some key) None got in
-    ap (falls_into places.buckets (key % places.buckets)) there ∙ eq-eqb (key % places.buckets) (key % places.buckets) refl
+    ap (λ (l : List (Option ℕ)). get_or l i None) keys
+    ∙ get_or_from_slice_get (map key_of list) i (Some key) None got in
+    ap (falls_into places.buckets (key % places.buckets)) there
+    ∙ eq-eqb (key % places.buckets) (key % places.buckets) refl
 
 -- one step of the walk
-pub last_through-step : (places : PlacesValue) (list : List Entry) (e : Entry) (key place : ℕ) → places.keys ≡ map key_of list
+pub last_through-step : (places : PlacesValue) (list : List Entry) (e : Entry) (key place : ℕ)
+    → places.keys ≡ map key_of list
     → key_of e ≡ Some key → stands_at list e place ≡ false
-    → last_through (stands_at list e) (last_below (meets places key) place) ≡ last_through (stands_at list e) (Some place)
+    → last_through (stands_at list e) (last_below (meets places key) place)
+    ≡ last_through (stands_at list e) (Some place)
 last_through-step places list e key place keys is fails =
-    last_through-bucket (stands_at list e) (meets places key) place (stands-meets places list e key keys is)
+    last_through-bucket (stands_at list e) (meets places key) place
+    (stands-meets places list e key keys is)
     ∙ ap (λ (b : Bool). cond b (Some place) (last_below (stands_at list e) place)) (sym fails)
 
 -- the place above which the walk has nothing left
@@ -163,6 +197,7 @@ abbrev pub steps_left : Option ℕ → ℕ
 steps_left None = 0
 steps_left (Some place) = suc place
 
+-- a walk goes down
 pub steps_left-last_below : (test : ℕ → Bool) (end : ℕ) → steps_left (last_below test end) < suc end
 steps_left-last_below test end = at (last_below test end) refl where
   at : (o : Option ℕ) → last_below test end ≡ o → steps_left o < suc end
@@ -171,24 +206,30 @@ steps_left-last_below test end = at (last_below test end) refl where
 
 -- ---- what the walk answers
 
+-- a candidate that is the same is the first
 pub walk_found : (list : List Entry) (e : Entry) (place : ℕ) → IsDistinct list
-    → last_through (stands_at list e) (Some place) ≡ last_below (stands_at list e) (length list) → stands_at list e place ≡ true
+    → last_through (stands_at list e) (Some place) ≡ last_below (stands_at list e) (length list)
+    → stands_at list e place ≡ true
     → Some place ≡ place_of_same list e
 walk_found list e place distinct walk is =
-    ap (λ (b : Bool). cond b (Some place) (last_below (stands_at list e) place)) (sym is) ∙ walk ∙ place_of_same-last list e distinct
+    ap (λ (b : Bool). cond b (Some place) (last_below (stands_at list e) place)) (sym is) ∙ walk
+    ∙ place_of_same-last list e distinct
 
 -- ---- the list with one entry more
 
 -- an entry that isn't the same as any is appended
-pub IsDistinct-push : (list : List Entry) (e : Entry) → IsDistinct list → place_of_same list e ≡ None → IsDistinct (list ++ e ∷ [])
+pub IsDistinct-push : (list : List Entry) (e : Entry) → IsDistinct list
+    → place_of_same list e ≡ None → IsDistinct (list ++ e ∷ [])
 IsDistinct-push list e distinct none a b x y before at_a at_b = at (cases_lt b (length list)) where
   within : b < length (list ++ e ∷ [])
   within = slice_get_within (list ++ e ∷ []) b y at_b
 
-  earlier : (k : ℕ) (z : Entry) → k < length list → slice_get (list ++ e ∷ []) k ≡ Some z → slice_get list k ≡ Some z
+  earlier : (k : ℕ) (z : Entry) → k < length list → slice_get (list ++ e ∷ []) k ≡ Some z
+      → slice_get list k ≡ Some z
   earlier k z below is =
       slice_get-get_or list k z below
-      ∙ ap Some (sym (get_or_append_left list (e ∷ []) z k below) ∙ get_or_from_slice_get (list ++ e ∷ []) k z z is)
+      ∙ ap Some (sym (get_or_append_left list (e ∷ []) z k below)
+      ∙ get_or_from_slice_get (list ++ e ∷ []) k z z is)
 
   at : (b < length list) ⊎ (length list ≤ b) → same x y ≡ false
   at (inl below) = distinct a b x y before (earlier a x (omega arith) at_a) (earlier b y below at_b)
@@ -196,8 +237,11 @@ IsDistinct-push list e distinct none a b x y before at_a at_b = at (cases_lt b (
       let count : length (list ++ e ∷ []) ≡ length list + 1 = length_push list e in
       let a_below : a < length list = omega (arith, count, within, before) in
       let is : y ≡ e =
-      sym (get_or_from_slice_get (list ++ e ∷ []) b y y at_b) ∙ get_or_push list e y b (omega (arith, count, within, least)) in
+      sym (get_or_from_slice_get (list ++ e ∷ []) b y y at_b)
+      ∙ get_or_push list e y b (omega (arith, count, within, least)) in
       let fails : stands_at list e a ≡ false =
-      last_below-none (stands_at list e) (length list) a (place_of_same-last list e distinct ∙ none) a_below in
+      last_below-none (stands_at list e) (length list) a (place_of_same-last list e distinct ∙ none)
+      a_below in
       ap (λ (z : Entry). same x z) is
-      ∙ ap (λ (o : Option Entry). option_map_or (λ z. same z e) o false) (sym (earlier a x a_below at_a)) ∙ fails
+      ∙ ap (λ (o : Option Entry). option_map_or (λ z. same z e) o false)
+      (sym (earlier a x a_below at_a)) ∙ fails

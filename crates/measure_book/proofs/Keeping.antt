@@ -19,6 +19,7 @@ use Rattle.measure_book.specs.Key.{key_of}
 use Rattle.measure_book.specs.declared.book.Book.TheInside.{Inside}
 use Rattle.measure_book.proofs.Finding.{IsDistinct-push}
 
+-- the own pass keeps what it has, as the list grows
 HasBooted-push : (list grown : Grown Entry) (own : Passed Entry) (e : Entry) → HasBooted list own
     → grown.name ≡ list.name → grown.list ≡ list.list ++ e ∷ [] → HasBooted grown own
 HasBooted-push list grown own e booted name pushed = record {
@@ -26,25 +27,32 @@ HasBooted-push list grown own e booted name pushed = record {
   number = booted.number;
   boot = booted.boot;
   first = ap (λ (l : List Entry). slice_get l 0) pushed
-      ∙ prefix_get list.list (list.list ++ e ∷ []) 0 booted.boot (prefix_append list.list (e ∷ [])) booted.first;
+      ∙ prefix_get list.list (list.list ++ e ∷ []) 0 booted.boot (prefix_append list.list (e ∷ []))
+      booted.first;
   mine = booted.mine;
 }
 
 -- an entry that isn't the same as any was appended
-pub IsBook-push : (b c : Inside) (e : Entry) → IsBook b → place_of_same b.list.list e ≡ None → IsEntry e
+pub IsBook-push : (b c : Inside) (e : Entry) → IsBook b → place_of_same b.list.list e ≡ None
+    → IsEntry e
     → c.banks ≡ extended_by b.banks e → c.places.keys ≡ b.places.keys ++ key_of e ∷ []
     → c.list.list ≡ b.list.list ++ e ∷ [] → c.list.name ≡ b.list.name → c.own ≡ b.own → IsBook c
 IsBook-push b c e kept none valid banks keys list name own = record {
-  banks = banks ∙ ap (λ (r : Banks). extended_by r e) kept.banks ∙ sym (banks_of-push b.list.list e) ∙ ap banks_of (sym list);
-  keys = keys ∙ ap (λ (l : List (Option ℕ)). l ++ key_of e ∷ []) kept.keys ∙ sym (map-append key_of b.list.list (e ∷ [])) ∙ ap (map key_of) (sym list);
-  own = subst (HasBooted c.list) (sym own) (HasBooted-push b.list c.list b.own e kept.own name list);
+  banks = banks ∙ ap (λ (r : Banks). extended_by r e) kept.banks ∙ sym (banks_of-push b.list.list e)
+      ∙ ap banks_of (sym list);
+  keys = keys ∙ ap (λ (l : List (Option ℕ)). l ++ key_of e ∷ []) kept.keys
+      ∙ sym (map-append key_of b.list.list (e ∷ [])) ∙ ap (map key_of) (sym list);
+  own =
+      subst (HasBooted c.list) (sym own) (HasBooted-push b.list c.list b.own e kept.own name list);
   entries = subst (All IsEntry) (sym list) (All-push IsEntry b.list.list e kept.entries valid);
   distinct = subst IsDistinct (sym list) (IsDistinct-push b.list.list e kept.distinct none);
 }
 
 -- at the start
-pub IsBook-start : (b : Inside) (boot : Entry) → IsEntry boot → b.banks ≡ extended_by new_banks boot → b.places.keys ≡ key_of boot ∷ []
-    → b.list.list ≡ boot ∷ [] → b.own.name ≡ b.list.name → b.own.number ≡ 0 → b.own.mine ≡ (0, boot) ∷ [] → IsBook b
+pub IsBook-start : (b : Inside) (boot : Entry) → IsEntry boot → b.banks ≡ extended_by new_banks boot
+    → b.places.keys ≡ key_of boot ∷ []
+    → b.list.list ≡ boot ∷ [] → b.own.name ≡ b.list.name → b.own.number ≡ 0
+    → b.own.mine ≡ (0, boot) ∷ [] → IsBook b
 IsBook-start b boot valid banks keys list name number mine = record {
   banks = banks ∙ ap banks_of (sym list);
   keys = keys ∙ ap (map key_of) (sym list);
@@ -56,21 +64,30 @@ IsBook-start b boot valid banks keys list name number mine = record {
     mine = mine;
   };
   entries = subst (All IsEntry) (sym list) (All-cons IsEntry boot [] valid (All-nil IsEntry));
-  distinct = subst IsDistinct (sym list) (IsDistinct-push [] boot (λ a b x y before at_a at_b. absurd (none-some x at_a)) refl);
+  distinct =
+      subst IsDistinct (sym list) (IsDistinct-push [] boot
+      (λ a b x y before at_a at_b. absurd (none-some x at_a)) refl);
 }
 
 -- ---- the own pass is the first of those that the list gave
 
-pub first_is : (passes : List (Passed Entry)) (own p : Passed Entry) → slice_get passes 0 ≡ Some p → own ≡ get_or passes 0 own → own ≡ p
+-- the pass that was removed is the first
+pub first_is : (passes : List (Passed Entry)) (own p : Passed Entry) → slice_get passes 0 ≡ Some p
+    → own ≡ get_or passes 0 own → own ≡ p
 first_is passes own p is own_is = own_is ∙ get_or_from_slice_get passes 0 p own is
 
-pub split_first : (passes : List (Passed Entry)) (own p : Passed Entry) → slice_get passes 0 ≡ Some p → own ≡ p → passes ≡ own ∷ remove passes 0
+-- the passes are the first and the rest
+pub split_first : (passes : List (Passed Entry)) (own p : Passed Entry)
+    → slice_get passes 0 ≡ Some p → own ≡ p → passes ≡ own ∷ remove passes 0
 split_first [] own p is same = absurd (none-some p is)
-split_first (q ∷ qs) own p is same = let one : q ≡ p = same_Some q p is in λ i. (one ∙ sym same) i ∷ qs
+split_first (q ∷ qs) own p is same = let one : q
+    ≡ p = same_Some q p is in λ i. (one ∙ sym same) i ∷ qs
 
 -- the others are fresh, in the order of their numbers
-pub rest_fresh : (passes rest : List (Passed Entry)) (own : Passed Entry) (name later : ListName) (callers : ℕ) → passes ≡ own ∷ rest
-    → length passes ≡ callers → later ≡ name → ((k : ℕ) → k < callers → slice_get passes k ≡ Some (fresh name k))
+pub rest_fresh : (passes rest : List (Passed Entry)) (own : Passed Entry) (name later : ListName)
+    (callers : ℕ) → passes ≡ own ∷ rest
+    → length passes ≡ callers → later ≡ name
+    → ((k : ℕ) → k < callers → slice_get passes k ≡ Some (fresh name k))
     → (k : ℕ) → k < length rest → slice_get rest k ≡ Some (fresh later (k + 1))
 rest_fresh passes rest own name later callers split count same each k below =
     let longer : length passes ≡ suc (length rest) = ap length split in

@@ -5,13 +5,14 @@ use Rattle.ima_templates.specs.declared.entry.Entry.{Entry}
 use Rattle.ima_templates.specs.declared.entry.Placed.{Placed}
 use Rattle.ima_templates.specs.declared.entry.Placed.TheVariants.{Added, Already}
 
--- beside each entry the number of the pass that added it, after an answer to the pass of this number
+-- beside each entry the number of the pass that added it, after an answer to the pass of this
+-- number
 abbrev pub numbers_after : Placed → ℕ → List ℕ → List ℕ
 numbers_after (Added place) number numbers = numbers ++ number ∷ []
 numbers_after (Already place) number numbers = numbers
 
--- how many of the other passes have the number n, and how many of them have added the entry at the place n:
--- the book's own pass has the number 0, and has added the entry at the place 0 alone
+-- how many of the other passes have the number n, and how many of them have added the entry at the
+-- place n: the book's own pass has the number 0, and has added the entry at the place 0 alone
 abbrev pub beside_own : ℕ → ℕ
 beside_own n = if n == 0 then 0 else 1
 

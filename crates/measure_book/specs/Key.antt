@@ -8,7 +8,8 @@ use Rattle.ima_templates.specs.Data.{template_data}
 use Rattle.ima_templates.specs.Same.{same}
 use Rattle.ima_templates.specs.declared.entry.Entry.{Entry}
 
--- the first eight bytes of the template digest of sha256. A violation has none: no entry is the same.
+-- the first eight bytes of the template digest of sha256. A violation has none: no entry is the
+-- same.
 unfoldable pub key_of : Entry → Option ℕ
 key_of e = if e.violation then None else Some (big_number 8 (hash Sha256 (template_data e)))
 

@@ -37,9 +37,11 @@ displaced newest (Some key) = slice_index_or newest (key % length newest) None
 -- beside each bucket stands the last place in it
 abbrev pub IsNewest : List (Option ℕ) → List (Option ℕ) → Type 0
 IsNewest newest keys = (bucket : ℕ) → bucket < length newest
-    → slice_index_or newest bucket None ≡ last_below (in_bucket (length newest) keys bucket) (length keys)
+    → slice_index_or newest bucket None
+    ≡ last_below (in_bucket (length newest) keys bucket) (length keys)
 
 -- beside each entry that has a key stands the last place before it in its bucket
 abbrev pub IsEarlier : ℕ → List (Option ℕ) → List (Option ℕ) → Type 0
-IsEarlier buckets keys earlier = (place key : ℕ) → place < length keys → slice_index_or keys place None ≡ Some key
+IsEarlier buckets keys earlier = (place key : ℕ) → place < length keys
+    → slice_index_or keys place None ≡ Some key
     → slice_index_or earlier place None ≡ last_below (in_bucket buckets keys (key % buckets)) place

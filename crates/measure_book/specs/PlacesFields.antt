@@ -11,7 +11,8 @@ places_of t = record { buckets = length t.newest.items; keys = t.keys.items }
 pub record IsTable (t : Inside) : Type 0 where
   pub power : IsPowerOfTwo (length t.newest.items)
   pub not_one : 2 ≤ length t.newest.items
-  -- there are at least twice as many buckets as entries, and memory for half as many entries as buckets
+  -- there are at least twice as many buckets as entries, and memory for half as many entries as
+  -- buckets
   pub half : 2 * length t.keys.items ≤ length t.newest.items
   pub room : length t.newest.items / 2 ≤ vec_capacity t.keys
   pub room_earlier : length t.newest.items / 2 ≤ vec_capacity t.earlier

@@ -45,7 +45,8 @@ impl Model for Book {
 
 impl Book {
     /// A book whose first entry is `boot`, the aggregate of the registers at boot. Its own pass has
-    /// the number 0 and has added that entry; the others are answered in the order of their numbers.
+    /// the number 0 and has added that entry; the others are answered in the order of their
+    /// numbers.
     pub fn start(
         alloc: Global,
         callers: u32,

@@ -9,7 +9,8 @@ use std::alloc::Global;
 use std::marker::Model;
 use std::mem;
 
-/// The table of places. Entries whose keys fall into one bucket are linked from the last to the first.
+/// The table of places. Entries whose keys fall into one bucket are linked from the last to the
+/// first.
 #[derive(Drop)]
 pub(crate) struct Places {
     newest: Vec<Option<u64>>,
@@ -30,7 +31,8 @@ impl Model for Places {
 }
 
 impl Places {
-    /// The table of a list without entries, with so many buckets and memory for half as many entries.
+    /// The table of a list without entries, with so many buckets and memory for half as many
+    /// entries.
     pub(crate) fn with_buckets(alloc: Global, buckets: usize) -> Result<Places, OutOfMemory>
         requires power { IsPowerOfTwo buckets }
         requires not_one { 2 ≤ buckets }
@@ -43,7 +45,8 @@ impl Places {
         })
     }
 
-    /// Makes room for one entry more: where the table is full, one with twice as many buckets is made.
+    /// Makes room for one entry more: where the table is full, one with twice as many buckets is
+    /// made.
     pub(crate) fn reserve(&mut self) -> Result<(), OutOfMemory>
         ensures room { OnOk result (2 * length self.new.keys + 2 ≤ self.new.buckets) }
         ensures keys { self.new.keys ≡ self.old.keys }
@@ -82,7 +85,8 @@ impl Places {
     /// The last place in the same bucket before this place, at which an entry with a key stands.
     pub(crate) fn before(&self, place: u64) -> Option<u64>
         requires { place < length self.now.keys }
-        ensures { (key : ℕ) → meets self.now key place ≡ true → result ≡ last_below (meets self.now key) place }
+        ensures { (key : ℕ) → meets self.now key place ≡ true
+            → result ≡ last_below (meets self.now key) place }
     {
         self.earlier[place as usize]
     }

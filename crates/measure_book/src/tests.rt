@@ -1,5 +1,5 @@
-// Many entries, a violation twice, and two callers under one lock. The registers are those of `sha1sum` and
-// `sha256sum` over the bytes written out.
+// Many entries, a violation twice, and two callers under one lock. The registers are those of
+// `sha1sum` and `sha256sum` over the bytes written out.
 
 ghost use Rattle.std.specs.Prelude.{◌≡◌, ◌≢◌, IfOk};
 ghost use Rattle.grow_list.specs.Shown.{fresh};
@@ -18,7 +18,8 @@ use std::test::Fail;
 const ABC_SHA256: &[u8; 32] =
     b"\xba\x78\x16\xbf\x8f\x01\xcf\xea\x41\x41\x40\xde\x5d\xae\x22\x23\xb0\x03\x61\xa3\x96\x17\x7a\x9c\xb4\x10\xff\x61\xf2\x00\x15\xad";
 
-// Register 10 in the bank of SHA-1 after the boot aggregate and the file `/a` whose content is `abc`.
+// Register 10 in the bank of SHA-1 after the boot aggregate and the file `/a` whose content is
+// `abc`.
 const AFTER_A: &[u8; 20] =
     b"\x4f\x63\x19\x86\xc6\xd9\x74\xb0\x55\x63\x28\xcf\x14\x28\x52\xf2\x83\x35\x70\x5c";
 

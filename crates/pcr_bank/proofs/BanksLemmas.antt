@@ -12,23 +12,28 @@ use Rattle.pcr_bank.specs.Banks.{extend_bank, extend_banks, new_banks, register,
 pub record IsWhole (banks : Banks) : Type 0 where
   pub count : (bank : Bank) → length (registers banks bank) ≡ 24
 
+-- there are 24 registers at first
 length-registers-new_banks : (bank : Bank) → length (registers new_banks bank) ≡ 24
 length-registers-new_banks Sha1 = refl
 length-registers-new_banks Sha256 = refl
 
+-- so the first banks are whole
 pub IsWhole-new_banks : IsWhole new_banks
 IsWhole-new_banks = record { count = length-registers-new_banks }
 
+-- and hold zeros
 pub register-new_banks : (bank : Bank) (pcr : ℕ) → pcr < 24
     → register new_banks bank pcr ≡ zero_register bank
 register-new_banks Sha1 pcr below = get_or-replicate 24 pcr (zero_register Sha1) [] below
 register-new_banks Sha256 pcr below = get_or-replicate 24 pcr (zero_register Sha256) [] below
 
+-- the registers of a bank after an extend
 registers-extend_banks : (banks : Banks) (pcr : ℕ) (digests : Bank → List ℕ) (bank : Bank)
     → registers (extend_banks banks pcr digests) bank ≡ extend_bank banks pcr digests bank
 registers-extend_banks banks pcr digests Sha1 = refl
 registers-extend_banks banks pcr digests Sha256 = refl
 
+-- an extend leaves their number
 pub IsWhole-extend_banks : (banks : Banks) (pcr : ℕ) (digests : Bank → List ℕ)
     → IsWhole banks → IsWhole (extend_banks banks pcr digests)
 IsWhole-extend_banks banks pcr digests whole = record {

@@ -17,9 +17,14 @@ pub returns-in_ok-absorb_content-2-clause-ok : goal.returns-in_ok-absorb_content
 unfolding sized
 returns-in_ok-absorb_content-2-clause-ok g c =
     let bytes = content c.args.field c.args.digest.now c.args.name.now c.args.sig.now in
-    let Absorbed : List ℕ → Type 0 = λ m. g.S.Absorb.absorbs c.args.to.now c.absorb_content-then-has_length.new.to m in
-    let count : c.absorb_content.new.to.bytes ≡ length bytes = omega (arith, c.in_ok-absorb_content.ensures.ok) in
+    let Absorbed : List ℕ
+    → Type 0 =
+    λ m. g.S.Absorb.absorbs c.args.to.now c.absorb_content-then-has_length.new.to m in
+    let count : c.absorb_content.new.to.bytes
+    ≡ length bytes = omega (arith, c.in_ok-absorb_content.ensures.ok) in
     let both : Absorbed (little_bytes 4 c.absorb_content.new.to.bytes ++ bytes) =
-    g.met.S.Absorb.more _ _ _ _ _ c.in_ok-absorb_number.ensures.ok c.in_ok-absorb_content-2.ensures.ok in
-    subst (λ (b : Bool). Absorbed (cond b (sized bytes) bytes)) (sym (sym c.has_length.ensures ∙ c.if-has_length.true))
+    g.met.S.Absorb.more _ _ _ _ _ c.in_ok-absorb_number.ensures.ok
+    c.in_ok-absorb_content-2.ensures.ok in
+    subst (λ (b : Bool). Absorbed (cond b (sized bytes) bytes))
+    (sym (sym c.has_length.ensures ∙ c.if-has_length.true))
     (subst (λ (n : ℕ). Absorbed (little_bytes 4 n ++ bytes)) count both)

@@ -12,9 +12,11 @@ unfolding sized
 returns-in_ok-absorb_data-in_default c =
     let not_ima : c.args.e.now.template ≢ Ima = search rules in
     record {
-      ok = appended-2 _ _ _ _ _ c.in_ok-append_number-in_default.ensures.ok c.in_ok-absorb_data-in_default.ensures.ok
+      ok = appended-2 _ _ _ _ _ c.in_ok-append_number-in_default.ensures.ok
+          c.in_ok-absorb_data-in_default.ensures.ok
           ∙ ap (λ l. c.args.out.now.items ++ l)
-          (ap (λ n. little_bytes 4 n ++ template_data c.args.e.now) c.in_ok-data_length-in_default.ensures.exact
+          (ap (λ n. little_bytes 4 n ++ template_data c.args.e.now)
+          c.in_ok-data_length-in_default.ensures.exact
           ∙ shown_data-sized c.args.e.now c.args.e.now.template not_ima);
       kept = first_of (search rules, grind (arith, common_steps));
     }

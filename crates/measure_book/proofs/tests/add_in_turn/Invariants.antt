@@ -3,4 +3,8 @@ use Rattle.std.proofs.Common.{◌≡◌}
 use Rattle.measure_book.proofs.tests.add_in_turn.Given as goal
 
 abbrev pub invariant-loop-turn : goal.invariant-loop-turn
-invariant-loop-turn g l = record { first : l.first.name ≡ g.N.Name.name; second : l.second.name ≡ g.N.Name.name }
+invariant-loop-turn g l = record {
+  first : l.first.name ≡ g.N.Name.name;
+  second : l.second.name
+      ≡ g.N.Name.name;
+}

@@ -3,7 +3,11 @@ use Rattle.std.proofs.Common.{◌≡◌}
 use Rattle.measure_book.proofs.tests.entries_that_are_added_twice_stand_once.Given as goal
 
 abbrev pub invariant-added : goal.invariant-added
-invariant-added g l = record { first : l.first.name ≡ l.book.name; second : l.second.name ≡ l.book.name }
+invariant-added g l = record {
+  first : l.first.name ≡ l.book.name;
+  second : l.second.name
+      ≡ l.book.name;
+}
 
 abbrev pub invariant-found : goal.invariant-found
 invariant-found g l = l.second.name ≡ l.book.name

@@ -14,5 +14,6 @@ returns-then-eq c =
     same_data-fields c.args.self.now c.args.other.now c.has_same_fields.result
     (subst (λ (e : Entry). IsEntry e) c.self.view_is c.self.invariant.entry)
     (subst (λ (e : Entry). IsEntry e) c.other.view_is c.other.invariant.entry)
-    (ap (λ (e : Entry). e.template) (sym c.self.view_is) ∙ templates ∙ ap (λ (e : Entry). e.template) c.other.view_is)
+    (ap (λ (e : Entry). e.template) (sym c.self.view_is) ∙ templates
+    ∙ ap (λ (e : Entry). e.template) c.other.view_is)
     c.has_same_fields.ensures

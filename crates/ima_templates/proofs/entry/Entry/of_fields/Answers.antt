@@ -10,7 +10,9 @@ unfolding template_data
 invariant_of-result c = record {
   entry = c.requires;
   sha1 = c.in_ok-sha1.ensures.sha1
-      ∙ (λ i. hash Sha1 (data_by c.args.template c.args.digest (c.as_slice.ensures.bytes i) (c.as_slice-2.ensures.bytes i)));
+      ∙ (λ i. hash Sha1 (data_by c.args.template c.args.digest (c.as_slice.ensures.bytes i)
+      (c.as_slice-2.ensures.bytes i)));
   sha256 = c.in_ok-sha1.ensures.sha256
-      ∙ (λ i. hash Sha256 (data_by c.args.template c.args.digest (c.as_slice.ensures.bytes i) (c.as_slice-2.ensures.bytes i)));
+      ∙ (λ i. hash Sha256 (data_by c.args.template c.args.digest (c.as_slice.ensures.bytes i)
+      (c.as_slice-2.ensures.bytes i)));
 }

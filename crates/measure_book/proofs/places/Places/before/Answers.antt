@@ -9,7 +9,8 @@ pub returns : goal.returns
 returns c key is =
     let within : c.args.place < length c.self.inside.keys.items =
     subst (λ (v : PlacesValue). c.args.place < length v.keys) (sym c.self.view_is) c.requires in
-    subst (λ (v : PlacesValue). c.index.result.now ≡ last_below (meets v key) c.args.place) c.self.view_is
+    subst (λ (v : PlacesValue). c.index.result.now ≡ last_below (meets v key) c.args.place)
+    c.self.view_is
     (get_or_read c.self.inside.earlier.items c.args.place c.index.result.now
     (omega (arith, c.self.invariant.even, within)) c.index.ensures None
     ∙ IsTable-before c.self.inside key c.args.place c.self.invariant within

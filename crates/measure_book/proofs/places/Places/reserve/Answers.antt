@@ -5,5 +5,13 @@ use Rattle.measure_book.proofs.places.Places.reserve.Goals as goal
 
 pub with_buckets-requires-clause-power : goal.with_buckets-requires-clause-power
 with_buckets-requires-clause-power c =
-    let power = c.self.invariant.power in
-    (suc power.0, omega (arith, c.len-3.ensures, c.self.inside.newest.ok, power.1, pow-suc 2 power.0))
+    let power = c.self.invariant.power in (
+      suc power.0,
+      omega (
+        arith,
+        c.len-3.ensures,
+        c.self.inside.newest.ok,
+        power.1,
+        pow-suc 2 power.0,
+      ),
+    )
