@@ -210,12 +210,7 @@ fn labels_with_a_key(rt: HostRuntime) -> Result<(), Fail> {
 fn mended(status: EvmStatus, algos: Option<AlgoSet>, ima: Option<&[u8]>) -> Option<Mend> {
     let found = judged(status, Need::Any, algos, ima)?;
     let sound = judged(EvmStatus::Pass, Need::Any, algos, ima)?;
-    Some(mend_for(
-        found,
-        sound,
-        status,
-        read_label(ima, Algo::Sha256),
-    ))
+    Some(mend_for(found, sound, status, read_label(ima, Algo::Sha256)))
 }
 
 #[test]
