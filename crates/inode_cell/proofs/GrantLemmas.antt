@@ -1,0 +1,141 @@
+-- What a take or finish grants.
+use Rattle.std.proofs.Common.{◌≡◌, ℕ, Bool, true, false, cond, List, Option, Some, None, refl, sym, ◌∙◌, ap, subst}
+use Rattle.std.specs.Prelude.{is_some, option_map}
+use Rattle.std.proofs.lemmas.Option.{same_Some}
+use Rattle.hash_algos.specs.Digest.{digest_of}
+use Rattle.hash_algos.specs.declared.algo.Algo.TheVariants.{Sha1}
+use Rattle.hash_algos.specs.declared.digest.Digest.{Digest}
+use Rattle.ima_templates.specs.Entries.{entry_of}
+use Rattle.ima_templates.specs.declared.entry.Entry.{Entry}
+use Rattle.ima_templates.specs.declared.entry.Placed.{Placed}
+use Rattle.inode_events.specs.Asked.{measured_if}
+use Rattle.inode_events.specs.Checks.{last_check}
+use Rattle.inode_events.specs.Grants.{grant_of}
+use Rattle.inode_events.specs.Inode.{Inode}
+use Rattle.inode_events.specs.Integrity.{Collection, Digests, digest_from, digests_of, label}
+use Rattle.inode_events.specs.Listing.{signature_in, template_for}
+use Rattle.inode_events.specs.Past.{past}
+use Rattle.inode_events.specs.Says.{finish_told, take_told, unless_collecting}
+use Rattle.inode_events.specs.declared.told.Event.{Event}
+use Rattle.inode_events.specs.declared.told.Told.{Told}
+use Rattle.inode_events.specs.declared.told.Told.TheVariants as told
+use Rattle.inode_kept.specs.Collecting.{HasAsked, IfAsked, IsAsked, Short, short_of, short_seen, shortened, shorts_seen}
+use Rattle.inode_kept.specs.InForce.{sums_of}
+use Rattle.inode_kept.specs.declared.collecting.Asked.{Asked}
+use Rattle.inode_kept.specs.declared.collecting.Collecting.{Collecting}
+use Rattle.inode_kept.specs.declared.in_force.Sums.{Sums}
+use Rattle.journal_laws.proofs.Stages.{Collects}
+use Rattle.inode_cell.specs.Granting.{digests_in, sums_in, sums_in_force}
+use Rattle.inode_cell.specs.Value.{CellValue, IsSameCell}
+use Rattle.inode_cell.proofs.Acting.{same_value}
+
+-- what holds by the journal holds where room was made
+pub moved : (old mid inner : CellValue) → mid.list ≡ old.list → IsSameCell old mid → inner ≡ mid
+    → (P : Inode → List Event → Type 0)
+    → P old.inode (past old.list) → P inner.inode (past inner.list)
+moved old mid inner l s e P x =
+    subst (λ (v : CellValue). P v.inode (past v.list)) (sym e) (subst (λ (v : CellValue). P v.inode
+    (past v.list)) (sym (same_value old mid l s)) x)
+
+-- ---- a take
+
+pub take_begins : (i : Inode) (file : ℕ) (placed : Placed) (p : List Event) (c : Option Collection)
+    (f : Option Digests) → is_some c ≡ false → sums_in_force f ≡ None
+    → unless_collecting c (take_told i file placed f p) ≡ Some told.Begun
+take_begins i file placed p (Some c) f a b = cc
+take_begins i file placed p None (Some f) a b = cc
+take_begins i file placed p None None a b = refl
+
+pub take_asks_none : (i : Inode) (file : ℕ) (p : List Event) (m : Bool) (c : Option Collection) (f
+    : Option Digests) → sums_in_force f ≡ None
+    → cond (is_some c) None (measured_if m i file f p) ≡ None
+take_asks_none i file p m (Some c) f b = refl
+take_asks_none i file p m None (Some f) b = cc
+take_asks_none i file p true None None b = refl
+take_asks_none i file p false None None b = refl
+
+pub take_tells : (i : Inode) (file : ℕ) (placed : Placed) (p : List Event) (sums : Sums) (c :
+    Option Collection) (f : Option Digests) → is_some c ≡ false
+    → sums_in_force f ≡ Some sums → unless_collecting c (take_told i file placed f p) ≡ Some
+    (told.Grant (grant_of i file placed sums.digest p))
+take_tells i file placed p sums (Some c) f a b = cc
+take_tells i file placed p sums None None a b = cc
+take_tells i file placed p sums None (Some f) a b =
+    ap (λ (s : Sums). Some (told.Grant (grant_of i file placed s.digest p))) (same_Some (sums_in f)
+    sums b)
+
+-- the entry of digests, whatever their begin
+measured_same : (i : Inode) (file : ℕ) (p : List Event) (m : Bool) (f : Digests) (sums : Sums)
+    → sums_in f ≡ sums
+    → measured_if m i file (Some f) p ≡ measured_if m i file (Some (digests_in sums)) p
+measured_same i file p false f sums e = refl
+measured_same i file p true f sums e =
+    ap (λ (s : Sums). Some (entry_of (last_check file p).action.pcr (template_for i (last_check
+    file p).action) s.digest s.sha1 i.path (signature_in (label i p)))) e
+
+pub take_asks : (i : Inode) (file : ℕ) (p : List Event) (m : Bool) (sums : Sums) (c : Option
+    Collection) (f : Option Digests) → is_some c ≡ false
+    → sums_in_force f ≡ Some sums → cond (is_some c) None (measured_if m i file f p) ≡ measured_if
+    m i file (Some (digests_in sums)) p
+take_asks i file p m sums (Some c) f a b = cc
+take_asks i file p m sums None None a b = cc
+take_asks i file p m sums None (Some f) a b = measured_same i file p m f sums (same_Some (sums_in
+    f) sums b)
+
+pub take_digest : (sums : Sums) (f : Option Digests) → sums_in_force f ≡ Some sums
+    → option_map (λ (d : Digests). d.digest) f ≡ Some sums.digest
+take_digest sums None b = cc
+take_digest sums (Some f) b = ap (λ (s : Sums). Some s.digest) (same_Some (sums_in f) sums b)
+
+-- ---- a finish
+
+abbrev Ends : Digest × Digest → Option Collection → Type 0
+Ends sums o = (c : Collection) → o ≡ Some c → (sums.0 ≡ digest_from c)
+    × (sums.1 ≡ digest_of Sha1 c.bytes)
+
+pub finish_tells : (i : Inode) (file : ℕ) (placed : Placed) (p : List Event) (sums : Digest
+    × Digest) (o : Option Collection) → Collects file o → Ends sums o
+    → finish_told i file placed o p ≡ Some (told.Grant (grant_of i file placed sums.0 p))
+finish_tells i file placed p sums None h s = absurd h
+finish_tells i file placed p sums (Some c) h s = ap (λ (d : Digest). Some (told.Grant (grant_of i
+    file placed d p))) (sym ((s c refl).0))
+
+pub finish_asks : (i : Inode) (file : ℕ) (p : List Event) (m : Bool) (sums : Digest
+    × Digest) (o : Option Collection) → Collects file o → Ends sums o
+    → measured_if m i file (option_map digests_of o) p ≡ measured_if m i file (Some (digests_in
+    (record { digest = sums.0; sha1 = sums.1 }))) p
+finish_asks i file p m sums None h s = absurd h
+finish_asks i file p m sums (Some c) h s =
+    let a = sym ((s c refl).0) in
+    let b = sym ((s c refl).1) in
+    measured_same i file p m (digests_of c) (record { digest = sums.0; sha1 = sums.1 }) (λ j.
+    record { digest = a j; sha1 = b j })
+
+pub finish_digest : (file : ℕ) (sums : Digest × Digest) (o : Option Collection) → Collects file o
+    → Ends sums o → option_map digest_from o ≡ Some sums.0
+finish_digest file sums None h s = absurd h
+finish_digest file sums (Some c) h s = ap Some (sym ((s c refl).0))
+
+pub finish_sums : (file : ℕ) (sums : Digest × Digest) (o : Option Collection) → Collects file o
+    → Ends sums o
+    → option_map sums_of o ≡ Some (record { digest = sums.0; sha1 = sums.1 })
+finish_sums file sums None h s = absurd h
+finish_sums file sums (Some c) h s =
+    let a = sym ((s c refl).0) in
+    let b = sym ((s c refl).1) in
+    λ j. Some (record { digest = a j; sha1 = b j })
+
+-- what was asked of the file whose collection is open
+pub asked_of_open : (file : ℕ) (p : List Event) (o : Option Collecting) (k : Option Collection)
+    → shorts_seen o ≡ shortened k → Collects file k → HasAsked p o
+    → (c : Collecting) (a : Asked) → o ≡ Some c → c.asked ≡ Some a → IsAsked (last_check file p) a
+asked_of_open file p None k e h s c a q r = cc
+asked_of_open file p (Some o) None e h s c a q r = absurd h
+asked_of_open file p (Some o) (Some k) e h s c a q r =
+    let same : o ≡ c = same_Some o c q in
+    let at : o.file ≡ file = ap (λ (x : Short). x.file) (same_Some (short_seen o) (short_of k) e)
+    ∙ h in
+    let x : IfAsked (last_check file p) o.asked = subst (λ (f : ℕ). IfAsked (last_check f p)
+    o.asked) at s in
+    subst (λ (y : Option Asked). IfAsked (last_check file p) y) (ap (λ (z : Collecting). z.asked)
+    same ∙ r) x

@@ -1,0 +1,8 @@
+use Rattle.inode_cell.proofs.Absent.{removed}
+use Rattle.inode_cell.proofs.attributes.without.Goals as goal
+
+pub returns : goal.returns
+returns c =
+    let gone = removed c.remove.result c.args.name.now c.in_ok-new.new c.remove.new.self
+    c.remove.ensures.ok c.remove.ensures.no_data c.remove.ensures.err in
+    let same = c.in_ok-new.ensures in cc

@@ -1,0 +1,58 @@
+use Rattle.std.proofs.Common.{◌≡◌, ℕ, List, Option, Some, false, refl, sym, ◌∙◌, ap, subst}
+use Rattle.hash_algos.specs.declared.digest.Digest.{Digest}
+use Rattle.inode_events.specs.Checks.{last_check}
+use Rattle.inode_events.specs.Files.{held, holds, is_writer}
+use Rattle.inode_events.specs.Integrity.{attributes, collecting, fixed_by}
+use Rattle.inode_events.specs.Legal.{EachFollows}
+use Rattle.inode_events.specs.Past.{past}
+use Rattle.inode_events.specs.Stage.{is_gone, stage}
+use Rattle.inode_events.specs.State.{metadata}
+use Rattle.inode_events.specs.declared.deed.Deed.TheVariants as deed
+use Rattle.inode_events.specs.declared.deed.How.{How}
+use Rattle.inode_events.specs.declared.told.Event.{Event}
+use Rattle.inode_events.specs.declared.told.Told.TheVariants as told
+use Rattle.inode_kept.specs.Collecting.{IsAsked}
+use Rattle.inode_kept.specs.Known.{IsKnown}
+use Rattle.inode_kept.specs.declared.known.Known.{Known}
+use Rattle.inode_cell.specs.Granting.{Collects}
+use Rattle.inode_cell.specs.Value.{CellValue}
+use Rattle.inode_cell.proofs.GrantLemmas.{finish_asks, finish_digest, finish_sums, finish_tells}
+use Rattle.inode_cell.proofs.cell.InodeCell.finish.Goals as goal
+
+pub grant-requires-clause-grants : goal.grant-requires-clause-grants
+grant-requires-clause-grants c =
+    let v = c.args.self.now in
+    let i = v.inode in
+    let p = past v.list in
+    let file = c.args.file in
+    let open_is : Collects file (collecting i p) = c.in-Some.ensures.collects file
+    c.requires.may.may in
+    let check : IsAsked (last_check file p) c.in-Some.asked = c.in-Some.ensures.asked file
+    c.in-Some.asked c.requires.may.may refl in
+    let how : is_gone (stage i file p) ≡ false → c.how_at.result ≡ held file p =
+    subst (λ (v : CellValue). is_gone (stage v.inode file (past v.list)) ≡ false
+    → c.how_at.result ≡ held file (past v.list)) c.self.view_is c.how_at.ensures in
+    record {
+      check = check;
+      tells = λ placed. finish_tells i file placed p c.args.sums (collecting i p) open_is
+          c.requires.sums;
+      asks = finish_asks i file p (last_check file p).action.measure c.args.sums (collecting i p)
+          open_is c.requires.sums;
+      leaves = λ g. ap (λ (o : Option Digest). fixed_by i g.labelled o (metadata p) (attributes i
+          p)) (finish_digest file c.args.sums (collecting i p) open_is c.requires.sums);
+      keeps = λ g. refl;
+      known = λ g. subst (λ (k : Known). IsKnown i p (record {
+        who = c.args.who;
+        deed = deed.Finish
+            file;
+        told = told.Grant g;
+      }) k) (sym c.granting-known.ensures) (record {
+        gone = refl;
+        writing = c.counts_as-writing.ensures ∙ ap (λ (o : Option How). holds is_writer o) (how (ap
+            is_gone c.requires.may.may));
+        algo = tt;
+        asked = (c.in-Some.asked, (refl, check));
+        sums = finish_sums file c.args.sums (collecting i p) open_is c.requires.sums
+            ∙ ap Some (sym c.copy.ensures);
+      });
+    }

@@ -1,0 +1,35 @@
+use Rattle.std.proofs.Common.{◌≡◌, Some, None, ℕ, List, refl, sym, ap, subst, ◌∙◌}
+use Rattle.inode_events.specs.declared.deed.Deed.TheVariants as deed
+use Rattle.inode_events.specs.declared.told.Told.{Told}
+use Rattle.inode_events.specs.declared.told.Told.TheVariants as told
+use Rattle.inode_events.specs.Past.{past}
+use Rattle.inode_events.specs.Integrity.{collecting}
+use Rattle.inode_cell.specs.Answers.{set_told}
+use Rattle.inode_cell.proofs.Acting.{acts_from, acts_ok, acts_refused, blocked, may_from, label_of_close}
+use Rattle.inode_events.specs.Says.{set_attr_told}
+use Rattle.inode_cell.proofs.cell.InodeCell.set_free.Goals as goal
+
+pub returns-in_ok-attrs-in-Done-clause-acts : goal.returns-in_ok-attrs-in-Done-clause-acts
+returns-in_ok-attrs-in-Done-clause-acts c = λ list.
+    acts_from c.args.self.now c.reserve.new.self c.step_with.new.self list list c.args.pass.now
+    c.step_with.new.pass c.args.who (deed.SetAttr c.args.name c.args.value c.args.admin) (Some
+    told.Done)
+    c.in_ok-reserve.ensures.list c.in_ok-reserve.ensures.same (c.step_with.ensures list)
+
+pub returns-in_default : goal.returns-in_default
+returns-in_default c = record {
+  acts = λ list.
+      acts_refused c.args.self.now c.reserve.new.self c.step.new.self list list c.args.pass.now
+      c.step.new.pass c.args.who (deed.SetAttr c.args.name c.args.value c.args.admin)
+      c.told_by.result (set_attr_told c.reserve.new.self.inode c.args.name c.args.value
+      c.args.admin (past c.reserve.new.self.list)) (set_told c.attr_answer.result)
+      c.in_ok-reserve.ensures.list c.in_ok-reserve.ensures.same
+      (c.told_by.ensures (set_attr_told c.reserve.new.self.inode c.args.name c.args.value
+      c.args.admin (past c.reserve.new.self.list)) (c.attr_answer.ensures
+      ∙ ap (λ (n : List ℕ). Some (set_attr_told c.reserve.new.self.inode n c.args.value
+      c.args.admin (past c.reserve.new.self.list))) c.as_slice.ensures.bytes))
+      (c.attr_answer.ensures ∙ ap (λ (n : List ℕ). Some (set_attr_told c.reserve.new.self.inode
+      n c.args.value c.args.admin (past c.reserve.new.self.list))) c.as_slice.ensures.bytes)
+      (c.step.ensures list);
+  err = tt;
+}

@@ -1,0 +1,35 @@
+use Rattle.std.proofs.Common.{◌≡◌, Some, None, ℕ, List, refl, sym, ap, subst, ◌∙◌}
+use Rattle.inode_events.specs.declared.deed.Deed.TheVariants as deed
+use Rattle.inode_events.specs.declared.told.Told.{Told}
+use Rattle.inode_events.specs.declared.told.Told.TheVariants as told
+use Rattle.inode_events.specs.Past.{past}
+use Rattle.inode_events.specs.Integrity.{collecting}
+use Rattle.inode_cell.specs.Answers.{set_told}
+use Rattle.inode_cell.proofs.Acting.{acts_from, acts_ok, acts_refused, blocked, may_from, label_of_close}
+use Rattle.inode_events.specs.Says.{set_meta_told}
+use Rattle.inode_cell.proofs.cell.InodeCell.set_meta.Goals as goal
+
+pub returns-then-is_collecting-clause-acts : goal.returns-then-is_collecting-clause-acts
+returns-then-is_collecting-clause-acts c = λ list.
+    let v = c.args.self.now in
+    c.block.ensures list c.args.who (deed.SetMeta c.args.change) (blocked (collecting v.inode (past
+    v.list)) (set_meta_told v.inode (past v.list)) (sym c.is_collecting.ensures
+    ∙ c.if-is_collecting.true))
+
+pub returns-in_ok-attrs-in-Done-clause-acts : goal.returns-in_ok-attrs-in-Done-clause-acts
+returns-in_ok-attrs-in-Done-clause-acts c = λ list.
+    acts_from c.args.self.now c.reserve.new.self c.step_with.new.self list list c.args.pass.now
+    c.step_with.new.pass c.args.who (deed.SetMeta c.args.change) (Some told.Done)
+    c.in_ok-reserve.ensures.list c.in_ok-reserve.ensures.same (c.step_with.ensures list)
+
+pub returns-in_default : goal.returns-in_default
+returns-in_default c = record {
+  acts = λ list.
+      acts_refused c.args.self.now c.reserve.new.self c.step.new.self list list c.args.pass.now
+      c.step.new.pass c.args.who (deed.SetMeta c.args.change)
+      c.told_by.result (set_meta_told c.reserve.new.self.inode (past c.reserve.new.self.list))
+      (set_told c.meta_answer.result) c.in_ok-reserve.ensures.list c.in_ok-reserve.ensures.same
+      (c.told_by.ensures (set_meta_told c.reserve.new.self.inode (past c.reserve.new.self.list))
+      c.meta_answer.ensures) c.meta_answer.ensures (c.step.ensures list);
+  err = tt;
+}

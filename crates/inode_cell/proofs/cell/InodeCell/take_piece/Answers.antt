@@ -1,0 +1,16 @@
+use Rattle.std.proofs.Common.{◌≡◌, ◌<◌, ◌+◌, [], Some, None, ℕ, List, length, true, refl, sym, ap, subst, ◌∙◌}
+use Rattle.inode_events.specs.declared.deed.Deed.TheVariants as deed
+use Rattle.inode_events.specs.declared.told.Told.{Told}
+use Rattle.inode_events.specs.declared.told.Told.TheVariants as told
+use Rattle.inode_events.specs.Past.{past}
+use Rattle.inode_cell.specs.Answers.{piece_told}
+use Rattle.inode_cell.proofs.Acting.{acts_from, acts_ok, may_from}
+use Rattle.inode_cell.proofs.Steps.{holds_on, written_told}
+use Rattle.inode_cell.proofs.cell.InodeCell.take_piece.Goals as goal
+
+pub returns-clause-acts : goal.returns-clause-acts
+returns-clause-acts c = λ list.
+    acts_ok c.args.self.now c.reserve.new.self c.step.new.self list list c.args.pass.now
+    c.step.new.pass c.args.who c.args.deed
+    c.told_by_piece.result (Some (piece_told c.in_ok-piece.piece)) c.in_ok-reserve.ensures.list
+    c.in_ok-reserve.ensures.same (ap Some c.told_by_piece.ensures) (c.step.ensures list)

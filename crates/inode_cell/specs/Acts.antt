@@ -1,0 +1,70 @@
+-- What one step does to a cell, to the task's pass and to the measurement list.
+use Rattle.std.specs.Prelude.{◌≡◌, ℕ, List, ◌++◌, length, Option, Some, None}
+use Rattle.grow_list.specs.Shown.{Passed}
+use Rattle.ima_templates.specs.declared.entry.Entry.{Entry}
+use Rattle.ima_templates.specs.declared.entry.Placed.TheVariants.{Added}
+use Rattle.inode_meta.specs.declared.step.Who.{Who}
+use Rattle.inode_events.specs.Asked.{asked, entered, list_after, made, outcome}
+use Rattle.inode_events.specs.Callers.{caller_in}
+use Rattle.inode_events.specs.Inode.{Inode}
+use Rattle.inode_events.specs.Integrity.{attributes, attributes_after, integrity}
+use Rattle.inode_events.specs.Legal.{May}
+use Rattle.inode_events.specs.Past.{past}
+use Rattle.inode_events.specs.Says.{says}
+use Rattle.inode_events.specs.State.{content, content_after}
+use Rattle.inode_events.specs.declared.deed.Deed.{Deed}
+use Rattle.inode_events.specs.declared.told.Event.{Event}
+use Rattle.inode_events.specs.declared.told.Told.{Told}
+use Rattle.inode_kept.specs.Known.{IsKnown}
+use Rattle.inode_kept.specs.declared.known.Known.{Known}
+use Rattle.own_laws.specs.Own.{IsBy}
+use Rattle.xattr_store.specs.Attrs.{Pair}
+use Rattle.inode_cell.specs.Value.{CellValue, IsSameCell}
+
+-- the step that does this deed, by the measurement list before it: it is told what the journal
+-- says, and journal, pass and list
+-- have what this leaves, and nothing else
+pub record Acts (old new : CellValue) (list list2 : List Entry) (pass pass2 : Passed Event) (who :
+    Who) (d : Deed) (o : Option Told) : Type 0 where
+  pub told : o ≡ outcome old.inode list d (past old.list)
+  pub journal : new.list ≡ old.list ++ made who d o
+  pub book : list2 ≡ list_after list (asked old.inode d (past old.list)) o
+  pub seen : pass2.seen ≡ new.list
+  pub mine : pass2.mine ≡ pass.mine ++ entered (length old.list) who d o
+  pub pass_name : pass2.name ≡ pass.name
+  pub pass_number : pass2.number ≡ pass.number
+  pub same : IsSameCell old new
+
+-- nothing was done
+pub record Stays (old new : CellValue) (pass pass2 : Passed Event) : Type 0 where
+  pub journal : new.list ≡ old.list
+  pub passed : pass2 ≡ pass
+  pub same : IsSameCell old new
+
+-- the deed may be done by the pass of this number
+pub record MayBy (cell : CellValue) (number : ℕ) (d : Deed) : Type 0 where
+  pub may : May cell.inode (past cell.list) d
+  pub by : IsBy number d (past cell.list)
+
+-- a step that asks nothing of the measurement list and leaves content and attributes
+pub record IsPlain (inode : Inode) (p : List Event) (who : Who) (d : Deed) (t : Told) (k : Known) :
+    Type 0 where
+  pub may : May inode p d
+  pub by : IsBy (caller_in who.task d) d p
+  pub quiet : asked inode d p ≡ None
+  pub told : says inode p (Added 0) d ≡ Some t
+  pub content : content_after d t (content p) ≡ content p
+  pub attributes : attributes_after inode d t p (integrity inode p) ≡ attributes inode p
+  pub known : IsKnown inode p (record { who = who; deed = d; told = t }) k
+
+-- a step that asks nothing of the measurement list, leaves the content and has these attributes
+-- behind it
+pub record IsChange (inode : Inode) (p : List Event) (who : Who) (d : Deed) (t : Told) (k : Known)
+    (attrs : List Pair) : Type 0 where
+  pub may : May inode p d
+  pub by : IsBy (caller_in who.task d) d p
+  pub quiet : asked inode d p ≡ None
+  pub told : says inode p (Added 0) d ≡ Some t
+  pub content : content_after d t (content p) ≡ content p
+  pub attributes : attributes_after inode d t p (integrity inode p) ≡ attrs
+  pub known : IsKnown inode p (record { who = who; deed = d; told = t }) k

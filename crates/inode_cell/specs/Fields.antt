@@ -1,0 +1,39 @@
+-- What the fields of a cell keep.
+use Rattle.std.specs.Prelude.{◌≡◌, ℕ, List}
+use Rattle.inode_events.specs.Inode.{Inode}
+use Rattle.inode_events.specs.Integrity.{attributes}
+use Rattle.inode_events.specs.Listing.{Listed}
+use Rattle.inode_events.specs.Past.{past}
+use Rattle.inode_events.specs.State.{content}
+use Rattle.inode_events.specs.declared.told.Event.{Event}
+use Rattle.ima_templates.specs.Path.{IsMeasuredPath}
+use Rattle.ima_templates.specs.declared.entry.Entry.{Entry}
+use Rattle.inode_meta.specs.declared.measurement.Template.TheVariants.{Ima}
+use Rattle.xattr_store.specs.Attrs.{Pair}
+use Rattle.book_laws.specs.Booked.{IsBooked}
+use Rattle.inode_cell.specs.Value.{CellValue}
+use Rattle.inode_cell.specs.declared.cell.InodeCell.TheInside.{Inside}
+
+abbrev pub value_of : Inside → CellValue
+value_of c = record {
+  inode = c.kept.inode;
+  journal = c.kept.name;
+  callers = c.kept.callers;
+  book = c.book.name;
+  booked = c.book.number;
+  spare = c.kept.spare;
+  list = c.kept.list;
+}
+
+pub record Holds (inode : Inode) (events : List Event) (bytes : List ℕ) (attrs : List Pair) (seen :
+    List Entry) (mine : List Listed) : Type 0 where
+  -- the path is one that each template can show
+  pub path : IsMeasuredPath Ima inode.path
+  -- content and attributes are what the journal says
+  pub content : bytes ≡ content events
+  pub attributes : attrs ≡ attributes inode events
+  -- the cell's pass of the measurement list has what the journal says of it
+  pub booked : IsBooked inode events seen mine
+
+abbrev pub IsCell : Inside → Type 0
+IsCell c = Holds c.kept.inode (past c.kept.list) c.content c.attrs c.book.seen c.book.mine

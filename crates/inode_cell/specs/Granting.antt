@@ -1,0 +1,60 @@
+-- What a take or finish grants.
+use Rattle.std.specs.Prelude.{◌≡◌, ℕ, List, Option, Some, None}
+use Rattle.hash_algos.specs.declared.digest.Digest.{Digest}
+use Rattle.ima_templates.specs.declared.entry.Placed.{Placed}
+use Rattle.inode_meta.specs.declared.step.Who.{Who}
+use Rattle.inode_events.specs.Asked.{asked, measured_if}
+use Rattle.inode_events.specs.Checks.{last_check}
+use Rattle.inode_events.specs.Grants.{grant_of}
+use Rattle.inode_events.specs.Inode.{Inode}
+use Rattle.inode_events.specs.Integrity.{Collection, Digests, attributes, attributes_after, fixed_by, integrity}
+use Rattle.inode_events.specs.Says.{says}
+use Rattle.inode_events.specs.Stage.{Stage, Asked as AskedFor, Collected}
+use Rattle.inode_events.specs.State.{content, content_after, metadata}
+use Rattle.inode_events.specs.declared.deed.Deed.{Deed}
+use Rattle.inode_events.specs.declared.told.Event.{Event}
+use Rattle.inode_events.specs.declared.told.Grant.{Grant}
+use Rattle.inode_events.specs.declared.told.Told.{Told}
+use Rattle.inode_events.specs.declared.told.Told.TheVariants as told
+use Rattle.inode_kept.specs.Collecting.{IsAsked}
+use Rattle.inode_kept.specs.Known.{IsKnown}
+use Rattle.inode_kept.specs.declared.collecting.Asked.{Asked}
+use Rattle.inode_kept.specs.declared.in_force.Sums.{Sums}
+use Rattle.inode_kept.specs.declared.known.Known.{Known}
+
+-- the digests with no begin, which a grant doesn't read
+abbrev pub digests_in : Sums → Digests
+digests_in sums = record { digest = sums.digest; sha1 = sums.sha1; begin = 0 }
+
+-- the deed grants the file by these digests, and the file's last check asked for this
+pub record IsGranting (inode : Inode) (p : List Event) (who : Who) (d : Deed) (file : ℕ) (a :
+    Asked) (sums : Sums) (k : Known) : Type 0 where
+  pub check : IsAsked (last_check file p) a
+  pub tells : (placed : Placed) → says inode p placed d ≡ Some (told.Grant (grant_of inode file
+      placed sums.digest p))
+  pub asks : asked inode d p ≡ measured_if (last_check file p).action.measure inode file (Some
+      (digests_in sums)) p
+  pub leaves : (g : Grant) → attributes_after inode d (told.Grant g) p (integrity inode p) ≡
+      fixed_by inode g.labelled (Some sums.digest) (metadata p) (attributes inode p)
+  pub keeps : (g : Grant) → content_after d (told.Grant g) (content p) ≡ content p
+  pub known : (g : Grant) → IsKnown inode p (record { who = who; deed = d; told = told.Grant g }) k
+
+-- the digests in force
+abbrev pub sums_in : Digests → Sums
+sums_in ds = record { digest = ds.digest; sha1 = ds.sha1 }
+
+abbrev pub sums_in_force : Option Digests → Option Sums
+sums_in_force None = None
+sums_in_force (Some ds) = Some (sums_in ds)
+
+-- where a take and a finish find their file
+abbrev pub asked_stage : Stage
+asked_stage = AskedFor
+
+abbrev pub collected_stage : Stage
+collected_stage = Collected
+
+-- the open collection is the file's
+abbrev pub Collects : ℕ → Option Collection → Type 0
+Collects file None = ⊥
+Collects file (Some c) = c.file ≡ file

@@ -1,0 +1,11 @@
+pub mod Value
+pub mod Fields
+pub mod Acts
+pub mod Answers
+pub mod Changes
+pub mod Sums
+pub mod Pieces
+pub mod Listing
+pub mod Granting
+pub mod Checking
+pub mod Ending

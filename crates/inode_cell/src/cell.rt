@@ -1,0 +1,108 @@
+ghost use Rattle.std.specs.Prelude.{◌≡◌, ℕ, ◌<◌, ◌≤◌, ◌^◌, List, length, None, Some, OnOk};
+ghost use Rattle.ima_templates.specs.declared.entry.Entry.{Entry as AnyEntry};
+ghost use Rattle.inode_events.specs.Callers.{caller_in};
+ghost use Rattle.inode_events.specs.Asked.{outcome};
+ghost use Rattle.inode_events.specs.Past.{past};
+ghost use Rattle.inode_events.specs.declared.deed.Deed.{Deed as AnyDeed};
+ghost use Rattle.inode_meta.specs.declared.step.Who.{Who as AnyWho};
+ghost use Rattle.inode_cell.specs.Acts.{Acts, IsChange, IsPlain};
+ghost use Rattle.inode_cell.specs.Value.{IsSameCell};
+
+use grow_list::{OutOfMemory, Pass};
+use ima_templates::Entry;
+use inode_events::{Deed, Event, Told};
+use inode_kept::Known;
+use inode_meta::Who;
+use inode_pages::Content;
+use kept_journal::KeptJournal;
+use std::alloc::Global;
+use std::marker::Model;
+use xattr_store::Attrs;
+
+/// One inode with its journal.
+#[derive(Drop)]
+pub struct InodeCell {
+    pub(crate) kept: KeptJournal,
+    pub(crate) book: Pass<Entry>,
+    pub(crate) content: Content,
+    pub(crate) attrs: Attrs,
+    pub(crate) alloc: Global,
+}
+
+impl Model for InodeCell {
+    ghost use Rattle.inode_cell.specs.Value.{CellValue};
+
+    ghost Value = { CellValue };
+
+    ghost use Rattle.inode_cell.specs.Fields.{IsCell, value_of};
+
+    ghost view = { value_of };
+
+    ghost invariant = { IsCell };
+}
+
+impl InodeCell {
+    // A step that asks nothing of the measurement list and leaves content and attributes.
+    pub(crate) fn step(
+        &mut self,
+        pass: &mut Pass<Event>,
+        who: Who,
+        deed: Deed,
+        told: Told,
+        known: &Known,
+    )
+        requires name { pass.old.name ≡ self.old.journal }
+        requires number { pass.old.number ≡ caller_in who.task deed }
+        requires room { 1 ≤ self.old.spare }
+        requires small { length self.old.list < 2 ^ 62 }
+        requires plain { IsPlain self.old.inode (past self.old.list) who deed told known.now }
+        ensures { (list : List AnyEntry) → Acts self.old self.new list list pass.old pass.new who
+            deed (Some told) }
+    {
+        self.kept.enter(pass, Event { who, deed, told }, known);
+    }
+
+    // A step that asks nothing of the measurement list, leaves the content and has these attributes
+    // behind it.
+    pub(crate) fn step_with(
+        &mut self,
+        pass: &mut Pass<Event>,
+        who: Who,
+        deed: Deed,
+        told: Told,
+        known: &Known,
+        attrs: Attrs,
+    )
+        requires name { pass.old.name ≡ self.old.journal }
+        requires number { pass.old.number ≡ caller_in who.task deed }
+        requires room { 1 ≤ self.old.spare }
+        requires small { length self.old.list < 2 ^ 62 }
+        requires changes { IsChange self.old.inode (past self.old.list) who deed told known.now
+            attrs }
+        ensures { (list : List AnyEntry) → Acts self.old self.new list list pass.old pass.new who
+            deed (Some told) }
+    {
+        self.attrs = attrs;
+        self.kept.enter(pass, Event { who, deed, told }, known);
+    }
+
+    // Makes room for the next event.
+    pub(crate) fn reserve(&mut self) -> Result<(), OutOfMemory>
+        ensures room { OnOk result (1 ≤ self.new.spare) }
+        ensures small { OnOk result (length self.new.list < 2 ^ 62) }
+        ensures list { self.new.list ≡ self.old.list }
+        ensures same { IsSameCell self.old self.new }
+    {
+        self.kept.reserve()
+    }
+
+    // A blocked step: the pass sees the journal, and nothing else is done.
+    pub(crate) fn block(&mut self, pass: &mut Pass<Event>)
+        requires { pass.old.name ≡ self.old.journal }
+        ensures { (list : List AnyEntry) (who : AnyWho) (d : AnyDeed)
+            → outcome self.old.inode list d (past self.old.list) ≡ None
+            → Acts self.old self.new list list pass.old pass.new who d None }
+    {
+        self.kept.look(pass);
+    }
+}

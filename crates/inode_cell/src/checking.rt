@@ -1,0 +1,184 @@
+// Checks.
+ghost use Rattle.std.specs.Prelude.{◌≡◌, ◌+◌, Some, IfOk, OnErr, length};
+ghost use Rattle.inode_events.specs.Asked.{violation_in};
+ghost use Rattle.inode_events.specs.Checks.{no_action};
+ghost use Rattle.inode_events.specs.Legal.{May};
+ghost use Rattle.inode_events.specs.Listing.{violated};
+ghost use Rattle.own_laws.specs.Own.{IsBy};
+ghost use Rattle.inode_events.specs.Past.{past};
+ghost use Rattle.inode_events.specs.Says.{check_told, place_of};
+ghost use Rattle.inode_events.specs.State.{metadata};
+ghost use Rattle.rule_match.specs.Decision.{decide_of};
+ghost use Rattle.inode_cell.specs.Acts.{Acts, MayBy, Stays};
+ghost use Rattle.inode_cell.specs.Answers.{found_told};
+ghost use Rattle.inode_cell.specs.Checking.{access_of};
+
+use crate::answers::Found;
+use crate::cell::InodeCell;
+use crate::listing::list_asked;
+use grow_list::{OutOfMemory, Pass};
+use ima_templates::{Entry, Placed, violation};
+use inode_events::{Deed, Event, Told};
+use inode_kept::{Kind, Known, counts_as};
+use inode_meta::{Cred, Who};
+use measure_book::Book;
+use policy_text::{Access, Action, Func, Super};
+use rule_match::Index;
+
+/// The answer of a check.
+#[derive(Drop)]
+pub struct Checked {
+    /// What the rules have done with the access.
+    pub action: Action,
+    /// The violation, where there is one.
+    pub found: Found,
+}
+
+// What a check finds, with this place for a violation.
+fn found(writing: bool, measure: bool, readers: u64, writers: u64, must: bool, place: u64) -> Found
+    ensures { found_told result ≡ check_told writing measure readers writers must place }
+{
+    if writing && readers > 0 && must {
+        Found::ToMToU(place)
+    } else if !writing && measure && writers > 0 {
+        Found::OpenWriters(place)
+    } else {
+        Found::Quiet
+    }
+}
+
+fn told_by(found: Found) -> Told
+    ensures { result ≡ found_told found }
+{
+    match found {
+        Found::Quiet => Told::Quiet,
+        Found::OpenWriters(place) => Told::OpenWriters(place),
+        Found::ToMToU(place) => Told::ToMToU(place),
+    }
+}
+
+fn place_of(placed: Placed) -> u64
+    ensures { result ≡ place_of placed }
+{
+    match placed {
+        Placed::Added(place) | Placed::Already(place) => place,
+    }
+}
+
+impl InodeCell {
+    // The violation that is added to the list.
+    fn violation(&self, found: Found) -> Result<Option<Entry>, OutOfMemory>
+        ensures { IfOk result (λ e. e ≡ violation_in self.now.inode (found_told found)) }
+    {
+        match found {
+            Found::Quiet => Ok(None),
+            _ => Ok(Some(self.violated()?)),
+        }
+    }
+
+    // A violation of the inode.
+    fn violated(&self) -> Result<Entry, OutOfMemory>
+        ensures { IfOk result (λ e. e ≡ violated self.now.inode) }
+    {
+        let settings = self.kept.settings();
+        let template = settings.template;
+        let hash = settings.hash;
+        violation(self.alloc, template, hash, self.kept.path())
+    }
+
+    /// Asks the rules for an access by a file: the action is the first match's, and a writer among
+    /// readers of a measured file,
+    /// or a measured reader among writers, is a violation of the list.
+    pub fn check(
+        &mut self,
+        pass: &mut Pass<Event>,
+        who: Who,
+        file: u64,
+        rules: &Index,
+        cred: &Cred,
+        place: &Super,
+        func: Func,
+        mask: u8,
+        book: &mut Book,
+    ) -> Result<Checked, OutOfMemory>
+        requires name { pass.old.name ≡ self.old.journal }
+        requires number { pass.old.number ≡ who.task + 1 }
+        requires book_name { self.old.book ≡ book.old.name }
+        requires may { May self.old.inode (past self.old.list) (Deed.Check file func no_action 0) }
+        requires by { IsBy pass.old.number (Deed.Check file func no_action 0) (past self.old.list) }
+        ensures action { IfOk result (λ c. c.action ≡ decide_of rules.now (access_of cred.now
+            place.now (metadata (past self.old.list)) func mask)) }
+        ensures acts { IfOk result (λ c. Acts self.old self.new book.old.list book.new.list
+            pass.old pass.new who (Deed.Check file func c.action (length rules.now)) (Some
+            (found_told c.found))) }
+        ensures book { (book.new.name ≡ book.old.name) × (book.new.callers ≡ book.old.callers) }
+        ensures err { OnErr result (Stays self.old self.new pass.old pass.new) }
+        ensures err_book { OnErr result (book.new.list ≡ book.old.list) }
+    {
+        let meta = self.meta();
+        let access = Access {
+            func,
+            mask,
+            cred,
+            owner: meta.uid,
+            group: meta.gid,
+            place,
+        };
+        let action = rules.decide(&access);
+        let count = rules.rules().len() as u64;
+        let found = self.checked(pass, who, file, func, &action, count, book)?;
+        Ok(Checked { action, found })
+    }
+
+    // The check with its action, which so many rules gave.
+    fn checked(
+        &mut self,
+        pass: &mut Pass<Event>,
+        who: Who,
+        file: u64,
+        func: Func,
+        action: &Action,
+        rules: u64,
+        book: &mut Book,
+    ) -> Result<Found, OutOfMemory>
+        requires name { pass.old.name ≡ self.old.journal }
+        requires number { pass.old.number ≡ who.task + 1 }
+        requires book_name { self.old.book ≡ book.old.name }
+        requires may { MayBy self.old pass.old.number (Deed.Check file func action.now rules) }
+        ensures acts { IfOk result (λ f. Acts self.old self.new book.old.list book.new.list
+            pass.old pass.new who (Deed.Check file func action.now rules) (Some (found_told f))) }
+        ensures book { (book.new.name ≡ book.old.name) × (book.new.callers ≡ book.old.callers) }
+        ensures err { OnErr result (Stays self.old self.new pass.old pass.new) }
+        ensures err_book { OnErr result (book.new.list ≡ book.old.list) }
+    {
+        let writing = counts_as(Kind::Writer, self.kept.how_at(file));
+        let state = self.kept.state();
+        let (readers, writers, must) = (
+            state.counts.readers,
+            state.counts.writers,
+            state.marks.must,
+        );
+        let entry = self.violation(found(writing, action.measure, readers, writers, must, 0))?;
+        self.reserve()?;
+        book.reserve()?;
+        let placed = list_asked(book, &mut self.book, entry);
+        let found = found(
+            writing,
+            action.measure,
+            readers,
+            writers,
+            must,
+            place_of(placed),
+        );
+        let deed = Deed::Check {
+            file,
+            func,
+            action: *action,
+            rules,
+        };
+        let told = told_by(found);
+        self.kept
+            .enter(pass, Event { who, deed, told }, &Known::checking(writing));
+        Ok(found)
+    }
+}

@@ -1,0 +1,124 @@
+// Closes.
+ghost use Rattle.std.specs.Prelude.{◌≡◌, ◌==◌, ◌&&◌, ◌+◌, List, Some, IfOk, OnOk, OnErr};
+ghost use Rattle.inode_events.specs.Files.{writers};
+ghost use Rattle.inode_events.specs.Marks.{is_label_due};
+ghost use Rattle.inode_events.specs.Past.{past};
+ghost use Rattle.inode_cell.specs.Answers.{CloseBeginsBy, close_taken_told, finished_told};
+ghost use Rattle.inode_cell.specs.Sums.{HasSums};
+ghost use Rattle.ima_templates.specs.declared.entry.Entry.{Entry as AnyEntry};
+ghost use Rattle.inode_cell.specs.Acts.{Acts, MayBy, Stays};
+
+use crate::answers::CloseTaken;
+use crate::attributes::labelled_on;
+use crate::cell::InodeCell;
+use grow_list::{OutOfMemory, Pass};
+use hash_algos::Digest;
+use inode_events::{Deed, Event, Told};
+use inode_kept::Known;
+use inode_meta::Who;
+use label_values::{Label, read_label};
+
+impl InodeCell {
+    /// Drops a file that isn't open for writing.
+    pub fn close_read(
+        &mut self,
+        pass: &mut Pass<Event>,
+        who: Who,
+        file: u64,
+    ) -> Result<(), OutOfMemory>
+        requires name { pass.old.name ≡ self.old.journal }
+        requires number { pass.old.number ≡ who.task + 1 }
+        requires may { MayBy self.old pass.old.number (Deed.Close file) }
+        ensures acts { OnOk result ((list : List AnyEntry)
+            → Acts self.old self.new list list pass.old pass.new who (Deed.Close file) (Some
+            Told.Dropped)) }
+        ensures err { OnErr result (Stays self.old self.new pass.old pass.new) }
+    {
+        self.reserve()?;
+        let known = Known::dropping(self.kept.how_at(file));
+        self.step(pass, who, Deed::Close { file }, Told::Dropped, &known);
+        Ok(())
+    }
+
+    // The only writer's close owes the file a label.
+    fn owes_label(&self) -> bool
+        ensures { result ≡ ((writers (past self.now.list) == 1) && is_label_due self.now.inode
+            (past self.now.list)) }
+    {
+        let state = self.kept.state();
+        let marks = state.marks;
+        let is_signed = matches!(
+            read_label(self.label(), self.kept.settings().hash),
+            Label::Signature
+        );
+        let is_changed = marks.new || !marks.versions || state.writes.in_span;
+        state.counts.writers == 1 && (marks.update && !is_signed && is_changed)
+    }
+
+    /// A writer's close: the last writer's begins a collection where it owes the file a label, and
+    /// every other drops the file.
+    pub fn close_take(
+        &mut self,
+        pass: &mut Pass<Event>,
+        who: Who,
+        file: u64,
+    ) -> Result<CloseTaken, OutOfMemory>
+        requires name { pass.old.name ≡ self.old.journal }
+        requires number { pass.old.number ≡ who.task + 1 }
+        requires may { MayBy self.old pass.old.number (Deed.CloseTake file) }
+        ensures acts { IfOk result (λ c. (list : List AnyEntry)
+            → Acts self.old self.new list list pass.old pass.new who (Deed.CloseTake file)
+            (close_taken_told c)) }
+        ensures algo { IfOk result (λ c. CloseBeginsBy self.old.inode.settings.hash c) }
+        ensures err { OnErr result (Stays self.old self.new pass.old pass.new) }
+    {
+        if self.is_collecting() {
+            self.block(pass);
+            return Ok(CloseTaken::Blocked);
+        }
+        self.reserve()?;
+        let algo = self.kept.settings().hash;
+        if self.owes_label() {
+            let known = Known::closing(None, algo);
+            self.step(pass, who, Deed::CloseTake { file }, Told::Begun, &known);
+            Ok(CloseTaken::Begun(algo))
+        } else {
+            let known = Known::closing(self.kept.how_at(file), algo);
+            self.step(pass, who, Deed::CloseTake { file }, Told::Dropped, &known);
+            Ok(CloseTaken::Dropped)
+        }
+    }
+
+    /// The collection of a close ends with these digests, by its algorithm and by SHA-1: the label
+    /// is written where the writer
+    /// is still the only one, and the file is dropped. Answers whether the label was written.
+    pub fn close_finish(
+        &mut self,
+        pass: &mut Pass<Event>,
+        who: Who,
+        file: u64,
+        sums: (Digest, Digest),
+    ) -> Result<bool, OutOfMemory>
+        requires name { pass.old.name ≡ self.old.journal }
+        requires number { pass.old.number ≡ who.task + 1 }
+        requires may { MayBy self.old pass.old.number (Deed.CloseFinish file) }
+        requires sums { HasSums self.old.inode (past self.old.list) sums }
+        ensures acts { IfOk result (λ labelled. (list : List AnyEntry)
+            → Acts self.old self.new list list pass.old pass.new who (Deed.CloseFinish file) (Some
+            (finished_told labelled))) }
+        ensures err { OnErr result (Stays self.old self.new pass.old pass.new) }
+    {
+        self.reserve()?;
+        let known = Known::dropping(self.kept.how_at(file));
+        if self.kept.state().counts.writers == 1 {
+            let evm = &self.kept.settings().evm;
+            let attrs = labelled_on(evm, &self.attrs, &self.meta(), &sums.0)?;
+            let deed = Deed::CloseFinish { file };
+            self.step_with(pass, who, deed, Told::LabelledDropped, &known, attrs);
+            Ok(true)
+        } else {
+            self.step(pass, who, Deed::CloseFinish { file }, Told::Dropped, &known);
+            Ok(false)
+        }
+    }
+}

@@ -1,0 +1,83 @@
+// Counts.
+ghost use Rattle.std.specs.Prelude.{◌≡◌, ℕ, List, length, Some, IfOk, OnErr, ◌+◌};
+ghost use Rattle.ima_templates.specs.declared.entry.Entry.{Entry as AnyEntry};
+ghost use Rattle.inode_events.specs.Files.{creates, execs, writers};
+ghost use Rattle.inode_events.specs.Past.{past};
+ghost use Rattle.inode_events.specs.Says.{count_told};
+ghost use Rattle.inode_events.specs.State.{present};
+ghost use Rattle.inode_cell.specs.Acts.{Acts, Stays};
+ghost use Rattle.inode_cell.specs.Answers.{IsPlaced, counted_told};
+
+use crate::answers::Counted;
+use crate::cell::InodeCell;
+use grow_list::{OutOfMemory, Pass};
+use inode_events::{Deed, Event, How, Told};
+use inode_kept::{Kind, Known, counts_as};
+use inode_meta::Who;
+
+// An open that makes an absent file.
+fn creates(how: How) -> bool
+    ensures { result ≡ creates how }
+{
+    match how {
+        How::Read { create } | How::Write { create, .. } => create,
+        How::Exec => false,
+    }
+}
+
+// What a count at the place answers.
+fn counted(how: How, is_there: bool, writers: u64, execs: u64, place: u64) -> Counted
+    ensures told { counted_told result ≡ count_told how is_there writers execs }
+    ensures place { IsPlaced place result }
+{
+    if !is_there && !creates(how) {
+        Counted::NotFound
+    } else if counts_as(Kind::Writer, Some(how)) && execs > 0
+        || counts_as(Kind::Exec, Some(how)) && writers > 0
+    {
+        Counted::TextBusy
+    } else {
+        Counted::Held(place)
+    }
+}
+
+fn told_by(answer: Counted) -> Told
+    ensures { result ≡ counted_told answer }
+{
+    match answer {
+        Counted::Held(_) => Told::Held,
+        Counted::NotFound => Told::NotFound,
+        Counted::TextBusy => Told::TextBusy,
+    }
+}
+
+impl InodeCell {
+    /// An open or an exec counts a file. The file is then named by the place of this event.
+    pub fn count(
+        &mut self,
+        pass: &mut Pass<Event>,
+        who: Who,
+        how: How,
+    ) -> Result<Counted, OutOfMemory>
+        requires name { pass.old.name ≡ self.old.journal }
+        requires number { pass.old.number ≡ who.task + 1 }
+        ensures acts { IfOk result (λ c. (list : List AnyEntry)
+            → Acts self.old self.new list list pass.old pass.new who (Deed.Count how) (Some
+            (counted_told c))) }
+        ensures place { IfOk result (λ c. IsPlaced (length self.old.list) c) }
+        ensures err { OnErr result (Stays self.old self.new pass.old pass.new) }
+    {
+        self.reserve()?;
+        let state = self.kept.state();
+        let answer = counted(
+            how,
+            state.marks.present,
+            state.counts.writers,
+            state.counts.execs,
+            self.kept.len(),
+        );
+        let known = Known::nothing();
+        self.step(pass, who, Deed::Count { how }, told_by(answer), &known);
+        Ok(answer)
+    }
+}

@@ -1,0 +1,169 @@
+// The start and the end of a cell.
+ghost use Rattle.std.specs.Prelude.{◌≡◌, ℕ, ◌+◌, ◌<◌, ◌≤◌, ◌^◌, All, [], ◌∷◌, count_by, length, map, slice_get, IfOk, Some};
+ghost use mathlib.Core.List.{IsPrefix};
+ghost use Rattle.book_laws.specs.Booked.{IsBooked};
+ghost use Rattle.grow_list.specs.Entries.{entries_of, has_place};
+ghost use Rattle.grow_list.specs.Shown.{fresh};
+ghost use Rattle.ima_templates.specs.Path.{IsMeasuredPath};
+ghost use Rattle.inode_events.specs.Callers.{caller_of};
+ghost use Rattle.inode_events.specs.Legal.{Legal};
+ghost use Rattle.inode_events.specs.Past.{past};
+ghost use Rattle.inode_pages.specs.Content.{most_bytes};
+ghost use Rattle.inode_meta.specs.declared.measurement.Template.TheVariants.{Ima};
+ghost use Rattle.kept_journal.specs.Value.{beside_own, birth_of};
+ghost use Rattle.own_laws.specs.Laws.{TellsByMine};
+ghost use Rattle.own_laws.specs.Own.{IsOwned};
+ghost use Rattle.inode_cell.specs.Ending.{HasPasses, IsEnded, digest_in};
+ghost use Rattle.inode_cell.specs.Value.{IsSameCell};
+
+use crate::cell::InodeCell;
+use grow_list::{OutOfMemory, Pass};
+use hash_algos::Digest;
+use ima_templates::Entry;
+use inode_events::{Event, Image, Settings};
+use inode_kept::{InForce, State};
+use inode_pages::Content;
+use kept_journal::KeptJournal;
+use std::alloc::{AllocError, Global};
+use xattr_store::{Attrs, Bytes};
+
+/// An inode at the end of a run.
+#[derive(Drop)]
+pub struct EndedInode {
+    /// Its path.
+    pub path: Bytes,
+    /// Its journal.
+    pub journal: Vec<Event>,
+    /// The digest in force, by the chosen algorithm.
+    pub digest: Option<Digest>,
+    /// The extended attributes.
+    pub attrs: Attrs,
+    /// How many files are open for writing.
+    pub writers: u64,
+    /// How many are open for reading alone, among them the executions.
+    pub readers: u64,
+    /// How many are executed.
+    pub execs: u64,
+}
+
+fn digest_of(in_force: Option<InForce>) -> Option<Digest>
+    ensures { result ≡ digest_in in_force }
+{
+    match in_force {
+        None => None,
+        Some(digests) => Some(digests.sums.digest),
+    }
+}
+
+impl InodeCell {
+    /// The inode of this image under a path, with a pass for each task: that of the task t has the
+    /// number t + 1, and has seen
+    /// nothing yet. `book` is the cell's pass of the measurement list, and has no entry of its own.
+    pub fn start(
+        alloc: Global,
+        path: &[u8],
+        image: Image,
+        settings: Settings,
+        tasks: u32,
+        book: Pass<Entry>,
+    ) -> Result<(InodeCell, Vec<Pass<Event>>), OutOfMemory>
+        requires path { IsMeasuredPath Ima path.now }
+        requires content { length image.content ≤ most_bytes }
+        requires tasks { tasks + 1 < 2 ^ 32 }
+        requires book { book.mine ≡ [] }
+        ensures inode { IfOk result (λ r. r.0.inode ≡ record {
+          path = path.now;
+          settings =
+              settings;
+          birth = image;
+        }) }
+        ensures list { IfOk result (λ r. r.0.list ≡ birth_of image ∷ []) }
+        ensures callers { IfOk result (λ r. r.0.callers ≡ tasks + 1) }
+        ensures book { IfOk result (λ r. (r.0.book ≡ book.name) × (r.0.booked ≡ book.number)) }
+        ensures count { IfOk result (λ r. length r.1.items ≡ tasks) }
+        ensures passes { IfOk result (λ r. (k : ℕ) → k < tasks
+            → slice_get r.1.items k ≡ Some (fresh r.0.journal (k + 1))) }
+        ensures others { IfOk result (λ r. HasPasses r.0 r.1.items) }
+    {
+        let Ok(content) = Content::from_slice(alloc, image.content.as_slice()) else {
+            return Err(AllocError);
+        };
+        let attrs = image.attrs.copy()?;
+        let path = Bytes::from_slice(alloc, path)?;
+        let (kept, passes) = KeptJournal::start(alloc, path, settings, image, tasks)?;
+        let cell = InodeCell {
+            kept,
+            book,
+            content,
+            attrs,
+            alloc,
+        };
+        Ok((cell, passes))
+    }
+
+    /// A pass of this cell sees the journal. What its own entries tell then holds of the journal:
+    /// what may be done by them may be
+    /// done, the last check of a file is theirs, and a collection that is open by them is as the
+    /// pass has seen it last.
+    pub fn look(&mut self, pass: &mut Pass<Event>)
+        requires { pass.old.name ≡ self.old.journal }
+        ensures list { self.new.list ≡ self.old.list }
+        ensures same { IsSameCell self.old self.new }
+        ensures before { IsPrefix pass.old.seen self.old.list }
+        ensures seen { pass.new.seen ≡ self.new.list }
+        ensures mine { pass.new.mine ≡ pass.old.mine }
+        ensures pass { (pass.new.name ≡ pass.old.name) × (pass.new.number ≡ pass.old.number) }
+        ensures tells { TellsByMine self.old.inode pass.new.number pass.old.seen self.old.list
+            pass.new.mine }
+    {
+        self.kept.look(pass);
+    }
+
+    /// Hands out the journal with what is left of the inode, and the cell's pass of the measurement
+    /// list, and takes back the
+    /// passes that `start` answered. What each pass saw begins the journal, the journal's events of
+    /// its number are its own, and
+    /// each event but the birth is one pass's.
+    pub fn close(self, passes: Vec<Pass<Event>>) -> (EndedInode, Pass<Entry>)
+        requires { HasPasses self passes.items }
+        ensures ended { IsEnded self result.0 }
+        ensures seen { All (λ p. IsPrefix p.seen self.list) passes.items }
+        ensures own { All (λ p. entries_of p.number (map caller_of self.list) self.list ≡ p.mine)
+            passes.items }
+        ensures places { (k : ℕ) → k < length self.list
+            → count_by (λ p. has_place k p.mine) passes.items ≡ beside_own k }
+        ensures legal { Legal self.inode (past self.list) }
+        ensures owned { IsOwned (past self.list) }
+        ensures within { All (λ e. caller_of e < self.callers) self.list }
+        ensures book { (result.1.name ≡ self.book) × (result.1.number ≡ self.booked) }
+        ensures booked { IsBooked self.inode (past self.list) result.1.seen result.1.mine }
+    {
+        let InodeCell {
+            kept,
+            book,
+            content: _,
+            attrs,
+            alloc: _,
+        } = self;
+        let (path, journal, state) = kept.close(passes);
+        let State {
+            counts,
+            marks: _,
+            writes: _,
+            meta: _,
+            collecting: _,
+            in_force,
+            verdicts: _,
+        } = state;
+        let ended = EndedInode {
+            path,
+            journal,
+            digest: digest_of(in_force),
+            attrs,
+            writers: counts.writers,
+            readers: counts.readers,
+            execs: counts.execs,
+        };
+        (ended, book)
+    }
+}

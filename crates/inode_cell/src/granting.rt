@@ -1,0 +1,377 @@
+// Grants.
+ghost use Rattle.std.specs.Prelude.{◌≡◌, ℕ, ◌+◌, Some, IfOk, OnErr, unwrap_or};
+ghost use Rattle.inode_events.specs.Asked.{measured_if};
+ghost use Rattle.inode_events.specs.Callers.{caller_in};
+ghost use Rattle.inode_events.specs.Stage.{stage};
+ghost use Rattle.inode_events.specs.declared.told.Told.{Told as AnyTold};
+ghost use Rattle.inode_meta.specs.declared.step.Who.{Who as AnyWho};
+ghost use Rattle.inode_kept.specs.Known.{IsKnown};
+ghost use Rattle.inode_cell.specs.Granting.{Collects};
+ghost use Rattle.inode_kept.specs.declared.collecting.Asked.{Asked as AnyAsked};
+ghost use Rattle.inode_cell.specs.Acts.{Acts, MayBy, Stays};
+ghost use Rattle.inode_cell.specs.Answers.{BeginsBy, taken_told};
+ghost use Rattle.inode_cell.specs.Granting.{IsGranting, asked_stage, collected_stage, digests_in, sums_in_force};
+ghost use Rattle.inode_cell.specs.Sums.{HasSums};
+ghost use Rattle.inode_events.specs.Checks.{Check, appraises, last_check, slot_of};
+ghost use Rattle.inode_events.specs.Grants.{admits, is_mend, mend_of, mends, placed_if_measured, verdict_for};
+ghost use Rattle.inode_events.specs.Integrity.{attributes, chosen_algo, collecting, fixed_by, in_force};
+ghost use Rattle.inode_events.specs.Listing.{signature_in};
+ghost use Rattle.inode_events.specs.Past.{past};
+ghost use Rattle.inode_events.specs.State.{metadata};
+ghost use Rattle.inode_events.specs.Verdicts.{judged};
+ghost use Rattle.std.specs.Option.{option_copied};
+ghost use Rattle.inode_kept.specs.Collecting.{IsAsked};
+
+use crate::answers::Taken;
+use crate::attributes::fixed_on;
+use crate::cell::InodeCell;
+use crate::listing::list_asked;
+use grow_list::Pass;
+use hash_algos::{Algo, AlgoSet, Digest};
+use ima_appraise::{mend_for, verdict};
+use ima_templates::{Entry, Placed, build};
+use inode_events::{Deed, Event, Grant, Told};
+use inode_kept::{Asked, Kind, Known, Sums, copied, counts_as, key_of};
+use inode_meta::{EvmStatus, Mode, Need, Slot, Who};
+use label_values::{Mend, Verdict, read_label};
+use measure_book::Book;
+use policy_text::Action;
+use std::alloc::AllocError;
+use xattr_store::{Attrs, MAX_VALUE, OutOfMemory};
+
+// The mode admits the file.
+fn admits(mode: Mode, verdict: Option<Verdict>) -> bool
+    ensures { result ≡ admits mode verdict }
+{
+    match (mode, verdict) {
+        (Mode::Enforce, Some(verdict)) => matches!(verdict, Verdict::Pass),
+        _ => true,
+    }
+}
+
+fn is_mend(mend: Mend) -> bool
+    ensures { result ≡ is_mend mend }
+{
+    !matches!(mend, Mend::Nothing)
+}
+
+fn placed_if_measured(action: &Action, placed: Placed) -> Option<Placed>
+    ensures { result ≡ placed_if_measured action.now placed }
+{
+    if action.measure { Some(placed) } else { None }
+}
+
+// The signature in the label.
+fn signature_in(label: Option<&[u8]>) -> &[u8]
+    ensures { result.now ≡ signature_in (option_copied label.entry) }
+{
+    match label {
+        Some(bytes) => match bytes.first() {
+            Some(3 | 6) => bytes,
+            _ => &[],
+        },
+        None => &[],
+    }
+}
+
+// New attributes, or the old ones where there are none.
+fn put_in(attrs: &mut Attrs, new: Option<Attrs>)
+    ensures { attrs.new ≡ unwrap_or new attrs.old }
+{
+    if let Some(new) = new {
+        *attrs = new;
+    }
+}
+
+impl InodeCell {
+    // The file is appraised.
+    fn appraises(&self, action: &Action) -> bool
+        ensures { result ≡ appraises self.now.inode action.now }
+    {
+        action.appraise && !matches!(self.kept.settings().mode, Mode::Off)
+    }
+
+    // The verdict over a digest, and everything else as it is.
+    fn judged(&self, need: Need, algos: Option<AlgoSet>, digest: &Digest) -> Verdict
+        ensures { result ≡ judged self.now.inode need algos digest.now (past self.now.list) }
+    {
+        verdict(
+            need,
+            algos,
+            self.label(),
+            self.status(),
+            digest,
+            self.kept.settings().hash,
+            self.size(),
+            self.is_new(),
+        )
+    }
+
+    // The verdict where the file is appraised: the one in force, else one over the digest and
+    // everything else as it is.
+    fn verdict_for(&self, asked: &Asked, digest: &Digest) -> Option<Verdict>
+        ensures { (check : Check) → IsAsked check asked.now
+            → result ≡ verdict_for self.now.inode check digest.now (past self.now.list) }
+    {
+        if !self.appraises(&asked.action) {
+            return None;
+        }
+        match self.kept.state().verdicts.get(key_of(asked)) {
+            Some(verdict) => Some(verdict),
+            None => Some(self.judged(asked.action.need, asked.action.algos, digest)),
+        }
+    }
+
+    // What mode fix writes on the verdict.
+    fn mend_of(&self, action: &Action, digest: &Digest, found: Verdict) -> Mend
+        ensures { result ≡ mend_of self.now.inode action.now digest.now found (past self.now.list) }
+    {
+        let default = self.kept.settings().hash;
+        let label = self.label();
+        let sound = verdict(
+            action.need,
+            action.algos,
+            label,
+            EvmStatus::Pass,
+            digest,
+            default,
+            self.size(),
+            self.is_new(),
+        );
+        mend_for(found, sound, self.status(), read_label(label, default))
+    }
+
+    // Mode fix mends the attributes.
+    fn mends(&self, action: &Action, digest: &Digest, verdict: Option<Verdict>) -> bool
+        ensures { result ≡ mends self.now.inode action.now digest.now verdict (past self.now.list) }
+    {
+        match verdict {
+            None => false,
+            Some(found) => {
+                matches!(self.kept.settings().mode, Mode::Fix)
+                    && is_mend(self.mend_of(action, digest, found))
+            }
+        }
+    }
+
+    // What mode fix leaves of the attributes, where it mends them.
+    fn fixed(&self, mends: bool, digest: &Digest) -> Result<Option<Attrs>, OutOfMemory>
+        ensures { IfOk result (λ o. unwrap_or o (attributes self.now.inode (past self.now.list)) ≡
+            fixed_by self.now.inode mends (Some digest.now) (metadata (past self.now.list))
+            (attributes self.now.inode (past self.now.list))) }
+    {
+        if !mends {
+            return Ok(None);
+        }
+        let evm = &self.kept.settings().evm;
+        Ok(Some(fixed_on(evm, &self.attrs, &self.meta(), digest)?))
+    }
+
+    // The entry of a measurement with these digests, where the action measures.
+    fn measured(&self, action: &Action, sums: &Sums) -> Result<Option<Entry>, OutOfMemory>
+        ensures { IfOk result (λ e. (file : ℕ)
+            → action.now ≡ (last_check file (past self.now.list)).action
+            → e ≡ measured_if (last_check file (past self.now.list)).action.measure self.now.inode
+            file (Some (digests_in sums.now)) (past self.now.list)) }
+    {
+        if !action.measure {
+            return Ok(None);
+        }
+        let template = action.template.unwrap_or(self.kept.settings().template);
+        let sig = signature_in(self.label());
+        // An attribute has no more bytes, and the second digest is always by SHA-1.
+        if sig.len() > MAX_VALUE || sums.sha1.algo() != Algo::Sha1 {
+            return Err(AllocError);
+        }
+        let path = self.kept.path();
+        let entry = build(
+            self.alloc,
+            action.pcr,
+            template,
+            &sums.digest,
+            &sums.sha1,
+            path,
+            sig,
+        )?;
+        Ok(Some(entry))
+    }
+
+    // The digests in force.
+    fn in_force(&self) -> Option<Sums>
+        ensures { result ≡ sums_in_force (in_force self.now.inode (past self.now.list)) }
+    {
+        match &self.kept.state().in_force {
+            None => None,
+            Some(digests) => Some(digests.sums.copy()),
+        }
+    }
+
+    // Grants the file by these digests.
+    fn grant(
+        &mut self,
+        pass: &mut Pass<Event>,
+        who: Who,
+        deed: Deed,
+        file: u64,
+        asked: &Asked,
+        sums: &Sums,
+        known: &Known,
+        book: &mut Book,
+    ) -> Result<Grant, OutOfMemory>
+        requires name { pass.old.name ≡ self.old.journal }
+        requires number { pass.old.number ≡ caller_in who.task deed }
+        requires book_name { self.old.book ≡ book.old.name }
+        requires may { MayBy self.old pass.old.number deed }
+        requires grants { IsGranting self.old.inode (past self.old.list) who deed file asked.now
+            sums.now known.now }
+        ensures acts { IfOk result (λ g. Acts self.old self.new book.old.list book.new.list
+            pass.old pass.new who deed (Some (Told.Grant g))) }
+        ensures book { (book.new.name ≡ book.old.name) × (book.new.callers ≡ book.old.callers) }
+        ensures err { OnErr result (Stays self.old self.new pass.old pass.new) }
+        ensures err_book { OnErr result (book.new.list ≡ book.old.list) }
+    {
+        let verdict = self.verdict_for(asked, &sums.digest);
+        let mends = self.mends(&asked.action, &sums.digest, verdict);
+        let attrs = self.fixed(mends, &sums.digest)?;
+        let entry = self.measured(&asked.action, sums)?;
+        let admitted = admits(self.kept.settings().mode, verdict);
+        self.reserve()?;
+        book.reserve()?;
+        let placed = list_asked(book, &mut self.book, entry);
+        let grant = Grant {
+            placed: placed_if_measured(&asked.action, placed),
+            verdict,
+            admitted,
+            labelled: mends,
+        };
+        put_in(&mut self.attrs, attrs);
+        let told = Told::Grant(grant);
+        self.kept.enter(pass, Event { who, deed, told }, known);
+        Ok(grant)
+    }
+
+    /// Asks for the digest in force, by what the file's last check asked for: `slot` is that of its
+    /// function, and `action` its
+    /// action. With none in force a collection begins.
+    pub fn take(
+        &mut self,
+        pass: &mut Pass<Event>,
+        who: Who,
+        file: u64,
+        slot: Slot,
+        action: &Action,
+        book: &mut Book,
+    ) -> Result<Taken, OutOfMemory>
+        requires name { pass.old.name ≡ self.old.journal }
+        requires number { pass.old.number ≡ who.task + 1 }
+        requires book_name { self.old.book ≡ book.old.name }
+        requires may { MayBy self.old pass.old.number (Deed.Take file) }
+        requires slot { slot ≡ slot_of (last_check file (past self.old.list)).func }
+        requires action { action.now ≡ (last_check file (past self.old.list)).action }
+        ensures acts { IfOk result (λ t. Acts self.old self.new book.old.list book.new.list
+            pass.old pass.new who (Deed.Take file) (taken_told t)) }
+        ensures algo { IfOk result (λ t. BeginsBy (chosen_algo self.old.inode (past self.old.list))
+            t) }
+        ensures book { (book.new.name ≡ book.old.name) × (book.new.callers ≡ book.old.callers) }
+        ensures err { OnErr result (Stays self.old self.new pass.old pass.new) }
+        ensures err_book { OnErr result (book.new.list ≡ book.old.list) }
+    {
+        if self.is_collecting() {
+            self.block(pass);
+            return Ok(Taken::Blocked);
+        }
+        let algo = self.chosen_algo();
+        let known = self.taking(file, slot, action, algo);
+        match self.in_force() {
+            None => {
+                self.reserve()?;
+                self.step(pass, who, Deed::Take { file }, Told::Begun, &known);
+                Ok(Taken::Begun(algo))
+            }
+            Some(sums) => {
+                let asked = Asked {
+                    slot,
+                    action: *action,
+                };
+                let deed = Deed::Take { file };
+                let grant = self.grant(pass, who, deed, file, &asked, &sums, &known, book)?;
+                Ok(Taken::Answer(grant))
+            }
+        }
+    }
+
+    // What a take knows.
+    fn taking(&self, file: u64, slot: Slot, action: &Action, algo: Algo) -> Known
+        requires may { stage self.now.inode file (past self.now.list) ≡ asked_stage }
+        requires slot { slot ≡ slot_of (last_check file (past self.now.list)).func }
+        requires action { action.now ≡ (last_check file (past self.now.list)).action }
+        requires algo { algo ≡ chosen_algo self.now.inode (past self.now.list) }
+        ensures { (who : AnyWho) (t : AnyTold)
+            → IsKnown self.now.inode (past self.now.list) (record {
+              who = who;
+              deed = Deed.Take
+                  file;
+              told = t;
+            }) result }
+    {
+        let writing = counts_as(Kind::Writer, self.kept.how_at(file));
+        let asked = Asked {
+            slot,
+            action: *action,
+        };
+        Known::granting(writing, algo, asked, None)
+    }
+
+    /// The collection of a take ends with these digests, by its algorithm and by SHA-1: they come
+    /// in force, and the file is
+    /// granted.
+    pub fn finish(
+        &mut self,
+        pass: &mut Pass<Event>,
+        who: Who,
+        file: u64,
+        sums: (Digest, Digest),
+        book: &mut Book,
+    ) -> Result<Grant, OutOfMemory>
+        requires name { pass.old.name ≡ self.old.journal }
+        requires number { pass.old.number ≡ who.task + 1 }
+        requires book_name { self.old.book ≡ book.old.name }
+        requires may { MayBy self.old pass.old.number (Deed.Finish file) }
+        requires sums { HasSums self.old.inode (past self.old.list) sums }
+        ensures acts { IfOk result (λ g. Acts self.old self.new book.old.list book.new.list
+            pass.old pass.new who (Deed.Finish file) (Some (Told.Grant g))) }
+        ensures book { (book.new.name ≡ book.old.name) × (book.new.callers ≡ book.old.callers) }
+        ensures err { OnErr result (Stays self.old self.new pass.old pass.new) }
+        ensures err_book { OnErr result (book.new.list ≡ book.old.list) }
+    {
+        let Some(asked) = self.asked_at() else {
+            return Err(AllocError);
+        };
+        let writing = counts_as(Kind::Writer, self.kept.how_at(file));
+        let sums = Sums {
+            digest: sums.0,
+            sha1: sums.1,
+        };
+        let copy = Asked {
+            slot: asked.slot,
+            action: asked.action,
+        };
+        let known = Known::granting(writing, Algo::Sha1, copy, Some(sums.copy()));
+        let deed = Deed::Finish { file };
+        self.grant(pass, who, deed, file, &asked, &sums, &known, book)
+    }
+
+    // What the check asked for whose take has a collection open.
+    fn asked_at(&self) -> Option<Asked>
+        ensures asked { (file : ℕ) (a : AnyAsked)
+            → stage self.now.inode file (past self.now.list) ≡ collected_stage → result ≡ Some a
+            → IsAsked (last_check file (past self.now.list)) a }
+        ensures collects { (file : ℕ) → stage self.now.inode file (past self.now.list) ≡
+            collected_stage → Collects file (collecting self.now.inode (past self.now.list)) }
+    {
+        match &self.kept.state().collecting {
+            None => None,
+            Some(collecting) => copied(&collecting.asked),
+        }
+    }
+}

@@ -1,0 +1,236 @@
+// Changes of attributes and metadata.
+ghost use Rattle.std.specs.Prelude.{◌≡◌, ◌+◌, false, is_some, List, Some, IfOk, OnErr};
+ghost use Rattle.std.specs.Option.{option_copied};
+ghost use Rattle.ima_templates.specs.declared.entry.Entry.{Entry as AnyEntry};
+ghost use Rattle.inode_events.specs.Integrity.{collecting};
+ghost use Rattle.inode_events.specs.Past.{past};
+ghost use Rattle.inode_events.specs.Says.{is_no_label, is_too_long, set_attr_told, set_meta_told, status_told};
+ghost use Rattle.inode_events.specs.declared.told.Told.{Told as AnyTold};
+ghost use Rattle.inode_cell.specs.Acts.{Acts, Stays};
+ghost use Rattle.inode_cell.specs.Answers.{set_told};
+
+use crate::answers::Set;
+use crate::attributes::{changed_on, renewed};
+use crate::cell::InodeCell;
+use crate::facts::IMA_NAME;
+use grow_list::{OutOfMemory, Pass};
+use inode_events::{Change, Deed, Event, Told};
+use inode_kept::{Known, changed};
+use inode_meta::{Cred, EvmStatus, Who};
+use std::alloc::Global;
+use xattr_store::{Bytes, MAX_VALUE};
+
+// The attribute that holds the HMAC.
+const EVM_NAME: &[u8] = b"security.evm";
+
+// The highest type of a label that the kernel knows.
+const LAST_TYPE: u8 = 6;
+
+// What a refusal is told.
+fn told_by(answer: Set) -> Told
+    ensures { (t : AnyTold) → set_told answer ≡ Some t → result ≡ t }
+{
+    match answer {
+        Set::Done => Told::Done,
+        Set::Blocked => Told::Nothing,
+        Set::NotFound => Told::NotFound,
+        Set::EvmName => Told::EvmName,
+        Set::NotAdmin => Told::NotAdmin,
+        Set::TooLong => Told::TooLong,
+        Set::Invalid => Told::Invalid,
+        Set::NoData => Told::NoData,
+        Set::Status(status) => Told::Status(status),
+    }
+}
+
+fn by_status(answer: Result<(), EvmStatus>) -> Set
+    ensures { set_told result ≡ Some (status_told answer) }
+{
+    match answer {
+        Ok(()) => Set::Done,
+        Err(status) => Set::Status(status),
+    }
+}
+
+fn is_too_long(value: &Option<Bytes>) -> bool
+    ensures { result ≡ is_too_long value.now }
+{
+    match value {
+        None => false,
+        Some(bytes) => bytes.as_slice().len() > MAX_VALUE,
+    }
+}
+
+fn is_no_label_bytes(bytes: &[u8]) -> bool
+    ensures { result ≡ is_no_label (Some bytes.now) }
+{
+    match bytes {
+        [] => true,
+        [kind, ..] => *kind > LAST_TYPE,
+    }
+}
+
+fn is_no_label(value: &Option<Bytes>) -> bool
+    ensures { result ≡ is_no_label value.now }
+{
+    match value {
+        None => false,
+        Some(bytes) => is_no_label_bytes(bytes.as_slice()),
+    }
+}
+
+fn copied(alloc: Global, value: Option<&[u8]>) -> Result<Option<Bytes>, OutOfMemory>
+    ensures { IfOk result (λ copy. copy ≡ option_copied value.entry) }
+{
+    match value {
+        None => Ok(None),
+        Some(bytes) => Ok(Some(Bytes::from_slice(alloc, bytes)?)),
+    }
+}
+
+impl InodeCell {
+    // What a change of an attribute answers, where no collection is open: the first refusal that
+    // holds, else done.
+    fn attr_answer(&self, name: &[u8], value: &Option<Bytes>, admin: bool) -> Set
+        ensures { set_told result ≡ Some (set_attr_told self.now.inode name.now value.now admin
+            (past self.now.list)) }
+    {
+        let is_label = name == IMA_NAME;
+        if !self.is_present() {
+            Set::NotFound
+        } else if name == EVM_NAME {
+            Set::EvmName
+        } else if is_label && !admin {
+            Set::NotAdmin
+        } else if is_too_long(value) {
+            Set::TooLong
+        } else if is_label && is_no_label(value) {
+            Set::Invalid
+        } else if value.is_none() && self.attrs.get(name).is_none() {
+            Set::NoData
+        } else {
+            let evm = &self.kept.settings().evm;
+            by_status(evm.may_change(name, &self.attrs, &self.meta(), self.is_new()))
+        }
+    }
+
+    // What a change of mode or owner answers, where no collection is open.
+    fn meta_answer(&self) -> Set
+        ensures { set_told result ≡ Some (set_meta_told self.now.inode (past self.now.list)) }
+    {
+        if self.is_present() {
+            let evm = &self.kept.settings().evm;
+            by_status(evm.may_set_meta(&self.attrs, &self.meta()))
+        } else {
+            Set::NotFound
+        }
+    }
+
+    /// Changes the mode or the owner, and renews the HMAC.
+    pub fn set_meta(
+        &mut self,
+        pass: &mut Pass<Event>,
+        who: Who,
+        change: Change,
+    ) -> Result<Set, OutOfMemory>
+        requires name { pass.old.name ≡ self.old.journal }
+        requires number { pass.old.number ≡ who.task + 1 }
+        ensures acts { IfOk result (λ s. (list : List AnyEntry)
+            → Acts self.old self.new list list pass.old pass.new who (Deed.SetMeta change)
+            (set_told s)) }
+        ensures err { OnErr result (Stays self.old self.new pass.old pass.new) }
+    {
+        if self.is_collecting() {
+            self.block(pass);
+            return Ok(Set::Blocked);
+        }
+        self.reserve()?;
+        match self.meta_answer() {
+            Set::Done => {
+                let evm = &self.kept.settings().evm;
+                let attrs = renewed(evm, &self.attrs, &changed(change, self.meta()))?;
+                let known = Known::nothing();
+                self.step_with(
+                    pass,
+                    who,
+                    Deed::SetMeta { change },
+                    Told::Done,
+                    &known,
+                    attrs,
+                );
+                Ok(Set::Done)
+            }
+            refusal => {
+                let known = Known::nothing();
+                self.step(
+                    pass,
+                    who,
+                    Deed::SetMeta { change },
+                    told_by(refusal),
+                    &known,
+                );
+                Ok(refusal)
+            }
+        }
+    }
+
+    /// Sets an attribute, or with no value removes it. The HMAC is renewed where the name is
+    /// protected.
+    pub fn set_attr(
+        &mut self,
+        pass: &mut Pass<Event>,
+        who: Who,
+        cred: &Cred,
+        name: &[u8],
+        value: Option<&[u8]>,
+    ) -> Result<Set, OutOfMemory>
+        requires name { pass.old.name ≡ self.old.journal }
+        requires number { pass.old.number ≡ who.task + 1 }
+        ensures acts { IfOk result (λ s. (list : List AnyEntry)
+            → Acts self.old self.new list list pass.old pass.new who (Deed.SetAttr name.now
+            (option_copied value.entry) cred.now.admin) (set_told s)) }
+        ensures err { OnErr result (Stays self.old self.new pass.old pass.new) }
+    {
+        if self.is_collecting() {
+            self.block(pass);
+            return Ok(Set::Blocked);
+        }
+        let name = Bytes::from_slice(self.alloc, name)?;
+        let value = copied(self.alloc, value)?;
+        self.set_free(pass, who, name, value, cred.admin)
+    }
+
+    // The same where no collection is open.
+    fn set_free(
+        &mut self,
+        pass: &mut Pass<Event>,
+        who: Who,
+        name: Bytes,
+        value: Option<Bytes>,
+        admin: bool,
+    ) -> Result<Set, OutOfMemory>
+        requires name { pass.old.name ≡ self.old.journal }
+        requires number { pass.old.number ≡ who.task + 1 }
+        requires free { is_some (collecting self.old.inode (past self.old.list)) ≡ false }
+        ensures acts { IfOk result (λ s. (list : List AnyEntry)
+            → Acts self.old self.new list list pass.old pass.new who (Deed.SetAttr name value
+            admin) (set_told s)) }
+        ensures err { OnErr result (Stays self.old self.new pass.old pass.new) }
+    {
+        self.reserve()?;
+        match self.attr_answer(name.as_slice(), &value, admin) {
+            Set::Done => {
+                let evm = &self.kept.settings().evm;
+                let attrs = changed_on(evm, &self.attrs, &self.meta(), name.as_slice(), &value)?;
+                let deed = Deed::SetAttr { name, value, admin };
+                self.step_with(pass, who, deed, Told::Done, &Known::nothing(), attrs);
+                Ok(Set::Done)
+            }
+            refusal => {
+                let deed = Deed::SetAttr { name, value, admin };
+                self.step(pass, who, deed, told_by(refusal), &Known::nothing());
+                Ok(refusal)
+            }
+        }
+    }
+}

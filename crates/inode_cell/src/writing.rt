@@ -1,0 +1,280 @@
+// Writes, truncations and reads, and the pieces that a collection takes.
+ghost use Rattle.std.specs.Prelude.{◌≡◌, ℕ, Option, ◌+◌, ◌*◌, nat_le, List, Some, length, IfOk, OnErr};
+ghost use Rattle.hash_algos.specs.Digest.{digest_of};
+ghost use Rattle.ima_templates.specs.declared.entry.Entry.{Entry as AnyEntry};
+ghost use Rattle.inode_events.specs.Integrity.{Collection as AnyCollection, collecting};
+ghost use Rattle.inode_events.specs.Past.{past};
+ghost use Rattle.inode_events.specs.Says.{chunk_told};
+ghost use Rattle.inode_events.specs.State.{content};
+ghost use Rattle.inode_pages.specs.Content.{bytes_at, piece_at};
+ghost use Rattle.inode_cell.specs.Acts.{Acts, MayBy, Stays};
+ghost use Rattle.inode_cell.specs.Answers.{piece_told, wrote_told};
+ghost use Rattle.inode_cell.specs.Pieces.{IsPieceDeed};
+
+use crate::answers::{Piece, Wrote};
+use crate::cell::InodeCell;
+use grow_list::{OutOfMemory, Pass};
+use hash_algos::{Algo, Digest, Running};
+use inode_events::{Deed, Event, Told};
+use inode_kept::Known;
+use inode_meta::Who;
+use inode_pages::{Page, PageErr};
+use std::alloc::AllocError;
+use xattr_store::Bytes;
+
+// How many bytes a collection hashes at a time.
+const PIECE: u64 = 4096;
+
+// Nothing is left behind the piece with this number, counted from 0, of a content of this size.
+fn is_last(size: u64, piece: u64) -> bool
+    ensures { result ≡ nat_le size (4096 * (piece + 1)) }
+{
+    size.saturating_sub(1) / PIECE <= piece
+}
+
+fn piece_of(size: u64, piece: u64) -> Piece
+    ensures { (o : Option AnyCollection) (c : AnyCollection) (bytes : List ℕ) → o ≡ Some c
+        → piece ≡ c.pieces → size ≡ length bytes → chunk_told bytes o ≡ Some (piece_told result) }
+{
+    if is_last(size, piece) {
+        Piece::Last
+    } else {
+        Piece::More
+    }
+}
+
+fn told_by_piece(piece: Piece) -> Told
+    ensures { result ≡ piece_told piece }
+{
+    match piece {
+        Piece::More => Told::More,
+        Piece::Last => Told::Last,
+    }
+}
+
+// The digest of bytes.
+fn digest_of(algo: Algo, bytes: &[u8]) -> Digest
+    ensures { result ≡ digest_of algo bytes.now }
+{
+    let mut running = Running::new(algo);
+    running.feed(bytes);
+    running.finish()
+}
+
+/// What a read answers.
+#[derive(Drop)]
+pub struct Got {
+    /// The number of bytes.
+    pub n: u64,
+    /// Their SHA-256.
+    pub digest: Digest,
+}
+
+impl InodeCell {
+    // The next piece of the open collection.
+    fn next_piece(&self) -> Result<(Piece, Page), OutOfMemory>
+        ensures told { IfOk result (λ r. chunk_told (content (past self.now.list)) (collecting
+            self.now.inode (past self.now.list)) ≡ Some (piece_told r.0)) }
+        ensures page { IfOk result (λ r. (c : AnyCollection)
+            → collecting self.now.inode (past self.now.list) ≡ Some c
+            → r.1 ≡ piece_at (content (past self.now.list)) c.pieces) }
+    {
+        let Some(collecting) = &self.kept.state().collecting else {
+            return Err(AllocError);
+        };
+        let Ok(k) = u32::try_from(collecting.pieces) else {
+            return Err(AllocError);
+        };
+        let page = self.content.page(self.alloc, k)?;
+        Ok((piece_of(self.size(), collecting.pieces), page))
+    }
+
+    // The open collection takes its next piece.
+    fn take_piece(
+        &mut self,
+        pass: &mut Pass<Event>,
+        who: Who,
+        deed: Deed,
+    ) -> Result<(Piece, Page), OutOfMemory>
+        requires name { pass.old.name ≡ self.old.journal }
+        requires number { pass.old.number ≡ who.task + 1 }
+        requires may { MayBy self.old pass.old.number deed }
+        requires piece { IsPieceDeed deed }
+        ensures acts { IfOk result (λ r. (list : List AnyEntry)
+            → Acts self.old self.new list list pass.old pass.new who deed (Some (piece_told r.0))) }
+        ensures page { IfOk result (λ r. (c : AnyCollection)
+            → collecting self.old.inode (past self.old.list) ≡ Some c
+            → r.1 ≡ piece_at (content (past self.old.list)) c.pieces) }
+        ensures err { OnErr result (Stays self.old self.new pass.old pass.new) }
+    {
+        self.reserve()?;
+        let (piece, page) = self.next_piece()?;
+        self.step(pass, who, deed, told_by_piece(piece), &Known::nothing());
+        Ok((piece, page))
+    }
+
+    /// The collection of a take hashes its next 4,096 bytes, which are answered.
+    pub fn chunk(
+        &mut self,
+        pass: &mut Pass<Event>,
+        who: Who,
+        file: u64,
+    ) -> Result<(Piece, Page), OutOfMemory>
+        requires name { pass.old.name ≡ self.old.journal }
+        requires number { pass.old.number ≡ who.task + 1 }
+        requires may { MayBy self.old pass.old.number (Deed.Chunk file) }
+        ensures acts { IfOk result (λ r. (list : List AnyEntry)
+            → Acts self.old self.new list list pass.old pass.new who (Deed.Chunk file) (Some
+            (piece_told r.0))) }
+        ensures page { IfOk result (λ r. (c : AnyCollection)
+            → collecting self.old.inode (past self.old.list) ≡ Some c
+            → r.1 ≡ piece_at (content (past self.old.list)) c.pieces) }
+        ensures err { OnErr result (Stays self.old self.new pass.old pass.new) }
+    {
+        self.take_piece(pass, who, Deed::Chunk { file })
+    }
+
+    /// The collection of a close hashes its next 4,096 bytes, which are answered.
+    pub fn close_chunk(
+        &mut self,
+        pass: &mut Pass<Event>,
+        who: Who,
+        file: u64,
+    ) -> Result<(Piece, Page), OutOfMemory>
+        requires name { pass.old.name ≡ self.old.journal }
+        requires number { pass.old.number ≡ who.task + 1 }
+        requires may { MayBy self.old pass.old.number (Deed.CloseChunk file) }
+        ensures acts { IfOk result (λ r. (list : List AnyEntry)
+            → Acts self.old self.new list list pass.old pass.new who (Deed.CloseChunk file) (Some
+            (piece_told r.0))) }
+        ensures page { IfOk result (λ r. (c : AnyCollection)
+            → collecting self.old.inode (past self.old.list) ≡ Some c
+            → r.1 ≡ piece_at (content (past self.old.list)) c.pieces) }
+        ensures err { OnErr result (Stays self.old self.new pass.old pass.new) }
+    {
+        self.take_piece(pass, who, Deed::CloseChunk { file })
+    }
+
+    // At most `len` bytes from the byte `from` on, hashed.
+    fn hashed(&self, from: u64, len: u64) -> Result<Got, OutOfMemory>
+        ensures n { IfOk result (λ g. g.n ≡ length (bytes_at (content (past self.now.list)) from
+            len)) }
+        ensures digest { IfOk result (λ g. g.digest ≡ digest_of Algo.Sha256 (bytes_at (content
+            (past self.now.list)) from len)) }
+    {
+        let most = len.min(self.size());
+        let mut buf = Vec::new(self.alloc);
+        buf.resize(most as usize, 0)?;
+        let n = self.content.read(from, buf.as_mut_slice());
+        let digest = digest_of(Algo::Sha256, &buf.as_slice()[..n]);
+        Ok(Got {
+            n: n as u64,
+            digest,
+        })
+    }
+
+    /// Reads at most `len` bytes, from the byte `from` on.
+    pub fn read(
+        &mut self,
+        pass: &mut Pass<Event>,
+        who: Who,
+        file: u64,
+        from: u64,
+        len: u64,
+    ) -> Result<Got, OutOfMemory>
+        requires name { pass.old.name ≡ self.old.journal }
+        requires number { pass.old.number ≡ who.task + 1 }
+        requires may { MayBy self.old pass.old.number (Deed.Read file from len) }
+        ensures acts { IfOk result (λ g. (list : List AnyEntry)
+            → Acts self.old self.new list list pass.old pass.new who (Deed.Read file from len)
+            (Some (Told.Read g.n g.digest))) }
+        ensures err { OnErr result (Stays self.old self.new pass.old pass.new) }
+    {
+        self.reserve()?;
+        let got = self.hashed(from, len)?;
+        let told = Told::Read {
+            n: got.n,
+            digest: got.digest,
+        };
+        self.step(
+            pass,
+            who,
+            Deed::Read { file, from, len },
+            told,
+            &Known::nothing(),
+        );
+        Ok(got)
+    }
+
+    /// Writes bytes, from the byte `from` on.
+    pub fn write(
+        &mut self,
+        pass: &mut Pass<Event>,
+        who: Who,
+        file: u64,
+        from: u64,
+        bytes: &[u8],
+    ) -> Result<Wrote, OutOfMemory>
+        requires name { pass.old.name ≡ self.old.journal }
+        requires number { pass.old.number ≡ who.task + 1 }
+        requires may { MayBy self.old pass.old.number (Deed.Write file from bytes.now) }
+        ensures acts { IfOk result (λ w. (list : List AnyEntry)
+            → Acts self.old self.new list list pass.old pass.new who (Deed.Write file from
+            bytes.now) (Some (wrote_told w))) }
+        ensures err { OnErr result (Stays self.old self.new pass.old pass.new) }
+    {
+        let copy = Bytes::from_slice(self.alloc, bytes)?;
+        let deed = Deed::Write {
+            file,
+            from,
+            bytes: copy,
+        };
+        self.reserve()?;
+        match self.content.write(self.alloc, from, bytes) {
+            Ok(()) => {
+                let told = Told::Done;
+                self.kept
+                    .enter(pass, Event { who, deed, told }, &Known::nothing());
+                Ok(Wrote::Done)
+            }
+            Err(PageErr::TooBig) => {
+                self.step(pass, who, deed, Told::TooBig, &Known::nothing());
+                Ok(Wrote::TooBig)
+            }
+            Err(PageErr::OutOfMemory) => Err(AllocError),
+        }
+    }
+
+    /// Cuts the content to `len` bytes, or lengthens it by zeros.
+    pub fn trunc(
+        &mut self,
+        pass: &mut Pass<Event>,
+        who: Who,
+        file: u64,
+        len: u64,
+    ) -> Result<Wrote, OutOfMemory>
+        requires name { pass.old.name ≡ self.old.journal }
+        requires number { pass.old.number ≡ who.task + 1 }
+        requires may { MayBy self.old pass.old.number (Deed.Trunc file len) }
+        ensures acts { IfOk result (λ w. (list : List AnyEntry)
+            → Acts self.old self.new list list pass.old pass.new who (Deed.Trunc file len) (Some
+            (wrote_told w))) }
+        ensures err { OnErr result (Stays self.old self.new pass.old pass.new) }
+    {
+        let deed = Deed::Trunc { file, len };
+        self.reserve()?;
+        match self.content.resize(self.alloc, len) {
+            Ok(()) => {
+                let told = Told::Done;
+                self.kept
+                    .enter(pass, Event { who, deed, told }, &Known::nothing());
+                Ok(Wrote::Done)
+            }
+            Err(PageErr::TooBig) => {
+                self.step(pass, who, deed, Told::TooBig, &Known::nothing());
+                Ok(Wrote::TooBig)
+            }
+            Err(PageErr::OutOfMemory) => Err(AllocError),
+        }
+    }
+}

@@ -1,0 +1,4 @@
+pub mod CountsLemmas
+pub mod CollectingLemmas
+pub mod InForceLemmas
+pub mod VerdictsLemmas

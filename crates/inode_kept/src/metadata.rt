@@ -1,0 +1,27 @@
+// The metadata of an inode.
+ghost use Rattle.std.specs.Prelude.{◌≡◌};
+ghost use Rattle.inode_events.specs.State.{changed, metadata_after};
+
+use inode_events::{Change, Deed, Event, Told};
+use inode_meta::Meta;
+
+/// The metadata after a change.
+pub fn changed(change: Change, meta: Meta) -> Meta
+    ensures { result ≡ changed change meta }
+{
+    match change {
+        Change::Mode(mode) => Meta { mode, ..meta },
+        Change::Owner { uid, gid } => Meta { uid, gid, ..meta },
+    }
+}
+
+/// The metadata after an event.
+pub fn metadata_after(e: &Event, old: Meta) -> Meta
+    ensures { result ≡ metadata_after e.now.deed e.now.told old }
+{
+    match (&e.deed, &e.told) {
+        (Deed::Birth, Told::Image(image)) => image.meta,
+        (Deed::SetMeta { change }, Told::Done) => changed(*change, old),
+        _ => old,
+    }
+}

@@ -1,0 +1,22 @@
+use Rattle.std.proofs.Common.{◌≡◌, sym, ◌∙◌, ap, subst, List, ℕ}
+use Rattle.grow_list.specs.Entries.{entries_of}
+use Rattle.own_laws.proofs.Looking.{tells}
+use Rattle.own_laws.specs.Laws.{TellsByMine}
+use Rattle.kept_journal.specs.Fields.{inode_in}
+use Rattle.kept_journal.specs.Value.{KeptValue}
+use Rattle.kept_journal.proofs.journal.KeptJournal.look.Goals as goal
+
+pub returns-clause-tells : goal.returns-clause-tells
+returns-clause-tells c =
+    let g = c.self.inside.journal in
+    let e = c.look.ensures in
+    let n = c.look.new.pass.number in
+    let mine : entries_of n c.look.new.self.numbers c.look.new.self.list ≡ c.look.new.pass.mine =
+    e.own in
+    subst (λ (v : KeptValue). TellsByMine v.inode n c.args.pass.now.seen v.list
+    c.look.new.pass.mine) c.self.view_is
+    (tells (inode_in c.self.inside) n c.args.pass.now.seen g.list c.look.new.pass.mine
+    c.self.invariant.legal.1 c.self.invariant.owned e.before
+    (ap (λ (ns : List ℕ). entries_of n ns g.list) (sym c.self.invariant.numbers
+    ∙ sym e.list.numbers) ∙ ap (λ l. entries_of n c.look.new.self.numbers l) (sym e.list.list)
+    ∙ mine))

@@ -1,0 +1,63 @@
+-- What contracts see of a journal with what is kept beside it.
+use Rattle.std.specs.Prelude.{◌≡◌, ℕ, ◌+◌, ◌<◌, ◌==◌, Bool, true, false, All, List, [], ◌∷◌, count_by, if◌then◌else◌}
+use Rattle.grow_list.specs.Shown.{ListName, Passed}
+use Rattle.inode_events.specs.Callers.{caller_in}
+use Rattle.inode_events.specs.Inode.{Inode, nobody}
+use Rattle.inode_events.specs.Legal.{Follows}
+use Rattle.inode_events.specs.Past.{past}
+use Rattle.inode_events.specs.declared.deed.Deed.TheVariants as deed
+use Rattle.inode_events.specs.declared.image.Image.{Image}
+use Rattle.inode_events.specs.declared.told.Event.{Event}
+use Rattle.inode_events.specs.declared.told.Told.{Told}
+use Rattle.inode_events.specs.declared.told.Told.TheVariants as told
+
+-- the inode, the name of its journal, how many callers there are, for how many more events there is
+-- room, and the journal
+pub record KeptValue : Type 0 where
+  pub inode : Inode
+  pub name : ListName
+  pub callers : ℕ
+  pub spare : ℕ
+  pub list : List Event
+
+-- the same journal, with perhaps another room
+pub record IsSameJournal (old new : KeptValue) : Type 0 where
+  pub inode : new.inode ≡ old.inode
+  pub name : new.name ≡ old.name
+  pub callers : new.callers ≡ old.callers
+  pub list : new.list ≡ old.list
+
+-- ---- the birth, which is no copy: it is what the first event was told
+
+-- no file
+abbrev pub nothing : Image
+nothing = record {
+  present = false;
+  content = [];
+  attrs = [];
+  meta = record { ino = 0; generation = 0; uid = 0; gid = 0; mode = 0; place = 0 };
+  versions = false;
+}
+
+abbrev pub image_in : Told → Image
+image_in (told.Image image) = image
+image_in _ = nothing
+
+abbrev pub birth_in : List Event → Image
+birth_in [] = nothing
+birth_in (e ∷ es) = image_in e.told
+
+-- the birth of an inode with this image
+abbrev pub birth_of : Image → Event
+birth_of image = record { who = nobody; deed = deed.Birth; told = told.Image image }
+
+-- ---- passes
+
+-- how many of the other passes have the number: the journal's own pass has the number 0
+abbrev pub beside_own : ℕ → ℕ
+beside_own n = if n == 0 then 0 else 1
+
+-- the passes are those of the journal but its own, each once
+pub record HasOthers (j : KeptValue) (passes : List (Passed Event)) : Type 0 where
+  pub of_journal : All (λ p. p.name ≡ j.name) passes
+  pub one_each : (n : ℕ) → n < j.callers → count_by (λ p. p.number == n) passes ≡ beside_own n
