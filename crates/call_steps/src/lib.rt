@@ -26,5 +26,6 @@ pub use course::Course;
 pub use due::{Due, Next};
 pub use ending::{Ending, Turns};
 pub use held::{Hand, Handle, Held, Name};
+pub use next::next_by;
 pub use plan::Plan;
 pub use reply::Reply;

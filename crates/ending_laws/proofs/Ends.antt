@@ -36,7 +36,8 @@ use Rattle.inode_events.specs.Semaphores.{semaphore_says}
 use Rattle.ending_laws.specs.Resting.{AtRest, EndsAtRest, MayStep, Resting}
 use Rattle.ending_laws.proofs.Counted.{Fits, history_fits, posts_agree, signal_of}
 use Rattle.ending_laws.proofs.Free.{does_turn, moves_is, no_collection}
-use Rattle.ending_laws.proofs.Totals.{count_past, counted, paid}
+use Rattle.inode_events.proofs.Paid.{paid}
+use Rattle.ending_laws.proofs.Totals.{count_past, counted}
 use Rattle.inode_events.specs.Stage.{Stage, is_collecting, stage}
 
 both_ways : (b : Bool) → b ≡ true → b ≡ false → ⊥

@@ -8,3 +8,4 @@ pub mod Moves
 pub mod Meetings
 pub mod Own
 pub mod Closing
+pub mod Others

@@ -5,3 +5,4 @@ pub mod Steps
 pub mod Meetings
 pub mod Shown
 pub mod Whole
+pub mod Others

@@ -8,3 +8,4 @@ pub mod EdgeExamples
 pub mod EntryExamples
 pub mod SemaphoreExamples
 pub mod RunExamples
+pub mod Paid

@@ -7,9 +7,9 @@ ghost use Rattle.inode_hashing.specs.Hashing.{HasHashed};
 use hash_algos::{Algo, Digest, Running};
 use inode_pages::Page;
 
-/// A collection under way: it takes the content in pieces, and how they are cut makes no difference.
-/// A contract says by which algorithm it hashes, and which bytes it can have taken; what comes next
-/// joins their end. A collection by SHA-1 hashes once.
+/// A collection under way: it takes the content in pieces, and how they are cut makes no
+/// difference. A contract says by which algorithm it hashes, and which bytes it can have taken;
+/// what comes next joins their end. A collection by SHA-1 hashes once.
 #[derive(Drop)]
 pub struct Hashing {
     chosen: Running,
@@ -33,7 +33,8 @@ impl Hashing {
 
     /// Takes the next piece.
     pub fn next(&mut self, b: &[u8])
-        ensures { (a : AnyAlgo) (m : List ℕ) → HasHashed self.old a m → HasHashed self.new a (m ++ b.now) }
+        ensures { (a : AnyAlgo) (m : List ℕ) → HasHashed self.old a m
+            → HasHashed self.new a (m ++ b.now) }
     {
         self.chosen.feed(b);
         if let Some(sha1) = &mut self.sha1 {
@@ -43,14 +44,16 @@ impl Hashing {
 
     /// Takes the bytes of the next page.
     pub fn next_page(&mut self, p: &Page)
-        ensures { (a : AnyAlgo) (m : List ℕ) → HasHashed self.old a m → HasHashed self.new a (m ++ p.now) }
+        ensures { (a : AnyAlgo) (m : List ℕ) → HasHashed self.old a m
+            → HasHashed self.new a (m ++ p.now) }
     {
         self.next(p.as_slice());
     }
 
     /// The digest of all pieces by the collection's algorithm, and the one by SHA-1.
     pub fn finish(self) -> (Digest, Digest)
-        ensures { (a : AnyAlgo) (m : List ℕ) → HasHashed self a m → result ≡ (digest_of a m, digest_of Sha1 m) }
+        ensures { (a : AnyAlgo) (m : List ℕ) → HasHashed self a m
+            → result ≡ (digest_of a m, digest_of Sha1 m) }
     {
         let chosen = self.chosen.finish();
         let sha1 = match self.sha1 {

@@ -30,8 +30,8 @@ impl From<AllocError> for PageErr {
 }
 
 /// The bytes of a file, at most [`MOST_BYTES`]. Contracts see their list. They are kept as pages of
-/// [`PAGE_SIZE`] bytes. A page that was handed out stays as it is: a write makes new pages in place of
-/// those that it changes, and makes them all before it puts any in.
+/// [`PAGE_SIZE`] bytes. A page that was handed out stays as it is: a write makes new pages in place
+/// of those that it changes, and makes them all before it puts any in.
 #[derive(Drop)]
 pub struct Content {
     pages: Vec<Page>,
@@ -61,7 +61,8 @@ fn bytes_at(bytes: &[u8], from: usize, len: usize) -> &[u8]
 fn copy_part(buf: &mut [u8], at: usize, bytes: &[u8]) -> usize
     requires { at ≤ length buf.old }
     ensures count { result ≡ min (length bytes.now) (length buf.old - at) }
-    ensures bytes { buf.new ≡ take at buf.old ++ take result bytes.now ++ drop (at + result) buf.old }
+    ensures bytes { buf.new
+        ≡ take at buf.old ++ take result bytes.now ++ drop (at + result) buf.old }
 {
     let count = bytes.len().min(buf.len() - at);
     buf[at..at + count].copy_from_slice(&bytes[..count]);
@@ -72,7 +73,8 @@ fn copy_part(buf: &mut [u8], at: usize, bytes: &[u8]) -> usize
 fn put(pages: &mut Vec<Page>, k: usize, page: Page)
     requires place { k ≤ vec_len pages.old }
     requires room { k < vec_capacity pages.old }
-    ensures items { pages.new.items ≡ take k pages.old.items ++ page ∷ drop (k + 1) pages.old.items }
+    ensures items { pages.new.items
+        ≡ take k pages.old.items ++ page ∷ drop (k + 1) pages.old.items }
     ensures room { vec_capacity pages.new ≡ vec_capacity pages.old }
 {
     if k < pages.len() {
@@ -86,7 +88,8 @@ fn put(pages: &mut Vec<Page>, k: usize, page: Page)
 fn put_all(pages: &mut Vec<Page>, first: usize, new: Vec<Page>)
     requires place { first ≤ vec_len pages.old }
     requires room { first + vec_len new ≤ vec_capacity pages.old }
-    ensures { pages.new.items ≡ take first pages.old.items ++ new.items ++ drop (first + length new.items) pages.old.items }
+    ensures { pages.new.items ≡ take first pages.old.items ++ new.items
+        ++ drop (first + length new.items) pages.old.items }
 {
     let mut k = first;
     for page in new {
@@ -150,7 +153,8 @@ impl Content {
         self.piece(k as usize)
     }
 
-    /// The page of the bytes of `chunk(k)`. It is shared and not copied, and no later write changes it.
+    /// The page of the bytes of `chunk(k)`. It is shared and not copied, and no later write changes
+    /// it.
     pub fn page(&self, alloc: Global, k: u32) -> Result<Page, OutOfMemory>
         ensures piece { IfOk result (λ page. page ≡ piece_at self.now k) }
     {
@@ -184,7 +188,8 @@ impl Content {
         requires small { (from + length b.now ≤ most_bytes) × (first + count ≤ most_bytes) }
         ensures count { IfOk result (λ pages. length pages.items ≡ count) }
         ensures each { IfOk result (λ pages. (j : ℕ) → j < count
-            → slice_get pages.items j ≡ Some (piece_at (overwritten self.now from b.now) (first + j))) }
+            → slice_get pages.items j
+            ≡ Some (piece_at (overwritten self.now from b.now) (first + j))) }
     {
         let mut pages = Vec::with_capacity(alloc, count)?;
         for k in first..first + count {
@@ -211,7 +216,8 @@ impl Content {
         Ok(page)
     }
 
-    // Writes where the end lies within the limit. A write of nothing behind the end lengthens by zeros.
+    // Writes where the end lies within the limit. A write of nothing behind the end lengthens by
+    // zeros.
     fn overwrite(&mut self, alloc: Global, from: usize, b: &[u8]) -> Result<(), OutOfMemory>
         requires small { from + length b.now ≤ most_bytes }
         ensures ok { OnOk result (self.new ≡ overwritten self.old from b.now) }
@@ -225,8 +231,8 @@ impl Content {
         Ok(())
     }
 
-    /// Puts the bytes at a place, and zeros into a gap before it. `TooBig` exactly where their end would
-    /// lie above [`MOST_BYTES`]. After an error the content is as before.
+    /// Puts the bytes at a place, and zeros into a gap before it. `TooBig` exactly where their end
+    /// would lie above [`MOST_BYTES`]. After an error the content is as before.
     pub fn write(&mut self, alloc: Global, from: u64, b: &[u8]) -> Result<(), PageErr>
         requires { 1 ≤ length b.now }
         ensures ok { OnOk result (self.new ≡ overwritten self.old from b.now) }
@@ -277,8 +283,8 @@ impl Content {
         Ok(())
     }
 
-    /// Copies the bytes from a place on into the buffer, as many as it holds, and answers how many they
-    /// were: none from the end on. What lies behind them in the buffer stays.
+    /// Copies the bytes from a place on into the buffer, as many as it holds, and answers how many
+    /// they were: none from the end on. What lies behind them in the buffer stays.
     pub fn read(&self, from: u64, buf: &mut [u8]) -> usize
         ensures bytes { buf.new ≡ bytes_at self.now from (length buf.old) ++ drop result buf.old }
         ensures count { result ≡ length (bytes_at self.now from (length buf.old)) }

@@ -1,4 +1,5 @@
-//! The bytes of a file, kept as pages of 4,096 bytes that may be shared, and are copied before they are changed.
+//! The bytes of a file, kept as pages of 4,096 bytes that may be shared, and are copied before they
+//! are changed.
 #![tactic(auto)]
 
 mod content;

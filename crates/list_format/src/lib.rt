@@ -11,5 +11,5 @@ mod record;
 mod tests;
 
 pub use counts::violations;
-pub use line::ascii;
+pub use line::{append_hex, append_named_digest, ascii};
 pub use record::binary;

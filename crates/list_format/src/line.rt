@@ -9,6 +9,7 @@ ghost use Rattle.list_format.specs.Line.{ascii_line, field_text, fields_text, li
 use hash_algos::Digest;
 use ima_templates::Entry;
 use inode_meta::{Bank, Field};
+use std::alloc::AllocError;
 use xattr_store::OutOfMemory;
 
 /// Appends the line of an entry: its register, right in a width of 2, the template digest of SHA-1
@@ -81,8 +82,8 @@ fn append_name(name: &[u8], out: &mut Vec<u8>) -> Result<(), OutOfMemory>
     out.extend_from_slice(name)
 }
 
-// A space, the algorithm's name, a colon and the digest in hexadecimal.
-fn append_named_digest(digest: &Digest, out: &mut Vec<u8>) -> Result<(), OutOfMemory>
+/// Appends a space, the algorithm's name, a colon and the digest in hexadecimal.
+pub fn append_named_digest(digest: &Digest, out: &mut Vec<u8>) -> Result<(), OutOfMemory>
     ensures ok { OnOk result (out.new.items
         ≡ out.old.items ++ 32 ∷ algo_name digest.now.algo ++ 58 ∷ encode_lower digest.now.bytes) }
     ensures kept { take (vec_len out.old) out.new.items ≡ out.old.items }
@@ -92,14 +93,16 @@ fn append_named_digest(digest: &Digest, out: &mut Vec<u8>) -> Result<(), OutOfMe
     append_hex(out, b':', digest.as_slice())
 }
 
-// This byte and the bytes in hexadecimal.
-fn append_hex(out: &mut Vec<u8>, before: u8, bytes: &[u8]) -> Result<(), OutOfMemory>
-    requires { length bytes.now ≤ 4096 }
+/// Appends this byte and the bytes in hexadecimal, in lower case. After a refusal `out` is as before.
+pub fn append_hex(out: &mut Vec<u8>, before: u8, bytes: &[u8]) -> Result<(), OutOfMemory>
     ensures ok { OnOk result (out.new.items ≡ out.old.items ++ before ∷ encode_lower bytes.now) }
     ensures err { OnErr result (out.new.items ≡ out.old.items) }
 {
     let start = out.len() + 1;
-    out.resize(start + 2 * bytes.len(), before)?;
+    let Some(end) = start.checked_add(2 * bytes.len()) else {
+        return Err(AllocError);
+    };
+    out.resize(end, before)?;
     hex::encode_to_slice(bytes, &mut out[start..]).unwrap();
     Ok(())
 }

@@ -1,11 +1,10 @@
 -- What a book keeps, with one entry more and at its start.
-use Rattle.std.proofs.Common.{◌≡◌, ℕ, suc, add-one, ◌+◌, ◌<◌, List, [], ◌∷◌, ◌++◌, All, length, map, get_or, Option, None, Some, refl, ap, subst, sym, ◌∙◌, arith}
+use Rattle.std.proofs.Common.{◌≡◌, ℕ, List, [], ◌∷◌, ◌++◌, All, map, Option, None, refl, ap, subst, sym, ◌∙◌}
 use Rattle.std.proofs.lemmas.List.{map-append}
 use Rattle.std.proofs.lemmas.List.Elements.{All-cons, All-nil, All-push}
-use Rattle.std.proofs.lemmas.Option.{get_or_from_slice_get, none-some, same_Some}
-use Rattle.std.specs.List.{remove}
+use Rattle.std.proofs.lemmas.Option.{none-some}
 use Rattle.std.specs.Prelude.{slice_get}
-use Rattle.grow_list.specs.Shown.{Grown, ListName, Passed, fresh}
+use Rattle.grow_list.specs.Shown.{Grown, Passed}
 use Rattle.grow_list.proofs.Prefixes.{prefix_append, prefix_get}
 use Rattle.ima_templates.specs.IsEntry.{IsEntry}
 use Rattle.ima_templates.specs.Replay.{banks_of, extended_by}
@@ -68,29 +67,3 @@ IsBook-start b boot valid banks keys list name number mine = record {
       subst IsDistinct (sym list) (IsDistinct-push [] boot
       (λ a b x y before at_a at_b. absurd (none-some x at_a)) refl);
 }
-
--- ---- the own pass is the first of those that the list gave
-
--- the pass that was removed is the first
-pub first_is : (passes : List (Passed Entry)) (own p : Passed Entry) → slice_get passes 0 ≡ Some p
-    → own ≡ get_or passes 0 own → own ≡ p
-first_is passes own p is own_is = own_is ∙ get_or_from_slice_get passes 0 p own is
-
--- the passes are the first and the rest
-pub split_first : (passes : List (Passed Entry)) (own p : Passed Entry)
-    → slice_get passes 0 ≡ Some p → own ≡ p → passes ≡ own ∷ remove passes 0
-split_first [] own p is same = absurd (none-some p is)
-split_first (q ∷ qs) own p is same = let one : q
-    ≡ p = same_Some q p is in λ i. (one ∙ sym same) i ∷ qs
-
--- the others are fresh, in the order of their numbers
-pub rest_fresh : (passes rest : List (Passed Entry)) (own : Passed Entry) (name later : ListName)
-    (callers : ℕ) → passes ≡ own ∷ rest
-    → length passes ≡ callers → later ≡ name
-    → ((k : ℕ) → k < callers → slice_get passes k ≡ Some (fresh name k))
-    → (k : ℕ) → k < length rest → slice_get rest k ≡ Some (fresh later (k + 1))
-rest_fresh passes rest own name later callers split count same each k below =
-    let longer : length passes ≡ suc (length rest) = ap length split in
-    ap (λ (l : List (Passed Entry)). slice_get l (suc k)) (sym split)
-    ∙ each (suc k) (omega (arith, longer, count, below))
-    ∙ (λ i. Some (fresh (sym same i) (sym (add-one k) i)))

@@ -3,11 +3,12 @@
 ghost use Rattle.std.specs.Prelude.{◌≡◌, ℕ, ◌+◌, ◌<◌, ◌≤◌, [], ◌∷◌, ◌++◌, length, All, IfOk, OnOk, count_by, slice_get};
 ghost use mathlib.Core.List.{IsPrefix};
 ghost use Rattle.grow_list.specs.Entries.{has_place};
+ghost use Rattle.grow_list.specs.Others.{HasOthers, beside_own};
 ghost use Rattle.grow_list.specs.Shown.{IsSameList, HasItsOwn, fresh};
 ghost use Rattle.ima_templates.specs.IsEntry.{IsEntry};
 ghost use Rattle.ima_templates.specs.Replay.{banks_of, replay};
 ghost use Rattle.ima_templates.specs.Same.{IsDistinct, add, gained, place_of_same, placed};
-ghost use Rattle.measure_book.specs.Book.{HasOthers, beside_own, numbers_after};
+ghost use Rattle.measure_book.specs.Book.{numbers_after};
 ghost use Rattle.measure_book.specs.Key.{key_of, stands_at};
 
 use crate::places::Places;

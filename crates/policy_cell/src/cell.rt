@@ -21,7 +21,8 @@ pub struct RuleEntry {
 }
 
 /// The rules in force: those that it was started with, and behind them those that its callers have
-/// appended. Contracts see the former, and the growing list of the latter. It has no limit of its own.
+/// appended. Contracts see the former, and the growing list of the latter. It has no limit of its
+/// own.
 #[derive(Drop)]
 pub struct PolicyCell {
     index: Index,
@@ -69,8 +70,8 @@ impl PolicyCell {
         Ok((cell, passes))
     }
 
-    /// Appends a copy of the rule by a pass of this policy, and answers its place among all rules in
-    /// force, from 0 on. After want of memory policy and pass are as before.
+    /// Appends a copy of the rule by a pass of this policy, and answers its place among all rules
+    /// in force, from 0 on. After want of memory policy and pass are as before.
     pub fn append(
         &mut self,
         alloc: Global,
@@ -85,20 +86,25 @@ impl PolicyCell {
             ≡ self.old.appended.list ++ record { who = who; rule = rule.now } ∷ []) }
         ensures numbers { OnOk result (self.new.appended.numbers
             ≡ self.old.appended.numbers ++ pass.old.number ∷ []) }
-        ensures kept { (self.new.base ≡ self.old.base) × (self.new.appended.name ≡ self.old.appended.name)
+        ensures kept { (self.new.base ≡ self.old.base)
+            × (self.new.appended.name ≡ self.old.appended.name)
             × (self.new.appended.callers ≡ self.old.appended.callers) }
 
         ensures before { OnOk result (IsPrefix pass.old.seen self.old.appended.list) }
         ensures seen { OnOk result (pass.new.seen ≡ self.new.appended.list) }
         ensures mine { OnOk result (pass.new.mine
-            ≡ pass.old.mine ++ (length self.old.appended.list, record { who = who; rule = rule.now }) ∷ []) }
+            ≡ pass.old.mine
+            ++ (length self.old.appended.list, record { who = who; rule = rule.now }) ∷ []) }
         ensures own { OnOk result (HasItsOwn self.new.appended pass.new) }
-        ensures placed { OnOk result (All (λ x. x.0 < length self.new.appended.list) pass.new.mine) }
+        ensures placed { OnOk result
+            (All (λ x. x.0 < length self.new.appended.list) pass.new.mine) }
         ensures number { OnOk result (pass.new.number < self.new.appended.callers) }
-        ensures even { OnOk result (length self.new.appended.numbers ≡ length self.new.appended.list) }
+        ensures even { OnOk result
+            (length self.new.appended.numbers ≡ length self.new.appended.list) }
         ensures same_pass { (pass.new.name ≡ pass.old.name) × (pass.new.number ≡ pass.old.number) }
 
-        ensures err { OnErr result (IsSameList self.old.appended self.new.appended × (pass.new ≡ pass.old)) }
+        ensures err { OnErr result
+            (IsSameList self.old.appended self.new.appended × (pass.new ≡ pass.old)) }
     {
         let place = self.index.rules().len() as u64;
         let copy = rule.copy(alloc)?;

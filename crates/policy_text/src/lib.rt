@@ -26,4 +26,5 @@ pub use key::Key;
 pub use policy::{Policy, RULES};
 pub use read::{parse, parse_rule};
 pub use rule::{Act, Func, IdTest, MaskTest, Rule};
+pub use values::template_of;
 pub use write::{print, print_rule};

@@ -24,7 +24,8 @@ after_line a line r d =
     } else d
 
 abbrev pub is_complete : Deciders → Bool
-is_complete d = is_some d.measuring && is_some d.appraising && is_some d.auditing && is_some d.hashing
+is_complete d =
+    is_some d.measuring && is_some d.appraising && is_some d.auditing && is_some d.hashing
 
 -- the rule at the place, where it has something done
 abbrev pub carried_at : List RuleValue → Option ℕ → Option RuleValue

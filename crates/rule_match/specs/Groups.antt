@@ -1,5 +1,5 @@
--- Rules grouped by `func=` and inside by `fsmagic=`. Rules without one of the two stand in groups of their own.
--- Here lines are counted from 0.
+-- Rules grouped by `func=` and inside by `fsmagic=`. Rules without one of the two stand in groups
+-- of their own. Here lines are counted from 0.
 use Rattle.std.specs.Prelude.{◌≡◌, ℕ, ◌+◌, nat_lt, ◌==◌, List, [], ◌∷◌, drop, Option, Some, None, slice_get, if◌then◌else◌}
 use Rattle.policy_text.specs.RuleValue.{RuleValue}
 use Rattle.policy_text.specs.declared.access.Access.{Access}
@@ -45,7 +45,9 @@ earlier_of (Some m) (Some n) = if nat_lt n m then Some n else Some m
 abbrev pub earliest_of : Candidates → Option ℕ
 earliest_of c =
     let first = λ (lines : List ℕ). slice_get lines 0 in
-    earlier_of (earlier_of (first c.both.now) (first c.func.now)) (earlier_of (first c.magic.now) (first c.neither.now))
+    earlier_of
+    (earlier_of (first c.both.now) (first c.func.now))
+    (earlier_of (first c.magic.now) (first c.neither.now))
 
 -- the candidates of a group once the walk has passed the line
 abbrev pub lines_after : ℕ → List ℕ → List ℕ

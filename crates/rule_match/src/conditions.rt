@@ -5,8 +5,8 @@ ghost use Rattle.rule_match.specs.Conditions.{rule_matches};
 
 use policy_text::{Access, Key, Rule};
 
-/// Whether the rule matches the access: what it says by each of its keys holds. A key that it doesn't
-/// have holds of every access, and so do the options.
+/// Whether the rule matches the access: what it says by each of its keys holds. A key that it
+/// doesn't have holds of every access, and so do the options.
 ///
 /// `euid` and `egid` compare the effective numbers alone. For a task that may set its ids the kernel
 /// also looks at the real and the saved ones.

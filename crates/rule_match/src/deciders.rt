@@ -9,7 +9,8 @@ use crate::family::{Family, is_done};
 use inode_meta::DEFAULT_PCR;
 use policy_text::{Access, Act, Action, Rule};
 
-/// Of each family the place of the line that decides on an access, counted from 0, where one was found.
+/// Of each family the place of the line that decides on an access, counted from 0, where one was
+/// found.
 #[derive(Clone, Copy, Debug, PartialEq, Eq)]
 pub struct Deciders {
     /// Of `measure` and `dont_measure`.
@@ -25,7 +26,8 @@ pub struct Deciders {
 impl Deciders {
     /// Before any line.
     pub fn none() -> Deciders
-        ensures { result ≡ record { measuring = None; appraising = None; auditing = None; hashing = None } }
+        ensures { result
+            ≡ record { measuring = None; appraising = None; auditing = None; hashing = None } }
     {
         Deciders {
             measuring: None,
@@ -35,7 +37,8 @@ impl Deciders {
         }
     }
 
-    /// After one more line: if its rule matches, it decides in its family where no earlier line does.
+    /// After one more line: if its rule matches, it decides in its family where no earlier line
+    /// does.
     pub fn with(self, line: usize, rule: &Rule, a: &Access) -> Deciders
         ensures { result ≡ after_line a.now line rule.now self }
     {
@@ -62,7 +65,8 @@ impl Deciders {
 
     /// What the deciding rules have done.
     pub fn action(self, rules: &[Rule]) -> Action
-        ensures { result ≡ action_of (carried_at rules.now self.measuring) (carried_at rules.now self.appraising)
+        ensures { result ≡ action_of
+            (carried_at rules.now self.measuring) (carried_at rules.now self.appraising)
             (carried_at rules.now self.auditing) (carried_at rules.now self.hashing) }
     {
         let measured = with_measure(Action::none(), carried_out(rules, self.measuring));

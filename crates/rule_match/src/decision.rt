@@ -4,9 +4,10 @@ ghost use Rattle.rule_match.specs.Decision.{decide_of};
 use crate::deciders::Deciders;
 use policy_text::{Access, Action, Policy};
 
-/// What the policy has done with the access. For each family of actions (`measure` and `dont_measure`, and so on) the
-/// first line that matches decides. A family without one does nothing, and none has an effect on another; in the kernel
-/// a matching `appraise` line also takes away what an earlier `hash` line asked for.
+/// What the policy has done with the access. For each family of actions (`measure` and
+/// `dont_measure`, and so on) the first line that matches decides. A family without one does
+/// nothing, and none has an effect on another; in the kernel a matching `appraise` line also takes
+/// away what an earlier `hash` line asked for.
 ///
 /// No line is looked at once all four families are decided.
 pub fn decide(p: &Policy, a: &Access) -> Action

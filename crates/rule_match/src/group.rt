@@ -6,8 +6,8 @@ ghost use Rattle.rule_match.specs.SameGroup.{same_group-hashed};
 use policy_text::{Func, Rule};
 use std::hash::{Hash, Hasher};
 
-/// The `func=` and the `fsmagic=` of a rule. The rules of a group are those that have the same; a rule without one of
-/// the two shares its group only with rules that are without it too.
+/// The `func=` and the `fsmagic=` of a rule. The rules of a group are those that have the same; a
+/// rule without one of the two shares its group only with rules that are without it too.
 #[derive(Clone, Copy, Debug, PartialEq, Eq)]
 pub struct Group {
     pub func: Option<Func>,
@@ -38,8 +38,8 @@ impl Hash for Group {
     }
 }
 
-/// The lines at which a walk from the first line to the last looks next: of each group whose rules can match the
-/// access those lines that the walk hasn't passed.
+/// The lines at which a walk from the first line to the last looks next: of each group whose rules
+/// can match the access those lines that the walk hasn't passed.
 #[derive(Clone, Copy)]
 pub struct Candidates<'a> {
     /// Of the rules with the access's function and magic number.

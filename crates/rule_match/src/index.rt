@@ -14,11 +14,12 @@ use std::alloc::{AllocError, Global};
 use std::collections::HashMap;
 use std::marker::Model;
 
-/// A list of rules that finds those that can match an access. Contracts see the list. It has no limit of its own.
+/// A list of rules that finds those that can match an access. Contracts see the list. It has no
+/// limit of its own.
 ///
-/// Rules are grouped by their `func=` and inside by their `fsmagic=`. The index keeps the lines of each group, so that a
-/// decision goes from the first line to the last through the rules of at most four groups, and no further than to the
-/// line by which all four families are decided.
+/// Rules are grouped by their `func=` and inside by their `fsmagic=`. The index keeps the lines of
+/// each group, so that a decision goes from the first line to the last through the rules of at most
+/// four groups, and no further than to the line by which all four families are decided.
 #[derive(Drop)]
 pub struct Index {
     rules: Vec<Rule>,
@@ -80,8 +81,8 @@ impl Index {
         Ok(())
     }
 
-    /// What the rules have done with the access, by first match: the answer of [`crate::decide`] over the same rules.
-    /// Rules of other functions aren't looked at.
+    /// What the rules have done with the access, by first match: the answer of [`crate::decide`]
+    /// over the same rules. Rules of other functions aren't looked at.
     pub fn decide(&self, a: &Access) -> Action
         ensures { result ≡ decide_of self.now a.now }
     {
@@ -131,7 +132,8 @@ fn add_line(
     group: Group,
     line: usize,
 ) -> Result<(), OutOfMemory>
-    ensures ok { OnOk result ((g : AnyGroup) → lines_at lines.new g ≡ lines_at lines.old g ++ (if same_group group g then line ∷ [] else [])) }
+    ensures ok { OnOk result ((g : AnyGroup) → lines_at lines.new g
+        ≡ lines_at lines.old g ++ (if same_group group g then line ∷ [] else [])) }
     ensures err { OnErr result ((g : AnyGroup) → lines_at lines.new g ≡ lines_at lines.old g) }
 {
     if let Some(of_group) = lines.get_mut(&group) {

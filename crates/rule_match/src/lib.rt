@@ -1,5 +1,5 @@
-//! Rules matched against accesses, and the decision by first match: for each family of actions the first line of the
-//! policy that matches the access decides (Documentation/ABI/testing/ima_policy).
+//! Rules matched against accesses, and the decision by first match: for each family of actions the
+//! first line of the policy that matches the access decides (Documentation/ABI/testing/ima_policy).
 #![tactic(auto)]
 
 mod conditions;

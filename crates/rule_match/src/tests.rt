@@ -164,7 +164,8 @@ fn a_mask_is_met_exactly_or_contained(rt: HostRuntime) -> Result<(), Fail> {
     Ok(())
 }
 
-/// The accesses that an open for reading, for writing and for both, a mapping for execution and an exec raise.
+/// The accesses that an open for reading, for writing and for both, a mapping for execution and an
+/// exec raise.
 const ASKED: [(Func, u8); 5] = [
     (Func::FileCheck, MAY_READ),
     (Func::FileCheck, MAY_WRITE),

@@ -1,12 +1,12 @@
 -- A text of lines of words tells its words.
-use Rattle.std.proofs.Common.{◌≡◌, ℕ, Bool, true, false, not, ◌&&◌, ◌==◌, List, [], ◌∷◌, ◌++◌, map, nat_lt, refl, sym, ap, ◌∙◌, append_assoc, arith}
+use Rattle.std.proofs.Common.{◌≡◌, ℕ, Bool, true, false, not, ◌&&◌, ◌==◌, List, [], ◌∷◌, ◌++◌, map, refl, sym, ap, ◌∙◌, append_assoc, arith}
 use Rattle.std.specs.List.{slice_split, list_all, join_with_byte}
 use Rattle.std.proofs.lemmas.Bool.{false≢true}
 use Rattle.std.proofs.lemmas.Bool.Decides.{nat_tests}
 use Rattle.std.proofs.lemmas.List.{append-nil, append_cancel_right}
 use Rattle.std.proofs.lemmas.List.Folds.{list_all-append}
 use Rattle.text_forms.specs.Lines.{lines}
-use Rattle.text_forms.specs.Words.{words, is_clean, is_line, text_of}
+use Rattle.text_forms.specs.Words.{words, is_clean, is_clean_byte, is_line, text_of}
 use Rattle.text_forms.proofs.Cuts.{part}
 use Rattle.text_forms.proofs.Visible.{all_weaker}
 
@@ -30,22 +30,22 @@ parts_back c w (v ∷ ws) h =
     part (λ b. b == c) w (c ∷ join_with_byte c (v ∷ ws)) (left _ _ h) (same_byte c)
     ∙ ap (λ (ts : List (List ℕ)). w ∷ ts) (rw (same_byte c) (parts_back c v ws (right _ _ h)))
 
-no_space : (b : ℕ) → nat_lt 32 b ≡ true → not (b == 32) ≡ true
-no_space b h = grind (arith, nat_tests)
+no_space : (b : ℕ) → is_clean_byte b ≡ true → not (b == 32) ≡ true
+no_space b h = right _ _ h
 
-no_newline : (b : ℕ) → nat_lt 32 b ≡ true → not (b == 10) ≡ true
-no_newline b h = grind (arith, nat_tests)
+no_newline : (b : ℕ) → is_clean_byte b ≡ true → not (b == 10) ≡ true
+no_newline b h = left _ _ h
 
 -- the words of a line of a report
 pub words_back : (w : List ℕ) (ws : List (List ℕ)) → is_line (w ∷ ws) ≡ true → words (join_with_byte 32 (w ∷ ws)) ≡ w ∷ ws
 words_back w ws h =
-    parts_back 32 w ws (all_weaker is_clean (λ v. list_all (λ b. not (b == 32)) v) (λ v k. all_weaker (λ b. nat_lt 32 b) (λ b. not (b == 32)) no_space v k) (w ∷ ws) h)
+    parts_back 32 w ws (all_weaker is_clean (λ v. list_all (λ b. not (b == 32)) v) (λ v k. all_weaker is_clean_byte (λ b. not (b == 32)) no_space v k) (w ∷ ws) h)
 
 flat_words : (ws : List (List ℕ)) → list_all is_clean ws ≡ true → list_all (λ b. not (b == 10)) (join_with_byte 32 ws) ≡ true
 flat_words [] h = refl
-flat_words (w ∷ []) h = all_weaker (λ b. nat_lt 32 b) (λ b. not (b == 10)) no_newline w (left _ _ h)
+flat_words (w ∷ []) h = all_weaker is_clean_byte (λ b. not (b == 10)) no_newline w (left _ _ h)
 flat_words (w ∷ v ∷ ws) h =
-    rw (list_all-append (λ b. not (b == 10)) w (32 ∷ join_with_byte 32 (v ∷ ws)), all_weaker (λ b. nat_lt 32 b) (λ b. not (b == 10)) no_newline w (left _ _ h))
+    rw (list_all-append (λ b. not (b == 10)) w (32 ∷ join_with_byte 32 (v ∷ ws)), all_weaker is_clean_byte (λ b. not (b == 10)) no_newline w (left _ _ h))
     (flat_words (v ∷ ws) (right _ _ h))
 
 -- a line that no newline is in is taken off the text

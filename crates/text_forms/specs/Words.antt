@@ -1,5 +1,5 @@
 -- Words are parted by exactly one space each.
-use Rattle.std.specs.Prelude.{ℕ, Bool, false, ◌==◌, ◌&&◌, nat_le, nat_lt, List, [], ◌∷◌, ◌++◌, length}
+use Rattle.std.specs.Prelude.{ℕ, Bool, false, not, ◌==◌, ◌&&◌, nat_le, List, [], ◌∷◌, ◌++◌, length}
 use Rattle.std.specs.List.{slice_split, list_all, flat_map, join_with_byte}
 use Rattle.text_forms.specs.Tokens.{is_filled}
 
@@ -14,9 +14,13 @@ is_visible b = nat_le 33 b && nat_le b 126
 abbrev pub is_word : ℕ → List ℕ → Bool
 is_word most text = is_filled text && nat_le (length text) most && list_all is_visible text
 
--- a word of a report: no byte is a blank or a newline
+-- a byte of a word of a report: neither a newline nor a space
+abbrev pub is_clean_byte : ℕ → Bool
+is_clean_byte b = not (b == 10) && not (b == 32)
+
+-- a word of a report
 abbrev pub is_clean : List ℕ → Bool
-is_clean word = list_all (λ b. nat_lt 32 b) word
+is_clean word = list_all is_clean_byte word
 
 -- a line of a report: one word or more, any of them empty
 abbrev pub is_line : List (List ℕ) → Bool

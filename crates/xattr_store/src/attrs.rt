@@ -114,6 +114,13 @@ impl Attrs {
         Ok(Attrs { pairs })
     }
 
+    /// The pairs of name and value, in byte order of the names.
+    pub fn as_slice(&self) -> &[(Bytes, Bytes)]
+        ensures { result.now ≡ self.now }
+    {
+        self.pairs.as_slice()
+    }
+
     /// The name and the value at place `k`, counted from 0; `None` exactly from the number of
     /// attributes on.
     pub fn at(&self, k: usize) -> Option<(&[u8], &[u8])>

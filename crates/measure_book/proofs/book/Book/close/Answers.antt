@@ -3,8 +3,9 @@ use Rattle.std.proofs.Common.{◌<◌, length, All, sym, ap, subst}
 use mathlib.Core.List.{IsPrefix}
 use Rattle.std.proofs.lemmas.List.Elements.{All-tail}
 use Rattle.grow_list.specs.Shown.{Grown, HasItsOwn}
+use Rattle.grow_list.proofs.Others.{HasEach-others}
 use Rattle.ima_templates.specs.declared.entry.Entry.{Entry}
-use Rattle.measure_book.proofs.Own.{HasEach-others, places-others}
+use Rattle.measure_book.proofs.Own.{places-others}
 use Rattle.measure_book.proofs.book.Book.close.Goals as goal
 
 pub close_with-requires : goal.close_with-requires
@@ -12,7 +13,7 @@ close_with-requires c =
     HasEach-others c.self.inside.list c.args.self c.self.inside.own c.args.passes.items
     (ap (λ (b : Grown Entry). b.name) (sym c.self.view_is))
     (ap (λ (b : Grown Entry). b.callers) (sym c.self.view_is))
-    c.self.invariant.own c.requires
+    c.self.invariant.own.name c.self.invariant.own.number c.requires
 
 pub returns-clause-seen : goal.returns-clause-seen
 returns-clause-seen c =

@@ -2,12 +2,12 @@
 use Rattle.std.proofs.Common.{◌≡◌, List, [], ◌∷◌, ◌++◌, length, refl, sym, ap, subst, ◌∙◌, arith}
 use Rattle.grow_list.specs.Shown.{Passed, fresh}
 use Rattle.grow_list.specs.Shown.{HasEach}
+use Rattle.grow_list.proofs.Others.{HasOthers-rest, first_is, rest_fresh, split_first}
 use Rattle.ima_templates.specs.IsEntry.{IsEntry}
 use Rattle.ima_templates.specs.Replay.{extended_by}
 use Rattle.ima_templates.specs.declared.entry.Entry.{Entry}
 use Rattle.pcr_bank.specs.declared.banks.Banks.{Banks}
-use Rattle.measure_book.proofs.Keeping.{IsBook-start, first_is, rest_fresh, split_first}
-use Rattle.measure_book.proofs.Own.{HasOthers-rest}
+use Rattle.measure_book.proofs.Keeping.{IsBook-start}
 use Rattle.measure_book.proofs.book.Book.start.Goals as goal
 
 own_is : (c : goal.After-push-2) → c.remove-own.result ≡ fresh c.in_ok-list.list.name 0

@@ -1,0 +1,10 @@
+pub mod Reading
+pub mod Kept
+pub mod Entries
+pub mod Rules
+pub mod Whole
+pub mod Lines
+pub mod Checks
+pub mod Joins
+pub mod Pushed
+mod Examples

@@ -1,0 +1,17 @@
+use Rattle.report_text.proofs.Pushed.{rule_pushed}
+use Rattle.report_text.proofs.lists.push_rule.Goals as goal
+
+pub returns : goal.returns
+returns c =
+    rw (
+      c.in_ok-extend_from_slice-5.ensures.items,
+      c.in_ok-print_rule.ensures.text,
+      c.in_ok-extend_from_slice-4.ensures.items,
+      c.in_ok-push_who.ensures,
+      c.in_ok-extend_from_slice-3.ensures.items,
+      c.in_ok-extend_from_slice-2.ensures.items,
+      c.as_bytes.ensures.value,
+      c.format.ensures.text,
+      c.in_ok-extend_from_slice.ensures.items,
+    )
+    (rule_pushed c.args.out.now.items c.args.place c.args.entry.now)

@@ -1,0 +1,5 @@
+pub mod Words
+pub mod Texts
+pub mod Printed
+pub mod Report
+pub mod Ranges

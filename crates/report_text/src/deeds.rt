@@ -1,0 +1,127 @@
+// What an event did.
+
+ghost use Rattle.std.specs.Prelude.{◌≡◌, ◌∷◌, ◌++◌, OnOk, codes};
+ghost use Rattle.std.specs.List.{join_with_byte};
+ghost use Rattle.policy_text.specs.ValueTexts.{func_word};
+ghost use Rattle.report_text.specs.Texts.{acts_text, rules_text};
+ghost use Rattle.report_text.specs.Words.{change_words, deed_words, how_words, length_word};
+
+use crate::acts::{push_acts, push_rules};
+use crate::push::{push_number, push_numbers};
+use inode_events::{Change, Deed, How};
+use inode_meta::{OutOfMemory, Template};
+use std::alloc::AllocError;
+use std::io::Write;
+use xattr_store::Bytes;
+
+// `default` is the template that a measurement uses whose rule names none, and `grows` says whether
+// rules can be appended.
+pub fn push_deed(
+    out: &mut Vec<u8>,
+    default: Template,
+    grows: bool,
+    deed: &Deed,
+) -> Result<(), OutOfMemory>
+    ensures text { OnOk result (out.new.items
+        ≡ out.old.items ++ join_with_byte 32 (deed_words default grows deed.now)) }
+{
+    match deed {
+        Deed::Birth => out.extend_from_slice(b"birth"),
+        Deed::Count { how } => {
+            out.extend_from_slice(b"count ")?;
+            out.extend_from_slice(how_text(*how).as_bytes())
+        }
+        Deed::Check {
+            file,
+            func,
+            action,
+            rules,
+        } => {
+            push_numbers(out, b"check", &[*file])?;
+            out.extend_from_slice(b" ")?;
+            out.extend_from_slice(func.word().as_bytes())?;
+            push_rules(out, grows, *rules)?;
+            push_acts(out, default, action)?;
+            Ok(())
+        }
+        Deed::Take { file } => push_numbers(out, b"take", &[*file]),
+        Deed::Chunk { file } => push_numbers(out, b"chunk", &[*file]),
+        Deed::Finish { file } => push_numbers(out, b"finish", &[*file]),
+        Deed::Read { file, from, len } => push_numbers(out, b"read", &[*file, *from, *len]),
+        Deed::Write { file, from, bytes } => {
+            push_numbers(
+                out,
+                b"write",
+                &[*file, *from, bytes.as_slice().len() as u64],
+            )
+        }
+        Deed::Trunc { file, len } => push_numbers(out, b"trunc", &[*file, *len]),
+        Deed::SetAttr { name, value, .. } => {
+            out.extend_from_slice(b"set-attr ")?;
+            out.extend_from_slice(name.as_slice())?;
+            out.extend_from_slice(b" ")?;
+            push_length(out, value)
+        }
+        Deed::SetMeta { change } => push_change(out, *change),
+        Deed::Close { file } => push_numbers(out, b"close", &[*file]),
+        Deed::CloseTake { file } => push_numbers(out, b"close-take", &[*file]),
+        Deed::CloseChunk { file } => push_numbers(out, b"close-chunk", &[*file]),
+        Deed::CloseFinish { file } => push_numbers(out, b"close-finish", &[*file]),
+        Deed::Post(sem) => push_numbers(out, b"post", &[u64::from(*sem)]),
+        Deed::Wait(sem) => push_numbers(out, b"wait", &[u64::from(*sem)]),
+    }
+}
+
+fn how_text(how: How) -> &'static str
+    ensures { result.now ≡ join_with_byte 32 (how_words how) }
+{
+    match how {
+        How::Read { create: true } => "r create",
+        How::Read { create: false } => "r",
+        How::Write {
+            read: true,
+            create: true,
+        } => "rw create",
+        How::Write {
+            read: true,
+            create: false,
+        } => "rw",
+        How::Write {
+            read: false,
+            create: true,
+        } => "w create",
+        How::Write {
+            read: false,
+            create: false,
+        } => "w",
+        How::Exec => "x",
+    }
+}
+
+// The length of the value that is set, or a dash for a removal.
+fn push_length(out: &mut Vec<u8>, value: &Option<Bytes>) -> Result<(), OutOfMemory>
+    ensures { OnOk result (out.new.items ≡ out.old.items ++ length_word value.now) }
+{
+    match value {
+        Some(value) => push_number(out, value.as_slice().len() as u64),
+        None => out.extend_from_slice(b"-"),
+    }
+}
+
+// A mode is octal.
+fn push_change(out: &mut Vec<u8>, change: Change) -> Result<(), OutOfMemory>
+    ensures { OnOk result (out.new.items
+        ≡ out.old.items ++ join_with_byte 32 (codes "set-meta" ∷ change_words change)) }
+{
+    match change {
+        Change::Mode(mode) => match write!(out, "set-meta mode {mode:o}") {
+            Ok(()) => Ok(()),
+            Err(_) => Err(AllocError),
+        },
+        Change::Owner { uid, gid } => push_numbers(
+            out,
+            b"set-meta owner",
+            &[u64::from(uid), u64::from(gid)],
+        ),
+    }
+}

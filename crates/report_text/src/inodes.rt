@@ -1,0 +1,110 @@
+// The lines of the inodes.
+
+ghost use Rattle.std.specs.Prelude.{◌≡◌, [], ◌∷◌, ◌++◌, decimal, length, OnOk, codes};
+ghost use Rattle.std.specs.List.{flat_map};
+ghost use Rattle.text_forms.specs.Words.{text_of};
+ghost use Rattle.report_text.specs.Report.{all_inode_lines, attr_line, force_word, inode_head, inode_lines};
+ghost use Rattle.report_text.specs.Texts.{line_text};
+
+use crate::events::push_events;
+use crate::push::push_numbers;
+use hash_algos::Digest;
+use inode_events::EndedInode;
+use inode_meta::{OutOfMemory, Template};
+use list_format::{append_hex, append_named_digest};
+use xattr_store::{Attrs, Bytes};
+
+pub fn push_inodes(
+    out: &mut Vec<u8>,
+    default: Template,
+    grows: bool,
+    inodes: &[EndedInode],
+) -> Result<(), OutOfMemory>
+    ensures { OnOk result (out.new.items
+        ≡ out.old.items ++ text_of (all_inode_lines default grows 0 inodes.now)) }
+{
+    for (number, inode) in inodes.iter().enumerate() {
+        push_inode(out, default, grows, number as u64, inode)?;
+    }
+    Ok(())
+}
+
+fn push_inode(
+    out: &mut Vec<u8>,
+    default: Template,
+    grows: bool,
+    number: u64,
+    inode: &EndedInode,
+) -> Result<(), OutOfMemory>
+    ensures { OnOk result (out.new.items
+        ≡ out.old.items ++ text_of (inode_lines default grows number inode.now)) }
+{
+    let journal = inode.journal.as_slice();
+    push_head(out, number, inode)?;
+    push_force(out, &inode.force)?;
+    push_attrs(out, &inode.attrs)?;
+    push_numbers(out, b"events", &[journal.len() as u64])?;
+    out.extend_from_slice(b"\n")?;
+    push_events(out, default, grows, journal)?;
+    Ok(())
+}
+
+// Its number, its path, and the files that are still held.
+fn push_head(out: &mut Vec<u8>, number: u64, inode: &EndedInode) -> Result<(), OutOfMemory>
+    ensures { OnOk result (out.new.items
+        ≡ out.old.items ++ line_text (inode_head number inode.now)) }
+{
+    push_numbers(out, b"inode", &[number])?;
+    out.extend_from_slice(b" ")?;
+    out.extend_from_slice(inode.path.as_slice())?;
+    push_numbers(out, b" writers", &[inode.writers])?;
+    push_numbers(out, b" readers", &[inode.readers])?;
+    push_numbers(out, b" execs", &[inode.execs])?;
+    out.extend_from_slice(b"\n")?;
+    Ok(())
+}
+
+// The digest in force.
+fn push_force(out: &mut Vec<u8>, force: &Option<Digest>) -> Result<(), OutOfMemory>
+    ensures { OnOk result (out.new.items
+        ≡ out.old.items ++ line_text (codes "force" ∷ force_word force.now ∷ [])) }
+{
+    let Some(digest) = force else {
+        return out.extend_from_slice(b"force none\n");
+    };
+    out.extend_from_slice(b"force")?;
+    append_named_digest(digest, out)?;
+    out.extend_from_slice(b"\n")?;
+    Ok(())
+}
+
+fn push_attrs(out: &mut Vec<u8>, attrs: &Attrs) -> Result<(), OutOfMemory>
+    ensures { OnOk result (out.new.items ≡ out.old.items
+        ++ line_text (codes "attrs" ∷ decimal (length attrs.now) ∷ [])
+        ++ flat_map (λ p. line_text (attr_line p)) attrs.now) }
+{
+    push_numbers(out, b"attrs", &[attrs.as_slice().len() as u64])?;
+    out.extend_from_slice(b"\n")?;
+    push_pairs(out, attrs.as_slice())?;
+    Ok(())
+}
+
+fn push_pairs(out: &mut Vec<u8>, pairs: &[(Bytes, Bytes)]) -> Result<(), OutOfMemory>
+    ensures { OnOk result (out.new.items
+        ≡ out.old.items ++ flat_map (λ p. line_text (attr_line p)) pairs.now) }
+{
+    for pair in pairs {
+        push_attr(out, pair.0.as_slice(), pair.1.as_slice())?;
+    }
+    Ok(())
+}
+
+fn push_attr(out: &mut Vec<u8>, name: &[u8], value: &[u8]) -> Result<(), OutOfMemory>
+    ensures { OnOk result (out.new.items
+        ≡ out.old.items ++ line_text (attr_line (name.now, value.now))) }
+{
+    out.extend_from_slice(name)?;
+    append_hex(out, b' ', value)?;
+    out.extend_from_slice(b"\n")?;
+    Ok(())
+}

@@ -1,0 +1,126 @@
+// The lines of the list, of the registers and of the appended rules.
+
+ghost use Rattle.std.specs.Prelude.{◌≡◌, ◌++◌, ◌<◌, ◌==◌, true, OnOk};
+ghost use Rattle.std.specs.List.{flat_map, list_any};
+ghost use Rattle.list_format.specs.Line.{ascii_line};
+ghost use Rattle.text_forms.specs.Words.{text_of};
+ghost use Rattle.report_text.specs.Report.{appended_lines, pcr_lines, pcr_lines_at, rule_line, rule_lines};
+ghost use Rattle.report_text.specs.Texts.{line_text};
+
+use crate::events::push_who;
+use crate::push::push_numbers;
+use ima_templates::Entry;
+use inode_meta::{Bank, OutOfMemory};
+use itoa::Buffer;
+use list_format::{append_hex, ascii};
+use pcr_bank::Banks;
+use policy_text::print_rule;
+use run_model::RuleEntry;
+use std::alloc::Global;
+
+pub fn push_entries(out: &mut Vec<u8>, list: &[Entry]) -> Result<(), OutOfMemory>
+    ensures { OnOk result (out.new.items ≡ out.old.items ++ flat_map ascii_line list.now) }
+{
+    for entry in list {
+        ascii(entry, out)?;
+    }
+    Ok(())
+}
+
+// The registers that an entry names, in rising order.
+pub fn push_registers(out: &mut Vec<u8>, list: &[Entry], banks: &Banks) -> Result<(), OutOfMemory>
+    ensures { OnOk result (out.new.items
+        ≡ out.old.items ++ text_of (pcr_lines list.now banks.now)) }
+{
+    for pcr in 0..24u8 {
+        push_register(out, banks, pcr, is_named(list, pcr))?;
+    }
+    Ok(())
+}
+
+fn is_named(list: &[Entry], pcr: u8) -> bool
+    ensures { result ≡ list_any (λ e. e.pcr == pcr) list.now }
+{
+    list.iter().any(|e| e.pcr == pcr)
+}
+
+// A register in both banks, where it is named.
+fn push_register(out: &mut Vec<u8>, banks: &Banks, pcr: u8, named: bool) -> Result<(), OutOfMemory>
+    requires { pcr < 24 }
+    ensures { OnOk result (out.new.items
+        ≡ out.old.items ++ text_of (pcr_lines_at banks.now pcr named)) }
+{
+    if named {
+        push_values(out, banks, pcr)
+    } else {
+        Ok(())
+    }
+}
+
+fn push_values(out: &mut Vec<u8>, banks: &Banks, pcr: u8) -> Result<(), OutOfMemory>
+    requires { pcr < 24 }
+    ensures { OnOk result (out.new.items
+        ≡ out.old.items ++ text_of (pcr_lines_at banks.now pcr true)) }
+{
+    let number = u64::from(pcr);
+    push_numbers(out, b"pcr sha1", &[number])?;
+    append_hex(out, b' ', banks.value(Bank::Sha1, pcr))?;
+    push_numbers(out, b"\npcr sha256", &[number])?;
+    append_hex(out, b' ', banks.value(Bank::Sha256, pcr))?;
+    out.extend_from_slice(b"\n")?;
+    Ok(())
+}
+
+// The appended rules by their places, which follow the places of the script's own rules.
+pub fn push_appended(
+    alloc: Global,
+    out: &mut Vec<u8>,
+    grows: bool,
+    base: u64,
+    rules: &[RuleEntry],
+) -> Result<(), OutOfMemory>
+    ensures { OnOk result (out.new.items
+        ≡ out.old.items ++ text_of (appended_lines grows base rules.now)) }
+{
+    if !grows {
+        return Ok(());
+    }
+    push_numbers(out, b"appended", &[rules.len() as u64])?;
+    out.extend_from_slice(b"\n")?;
+    push_rules(alloc, out, base, rules)?;
+    Ok(())
+}
+
+fn push_rules(
+    alloc: Global,
+    out: &mut Vec<u8>,
+    base: u64,
+    rules: &[RuleEntry],
+) -> Result<(), OutOfMemory>
+    ensures { OnOk result (out.new.items
+        ≡ out.old.items ++ text_of (rule_lines base rules.now)) }
+{
+    for (place, entry) in rules.iter().enumerate() {
+        push_rule(alloc, out, u128::from(base) + place as u128, entry)?;
+    }
+    Ok(())
+}
+
+fn push_rule(
+    alloc: Global,
+    out: &mut Vec<u8>,
+    place: u128,
+    entry: &RuleEntry,
+) -> Result<(), OutOfMemory>
+    ensures { OnOk result (out.new.items
+        ≡ out.old.items ++ line_text (rule_line place entry.now)) }
+{
+    out.extend_from_slice(b"rule ")?;
+    out.extend_from_slice(Buffer::new().format(place).as_bytes())?;
+    out.extend_from_slice(b" ")?;
+    push_who(out, entry.who)?;
+    out.extend_from_slice(b" ")?;
+    print_rule(alloc, &entry.rule, out)?;
+    out.extend_from_slice(b"\n")?;
+    Ok(())
+}

@@ -1,0 +1,26 @@
+// Numbers and words, put behind a text.
+
+ghost use Rattle.std.specs.Prelude.{◌≡◌, ◌∷◌, ◌++◌, decimal, map, OnOk};
+ghost use Rattle.std.specs.List.{join_with_byte};
+
+use inode_meta::OutOfMemory;
+use itoa::Buffer;
+
+pub fn push_number(out: &mut Vec<u8>, n: u64) -> Result<(), OutOfMemory>
+    ensures { OnOk result (out.new.items ≡ out.old.items ++ decimal n) }
+{
+    out.extend_from_slice(Buffer::new().format(n).as_bytes())
+}
+
+// The words, and each number behind a space.
+pub fn push_numbers(out: &mut Vec<u8>, words: &[u8], numbers: &[u64]) -> Result<(), OutOfMemory>
+    ensures { OnOk result (out.new.items
+        ≡ out.old.items ++ join_with_byte 32 (words.now ∷ map decimal numbers.now)) }
+{
+    out.extend_from_slice(words)?;
+    for number in numbers {
+        out.push(b' ')?;
+        push_number(out, *number)?;
+    }
+    Ok(())
+}

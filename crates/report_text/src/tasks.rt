@@ -1,0 +1,89 @@
+// The lines of the tasks.
+
+ghost use Rattle.std.specs.Prelude.{◌≡◌, ◌∷◌, ◌++◌, decimal, OnOk};
+ghost use Rattle.std.specs.List.{join_with_byte};
+ghost use Rattle.text_forms.specs.Words.{text_of};
+ghost use Rattle.report_text.specs.Report.{all_task_lines, reply_lines, reply_words, task_lines};
+ghost use Rattle.report_text.specs.Texts.{line_text};
+
+use crate::push::{push_number, push_numbers};
+use call_steps::Reply;
+use inode_meta::OutOfMemory;
+use list_format::append_hex;
+use run_model::EndedTask;
+
+pub fn push_tasks(out: &mut Vec<u8>, tasks: &[EndedTask]) -> Result<(), OutOfMemory>
+    ensures { OnOk result (out.new.items
+        ≡ out.old.items ++ text_of (all_task_lines 0 tasks.now)) }
+{
+    for (number, task) in tasks.iter().enumerate() {
+        push_task(out, number as u64, task)?;
+    }
+    Ok(())
+}
+
+fn push_task(out: &mut Vec<u8>, number: u64, task: &EndedTask) -> Result<(), OutOfMemory>
+    ensures { OnOk result (out.new.items
+        ≡ out.old.items ++ text_of (task_lines number task.now)) }
+{
+    push_numbers(out, b"task", &[number])?;
+    out.extend_from_slice(if task.done {
+        b" done\n".as_slice()
+    } else {
+        b" unfinished\n"
+    })?;
+    push_replies(out, task.replies.as_slice())?;
+    Ok(())
+}
+
+// The replies of the answered calls by the calls' numbers.
+fn push_replies(out: &mut Vec<u8>, replies: &[Reply]) -> Result<(), OutOfMemory>
+    ensures { OnOk result (out.new.items
+        ≡ out.old.items ++ text_of (reply_lines 0 replies.now)) }
+{
+    for (call, reply) in replies.iter().enumerate() {
+        push_answer(out, call as u64, reply)?;
+    }
+    Ok(())
+}
+
+fn push_answer(out: &mut Vec<u8>, call: u64, reply: &Reply) -> Result<(), OutOfMemory>
+    ensures { OnOk result (out.new.items
+        ≡ out.old.items ++ line_text (decimal call ∷ reply_words reply.now)) }
+{
+    push_number(out, call)?;
+    out.extend_from_slice(b" ")?;
+    push_reply(out, reply)?;
+    out.extend_from_slice(b"\n")?;
+    Ok(())
+}
+
+fn push_reply(out: &mut Vec<u8>, reply: &Reply) -> Result<(), OutOfMemory>
+    ensures { OnOk result (out.new.items
+        ≡ out.old.items ++ join_with_byte 32 (reply_words reply.now)) }
+{
+    match reply {
+        Reply::Done => out.extend_from_slice(b"ok"),
+        Reply::Bytes { n, digest } => {
+            push_numbers(out, b"ok", &[*n])?;
+            append_hex(out, b' ', digest.as_slice())
+        }
+        Reply::NotFound => out.extend_from_slice(b"ENOENT"),
+        Reply::BadFile => out.extend_from_slice(b"EBADF"),
+        Reply::TextBusy => out.extend_from_slice(b"ETXTBSY"),
+        Reply::TooBig => out.extend_from_slice(b"EFBIG"),
+        Reply::TooLong => out.extend_from_slice(b"E2BIG"),
+        Reply::NoData => out.extend_from_slice(b"ENODATA"),
+        Reply::Invalid => out.extend_from_slice(b"EINVAL"),
+        Reply::EvmName => out.extend_from_slice(b"EPERM evm-attribute"),
+        Reply::NotAdmin => out.extend_from_slice(b"EPERM admin"),
+        Reply::Status(status) => {
+            out.extend_from_slice(b"EPERM ")?;
+            out.extend_from_slice(status.word().as_bytes())
+        }
+        Reply::Denied(cause) => {
+            out.extend_from_slice(b"EACCES ")?;
+            out.extend_from_slice(cause.word().as_bytes())
+        }
+    }
+}

@@ -1,0 +1,4 @@
+pub mod Fields
+pub mod Labels
+pub mod PlacesLemmas
+pub mod Schedules

@@ -1,0 +1,12 @@
+use Rattle.std.proofs.Common.{◌≡◌, length}
+use Rattle.text_forms.specs.Words.{words}
+use Rattle.script_text.specs.Tasks.{turns_from}
+use Rattle.script_text.proofs.Schedules.{onto}
+use Rattle.script_text.proofs.schedule.turns_from.Given as goal
+
+-- the turns so far, and behind them those of the words that are left
+abbrev pub invariant-loop-word : goal.invariant-loop-word
+invariant-loop-word l = onto l.turns.items (turns_from l.tasks (words l.rest)) ≡ turns_from l.tasks (words l.numbers)
+
+abbrev pub decreases-loop-word : goal.decreases-loop-word
+decreases-loop-word l = length l.rest

@@ -1,0 +1,190 @@
+-- The blocks of files.
+use Rattle.std.specs.Prelude.{ℕ, ◌+◌, Bool, true, false, ◌&&◌, ◌||◌, not, nat_lt, List, [], ◌∷◌, ◌++◌, length, codes, Option, Some, None, is_some, option_map, slice_get, Result, Ok, Err, ok_or, if◌then◌else◌}
+use Rattle.std.specs.Str.{bytes_eq}
+use Rattle.evm_verify.specs.Input.{evm_name}
+use Rattle.evm_verify.specs.Setup.{Setup}
+use Rattle.evm_verify.specs.Status.{renewed}
+use Rattle.hash_algos.specs.Digest.{digest_of}
+use Rattle.hash_algos.specs.declared.algo.Algo.{Algo}
+use Rattle.inode_events.specs.declared.image.Image.{Image}
+use Rattle.label_values.specs.Labels.{label_of}
+use Rattle.policy_text.specs.declared.access.Super.{Super}
+use Rattle.text_forms.specs.Lines.{◌>>=◌}
+use Rattle.text_forms.specs.Numbers.{is_short_numeral}
+use Rattle.text_forms.specs.Paths.{is_path}
+use Rattle.text_forms.specs.Tokens.{is_filled}
+use Rattle.text_forms.specs.Words.{is_word}
+use Rattle.xattr_store.specs.Attrs.{Pair, put, value}
+use Rattle.script_words.specs.declared.fault.LineCause.{LineCause}
+use Rattle.script_words.specs.declared.fault.LineCause.TheVariants as cause
+use Rattle.script_words.specs.Forms.{behind_by, field, id_of, ino_of, mode_of, place_among}
+use Rattle.script_words.specs.Value.{value_of}
+use Rattle.script_text.specs.Draft.{Draft, change_last, last_of}
+use Rattle.script_text.specs.Limits.{most_attrs, most_bytes, most_content, most_files, most_value}
+use Rattle.script_text.specs.Places.{place_in}
+use Rattle.script_text.specs.ScriptValue.{ScriptValue}
+use Rattle.script_text.specs.Settings.{Made, name_of, one_if}
+use Rattle.script_text.specs.declared.blocks.FileBlock.{FileBlock}
+
+-- the words that `file` and `absent` share; the number of the file system may be of any length
+pub record Front : Type 0 where
+  pub path : List ℕ
+  pub fs : List ℕ
+  pub ino : ℕ
+  pub generation : ℕ
+  pub uid : ℕ
+  pub gid : ℕ
+  pub mode : ℕ
+
+abbrev pub path_of : List ℕ → Option (List ℕ)
+path_of text = if is_path text then Some text else None
+
+abbrev pub numeral_of : List ℕ → Option (List ℕ)
+numeral_of text = if is_short_numeral 10 text then Some text else None
+
+abbrev pub front_with : Option (List ℕ) → Option (List ℕ) → Option ℕ → Option ℕ → Option ℕ → Option ℕ → Option ℕ → Option Front
+front_with (Some p) (Some f) (Some i) (Some g) (Some u) (Some o) (Some m) =
+    Some (record { path = p; fs = f; ino = i; generation = g; uid = u; gid = o; mode = m })
+front_with _ _ _ _ _ _ _ = None
+
+abbrev pub front_of : List ℕ → List ℕ → List ℕ → List ℕ → List ℕ → List ℕ → List ℕ → Option Front
+front_of p f i g u o m =
+    front_with (path_of p) (behind_by numeral_of (codes "fs=") f) (behind_by ino_of (codes "ino=") i) (behind_by id_of (codes "gen=") g)
+    (behind_by id_of (codes "uid=") u) (behind_by id_of (codes "gid=") o) (behind_by mode_of (codes "mode=") m)
+
+-- the file as its block begins, on the file system n
+abbrev pub block_of : Front → ℕ → Super → Bool → List ℕ → FileBlock
+block_of f n s present content = record {
+  path = f.path;
+  fs = n;
+  image = record {
+    present = present;
+    content = content;
+    attrs = [];
+    meta = record { ino = f.ino; generation = f.generation; uid = f.uid; gid = f.gid; mode = f.mode; place = s.uuid };
+    versions = s.versions;
+  };
+}
+
+-- the sum, where it is within its limit
+abbrev pub within_sum : ℕ → Option ℕ
+within_sum sum = if nat_lt most_bytes sum then None else Some sum
+
+abbrev pub filed : FileBlock → Draft → Draft
+filed b d =
+    record d {
+      script = record d.script { files = d.script.files ++ b ∷ [] };
+      unsealed = b.image.present;
+      counted = 0;
+      sum = d.sum + length b.image.content;
+      paths = d.paths ++ b.path ∷ [];
+    }
+
+abbrev pub with_block : FileBlock → Draft → Made
+with_block b d =
+    if is_some (place_in d.paths b.path) then Err cause.Twice
+    else if not (nat_lt (length d.paths) most_files) then Err cause.TooMany
+    else if nat_lt most_bytes (d.sum + length b.image.content) then Err cause.TooLarge
+    else Ok (filed b d)
+
+-- on the file system of this number, if it is there
+abbrev pub on_super : Front → Bool → List ℕ → Draft → Option ℕ → Made
+on_super f present content d None = Err cause.Unknown
+on_super f present content d (Some n) =
+    ok_or (slice_get d.script.supers n) cause.Unknown >>= λ s. with_block (block_of f n s present content) d
+
+abbrev pub with_front : Front → Bool → List ℕ → Draft → Made
+with_front f present content d = on_super f present content d (place_among (length d.script.supers) f.fs)
+
+abbrev pub content_of : List ℕ → Option (List ℕ)
+content_of text = value_of 0 most_content text
+
+-- `file PATH fs=NUM ino=NUM gen=NUM uid=NUM gid=NUM mode=MODE content=VALUE`
+abbrev pub file_in : List (List ℕ) → Option (Front × List ℕ)
+file_in (p ∷ f ∷ i ∷ g ∷ u ∷ o ∷ m ∷ c ∷ more) =
+    if is_filled more then None else option_map (λ front. (front, c)) (front_of p f i g u o m)
+file_in _ = None
+
+unfoldable pub with_file : List (List ℕ) → Draft → Made
+with_file words d =
+    field (file_in words) λ f. field (behind_by content_of (codes "content=") f.1) λ content. with_front f.0 true content d
+
+-- `absent PATH fs=NUM ino=NUM gen=NUM uid=NUM gid=NUM mode=MODE`
+abbrev pub front_in : List (List ℕ) → Option Front
+front_in (p ∷ f ∷ i ∷ g ∷ u ∷ o ∷ m ∷ more) = if is_filled more then None else front_of p f i g u o m
+front_in _ = None
+
+unfoldable pub with_absent : List (List ℕ) → Draft → Made
+with_absent words d = field (front_in words) λ front. with_front front false [] d
+
+-- ---- attributes
+
+-- the attribute that holds the label
+abbrev pub ima_name : List ℕ
+ima_name = codes "security.ima"
+
+-- the label and the HMAC count neither among a file's attributes nor in the sum
+abbrev pub is_counted : List ℕ → Bool
+is_counted name = not (bytes_eq name ima_name || bytes_eq name evm_name)
+
+abbrev pub attrs_put : List ℕ → List ℕ → FileBlock → FileBlock
+attrs_put name bytes b = record b { image = record b.image { attrs = put name bytes b.image.attrs } }
+
+abbrev pub counted_length : List ℕ → List ℕ → ℕ
+counted_length name bytes = if is_counted name then length bytes else 0
+
+abbrev pub has_attr_in : List ℕ → Option FileBlock → Bool
+has_attr_in name None = false
+has_attr_in name (Some b) = is_some (value name b.image.attrs)
+
+-- whether the last file has the attribute
+abbrev pub has_attr : List ℕ → Draft → Bool
+has_attr name d = has_attr_in name (last_of d.script.files)
+
+-- the last file has one attribute more
+abbrev pub attr_put : List ℕ → List ℕ → Draft → Draft
+attr_put name bytes d =
+    record d {
+      script = record d.script { files = change_last (attrs_put name bytes) d.script.files };
+      counted = d.counted + one_if (is_counted name);
+      sum = d.sum + counted_length name bytes;
+    }
+
+abbrev pub with_pair : List ℕ → List ℕ → Draft → Made
+with_pair name bytes d =
+    if has_attr name d then Err cause.Twice
+    else if is_counted name && not (nat_lt d.counted most_attrs) then Err cause.TooMany
+    else if nat_lt most_bytes (d.sum + counted_length name bytes) then Err cause.TooLarge
+    else Ok (attr_put name bytes d)
+
+abbrev pub two : List (List ℕ) → Option (List ℕ × List ℕ)
+two (a ∷ b ∷ []) = Some (a, b)
+two _ = None
+
+-- `attr NAME VALUE`, in the block of the last file
+unfoldable pub with_attr : List (List ℕ) → Draft → Made
+with_attr words d =
+    field (two words) λ w. field (name_of w.0) λ name. field (value_of 0 most_value w.1) λ bytes. with_pair name bytes d
+
+-- ---- the seal
+
+abbrev pub setup_of : ScriptValue → Setup
+setup_of s = record { key = s.key; added = s.added; format = s.format }
+
+-- the label of the content by the default algorithm, and the HMAC where there is a key
+abbrev pub sealed : Setup → Algo → FileBlock → FileBlock
+sealed evm a b =
+    record b {
+      image = record b.image {
+        attrs = renewed evm (put ima_name (label_of (digest_of a b.image.content)) b.image.attrs) b.image.meta;
+      };
+    }
+
+-- `seal`; nothing but another block or section may follow
+unfoldable pub with_seal : List (List ℕ) → Draft → Made
+with_seal [] d =
+    Ok (record d {
+      script = record d.script { files = change_last (sealed (setup_of d.script) d.script.hash) d.script.files };
+      unsealed = false;
+    })
+with_seal _ d = Err cause.BadField

@@ -1,0 +1,14 @@
+pub mod Places
+pub mod ScriptValue
+pub mod Limits
+pub mod Draft
+pub mod DraftInside
+pub mod ScriptInside
+pub mod Heads
+pub mod Settings
+pub mod Files
+pub mod FrontView
+pub mod Calls
+pub mod Tasks
+pub mod Grammar
+pub mod ListGrammar

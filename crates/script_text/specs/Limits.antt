@@ -1,0 +1,50 @@
+-- How many of each a script may have.
+use Rattle.std.specs.Prelude.{ℕ}
+
+abbrev pub most_supers : ℕ
+most_supers = 16
+
+abbrev pub most_files : ℕ
+most_files = 256
+
+-- attributes of a file, beside `security.ima` and `security.evm`
+abbrev pub most_attrs : ℕ
+most_attrs = 16
+
+-- names that are added to EVM's
+abbrev pub most_added : ℕ
+most_added = 16
+
+-- lines `rule` and `addrule` together
+abbrev pub most_rules : ℕ
+most_rules = 1024
+
+abbrev pub most_tasks : ℕ
+most_tasks = 64
+
+-- calls of all tasks
+abbrev pub most_calls : ℕ
+most_calls = 32768
+
+abbrev pub most_turns : ℕ
+most_turns = 1048576
+
+abbrev pub most_threads : ℕ
+most_threads = 16
+
+-- bytes of all values that are counted
+abbrev pub most_bytes : ℕ
+most_bytes = 33554432
+
+abbrev pub most_content : ℕ
+most_content = 262144
+
+abbrev pub most_value : ℕ
+most_value = 4096
+
+-- an attribute may be set to more bytes than it can have
+abbrev pub most_set : ℕ
+most_set = 8192
+
+abbrev pub most_key : ℕ
+most_key = 128

@@ -1,0 +1,446 @@
+//! The blocks of files.
+
+ghost use Rattle.std.specs.Prelude.{◌≡◌, ◌+◌, ◌-◌, ◌≤◌, length, take, ok_or, option_map, map, codes, IfOk, IfErr, IfNone, OnOk, OnSome};
+ghost use Rattle.std.specs.Option.{option_copied};
+ghost use Rattle.hash_algos.specs.Digest.{digest_of};
+ghost use Rattle.label_values.specs.Labels.{label_of};
+ghost use Rattle.text_forms.specs.Tokens.{is_filled};
+ghost use Rattle.script_words.specs.declared.fault.LineCause.TheVariants as cause;
+ghost use Rattle.script_words.specs.Forms.{behind_by, id_of, ino_of, mode_of};
+ghost use Rattle.script_words.specs.Gives.{LineGives, LineMakes};
+ghost use Rattle.script_text.specs.Draft.{change_last, last_of};
+ghost use Rattle.script_text.specs.Settings.{name_of};
+ghost use Rattle.script_text.specs.Files.{attrs_put, block_of, content_of, counted_length, file_in, front_in, front_of, has_attr, ima_name, is_counted, numeral_of, path_of, sealed, setup_of, two, with_absent, with_attr, with_block, with_file, with_front, with_pair, with_seal, within_sum};
+ghost use Rattle.script_text.specs.FrontView.{front_view};
+
+use crate::blocks::FileBlock;
+use crate::draft::Draft;
+use crate::paths::Paths;
+use evm_verify::Evm;
+use hash_algos::{Algo, Digest, Running};
+use inode_events::Image;
+use inode_meta::Meta;
+use label_values::{MAX_LABEL, write_label};
+use policy_text::Super;
+use script_words::{LineCause, LineErr, id_of, ino_of, mode_of, place_among, value_of};
+use std::alloc::{AllocError, Global};
+use std::mem;
+use text_forms::{is_path, is_short_numeral, is_word};
+use xattr_store::{Attrs, Bytes, MAX_VALUE};
+
+// How many files a script may have, attributes a file, and bytes a content and all values in sum.
+const FILES: usize = 256;
+
+const ATTRS: usize = 16;
+
+const CONTENT: usize = 262_144;
+
+// The most bytes that all values that are counted may have.
+const BYTES: usize = 33_554_432;
+
+/// The words that `file` and `absent` share. The number of the file system may be of any length.
+#[derive(Drop)]
+pub struct Front<'a> {
+    pub path: &'a [u8],
+    pub fs: &'a [u8],
+    pub ino: u64,
+    pub generation: u32,
+    pub uid: u32,
+    pub gid: u32,
+    pub mode: u16,
+}
+
+impl Draft {
+    /// `file PATH fs=NUM ino=NUM gen=NUM uid=NUM gid=NUM mode=MODE content=VALUE`
+    #[tactic(auto, unfolding(crate::specs::Files::with_file))]
+    pub fn with_file(&mut self, alloc: Global, fields: &[&[u8]]) -> Result<(), LineErr>
+        ensures { LineMakes result (with_file (map (λ w. w.now) fields.now) self.old) self.new }
+    {
+        let (front, content) = file_in(fields).ok_or(LineCause::BadField)?;
+        let content = content_behind(alloc, content)?;
+        self.with_front(alloc, &front, true, content)
+    }
+
+    /// `absent PATH fs=NUM ino=NUM gen=NUM uid=NUM gid=NUM mode=MODE`
+    #[tactic(auto, unfolding(crate::specs::Files::with_absent))]
+    pub fn with_absent(&mut self, alloc: Global, fields: &[&[u8]]) -> Result<(), LineErr>
+        ensures { LineMakes result (with_absent (map (λ w. w.now) fields.now) self.old) self.new }
+    {
+        let front = front_in(fields).ok_or(LineCause::BadField)?;
+        self.with_front(alloc, &front, false, Bytes::from_vec(Vec::new(alloc)))
+    }
+
+    // On the file system of the front's number, if it is there.
+    fn with_front(
+        &mut self,
+        alloc: Global,
+        front: &Front<'_>,
+        present: bool,
+        content: Bytes,
+    ) -> Result<(), LineErr>
+        ensures { LineMakes result (with_front (front_view front.now) present content self.old) self.new }
+    {
+        let fs = place_among(self.supers.len(), front.fs).ok_or(LineCause::Unknown)?;
+        let place = self.supers.get(fs).ok_or(LineCause::Unknown)?;
+        let block = block_of(alloc, front, fs as u32, place, present, content)?;
+        self.with_block(alloc, block)
+    }
+
+    fn with_block(&mut self, alloc: Global, block: FileBlock) -> Result<(), LineErr>
+        ensures { LineMakes result (with_block block self.old) self.new }
+    {
+        if self.paths.place(block.path.as_slice()).is_some() {
+            return Err(LineErr::Refused(LineCause::Twice));
+        }
+        if self.paths.len() >= FILES {
+            return Err(LineErr::Refused(LineCause::TooMany));
+        }
+        let sum = sum_of(self.sum, block.image.content.as_slice().len()).ok_or(
+            LineCause::TooLarge,
+        )?;
+        let paths = mem::replace(&mut self.paths, Paths::new(alloc));
+        self.paths = paths.with(alloc, block.path.as_slice())?;
+        self.unsealed = block.image.present;
+        self.counted = 0;
+        self.sum = sum;
+        self.files.push(block)?;
+        Ok(())
+    }
+
+    /// `attr NAME VALUE`, in the block of the last file
+    #[tactic(auto, unfolding(crate::specs::Files::with_attr))]
+    pub fn with_attr(&mut self, alloc: Global, fields: &[&[u8]]) -> Result<(), LineErr>
+        ensures { LineMakes result (with_attr (map (λ w. w.now) fields.now) self.old) self.new }
+    {
+        let (name, value) = two(fields).ok_or(LineCause::BadField)?;
+        let name = name_of(name).ok_or(LineCause::BadField)?;
+        let value = value_of(alloc, value, 0, MAX_VALUE)?;
+        self.with_pair(name, value.as_slice())
+    }
+
+    fn with_pair(&mut self, name: &[u8], value: &[u8]) -> Result<(), LineErr>
+        requires { length value.now ≤ 4096 }
+        ensures { LineMakes result (with_pair name.now value.now self.old) self.new }
+    {
+        if self.has_attr(name) {
+            return Err(LineErr::Refused(LineCause::Twice));
+        }
+        let counts = is_counted(name);
+        if counts && self.counted >= ATTRS {
+            return Err(LineErr::Refused(LineCause::TooMany));
+        }
+        let sum = sum_of(self.sum, counted_length(name, value)).ok_or(LineCause::TooLarge)?;
+        put_on_last(&mut self.files, name, value)?;
+        self.sum = sum;
+        if counts {
+            self.counted += 1;
+        }
+        Ok(())
+    }
+
+    // Whether the last file has the attribute.
+    fn has_attr(&self, name: &[u8]) -> bool
+        ensures { result ≡ has_attr name.now self.now }
+    {
+        match self.files.as_slice().last() {
+            Some(file) => file.image.attrs.get(name).is_some(),
+            None => false,
+        }
+    }
+
+    /// `seal`: the label of the content by the default algorithm, and the HMAC where there is a key
+    #[tactic(auto, unfolding(crate::specs::Files::with_seal))]
+    pub fn with_seal(&mut self, alloc: Global, fields: &[&[u8]]) -> Result<(), LineErr>
+        ensures { LineMakes result (with_seal (map (λ w. w.now) fields.now) self.old) self.new }
+    {
+        if !fields.is_empty() {
+            return Err(LineErr::Refused(LineCause::BadField));
+        }
+        let evm = self.evm(alloc)?;
+        seal_last(&mut self.files, &evm, self.hash)?;
+        self.unsealed = false;
+        Ok(())
+    }
+
+    // EVM as the settings have it.
+    fn evm(&self, alloc: Global) -> Result<Evm, AllocError>
+        ensures { IfOk result (λ evm. evm ≡ setup_of self.now.script) }
+    {
+        match &self.key {
+            Some(key) => Evm::new(alloc, Some(key.as_slice()), &self.added, self.format),
+            None => Evm::new(alloc, None, &self.added, self.format),
+        }
+    }
+}
+
+fn front_in<'a>(fields: &[&'a [u8]]) -> Option<Front<'a>>
+    ensures { option_map front_view result ≡ front_in (map (λ w. w.now) fields.now) }
+{
+    let [path, fs, ino, generation, uid, gid, mode, more @ ..] = fields else {
+        return None;
+    };
+    if is_filled(more) {
+        return None;
+    }
+    front_of(path, fs, ino, generation, uid, gid, mode)
+}
+
+fn file_in<'a>(fields: &[&'a [u8]]) -> Option<(Front<'a>, &'a [u8])>
+    ensures { option_map (λ f. (front_view f.0, f.1.now)) result ≡ file_in (map (λ w. w.now) fields.now) }
+{
+    let [
+        path,
+        fs,
+        ino,
+        generation,
+        uid,
+        gid,
+        mode,
+        content,
+        more @ ..,
+    ] = fields
+    else {
+        return None;
+    };
+    if is_filled(more) {
+        return None;
+    }
+    let front = front_of(path, fs, ino, generation, uid, gid, mode)?;
+    Some((front, content))
+}
+
+/// Whether there are words.
+pub fn is_filled(words: &[&[u8]]) -> bool
+    ensures { result ≡ is_filled (map (λ w. w.now) words.now) }
+{
+    match words {
+        [] => false,
+        _ => true,
+    }
+}
+
+/// Two words.
+pub fn two<'a>(fields: &[&'a [u8]]) -> Option<(&'a [u8], &'a [u8])>
+    ensures { option_map (λ w. (w.0.now, w.1.now)) result ≡ two (map (λ w. w.now) fields.now) }
+{
+    match fields {
+        [a, b] => Some((a, b)),
+        _ => None,
+    }
+}
+
+fn name_of(text: &[u8]) -> Option<&[u8]>
+    ensures { option_copied result ≡ name_of text.now }
+{
+    if is_word(text, 255) { Some(text) } else { None }
+}
+
+/// Takes the last of a list off.
+pub fn pop_last<T>(items: &mut Vec<T>) -> Option<T>
+    ensures last { result ≡ last_of items.old.items }
+    ensures rest { items.new.items ≡ take (length items.old.items - 1) items.old.items }
+    ensures less { OnSome result (length items.new.items + 1 ≡ length items.old.items) }
+    ensures none { IfNone result (items.new.items ≡ items.old.items) }
+{
+    items.pop()
+}
+
+// The last file has one attribute more.
+#[tactic(auto, unfolding(crate::specs::Draft::change_last))]
+fn put_on_last(files: &mut Vec<FileBlock>, name: &[u8], value: &[u8]) -> Result<(), LineErr>
+    requires { length value.now ≤ 4096 }
+    ensures ok { OnOk result (files.new.items ≡ change_last (attrs_put name.now value.now) files.old.items) }
+    ensures err { IfErr result (λ e. e ≡ LineErr.OutOfMemory) }
+{
+    match pop_last(files) {
+        Some(file) => {
+            let file = attrs_put(file, name, value)?;
+            files.push(file)?;
+            Ok(())
+        }
+        None => Ok(()),
+    }
+}
+
+// The last file is sealed.
+#[tactic(auto, unfolding(crate::specs::Draft::change_last))]
+fn seal_last(files: &mut Vec<FileBlock>, evm: &Evm, hash: Algo) -> Result<(), LineErr>
+    ensures ok { OnOk result (files.new.items ≡ change_last (sealed evm.now hash) files.old.items) }
+    ensures err { IfErr result (λ e. e ≡ LineErr.OutOfMemory) }
+{
+    match pop_last(files) {
+        Some(file) => {
+            let file = sealed(evm, hash, file)?;
+            files.push(file)?;
+            Ok(())
+        }
+        None => Ok(()),
+    }
+}
+
+fn front_of<'a>(
+    path: &'a [u8],
+    fs: &'a [u8],
+    ino: &[u8],
+    generation: &[u8],
+    uid: &[u8],
+    gid: &[u8],
+    mode: &[u8],
+) -> Option<Front<'a>>
+    ensures { option_map front_view result ≡ front_of path.now fs.now ino.now generation.now uid.now gid.now mode.now }
+{
+    let path = path_of(path)?;
+    let fs = numeral_behind(fs)?;
+    let ino = ino_behind(ino)?;
+    let generation = id_behind(b"gen=", generation)?;
+    let uid = id_behind(b"uid=", uid)?;
+    let gid = id_behind(b"gid=", gid)?;
+    let mode = mode_behind(mode)?;
+    Some(Front {
+        path,
+        fs,
+        ino,
+        generation,
+        uid,
+        gid,
+        mode,
+    })
+}
+
+fn path_of(text: &[u8]) -> Option<&[u8]>
+    ensures { option_copied result ≡ path_of text.now }
+{
+    if is_path(text) { Some(text) } else { None }
+}
+
+fn numeral_behind(text: &[u8]) -> Option<&[u8]>
+    ensures { option_copied result ≡ behind_by numeral_of (codes "fs=") text.now }
+{
+    let number = text.strip_prefix(b"fs=")?;
+    if is_short_numeral(number, 10) {
+        Some(number)
+    } else {
+        None
+    }
+}
+
+fn ino_behind(text: &[u8]) -> Option<u64>
+    ensures { result ≡ behind_by ino_of (codes "ino=") text.now }
+{
+    ino_of(text.strip_prefix(b"ino=")?)
+}
+
+/// The number of a user or a group, or a generation, behind its key.
+pub fn id_behind(key: &[u8], text: &[u8]) -> Option<u32>
+    ensures { result ≡ behind_by id_of key.now text.now }
+{
+    id_of(text.strip_prefix(key)?)
+}
+
+fn mode_behind(text: &[u8]) -> Option<u16>
+    ensures { result ≡ behind_by mode_of (codes "mode=") text.now }
+{
+    mode_of(text.strip_prefix(b"mode=")?)
+}
+
+fn content_behind(alloc: Global, text: &[u8]) -> Result<Bytes, LineErr>
+    ensures { LineGives result (ok_or (behind_by content_of (codes "content=") text.now) cause.BadField) }
+{
+    let value = text.strip_prefix(b"content=").ok_or(LineCause::BadField)?;
+    value_of(alloc, value, 0, CONTENT)
+}
+
+// The file as its block begins.
+fn block_of(
+    alloc: Global,
+    front: &Front<'_>,
+    fs: u32,
+    place: &Super,
+    present: bool,
+    content: Bytes,
+) -> Result<FileBlock, AllocError>
+    ensures { IfOk result (λ block. block ≡ block_of (front_view front.now) fs place.now present content) }
+{
+    let meta = Meta {
+        ino: front.ino,
+        generation: front.generation,
+        uid: front.uid,
+        gid: front.gid,
+        mode: front.mode,
+        place: place.uuid,
+    };
+    let image = Image {
+        present,
+        content,
+        attrs: Attrs::new(alloc),
+        meta,
+        versions: place.versions,
+    };
+    let path = Bytes::from_slice(alloc, front.path)?;
+    Ok(FileBlock { path, fs, image })
+}
+
+/// The sum with the length of one value more, where it is within its limit.
+pub fn sum_of(sum: usize, len: usize) -> Option<usize>
+    ensures { result ≡ within_sum (sum + len) }
+{
+    match sum.checked_add(len) {
+        Some(sum) if sum <= BYTES => Some(sum),
+        _ => None,
+    }
+}
+
+fn counted_length(name: &[u8], value: &[u8]) -> usize
+    ensures { result ≡ counted_length name.now value.now }
+{
+    if is_counted(name) { value.len() } else { 0 }
+}
+
+// The label and the HMAC count neither among a file's attributes nor in the sum.
+fn is_counted(name: &[u8]) -> bool
+    ensures { result ≡ is_counted name.now }
+{
+    !(name == b"security.ima".as_slice() || name == b"security.evm".as_slice())
+}
+
+// The file with one attribute more.
+fn attrs_put(file: FileBlock, name: &[u8], value: &[u8]) -> Result<FileBlock, LineErr>
+    requires { length value.now ≤ 4096 }
+    ensures ok { IfOk result (λ b. b ≡ attrs_put name.now value.now file) }
+    ensures err { IfErr result (λ e. e ≡ LineErr.OutOfMemory) }
+{
+    let mut file = file;
+    match file.image.attrs.set(name, value) {
+        Ok(()) => Ok(file),
+        Err(_) => Err(LineErr::OutOfMemory),
+    }
+}
+
+// The digest of the content.
+fn digest_of(algo: Algo, content: &[u8]) -> Digest
+    ensures { result ≡ digest_of algo content.now }
+{
+    let mut running = Running::new(algo);
+    running.feed(content);
+    running.finish()
+}
+
+// The file with the label of its content.
+fn label_put(algo: Algo, file: FileBlock) -> Result<FileBlock, LineErr>
+    ensures ok { IfOk result (λ b. b ≡ attrs_put ima_name (label_of (digest_of algo file.image.content)) file) }
+    ensures err { IfErr result (λ e. e ≡ LineErr.OutOfMemory) }
+{
+    let mut out = [0; MAX_LABEL];
+    let digest = digest_of(algo, file.image.content.as_slice());
+    let len = write_label(&digest, &mut out);
+    attrs_put(file, b"security.ima", &out[..len])
+}
+
+fn sealed(evm: &Evm, algo: Algo, file: FileBlock) -> Result<FileBlock, LineErr>
+    ensures ok { IfOk result (λ b. b ≡ sealed evm.now algo file) }
+    ensures err { IfErr result (λ e. e ≡ LineErr.OutOfMemory) }
+{
+    let mut file = label_put(algo, file)?;
+    evm.renew(&mut file.image.attrs, &file.image.meta)?;
+    Ok(file)
+}

@@ -1,0 +1,26 @@
+//! Scripts as text: read, printed canonically, and read again as the same script; and list texts.
+//!
+//! A script has settings, file systems, files, rules and tasks, and says how its tasks are run. The
+//! grammar stands in `specs/`, apart from the reader: what each line makes of the script so far, or
+//! the least cause for which it is refused.
+#![tactic(auto)]
+
+mod blocks;
+mod calls;
+mod draft;
+mod files;
+mod head;
+mod list;
+mod list_head;
+mod paths;
+mod read;
+mod schedule;
+mod script;
+mod settings;
+mod tasks;
+
+pub use blocks::{Calls, FileBlock, TaskBlock};
+pub use list::{ListText, parse_list};
+pub use read::parse;
+pub use script::Script;
+pub use script_words::{Fault, LineCause, ScriptErr};

@@ -1,0 +1,236 @@
+//! Rules, the blocks of tasks, and the ending line.
+
+ghost use Rattle.std.specs.Prelude.{◌≡◌, ◌≤◌, length, map, ok_or, OnOk};
+ghost use Rattle.std.specs.Option.{option_copied};
+ghost use Rattle.script_words.specs.declared.fault.LineCause.TheVariants as cause;
+ghost use Rattle.script_words.specs.Gives.{LineGives, LineMakes};
+ghost use Rattle.script_text.specs.Draft.{change_last};
+ghost use Rattle.script_text.specs.Tasks.{admin_of, appends, call_bytes, cred_in, cred_of, ended, has_room, task_with, threads_of, value_length, with_call, with_call_line, with_cred, with_rounds, with_rule, with_task, with_threads};
+
+use crate::blocks::{Calls, TaskBlock};
+use crate::calls::call_of;
+use crate::draft::Draft;
+use crate::files::{id_behind, pop_last, sum_of};
+use crate::head::CallWord;
+use call_steps::{Call, Ending};
+use inode_meta::Cred;
+use policy_text::RULES;
+use script_words::{LineCause, LineErr, rule_of};
+use std::alloc::{AllocError, Global};
+use text_forms::short_number_of;
+use xattr_store::Bytes;
+
+// How many tasks a script may have, and calls all tasks.
+const TASKS: usize = 64;
+
+const CALLS: usize = 32_768;
+
+// How many threads a run may have.
+const THREADS: u64 = 16;
+
+impl Draft {
+    // There is room for one rule more, of the script's or a task's.
+    fn has_room(&self) -> bool
+        ensures { result ≡ has_room self.now }
+    {
+        self.appended < RULES - self.rules.rules().len()
+    }
+
+    /// `rule TEXT`
+    #[tactic(auto, unfolding(crate::specs::Tasks::with_rule))]
+    pub fn with_rule(&mut self, alloc: Global, text: Option<&[u8]>) -> Result<(), LineErr>
+        ensures { LineMakes result (with_rule (option_copied text.entry) self.old) self.new }
+    {
+        let rule = rule_of(alloc, text)?;
+        if !self.has_room() {
+            return Err(LineErr::Refused(LineCause::TooMany));
+        }
+        self.rules.push(rule)?;
+        Ok(())
+    }
+
+    /// `task uid=NUM euid=NUM gid=NUM egid=NUM`, and `admin` behind it or not
+    #[tactic(auto, unfolding(crate::specs::Tasks::with_task))]
+    pub fn with_task(&mut self, alloc: Global, fields: &[&[u8]]) -> Result<(), LineErr>
+        ensures { LineMakes result (with_task (map (λ w. w.now) fields.now) self.old) self.new }
+    {
+        let cred = cred_in(fields).ok_or(LineCause::BadField)?;
+        self.with_cred(alloc, cred)
+    }
+
+    #[tactic(auto, unfolding(crate::specs::Tasks::with_cred))]
+    fn with_cred(&mut self, alloc: Global, cred: Cred) -> Result<(), LineErr>
+        ensures { LineMakes result (with_cred cred self.old) self.new }
+    {
+        if self.tasks.len() >= TASKS {
+            return Err(LineErr::Refused(LineCause::TooMany));
+        }
+        let calls = Calls::from_vec(Vec::new(alloc));
+        self.tasks.push(TaskBlock { cred, calls })?;
+        Ok(())
+    }
+
+    /// The line of a call
+    #[tactic(auto, unfolding(crate::specs::Tasks::with_call_line))]
+    pub fn with_call_line(
+        &mut self,
+        alloc: Global,
+        word: CallWord,
+        text: Option<&[u8]>,
+        fields: &[&[u8]],
+    ) -> Result<(), LineErr>
+        ensures { LineMakes result (with_call_line word (option_copied text.entry) (map (λ w. w.now) fields.now) self.old) self.new }
+    {
+        let call = call_of(alloc, word, text, fields, &self.paths)?;
+        self.with_call(call)
+    }
+
+    #[tactic(auto, unfolding(crate::specs::Tasks::with_call))]
+    fn with_call(&mut self, call: Call) -> Result<(), LineErr>
+        ensures { LineMakes result (with_call call self.old) self.new }
+    {
+        if self.calls >= CALLS {
+            return Err(LineErr::Refused(LineCause::TooMany));
+        }
+        let appends = appends(&call);
+        if appends && !self.has_room() {
+            return Err(LineErr::Refused(LineCause::TooMany));
+        }
+        let sum = sum_of(self.sum, call_bytes(&call)).ok_or(LineCause::TooLarge)?;
+        call_on_last(&mut self.tasks, call)?;
+        self.calls += 1;
+        if appends {
+            self.appended += 1;
+        }
+        self.sum = sum;
+        Ok(())
+    }
+
+    /// The ending is this one.
+    pub fn end_with(&mut self, ending: Ending)
+        ensures { self.new ≡ ended ending self.old }
+    {
+        self.ending = ending;
+    }
+
+    /// `rounds`
+    #[tactic(auto, unfolding(crate::specs::Tasks::with_rounds))]
+    pub fn with_rounds(&mut self, fields: &[&[u8]]) -> Result<(), LineErr>
+        ensures { LineMakes result (with_rounds (map (λ w. w.now) fields.now) self.old) self.new }
+    {
+        if !fields.is_empty() {
+            return Err(LineErr::Refused(LineCause::BadField));
+        }
+        self.end_with(Ending::Rounds);
+        Ok(())
+    }
+
+    /// `threads NUM`
+    #[tactic(auto, unfolding(crate::specs::Tasks::with_threads))]
+    pub fn with_threads(&mut self, fields: &[&[u8]]) -> Result<(), LineErr>
+        ensures { LineMakes result (with_threads (map (λ w. w.now) fields.now) self.old) self.new }
+    {
+        let [number] = fields else {
+            return Err(LineErr::Refused(LineCause::BadField));
+        };
+        let threads = threads_of(number).ok_or(LineCause::BadField)?;
+        self.end_with(Ending::Threads(threads));
+        Ok(())
+    }
+}
+
+// The last task makes one call more.
+#[tactic(auto, unfolding(crate::specs::Draft::change_last))]
+fn call_on_last(tasks: &mut Vec<TaskBlock>, call: Call) -> Result<(), AllocError>
+    ensures ok { OnOk result (tasks.new.items ≡ change_last (task_with call) tasks.old.items) }
+    ensures few { length tasks.new.items ≤ length tasks.old.items }
+{
+    match pop_last(tasks) {
+        Some(TaskBlock { cred, calls }) => {
+            let calls = calls.with(call)?;
+            tasks.push(TaskBlock { cred, calls })?;
+            Ok(())
+        }
+        None => Ok(()),
+    }
+}
+
+fn cred_in(fields: &[&[u8]]) -> Option<Cred>
+    ensures { result ≡ cred_in (map (λ w. w.now) fields.now) }
+{
+    let [uid, euid, gid, egid, more @ ..] = fields else {
+        return None;
+    };
+    cred_of(uid, euid, gid, egid, more)
+}
+
+fn cred_of(uid: &[u8], euid: &[u8], gid: &[u8], egid: &[u8], more: &[&[u8]]) -> Option<Cred>
+    ensures { result ≡ cred_of uid.now euid.now gid.now egid.now (map (λ w. w.now) more.now) }
+{
+    let uid = id_behind(b"uid=", uid)?;
+    let euid = id_behind(b"euid=", euid)?;
+    let gid = id_behind(b"gid=", gid)?;
+    let egid = id_behind(b"egid=", egid)?;
+    let admin = admin_of(more)?;
+    Some(Cred {
+        uid,
+        euid,
+        gid,
+        egid,
+        admin,
+    })
+}
+
+fn admin_of(more: &[&[u8]]) -> Option<bool>
+    ensures { result ≡ admin_of (map (λ w. w.now) more.now) }
+{
+    match more {
+        [] => Some(false),
+        [word] => {
+            if *word == b"admin".as_slice() {
+                Some(true)
+            } else {
+                None
+            }
+        }
+        _ => None,
+    }
+}
+
+fn value_length(value: &Option<Bytes>) -> usize
+    ensures { result ≡ value_length value.now }
+{
+    match value {
+        Some(bytes) => bytes.as_slice().len(),
+        None => 0,
+    }
+}
+
+// The bytes of a call that count in the sum.
+fn call_bytes(call: &Call) -> usize
+    ensures { result ≡ call_bytes call.now }
+{
+    match call {
+        Call::Write { bytes, .. } => bytes.as_slice().len(),
+        Call::SetAttr { value, .. } => value_length(value),
+        _ => 0,
+    }
+}
+
+fn appends(call: &Call) -> bool
+    ensures { result ≡ appends call.now }
+{
+    match call {
+        Call::AddRule { .. } => true,
+        _ => false,
+    }
+}
+
+fn threads_of(text: &[u8]) -> Option<u32>
+    ensures { result ≡ threads_of text.now }
+{
+    match short_number_of(text, 10, THREADS)? {
+        0 => None,
+        number => Some(number as u32),
+    }
+}

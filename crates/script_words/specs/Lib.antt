@@ -1,0 +1,6 @@
+pub mod Causes
+pub mod Forms
+pub mod Gives
+pub mod Line
+pub mod Read
+pub mod Value

@@ -1,0 +1,59 @@
+ghost use Rattle.std.specs.Prelude.{◌≡◌, ◌-◌, ◌<◌, ◌^◌, length};
+ghost use Rattle.script_words.specs.Gives.{Gives, LineMakes};
+ghost use Rattle.script_words.specs.Read.{text_of};
+
+use crate::fault::{Fault, LineCause, LineErr, ScriptErr};
+use crate::line::{cut, is_skipped};
+use std::alloc::Global;
+
+/// A state that lines make, one after the other.
+pub trait Grammar: Drop {
+    ghost use Rattle.std.specs.Prelude.{ℕ, Bool, List, Result};
+    ghost use Rattle.script_words.specs.declared.fault.LineCause.{LineCause};
+
+    /// What a line that isn't skipped makes of a state, or its least cause.
+    ghost step: { Self → List ℕ → Result Self LineCause };
+
+    /// Whether the text may end here.
+    ghost ends: { Self → Bool };
+
+    /// Takes one line more, which is neither empty nor a comment. A state that refused a line is of no
+    /// further use.
+    fn add_line(&mut self, alloc: Global, line: &[u8]) -> Result<(), LineErr>
+        ensures { LineMakes result (step self.old line.now) self.new };
+
+    /// Whether the text may end here.
+    fn may_end(&self) -> bool
+        ensures { result ≡ ends self.now };
+}
+
+/// What a text makes of the state `start`, or its first bad line with that line's least cause.
+///
+/// Each line ends in a newline. A text that doesn't end in one, or whose lines don't end it, is
+/// refused at the number of its newlines plus one.
+pub fn read_text<T: Grammar>(alloc: Global, start: T, text: &[u8]) -> Result<T, ScriptErr>
+    requires { length text.now < 2 ^ 32 - 1 }
+    ensures { Gives result (text_of T.step T.ends start text.now) }
+{
+    let mut state = start;
+    let mut number = 1u32;
+    let mut rest = text;
+    while let Some((line, after)) = cut(rest, b'\n') {
+        if !is_skipped(line) {
+            match state.add_line(alloc, line) {
+                Ok(()) => {}
+                Err(err) => return Err(err.at(number)),
+            }
+        }
+        number += 1;
+        rest = after;
+    }
+    if state.may_end() && rest.is_empty() {
+        Ok(state)
+    } else {
+        Err(ScriptErr::Refused(Fault {
+            line: number,
+            cause: LineCause::NoEnd,
+        }))
+    }
+}

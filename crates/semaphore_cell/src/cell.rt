@@ -1,0 +1,184 @@
+ghost use Rattle.std.specs.Prelude.{◌≡◌, ℕ, ◌+◌, ◌<◌, ◌≤◌, [], ◌++◌, length, map, option_map, All, IfOk, IfSome, OnOk, count_by, replicate, slice_get};
+ghost use mathlib.Core.List.{IsPrefix};
+ghost use Rattle.grow_list.specs.Entries.{has_place};
+ghost use Rattle.grow_list.specs.Others.{HasOthers};
+ghost use Rattle.grow_list.specs.Shown.{IsSameList, HasItsOwn, fresh};
+ghost use Rattle.inode_events.specs.Asked.{entered, made};
+ghost use Rattle.inode_events.specs.Callers.{caller_of};
+ghost use Rattle.inode_events.specs.Past.{past};
+ghost use Rattle.inode_events.specs.Semaphores.{LegalSemaphores, semaphore_says};
+
+use grow_list::{Grow, OutOfMemory, Pass};
+use inode_events::{Deed, Event, Told};
+use inode_meta::Who;
+use std::alloc::Global;
+use std::marker::Model;
+
+/// The semaphores, each of which starts at 0, with the journal of the posts and waits on them.
+/// Contracts see the growing list of these events. What each semaphore has left is at all times the
+/// posts less the waits of the journal, which is legal, and in which the task n is caller n + 1.
+#[derive(Drop)]
+pub struct SemaphoreCell {
+    journal: Grow<Event>,
+    own: Pass<Event>,
+    left: [u64; 256],
+}
+
+impl Model for SemaphoreCell {
+    ghost use Rattle.grow_list.specs.Shown.{Grown};
+    ghost use Rattle.inode_events.specs.declared.told.Event.{Event};
+
+    ghost Value = { Grown Event };
+
+    ghost use Rattle.semaphore_cell.specs.Fields.{IsSemaphores, journal_of};
+
+    ghost view = { journal_of };
+
+    ghost invariant = { IsSemaphores };
+}
+
+impl SemaphoreCell {
+    /// The semaphores at 0, and a pass for each task. The cell keeps the pass of the number 0 for
+    /// itself, and the others are answered in the order of their numbers.
+    pub fn start(
+        alloc: Global,
+        callers: u32,
+    ) -> Result<(SemaphoreCell, Vec<Pass<Event>>), OutOfMemory>
+        requires { 1 ≤ callers }
+        ensures list { IfOk result (λ r. (r.0.list ≡ []) × (r.0.numbers ≡ [])) }
+        ensures callers { IfOk result (λ r. r.0.callers ≡ callers) }
+        ensures count { IfOk result (λ r. length r.1.items + 1 ≡ callers) }
+        ensures passes { IfOk result (λ r. (k : ℕ) → k < length r.1.items
+            → slice_get r.1.items k ≡ Some (fresh r.0.name (k + 1))) }
+        ensures others { IfOk result (λ r. HasOthers r.0 r.1.items) }
+    {
+        let (journal, mut passes) = Grow::start(alloc, callers)?;
+        let own = passes.remove(0);
+        let cell = SemaphoreCell {
+            journal,
+            own,
+            left: zeros(),
+        };
+        Ok((cell, passes))
+    }
+
+    /// Makes room for the next event. The journal stays, also where there is no memory.
+    pub fn reserve(&mut self) -> Result<(), OutOfMemory>
+        ensures room { OnOk result (1 ≤ self.new.spare) }
+        ensures kept { self.old.spare ≤ self.new.spare }
+        ensures list { IsSameList self.old self.new }
+    {
+        self.journal.reserve(1)
+    }
+
+    /// Posts to a semaphore or waits for one, by the pass of the step's task, in room that was
+    /// reserved, and answers the place of its event, from 0 on. None is blocked: a wait for a
+    /// semaphore of which nothing is left, or a deed that is on no semaphore. The pass has then seen
+    /// the journal.
+    pub fn signal(&mut self, pass: &mut Pass<Event>, who: Who, deed: Deed) -> Option<u64>
+        requires room { 1 ≤ self.old.spare }
+        requires name { pass.old.name ≡ self.old.name }
+        requires number { pass.old.number ≡ who.task + 1 }
+
+        ensures says { option_map (λ _. Told.Done) result ≡ semaphore_says (past self.old.list) deed }
+        ensures place { IfSome result (λ place. place ≡ length self.old.list) }
+        ensures list { self.new.list
+            ≡ self.old.list ++ made who deed (semaphore_says (past self.old.list) deed) }
+        ensures kept { (self.new.name ≡ self.old.name) × (self.new.callers ≡ self.old.callers) }
+        ensures spare { self.old.spare ≤ self.new.spare + 1 }
+
+        ensures before { IsPrefix pass.old.seen self.old.list }
+        ensures seen { pass.new.seen ≡ self.new.list }
+        ensures mine { pass.new.mine ≡ pass.old.mine
+            ++ entered (length self.old.list) who deed (semaphore_says (past self.old.list) deed) }
+        ensures own { HasItsOwn self.new pass.new }
+        ensures below { All (λ x. x.0 < length self.new.list) pass.new.mine }
+        ensures number { pass.new.number < self.new.callers }
+        ensures numbers { self.new.numbers ≡ map caller_of self.new.list }
+        ensures same_pass { (pass.new.name ≡ pass.old.name) × (pass.new.number ≡ pass.old.number) }
+    {
+        match deed {
+            Deed::Post(sem) => {
+                let place = self.journal.push(
+                    pass,
+                    Event {
+                        who,
+                        deed: Deed::Post(sem),
+                        told: Told::Done,
+                    },
+                );
+                // A semaphore has at most the length of the journal, which is a u64.
+                let _len = self.journal.len();
+                self.left[sem as usize] += 1;
+                Some(place)
+            }
+            Deed::Wait(sem) if self.left[sem as usize] > 0 => {
+                self.left[sem as usize] -= 1;
+                Some(
+                    self.journal.push(
+                        pass,
+                        Event {
+                            who,
+                            deed: Deed::Wait(sem),
+                            told: Told::Done,
+                        },
+                    ),
+                )
+            }
+            _ => {
+                self.journal.look(pass);
+                None
+            }
+        }
+    }
+
+    /// A pass of this cell sees the journal.
+    pub fn look(&mut self, pass: &mut Pass<Event>)
+        requires { pass.old.name ≡ self.old.name }
+
+        ensures list { IsSameList self.old self.new }
+        ensures spare { self.old.spare ≤ self.new.spare }
+
+        ensures before { IsPrefix pass.old.seen self.old.list }
+        ensures seen { pass.new.seen ≡ self.new.list }
+        ensures mine { pass.new.mine ≡ pass.old.mine }
+        ensures own { HasItsOwn self.new pass.new }
+        ensures below { All (λ x. x.0 < length self.new.list) pass.new.mine }
+        ensures number { pass.new.number < self.new.callers }
+        ensures numbers { self.new.numbers ≡ map caller_of self.new.list }
+        ensures same_pass { (pass.new.name ≡ pass.old.name) × (pass.new.number ≡ pass.old.number) }
+        ensures legal { LegalSemaphores (past self.new.list) }
+        ensures signed { All (λ e. (0 < caller_of e) × (caller_of e < self.new.callers)) self.new.list }
+    {
+        self.journal.look(pass);
+    }
+
+    /// Hands out the journal, and takes back the passes that `start` answered. What each pass saw
+    /// begins the journal, the journal's events of its number are its own, and each place of the
+    /// journal is one pass's.
+    pub fn close(self, passes: Vec<Pass<Event>>) -> Vec<Event>
+        requires { HasOthers self passes.items }
+        ensures list { result.items ≡ self.list }
+        ensures numbers { self.numbers ≡ map caller_of self.list }
+        ensures seen { All (λ p. IsPrefix p.seen self.list) passes.items }
+        ensures own { All (λ p. HasItsOwn self p) passes.items }
+        ensures places { (k : ℕ) → k < length self.list
+            → count_by (λ p. has_place k p.mine) passes.items ≡ 1 }
+        ensures legal { LegalSemaphores (past self.list) }
+        ensures signed { All (λ e. (0 < caller_of e) × (caller_of e < self.callers)) self.list }
+    {
+        let SemaphoreCell {
+            journal,
+            own,
+            left: _,
+        } = self;
+        journal.close_with(own, passes)
+    }
+}
+
+// Nothing is left of any semaphore.
+fn zeros() -> [u64; 256]
+    ensures { result ≡ replicate 256 0 }
+{
+    [0; 256]
+}

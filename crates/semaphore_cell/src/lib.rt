@@ -1,0 +1,10 @@
+//! The semaphores of a run: what each has left, with the journal of the posts and waits on them.
+#![tactic(auto)]
+
+mod cell;
+
+pub use cell::SemaphoreCell;
+pub use grow_list::{OutOfMemory, Pass};
+
+#[cfg(test)]
+mod tests;

@@ -1,0 +1,11 @@
+use Rattle.std.proofs.Common.{◌≡◌, ◌+◌, ◌≤◌, drop}
+use Rattle.call_steps.specs.Handles.{names_of}
+use Rattle.task_mind.proofs.handles.names_of.Given as goal
+
+-- so many so far, and those to come
+abbrev pub invariant-loop-handle : goal.invariant-loop-handle
+invariant-loop-handle l = record {
+  counted : l.count + names_of l.inode l.file (drop l.handle-index l.handles)
+      ≡ names_of l.inode l.file l.handles;
+  within : l.count ≤ l.handle-index;
+}

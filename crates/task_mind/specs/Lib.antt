@@ -1,0 +1,4 @@
+pub mod Value
+pub mod Steps
+pub mod Hearing
+pub mod Fields

@@ -1,0 +1,33 @@
+-- The steps and deeds that a task's own words name.
+use Rattle.std.specs.Prelude.{ℕ}
+use Rattle.inode_events.specs.declared.deed.Deed.{Deed}
+use Rattle.inode_events.specs.declared.deed.Deed.TheVariants as deed
+use Rattle.call_steps.specs.Mind as minds
+use Rattle.task_mind.specs.declared.step.Doing.{Doing}
+use Rattle.task_mind.specs.declared.step.Doing.TheVariants as doing
+use Rattle.task_mind.specs.declared.step.Step.{Step}
+use Rattle.task_mind.specs.declared.step.Step.TheVariants as step
+
+abbrev pub deed_in : Doing → Deed
+deed_in doing.Birth = deed.Birth
+deed_in (doing.Count how) = deed.Count how
+deed_in (doing.Take file) = deed.Take file
+deed_in (doing.Chunk file) = deed.Chunk file
+deed_in (doing.Finish file) = deed.Finish file
+deed_in (doing.Read file from len) = deed.Read file from len
+deed_in (doing.Write file from bytes) = deed.Write file from bytes.now
+deed_in (doing.Trunc file len) = deed.Trunc file len
+deed_in (doing.SetAttr name value admin) = deed.SetAttr name.now value.now admin
+deed_in (doing.SetMeta change) = deed.SetMeta change
+deed_in (doing.Close file) = deed.Close file
+deed_in (doing.CloseTake file) = deed.CloseTake file
+deed_in (doing.CloseChunk file) = deed.CloseChunk file
+deed_in (doing.CloseFinish file) = deed.CloseFinish file
+
+abbrev pub step_in : Step → minds.Step
+step_in step.Nothing = minds.Nothing
+step_in (step.Does inode d) = minds.Does inode (deed_in d)
+step_in (step.Checks inode file func mask) = minds.Checks inode file func mask
+step_in (step.Posts sem) = minds.Signals (deed.Post sem)
+step_in (step.Waits sem) = minds.Signals (deed.Wait sem)
+step_in (step.Appends rule) = minds.Appends rule.now

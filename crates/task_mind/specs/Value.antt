@@ -1,0 +1,36 @@
+-- What contracts see of what a task knows.
+use Rattle.std.specs.Prelude.{◌≡◌, ℕ, Option, None, Some, option_map}
+use Rattle.policy_text.specs.ActionValue.{ActionValue}
+use Rattle.call_steps.specs.Mind as minds
+use Rattle.call_steps.specs.Mind.{Mind, progress_of}
+use Rattle.call_steps.specs.declared.ask.Ask.{Ask}
+use Rattle.call_steps.specs.declared.call.Call.{Call}
+use Rattle.run_model.specs.History.{Thought, call_at}
+use Rattle.run_model.specs.Scene.{Program}
+use Rattle.task_mind.specs.declared.progress.Progress.{Progress}
+
+-- its program, where it stands with its replies, the action of its last check, and for how many
+-- steps more it has room
+pub record TaskValue : Type 0 where
+  pub program : Program
+  pub thought : Thought
+  pub checked : ActionValue
+  pub spare : ℕ
+
+-- the same task, with perhaps another room
+pub record IsSameTask (old new : TaskValue) : Type 0 where
+  pub program : new.program ≡ old.program
+  pub thought : new.thought ≡ old.thought
+  pub checked : new.checked ≡ old.checked
+
+abbrev pub progress_in : Progress → minds.Progress
+progress_in g = record { due = g.due; step = g.step; inode = g.inode; file = g.file; how = g.how }
+
+-- what the next step asks for, if the program isn't over
+abbrev pub due_at : Program → Mind → Option Ask
+due_at p m = option_map (λ (c : Call). (progress_of p.cred.admin c m).due.ask) (call_at p m)
+
+-- the number of the next step of a call in progress, and of one that is to begin
+abbrev pub step_of : Option minds.Progress → ℕ
+step_of None = 0
+step_of (Some g) = g.step

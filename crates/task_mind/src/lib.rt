@@ -1,0 +1,19 @@
+//! What a task knows of its own calls: its program, the place among its calls, how far the call in
+//! progress is, the files that it holds, and the replies so far.
+//!
+//! From these alone a [`TaskMind`] names the step that is due, and it takes what the step was told.
+#![tactic(auto)]
+
+mod handles;
+mod heard;
+mod mind;
+mod progress;
+mod step;
+
+pub use inode_meta::OutOfMemory;
+pub use mind::TaskMind;
+pub use progress::Progress;
+pub use step::{Doing, Step};
+
+#[cfg(test)]
+mod tests;

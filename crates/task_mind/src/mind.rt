@@ -1,0 +1,237 @@
+ghost use Rattle.std.specs.Prelude.{◌≡◌, ℕ, ◌+◌, ◌≤◌, ◌<◌, ◌^◌, ◌++◌, if◌then◌else◌, option_map, unwrap_or, vec_capacity, vec_len, length, IfOk, OnOk, OnSome};
+ghost use Rattle.std.specs.Option.{option_copied};
+ghost use Rattle.call_steps.specs.Handles.{handle_of};
+ghost use Rattle.call_steps.specs.Mind.{progress_of};
+ghost use Rattle.call_steps.specs.Steps.{given};
+ghost use Rattle.inode_events.specs.Checks.{no_action};
+ghost use Rattle.run_model.specs.Ended.{is_done};
+ghost use Rattle.run_model.specs.History.{call_at, hear, start, step_at, who_at};
+ghost use Rattle.task_mind.specs.Hearing.{thought_after};
+ghost use Rattle.task_mind.specs.Steps.{step_in};
+ghost use Rattle.task_mind.specs.Value.{IsSameTask, due_at, progress_in, step_of};
+
+use crate::handles::handle_of;
+use crate::heard::{Heard, heard_of, settle};
+use crate::progress::{Progress, begun};
+use crate::step::{Step, step_by};
+use call_steps::{Ask, Call, Handle, Name, Reply};
+use inode_events::Told;
+use inode_meta::{Cred, Mode, OutOfMemory, Who};
+use policy_text::Action;
+use run_model::EndedTask;
+use std::alloc::{AllocError, Global};
+use std::marker::Model;
+
+/// A task as it knows itself. Contracts see its program, where it stands with its replies, the
+/// action of its last check, and for how many steps more it has room.
+#[derive(Drop)]
+pub struct TaskMind {
+    cred: Cred,
+    calls: Vec<Call>,
+    at: u32,
+    progress: Option<Progress>,
+    handles: Vec<Handle>,
+    replies: Vec<Reply>,
+    checked: Action,
+}
+
+impl Model for TaskMind {
+    ghost use Rattle.task_mind.specs.Value.{TaskValue};
+
+    ghost Value = { TaskValue };
+
+    ghost use Rattle.task_mind.specs.Fields.{IsTaskMind, task_of};
+
+    ghost view = { task_of };
+
+    ghost invariant = { IsTaskMind };
+}
+
+impl TaskMind {
+    /// A task before its first call. A program of more than 4,294,967,295 calls counts as want of
+    /// memory.
+    pub fn new(alloc: Global, cred: Cred, calls: Vec<Call>) -> Result<TaskMind, OutOfMemory>
+        ensures program { IfOk result (λ t. t.program ≡ record {
+          cred = cred;
+          calls = calls.items;
+        }) }
+        ensures thought { IfOk result (λ t. t.thought ≡ start) }
+        ensures checked { IfOk result (λ t. t.checked ≡ no_action) }
+    {
+        if calls.len() > u32::MAX as usize {
+            return Err(AllocError);
+        }
+        Ok(TaskMind {
+            cred,
+            calls,
+            at: 0,
+            progress: None,
+            handles: Vec::new(alloc),
+            replies: Vec::new(alloc),
+            checked: Action::none(),
+        })
+    }
+
+    /// The credentials.
+    pub fn cred(&self) -> &Cred
+        ensures { result.now ≡ self.now.program.cred }
+    {
+        &self.cred
+    }
+
+    /// Whether each call is answered.
+    pub fn is_done(&self) -> bool
+        ensures { result ≡ is_done self.now.program self.now.thought }
+    {
+        self.replies.len() == self.calls.len()
+    }
+
+    /// The action of the last check.
+    pub fn checked(&self) -> Action
+        ensures { result ≡ self.now.checked }
+    {
+        self.checked
+    }
+
+    // How far the call is.
+    fn progress_of(&self, call: &Call) -> Progress
+        ensures progress { progress_in result
+            ≡ progress_of self.now.program.cred.admin call.now self.now.thought.mind }
+        ensures step { result.step ≡ step_of self.now.thought.mind.progress }
+    {
+        match self.progress {
+            Some(progress) => progress,
+            None => begun(self.cred.admin, self.handles.as_slice(), call),
+        }
+    }
+
+    /// What the next step asks for. `None` exactly where the program is over.
+    pub fn due(&self) -> Option<Ask>
+        ensures { result ≡ due_at self.now.program self.now.thought.mind }
+    {
+        match self.calls.get(self.at as usize) {
+            Some(call) => Some(self.progress_of(call).due.ask),
+            None => None,
+        }
+    }
+
+    /// The next step. `None` exactly where the program is over.
+    pub fn next(&self) -> Option<Step<'_>>
+        ensures { option_map step_in result ≡ step_at self.now.program self.now.thought.mind }
+    {
+        match self.calls.get(self.at as usize) {
+            Some(call) => Some(step_by(self.cred.admin, call, self.progress_of(call))),
+            None => None,
+        }
+    }
+
+    /// The place of the next step, for the task of this number.
+    pub fn who(&self, task: u32) -> Who
+        ensures { result ≡ who_at task self.now.program self.now.thought.mind }
+    {
+        let step = match self.calls.get(self.at as usize) {
+            Some(call) => self.progress_of(call).step,
+            None => 0,
+        };
+        Who {
+            task,
+            call: self.at,
+            step,
+        }
+    }
+
+    /// The handle of this name.
+    pub fn handle_of(&self, name: Name) -> Option<Handle>
+        ensures { result ≡ handle_of name self.now.thought.mind.handles }
+    {
+        handle_of(name, self.handles.as_slice())
+    }
+
+    /// Makes room for the next step. A call of more than 4,294,967,295 steps counts as want of
+    /// memory. The task stays, also where there is no memory.
+    pub fn reserve(&mut self) -> Result<(), OutOfMemory>
+        ensures room { OnOk result (1 ≤ self.new.spare) }
+        ensures same { IsSameTask self.old self.new }
+    {
+        let step = match self.progress {
+            Some(progress) => progress.step,
+            None => 0,
+        };
+        if step == u32::MAX {
+            return Err(AllocError);
+        }
+        self.replies.reserve(1)?;
+        self.handles.reserve(1)
+    }
+
+    /// Hears what the due step was told, and of a check the action, in room that was reserved.
+    /// `place` is where its event or its rule stands. The reply comes with the last step of a call.
+    /// A task whose program is over hears nothing.
+    pub fn hear(&mut self, mode: Mode, told: &Told, place: u64, action: Option<&Action>)
+        requires { 1 ≤ self.old.spare }
+        ensures program { self.new.program ≡ self.old.program }
+        ensures thought { (rules : ℕ)
+            → self.new.thought ≡ hear mode self.old.program self.old.thought
+            (record {
+              place = place;
+              told = told.now;
+              action = given (option_copied action.entry);
+              rules = rules;
+            }) }
+        ensures checked { self.new.checked
+            ≡ unwrap_or (option_copied action.entry) self.old.checked }
+    {
+        let heard = self.heard(mode, told, place, action);
+        self.checked = latest(action, self.checked);
+        match heard {
+            Some(Heard::On(progress)) => self.progress = Some(progress),
+            Some(Heard::Over(answer)) => {
+                self.at += 1;
+                self.progress = None;
+                settle(&mut self.handles, &answer);
+                self.replies.push_reserved(answer.reply);
+            }
+            None => {}
+        }
+    }
+
+    // What the outcome of the due step makes of its call.
+    fn heard(&self, mode: Mode, told: &Told, place: u64, action: Option<&Action>) -> Option<Heard>
+        requires { 1 ≤ self.now.spare }
+        ensures due { OnSome result (self.now.thought.mind.at < length self.now.program.calls) }
+        ensures thought { (rules : ℕ) → thought_after self.now.thought result
+            ≡ hear mode self.now.program self.now.thought (record {
+              place = place;
+              told = told.now;
+              action = given (option_copied action.entry);
+              rules = rules;
+            }) }
+    {
+        match self.calls.get(self.at as usize) {
+            Some(call) => Some(heard_of(call, self.progress_of(call), mode, told, place, action)),
+            None => None,
+        }
+    }
+
+    /// The task at the end of a run.
+    pub fn end(self) -> EndedTask
+        ensures done { result.done ≡ is_done self.program self.thought }
+        ensures replies { result.replies ≡ self.thought.replies }
+    {
+        let done = self.is_done();
+        EndedTask {
+            done,
+            replies: self.replies,
+        }
+    }
+}
+
+// The action of the check that was last.
+fn latest(action: Option<&Action>, earlier: Action) -> Action
+    ensures { result ≡ unwrap_or (option_copied action.entry) earlier }
+{
+    match action {
+        Some(action) => *action,
+        None => earlier,
+    }
+}
