@@ -35,7 +35,8 @@ is_call files (call.Mread map from len) = is_small map && is_offset from && is_p
 is_call files (call.Munmap map) = is_small map
 is_call files (call.Exec run inode) = is_small run && nat_lt inode files
 is_call files (call.Endexec run) = is_small run
-is_call files (call.SetAttr inode name value) = nat_lt inode files && is_word 255 name && is_set_value value
+is_call files (call.SetAttr inode name value) = nat_lt inode files && is_word 255 name
+    && is_set_value value
 is_call files (call.SetMeta inode change) = nat_lt inode files
 is_call files (call.Post sem) = is_small sem
 is_call files (call.Wait sem) = is_small sem

@@ -31,7 +31,8 @@ pub record Progress : Type 0 where
   pub file : ℕ
   pub how : How
 
--- a task between two steps: the number of the call that it makes or is to make, how far that call is, and its files
+-- a task between two steps: the number of the call that it makes or is to make, how far that call
+-- is, and its files
 pub record Mind : Type 0 where
   pub at : ℕ
   pub progress : Option Progress
@@ -65,7 +66,13 @@ how_held c None = how_of (course_of c)
 abbrev pub begun : Bool → List Handle → Call → Progress
 begun admin hs c =
     let hand = hand_of admin hs c in
-    record { due = first c hand; step = 0; inode = inode_of c hand.held; file = file_of hand.held; how = how_held c hand.held }
+    record {
+      due = first c hand;
+      step = 0;
+      inode = inode_of c hand.held;
+      file = file_of hand.held;
+      how = how_held c hand.held;
+    }
 
 -- how far the call is
 abbrev pub progress_of : Bool → Call → Mind → Progress
@@ -73,7 +80,8 @@ progress_of admin c m = unwrap_or m.progress (begun admin m.handles c)
 
 -- ---- the next step
 
--- what a step does: nothing, an event on an inode, a check of one, whose action the rules are to give, a deed on the semaphores,
+-- what a step does: nothing, an event on an inode, a check of one, whose action the rules are to
+-- give, a deed on the semaphores,
 -- or a rule more
 pub data Step : Type 0 where
   Nothing : Step
@@ -143,14 +151,22 @@ handles_left (Some n) hs = without n hs
 
 -- the files after an answered call: where it was done, it made a name or ended one
 abbrev pub handles_after : Call → Progress → Reply → List Handle → List Handle
-handles_after c g r hs = if is_done r then handles_left (name_ended c) hs ++ handle_made (name_made c) g else hs
+handles_after c g r hs = if is_done r then handles_left (name_ended c) hs
+    ++ handle_made (name_made c) g else hs
 
 abbrev pub moved : Call → Mind → Progress → ℕ → Next → Mind × Option Reply
-moved c m g place (On s) =
-    (record m { progress = Some (record g { due = s; step = g.step + 1; file = file_after g.due.ask place g.file }) }, None)
-moved c m g place (Over r) = (record { at = m.at + 1; progress = None; handles = handles_after c g r m.handles }, Some r)
+moved c m g place (On s) = (
+  record m {
+    progress =
+        Some (record g { due = s; step = g.step + 1; file = file_after g.due.ask place g.file });
+  },
+  None,
+)
+moved c m g place (Over r) =
+    (record { at = m.at + 1; progress = None; handles = handles_after c g r m.handles }, Some r)
 
--- the task after its next step: by the place of the event, by what it was told, and after a check by its action. At the call's last
+-- the task after its next step: by the place of the event, by what it was told, and after a check
+-- by its action. At the call's last
 -- step there is a reply
 abbrev pub after_of : Mode → Bool → Call → Mind → ℕ → Told → Action → Mind × Option Reply
 after_of mode admin c m place t action =

@@ -1,4 +1,5 @@
--- The steps of a call, one after the other: which comes first, and which comes after what the step before was told.
+-- The steps of a call, one after the other: which comes first, and which comes after what the step
+-- before was told.
 use Rattle.std.specs.Prelude.{Bool, true, false, ◌&&◌, ◌||◌, not, Option, Some, None, unwrap_or, if◌then◌else◌}
 use Rattle.inode_meta.specs.declared.appraisal.Mode.{Mode}
 use Rattle.label_values.specs.declared.verdict.Cause.{Cause}
@@ -31,7 +32,8 @@ use Rattle.call_steps.specs.declared.due.Next.{Next}
 use Rattle.call_steps.specs.declared.due.Next.TheVariants.{On, Over}
 use Rattle.call_steps.specs.declared.due.Due.{Due}
 
--- a further step, and the reply that comes with the call's last one unless a step to come decides another
+-- a further step, and the reply that comes with the call's last one unless a step to come decides
+-- another
 abbrev pub due : Ask → Reply → Due
 due a r = record { ask = a; reply = r }
 
@@ -112,7 +114,9 @@ close_held (Some h) = if h.last then due (close h.how) reply.Done else at_once r
 -- a mapping counts nothing, and only one for execution is checked
 abbrev pub map_held : Bool → Hand → Due
 map_held exec hand =
-    if_free hand.free (if_readable hand.held (if exec then due (check course.Mmap) reply.Done else at_once reply.Done))
+    if_free hand.free
+    (if_readable hand.held (if exec then due (check course.Mmap) reply.Done
+    else at_once reply.Done))
 
 abbrev pub first : Call → Hand → Due
 first (call.Open fd inode h trunc) hand = if_free hand.free (due ask.Count reply.Done)
@@ -149,7 +153,8 @@ reply_of told.NotAdmin = reply.NotAdmin
 reply_of (told.Status status) = reply.Status status
 reply_of _ = reply.Done
 
--- what follows where the file is admitted: an open may cut it, and an execution and the kernel read it
+-- what follows where the file is admitted: an open may cut it, and an execution and the kernel read
+-- it
 abbrev pub admitted : Course → Next
 admitted (course.Open h true) = goes (ask.Trunc 0) reply.Done
 admitted course.Exec = goes whole reply.Done
@@ -204,7 +209,8 @@ abbrev pub after_close : Reply → Told → Next
 after_close r told.Begun = goes ask.CloseChunk r
 after_close r t = Over r
 
--- what comes after a step: by the step, by the reply that its call has so far, by what the step was told, and after a check by its
+-- what comes after a step: by the step, by the reply that its call has so far, by what the step was
+-- told, and after a check by its
 -- action
 abbrev pub next_by : Mode → Course → Ask → Reply → Told → Action → Next
 next_by mode c ask.Count r t action = after_count c r t

@@ -11,29 +11,36 @@ use Rattle.evm_verify.specs.Setup.{Setup}
 use Rattle.evm_verify.specs.Status.{renewed}
 
 -- the five names and those behind them are all names
-pub names_are : (names : List (List ℕ)) → take 5 names ≡ five_names → five_names ++ drop 5 names ≡ names
+pub names_are : (names : List (List ℕ)) → take 5 names ≡ five_names → five_names ++ drop 5 names
+    ≡ names
 names_are names h = ap (λ front. front ++ drop 5 names) (sym h) ∙ take-append-drop 5 names
 
-pub renewed_present : (evm : Setup) (key : List ℕ) (attrs : List Pair) (meta : Meta) → evm.key ≡ Some key →
+pub renewed_present : (evm : Setup) (key : List ℕ) (attrs : List Pair) (meta : Meta) → evm.key
+    ≡ Some key →
     any_present (protected_names evm) attrs ≡ true →
     renewed evm attrs meta ≡ put evm_name (evm_value key (evm_input evm attrs meta)) attrs
 renewed_present evm key attrs meta k there = rw (k, there) refl
 
-pub renewed_absent : (evm : Setup) (key : List ℕ) (attrs : List Pair) (meta : Meta) → evm.key ≡ Some key →
-    any_present (protected_names evm) attrs ≡ false → renewed evm attrs meta ≡ without evm_name attrs
+pub renewed_absent : (evm : Setup) (key : List ℕ) (attrs : List Pair) (meta : Meta) → evm.key
+    ≡ Some key →
+    any_present (protected_names evm) attrs ≡ false → renewed evm attrs meta
+    ≡ without evm_name attrs
 renewed_absent evm key attrs meta k none = rw (k, none) refl
 
 -- where the name is absent nothing is taken away
-without_absent : (name : List ℕ) (attrs : List Pair) → value name attrs ≡ None → without name attrs ≡ attrs
+without_absent : (name : List ℕ) (attrs : List Pair) → value name attrs ≡ None → without name attrs
+    ≡ attrs
 without_absent name [] absent = refl
 without_absent name (a ∷ rest) absent =
-    elim (bytes_eq name a.0) as (λ b. cond b (Some a.1) (value name rest) ≡ None → cond b rest (a ∷ without name rest) ≡ a ∷ rest) [
+    elim (bytes_eq name a.0) as (λ b. cond b (Some a.1) (value name rest) ≡ None
+    → cond b rest (a ∷ without name rest) ≡ a ∷ rest) [
       | true ↦ λ h. (cc)
       | false ↦ λ h. ap (λ (l : List Pair). a ∷ l) (without_absent name rest h)
     ] absent
 
 -- a removal gives the list without the name, also where it was refused
-pub removed : (name : List ℕ) (old new : List Pair) (r : Result (Unit {0}) NoData) → OnOk r (new ≡ without name old) →
+pub removed : (name : List ℕ) (old new : List Pair) (r : Result (Unit {0}) NoData)
+    → OnOk r (new ≡ without name old) →
     (IsErr r → value name old ≡ None) → OnErr r (new ≡ old) → new ≡ without name old
 removed name old new (Ok u) ok absent same = ok
 removed name old new (Err e) ok absent same = same ∙ sym (without_absent name old (absent refl))

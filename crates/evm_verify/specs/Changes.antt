@@ -40,8 +40,10 @@ answered allowed told = if allowed then Ok tt else Err told
 -- the answer to a change of the attribute
 abbrev pub may_change : Setup → List ℕ → List Pair → Meta → Bool → Result (Unit {0}) EvmStatus
 may_change evm name attrs meta new =
-    answered (not (protects evm name) || allows_attr (evm_status evm attrs meta) new) (evm_status evm attrs meta)
+    answered (not (protects evm name) || allows_attr (evm_status evm attrs meta) new)
+    (evm_status evm attrs meta)
 
 -- the answer to a change of mode or owner
 abbrev pub may_set_meta : Setup → List Pair → Meta → Result (Unit {0}) EvmStatus
-may_set_meta evm attrs meta = answered (allows_meta (evm_status evm attrs meta)) (evm_status evm attrs meta)
+may_set_meta evm attrs meta = answered (allows_meta (evm_status evm attrs meta))
+    (evm_status evm attrs meta)

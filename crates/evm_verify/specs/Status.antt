@@ -24,7 +24,8 @@ compared (Some bytes) now old =
 -- the status under a key
 abbrev pub keyed_status : List ℕ → Setup → List Pair → Meta → EvmStatus
 keyed_status key evm attrs meta =
-    if not (any_present (protected_names evm) attrs) && is_blank (value evm_name attrs) then status.NoXattrs
+    if not (any_present (protected_names evm) attrs) && is_blank (value evm_name attrs)
+    then status.NoXattrs
     else compared (value evm_name attrs) (evm_value key (evm_input evm attrs meta))
     (evm_value key (old_input attrs meta))
 
@@ -41,7 +42,8 @@ evm_status evm attrs meta = status_under evm.key evm attrs meta
 abbrev pub renewed_under : Option (List ℕ) → Setup → List Pair → Meta → List Pair
 renewed_under None evm attrs meta = attrs
 renewed_under (Some key) evm attrs meta =
-    if any_present (protected_names evm) attrs then put evm_name (evm_value key (evm_input evm attrs meta)) attrs
+    if any_present (protected_names evm) attrs
+    then put evm_name (evm_value key (evm_input evm attrs meta)) attrs
     else without evm_name attrs
 
 abbrev pub renewed : Setup → List Pair → Meta → List Pair

@@ -67,15 +67,18 @@ fn allows_meta(status: EvmStatus) -> bool
 }
 
 impl Evm {
-    /// EVM with a key, if there is one, the names that are protected beside the kernel's five, in the order
-    /// in which they were added, and the format of the HMAC's message: 1, or 2 with the file system's UUID.
+    /// EVM with a key, if there is one, the names that are protected beside the kernel's five, in
+    /// the order
+    /// in which they were added, and the format of the HMAC's message: 1, or 2 with the file
+    /// system's UUID.
     pub fn new(
         alloc: Global,
         key: Option<&[u8]>,
         added: &[Bytes],
         format: u8,
     ) -> Result<Evm, OutOfMemory>
-        ensures { IfOk result (λ evm. evm ≡ record { key = option_copied key.entry; added = added.now; format = format }) }
+        ensures { IfOk result (λ evm. evm
+            ≡ record { key = option_copied key.entry; added = added.now; format = format }) }
     {
         let key = match key {
             Some(bytes) => Some(Bytes::from_slice(alloc, bytes)?),
@@ -120,8 +123,10 @@ impl Evm {
         value_of(key, &self.names[..FIVE], 1, attrs, meta)
     }
 
-    /// What EVM says of an inode: whether `security.evm` is the HMAC of its protected attributes and
-    /// metadata as they are, is the HMAC of the older form, is missing or doesn't fit, or whether there is
+    /// What EVM says of an inode: whether `security.evm` is the HMAC of its protected attributes
+    /// and
+    /// metadata as they are, is the HMAC of the older form, is missing or doesn't fit, or whether
+    /// there is
     /// nothing to protect or no key.
     pub fn status(&self, attrs: &Attrs, meta: &Meta) -> EvmStatus
         ensures { result ≡ evm_status self.now attrs.now meta.now }
@@ -145,7 +150,8 @@ impl Evm {
         }
     }
 
-    /// Writes the HMAC anew, or takes `security.evm` away where nothing is protected any more. Without a
+    /// Writes the HMAC anew, or takes `security.evm` away where nothing is protected any more.
+    /// Without a
     /// key nothing changes. After memory ran out the attributes are as before.
     pub fn renew(&self, attrs: &mut Attrs, meta: &Meta) -> Result<(), OutOfMemory>
         ensures ok { OnOk result (attrs.new ≡ renewed self.now attrs.old meta.now) }
@@ -188,7 +194,8 @@ impl Evm {
         }
     }
 
-    /// Whether a call may change mode or owner: refused, with the status, exactly at NoLabel, Fail and Old.
+    /// Whether a call may change mode or owner: refused, with the status, exactly at NoLabel, Fail
+    /// and Old.
     pub fn may_set_meta(&self, attrs: &Attrs, meta: &Meta) -> Result<(), EvmStatus>
         ensures { result ≡ may_set_meta self.now attrs.now meta.now }
     {

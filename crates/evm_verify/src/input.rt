@@ -17,7 +17,8 @@ pub const HMAC_TYPE: u8 = 2;
 
 // Feeds the value of an attribute, or nothing where it is absent.
 fn feed_value(state: &mut HmacSha1, value: Option<&[u8]>)
-    ensures { (key m : List ℕ) → Holds state.old key m → Holds state.new key (m ++ unwrap_or (option_copied value.entry) []) }
+    ensures { (key m : List ℕ) → Holds state.old key m
+        → Holds state.new key (m ++ unwrap_or (option_copied value.entry) []) }
 {
     if let Some(bytes) = value {
         state.feed(bytes);
@@ -26,7 +27,8 @@ fn feed_value(state: &mut HmacSha1, value: Option<&[u8]>)
 
 // Feeds the values of those of the names that are present.
 fn feed_values(state: &mut HmacSha1, names: &[Bytes], attrs: &Attrs)
-    ensures { (key m : List ℕ) → Holds state.old key m → Holds state.new key (m ++ values_under names.now attrs.now) }
+    ensures { (key m : List ℕ) → Holds state.old key m
+        → Holds state.new key (m ++ values_under names.now attrs.now) }
 {
     for name in names {
         feed_value(state, attrs.get(name.as_slice()));
@@ -35,7 +37,8 @@ fn feed_values(state: &mut HmacSha1, names: &[Bytes], attrs: &Attrs)
 
 // Feeds the metadata.
 fn feed_meta(state: &mut HmacSha1, meta: &Meta)
-    ensures { (key m : List ℕ) → Holds state.old key m → Holds state.new key (m ++ meta_bytes meta.now) }
+    ensures { (key m : List ℕ) → Holds state.old key m
+        → Holds state.new key (m ++ meta_bytes meta.now) }
 {
     state.feed(&meta.ino.to_le_bytes());
     state.feed(&meta.generation.to_le_bytes());
@@ -47,7 +50,8 @@ fn feed_meta(state: &mut HmacSha1, meta: &Meta)
 
 // Feeds the UUID of the file system under format 2.
 fn feed_place(state: &mut HmacSha1, meta: &Meta, format: u8)
-    ensures { (key m : List ℕ) → Holds state.old key m → Holds state.new key (m ++ place_bytes format meta.now) }
+    ensures { (key m : List ℕ) → Holds state.old key m
+        → Holds state.new key (m ++ place_bytes format meta.now) }
 {
     if format == 2 {
         state.feed(&meta.place.to_be_bytes());
@@ -71,7 +75,8 @@ pub fn value_of(
     attrs: &Attrs,
     meta: &Meta,
 ) -> [u8; VALUE_LEN]
-    ensures { result ≡ evm_value key.now (values_under names.now attrs.now ++ meta_bytes meta.now ++ place_bytes format meta.now) }
+    ensures { result ≡ evm_value key.now (values_under names.now attrs.now ++ meta_bytes meta.now
+        ++ place_bytes format meta.now) }
 {
     let mut state = HmacSha1::new(key);
     feed_values(&mut state, names, attrs);

@@ -1,5 +1,7 @@
-//! EVM, the extended verification module: an HMAC over the protected attributes and the metadata of an
-//! inode (Documentation/ABI/testing/evm), its status and renewal, and the changes that it lets a call make.
+//! EVM, the extended verification module: an HMAC over the protected attributes and the metadata of
+//! an
+//! inode (Documentation/ABI/testing/evm), its status and renewal, and the changes that it lets a
+//! call make.
 #![tactic(auto)]
 
 mod evm;

@@ -37,7 +37,8 @@ module _ {E : Type 0} where
         (subst (λ (n : ListName). All (λ p. p.name ≡ n) passes) name others.of_list);
     one_each = λ n below.
         count_by-cons (λ p. p.number == n) own passes
-        ∙ (λ i. bit (number i == n) + others.one_each n (subst (λ (c : ℕ). n < c) (sym callers) below) i)
+        ∙ (λ i. bit (number i == n) + others.one_each n
+        (subst (λ (c : ℕ). n < c) (sym callers) below) i)
         ∙ beside n;
   }
 
@@ -70,7 +71,8 @@ module _ {E : Type 0} where
       let one : q ≡ p = same_Some q p is in λ i. (one ∙ sym same) i ∷ qs
 
   -- the others are fresh, in the order of their numbers
-  pub rest_fresh : (passes rest : List (Passed E)) (own : Passed E) (name later : ListName) (callers : ℕ)
+  pub rest_fresh : (passes rest : List (Passed E)) (own : Passed E) (name later : ListName)
+      (callers : ℕ)
       → passes ≡ own ∷ rest → length passes ≡ callers → later ≡ name
       → ((k : ℕ) → k < callers → slice_get passes k ≡ Some (fresh name k))
       → (k : ℕ) → k < length rest → slice_get rest k ≡ Some (fresh later (k + 1))
@@ -83,14 +85,16 @@ module _ {E : Type 0} where
   -- the passes in the order of their numbers, from 1 on, are the others
   pub others_in_order : (g : Grown E) (passes : List (Passed E)) → length passes + 1 ≡ g.callers
       → All (λ p. p.name ≡ g.name) passes
-      → ((k : ℕ) (p : Passed E) → slice_get passes k ≡ Some p → p.number ≡ k + 1) → HasOthers g passes
+      → ((k : ℕ) (p : Passed E) → slice_get passes k ≡ Some p → p.number ≡ k + 1)
+      → HasOthers g passes
   others_in_order g passes count of_list numbered =
       HasOthers-rest g g (fresh g.name 0) passes refl refl refl
       (each_after_own g (fresh g.name 0) passes count refl refl of_list numbered)
 
   -- an owner's pass that has added nothing leaves each place to the others
   pub places-idle : (own : Passed E) (passes : List (Passed E)) (k : ℕ) → own.mine ≡ []
-      → count_by (λ p. has_place k p.mine) (own ∷ passes) ≡ 1 → count_by (λ p. has_place k p.mine) passes ≡ 1
+      → count_by (λ p. has_place k p.mine) (own ∷ passes) ≡ 1
+      → count_by (λ p. has_place k p.mine) passes ≡ 1
   places-idle own passes k none all =
       let is : has_place k own.mine ≡ false = ap (has_place k) none in
       let parts : bit false + count_by (λ p. has_place k p.mine) passes ≡ 1 =

@@ -21,13 +21,15 @@ module _ {X : Type 0} where
   prefix_same xs ys e = ([], append-nil xs ∙ e)
 
   pub prefix_trans : (xs ys zs : List X) → IsPrefix xs ys → IsPrefix ys zs → IsPrefix xs zs
-  prefix_trans xs ys zs a b = (a.0 ++ b.0, sym (append_assoc xs a.0 b.0) ∙ ap (λ (l : List X). l ++ b.0) a.1 ∙ b.1)
+  prefix_trans xs ys zs a b =
+      (a.0 ++ b.0, sym (append_assoc xs a.0 b.0) ∙ ap (λ (l : List X). l ++ b.0) a.1 ∙ b.1)
 
   pub prefix_length : (xs ys : List X) → IsPrefix xs ys → length xs ≤ length ys
   prefix_length xs ys a = omega (arith, length-append xs a.0, ap length a.1)
 
   -- of two that begin one list, the shorter begins the longer
-  pub prefix_compare : (xs ys zs : List X) → IsPrefix xs zs → IsPrefix ys zs → length xs ≤ length ys → IsPrefix xs ys
+  pub prefix_compare : (xs ys zs : List X) → IsPrefix xs zs → IsPrefix ys zs → length xs ≤ length ys
+      → IsPrefix xs ys
   prefix_compare [] ys zs a b short = (ys, refl)
   prefix_compare (x ∷ xs) [] zs a b short = absurd (omega arith)
   prefix_compare (x ∷ xs) (y ∷ ys) [] a b short = let e = a.1 in absurd (cc)
@@ -50,17 +52,24 @@ module _ {X : Type 0} where
   pub prefix_both : (xs ys : List X) → IsPrefix xs ys → IsPrefix ys xs → xs ≡ ys
   prefix_both xs ys a b = prefix_whole xs ys a (prefix_length ys xs b)
 
-  pub prefix_longest : (xs ys zs : List X) → IsPrefix xs zs → IsPrefix ys zs → IsPrefix (longest xs ys) zs
+  pub prefix_longest : (xs ys zs : List X) → IsPrefix xs zs → IsPrefix ys zs
+      → IsPrefix (longest xs ys) zs
   prefix_longest xs ys zs a b =
-      elim (ltb (length xs) (length ys)) as (λ t. IsPrefix (cond t ys xs) zs) [ true ↦ b | false ↦ a ]
+      elim (ltb (length xs) (length ys)) as (λ t. IsPrefix (cond t ys xs) zs)
+      [ true ↦ b | false ↦ a ]
 
   -- what stands at a place of a prefix stands there in the whole
-  pub prefix_get : (xs ys : List X) (k : ℕ) (x : X) → IsPrefix xs ys → slice_get xs k ≡ Some x → slice_get ys k ≡ Some x
+  pub prefix_get : (xs ys : List X) (k : ℕ) (x : X) → IsPrefix xs ys → slice_get xs k ≡ Some x
+      → slice_get ys k ≡ Some x
   prefix_get [] ys k x a e = absurd (none-some x e)
   prefix_get (y ∷ xs) [] k x a e = let s = a.1 in absurd (cc)
-  prefix_get (y ∷ xs) (z ∷ ys) zero x a e = let s = a.1 in let same : y ≡ z = cc in ap Some (sym same) ∙ e
-  prefix_get (y ∷ xs) (z ∷ ys) (suc k) x a e = let s = a.1 in let rest : xs ++ a.0 ≡ ys = cc in prefix_get xs ys k x (a.0, rest) e
+  prefix_get (y ∷ xs) (z ∷ ys) zero x a e = let s = a.1 in let same : y
+      ≡ z = cc in ap Some (sym same) ∙ e
+  prefix_get (y ∷ xs) (z ∷ ys) (suc k) x a e = let s = a.1 in let rest : xs ++ a.0 ≡ ys =
+      cc in prefix_get xs ys k x
+      (a.0, rest) e
 
   -- a prefix and the whole have the same first elements
-  pub prefix_take : (xs ys : List X) (k : ℕ) → IsPrefix xs ys → k ≤ length xs → take k ys ≡ take k xs
+  pub prefix_take : (xs ys : List X) (k : ℕ) → IsPrefix xs ys → k ≤ length xs → take k ys
+      ≡ take k xs
   prefix_take xs ys k a within = ap (take k) (sym a.1) ∙ take-append-le k xs a.0 within

@@ -39,11 +39,17 @@ module _ {E : Type 0} where
     numbers = prefix_trans l.numbers t.numbers u.numbers w.numbers g.numbers;
     even = w.even;
     callers = w.callers ∙ sym g.callers;
-    taken = λ none n. prefix_trans (entries_in n l) (t.mine n) (u.mine n) (w.taken none n) (g.mine n);
+    taken = λ none n. prefix_trans (entries_in n l) (t.mine n) (u.mine n) (w.taken none n)
+        (g.mine n);
   }
 
   pub is_list : (t u : Story E) (l : Listed E) → SameList t u → IsList t l → IsList u l
-  is_list t u l same is = record { list = is.list ∙ sym same.list; numbers = is.numbers ∙ sym same.numbers; pending = is.pending ∙ sym same.pending }
+  is_list t u l same is = record {
+    list = is.list ∙ sym same.list;
+    numbers = is.numbers
+        ∙ sym same.numbers;
+    pending = is.pending ∙ sym same.pending;
+  }
 
   pub was_pass : (t u : Story E) (p : Held E) → Grows t u → WasPass t p → WasPass u p
   was_pass t u p g w = record {
@@ -55,24 +61,38 @@ module _ {E : Type 0} where
   }
 
   -- a view goes on to fit, where its seat's own part of the story stays
-  pub fits_on : (t u : Story E) (seat : ℕ) (v : Known E) → Grows t u → (seat ≡ 0 → SameList t u) → ((n : ℕ) → n < t.next → t.owner n ≡ seat → u.mine n ≡ t.mine n) → Fits t seat v → Fits u seat v
+  pub fits_on : (t u : Story E) (seat : ℕ) (v : Known E) → Grows t u → (seat ≡ 0 → SameList t u)
+      → ((n : ℕ) → n < t.next → t.owner n ≡ seat → u.mine n ≡ t.mine n) → Fits t seat v
+      → Fits u seat v
   fits_on t u seat Spent g list pass f = tt
-  fits_on t u seat (OfList l) g list pass f = (was_list t u l g f.0, λ e. is_list t u l (list e) (f.1 e))
-  fits_on t u seat (OfPass p) g list pass f = (was_pass t u p g f.0, λ e. pass p.number f.0.drawn (f.0.owner ∙ sym e) ∙ f.1 e)
-  fits_on t u seat (ListBeside l p) g list pass f = (was_list t u l g f.0, (λ e. is_list t u l (list e) (f.1 e)), was_pass t u p g f.2)
-  fits_on t u seat (PassBeside p l) g list pass f = (was_pass t u p g f.0, (λ e. pass p.number f.0.drawn (f.0.owner ∙ sym e) ∙ f.1 e), was_list t u l g f.2)
+  fits_on t u seat (OfList l) g list pass f =
+      (was_list t u l g f.0, λ e. is_list t u l (list e) (f.1 e))
+  fits_on t u seat (OfPass p) g list pass f =
+      (was_pass t u p g f.0, λ e. pass p.number f.0.drawn (f.0.owner ∙ sym e) ∙ f.1 e)
+  fits_on t u seat (ListBeside l p) g list pass f =
+      (was_list t u l g f.0, (λ e. is_list t u l (list e) (f.1 e)), was_pass t u p g f.2)
+  fits_on t u seat (PassBeside p l) g list pass f = (
+    was_pass t u p g f.0,
+    (λ e. pass p.number f.0.drawn (f.0.owner ∙ sym e) ∙ f.1 e),
+    was_list t u l g f.2,
+  )
 
   -- the view of one seat changes, and the others' go on to fit
-  pub each_set : (t u : Story E) (views : List (Known E)) (seat : ℕ) (w : Known E) → ((j : ℕ) (v : Known E) → j ≢ seat → Fits t j v → Fits u j v) → Fits u seat w
-      → ((j : ℕ) (v : Known E) → get_elem? views j ≡ some v → Fits t j v) → (j : ℕ) (v : Known E) → get_elem? (set views seat w) j ≡ some v → Fits u j v
+  pub each_set : (t u : Story E) (views : List (Known E)) (seat : ℕ) (w : Known E)
+      → ((j : ℕ) (v : Known E) → j ≢ seat → Fits t j v → Fits u j v) → Fits u seat w
+      → ((j : ℕ) (v : Known E) → get_elem? views j ≡ some v → Fits t j v) → (j : ℕ) (v : Known E)
+      → get_elem? (set views seat w) j ≡ some v → Fits u j v
   each_set t u views seat w on mine each j v e =
       ⊎_elim
-      (λ (x : (j ≡ seat) × (w ≡ v)). subst (λ (y : ℕ × Known E). Fits u y.0 y.1) (λ i. (sym x.0 i, x.1 i)) mine)
+      (λ (x : (j ≡ seat) × (w ≡ v)). subst (λ (y : ℕ × Known E). Fits u y.0 y.1)
+      (λ i. (sym x.0 i, x.1 i)) mine)
       (λ (x : (j ≢ seat) × (get_elem? views j ≡ some v)). on j v x.0 (each j v x.1))
       (at_set views seat j w v e)
 
   -- a load: the view of one seat changes, and the story stays
-  pub stays : (k : ℕ) (s : State (Unit {0}) (Known E)) (h : Kept k s) (i seat : ℕ) (c : List (ℕ × Unit {0})) (w : Known E) → Fits h.story seat w → Kept k (stepped s i (slice_index s.words i) seat c w keeps)
+  pub stays : (k : ℕ) (s : State (Unit {0}) (Known E)) (h : Kept k s) (i seat : ℕ)
+      (c : List (ℕ × Unit {0})) (w : Known E) → Fits h.story seat w
+      → Kept k (stepped s i (slice_index s.words i) seat c w keeps)
   stays k s h i seat c w fits = record {
     story = h.story;
     callers_are = h.callers_are;
@@ -88,8 +108,15 @@ module _ {E : Type 0} where
   }
 
   -- the list's own view has the whole story of the list
-  pub own_entries : (t : Story E) (l : Listed E) → IsList t l → (n : ℕ) → entries_in n l ≡ entries_of n t.numbers t.list
+  pub own_entries : (t : Story E) (l : Listed E) → IsList t l → (n : ℕ) → entries_in n l
+      ≡ entries_of n t.numbers t.list
   own_entries t l is n = λ i. entries_of n (is.numbers i) (is.list i)
 
-  pub settled : (t : Story E) (n : ℕ) → t.pending ≡ None → Counts t.pending n (entries_of n t.numbers t.list) (t.mine n) → entries_of n t.numbers t.list ≡ t.mine n
-  settled t n none counts = ⊎_elim (λ e. e) (λ (x : (t.pending ≡ Some n) × ((x : ℕ × E) × (entries_of n t.numbers t.list ≡ t.mine n ++ x ∷ []))). absurd (none-some n (sym none ∙ x.0))) counts
+  pub settled : (t : Story E) (n : ℕ) → t.pending ≡ None
+      → Counts t.pending n (entries_of n t.numbers t.list) (t.mine n) → entries_of n t.numbers t.list
+      ≡ t.mine n
+  settled t n none counts =
+      ⊎_elim (λ e. e)
+      (λ (x : (t.pending ≡ Some n)
+      × ((x : ℕ × E) × (entries_of n t.numbers t.list ≡ t.mine n ++ x ∷ []))). absurd
+      (none-some n (sym none ∙ x.0))) counts

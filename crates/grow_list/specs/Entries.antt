@@ -1,4 +1,5 @@
--- The entries of a list by the pass that added them: beside the list stands a list of numbers, in which each entry has the number of its pass.
+-- The entries of a list by the pass that added them: beside the list stands a list of numbers, in
+-- which each entry has the number of its pass.
 use Rattle.std.specs.Prelude.{ℕ, ◌+◌, ◌==◌, ◌||◌, Bool, false, if◌then◌else◌, List, [], ◌∷◌}
 
 module _ {E : Type 0} where

@@ -9,10 +9,11 @@ use Rattle.grow_list.specs.declared.known.Known.TheVariants.{OfList, OfPass}
 use Rattle.grow_list.specs.Views.{listed, held, entries_in}
 
 -- the seat has this view now, and is at the same table
-pub record IsMoved {E : Type 0} (old new : Seat (Unit {0}) (Known E)) (view : Known E) : Type 0 where
-  pub table_id : new.table_id ≡ old.table_id
-  pub id : new.id ≡ old.id
-  pub me : new.me ≡ (view, old.me.1)
+pub record IsMoved {E : Type 0} (old new : Seat (Unit {0}) (Known E)) (view : Known E) : Type 0
+  where
+    pub table_id : new.table_id ≡ old.table_id
+    pub id : new.id ≡ old.id
+    pub me : new.me ≡ (view, old.me.1)
 
 -- the list's own seat, with nothing pending
 pub record IsListSeat {E : Type 0} (seat : Seat (Unit {0}) (Known E)) : Type 0 where
@@ -25,7 +26,8 @@ pub record IsPassSeat {E : Type 0} (seat : Seat (Unit {0}) (Known E)) : Type 0 w
   pub own : seat.id ≡ (held seat.me.0).seat
   pub view : seat.me.0 ≡ OfPass (held seat.me.0)
 
--- what the pass saw begins the list, and the list's entries of its number are its own, at places of the list
+-- what the pass saw begins the list, and the list's entries of its number are its own, at places of
+-- the list
 pub record Tallies {E : Type 0} (l : Listed E) (p : Held E) : Type 0 where
   pub seen : IsPrefix p.seen l.list
   pub own : entries_in p.number l ≡ p.mine
@@ -36,11 +38,23 @@ pub record Tallies {E : Type 0} (l : Listed E) (p : Held E) : Type 0 where
 module _ {E : Type 0} where
   -- the pass has seen the list
   abbrev pub caught_up : Held E → Listed E → Held E
-  caught_up p l = record { seat = p.seat; number = p.number; callers = p.callers; seen = l.list; mine = p.mine }
+  caught_up p l = record {
+    seat = p.seat;
+    number = p.number;
+    callers = p.callers;
+    seen = l.list;
+    mine = p.mine;
+  }
 
   -- the list and the pass after a push
   abbrev pub grown : Listed E → ℕ → E → Listed E
-  grown l n e = record { list = l.list ++ e ∷ []; numbers = l.numbers ++ n ∷ []; callers = l.callers; pending = None }
+  grown l n e = record {
+    list = l.list ++ e ∷ [];
+    numbers = l.numbers ++ n ∷ [];
+    callers =
+        l.callers;
+    pending = None;
+  }
 
   abbrev pub enlarged : Held E → Listed E → E → Held E
   enlarged p l e = record {

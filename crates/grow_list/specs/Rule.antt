@@ -11,7 +11,8 @@ use Rattle.grow_list.specs.declared.known.Known.TheVariants.{Spent, OfList, OfPa
 use Rattle.grow_list.specs.Entries.{entries_of}
 use Rattle.grow_list.specs.Views.{entries_in}
 
--- the list with the number of each entry's pass, the pending mark, the number of callers, the next number, the seat that drew a number, and the own entries of each pass
+-- the list with the number of each entry's pass, the pending mark, the number of callers, the next
+-- number, the seat that drew a number, and the own entries of each pass
 pub record Story (E : Type 0) : Type 0 where
   pub list : List E
   pub numbers : List ℕ
@@ -49,7 +50,8 @@ Fits t seat Spent = Unit {0}
 Fits t seat (OfList l) = WasList t l × (seat ≡ 0 → IsList t l)
 Fits t seat (OfPass p) = WasPass t p × (seat ≡ p.seat → t.mine p.number ≡ p.mine)
 Fits t seat (ListBeside l p) = WasList t l × (seat ≡ 0 → IsList t l) × WasPass t p
-Fits t seat (PassBeside p l) = WasPass t p × (seat ≡ p.seat → t.mine p.number ≡ p.mine) × WasList t l
+Fits t seat (PassBeside p l) = WasPass t p × (seat ≡ p.seat → t.mine p.number ≡ p.mine)
+    × WasList t l
 
 -- the list's entries of a number are its pass's own, but for one that is still pending
 abbrev pub Counts : {E : Type 0} → Option ℕ → ℕ → List (ℕ × E) → List (ℕ × E) → Type 0
@@ -64,8 +66,10 @@ pub record Kept {E : Type 0} (callers : ℕ) (s : State (Unit {0}) (Known E)) : 
   pub even : length story.numbers ≡ length story.list
   pub below : All (λ m. m < story.next) story.numbers
   -- the marked entry is the last of the list
-  pub marked : (n : ℕ) → story.pending ≡ Some n → (before : List ℕ) × (story.numbers ≡ before ++ n ∷ [])
+  pub marked : (n : ℕ) → story.pending ≡ Some n → (before : List ℕ)
+      × (story.numbers ≡ before ++ n ∷ [])
   pub owned : (n : ℕ) → n < story.next → story.owner n < length s.views
   pub undrawn : (n : ℕ) → story.next ≤ n → story.mine n ≡ []
-  pub counted : (n : ℕ) → Counts story.pending n (entries_of n story.numbers story.list) (story.mine n)
+  pub counted : (n : ℕ) → Counts story.pending n (entries_of n story.numbers story.list)
+      (story.mine n)
   pub each : (seat : ℕ) (v : Known E) → get_elem? s.views seat ≡ some v → Fits story seat v

@@ -14,9 +14,19 @@ ListName = TableId
 
 -- the name of no list
 abbrev pub no_name : ListName
-no_name = record { words = 0; slots = 0; views_name = 0; atom = 0; block = 0; offset = 0; slot_names = [] }
+no_name = record {
+  words = 0;
+  slots = 0;
+  views_name = 0;
+  atom = 0;
+  block = 0;
+  offset =
+      0;
+  slot_names = [];
+}
 
--- a list, beside each entry the number of the pass that added it, and for how many more entries there is room
+-- a list, beside each entry the number of the pass that added it, and for how many more entries
+-- there is room
 pub record Grown (E : Type 0) : Type 0 where
   pub name : ListName
   pub callers : ℕ
@@ -24,7 +34,8 @@ pub record Grown (E : Type 0) : Type 0 where
   pub list : List E
   pub numbers : List ℕ
 
--- a pass of the list of this name: its number, the list that it has seen, and its own entries with their places
+-- a pass of the list of this name: its number, the list that it has seen, and its own entries with
+-- their places
 pub record Passed (E : Type 0) : Type 0 where
   pub name : ListName
   pub number : ℕ
@@ -51,7 +62,8 @@ pub record HasEach {E : Type 0} (g : Grown E) (passes : List (Passed E)) : Type 
 abbrev pub fresh : {E : Type 0} → ListName → ℕ → Passed E
 fresh name number = record { name = name; number = number; seen = []; mine = [] }
 
--- the pass accounts for what it saw and added: what it saw begins the list, and the list's entries of its number are its own
+-- the pass accounts for what it saw and added: what it saw begins the list, and the list's entries
+-- of its number are its own
 abbrev pub Accounts : {E : Type 0} → Listed E → Passed E → Type 0
 Accounts l p = IsPrefix p.seen l.list × (entries_in p.number l ≡ p.mine)
 

@@ -25,17 +25,25 @@ pub record IsComplete {E : Type 0} (l : Listed E) : Type 0 where
   pub even : length l.numbers ≡ length l.list
 
 module _ {E : Type 0} where
-  abbrev pub Drawn : ℕ → Step (Unit {0}) → Me (Unit {0}) (Known E) → ℕ → Me (Unit {0}) (Known E) → Type 0
-  Drawn seat s v found w = found ≡ s.first → w ≡ (OfPass (newcomer seat s.first (listed v.0).callers), v.1)
+  abbrev pub Drawn : ℕ → Step (Unit {0}) → Me (Unit {0}) (Known E) → ℕ → Me (Unit {0}) (Known E)
+      → Type 0
+  Drawn seat s v found w = found ≡ s.first → w
+      ≡ (OfPass (newcomer seat s.first (listed v.0).callers), v.1)
 
-  abbrev pub Added : List E → Step (Unit {0}) → Me (Unit {0}) (Known E) → ℕ → Me (Unit {0}) (Known E) → Type 0
+  abbrev pub Added : List E → Step (Unit {0}) → Me (Unit {0}) (Known E) → ℕ
+      → Me (Unit {0}) (Known E) → Type 0
   Added entry s v stored w = w ≡ (OfList (longer (listed v.0) (held v.0).number entry), v.1)
 
-  abbrev pub Heard : Step (Unit {0}) → Me (Unit {0}) (Known E) → ℕ → Me (Unit {0}) (Known E) → Type 0
-  Heard s v found w = (w ≡ (OfList (heard (listed v.0) (held v.0)), v.1)) × Agrees (listed v.0) (held v.0)
+  abbrev pub Heard : Step (Unit {0}) → Me (Unit {0}) (Known E) → ℕ → Me (Unit {0}) (Known E)
+      → Type 0
+  Heard s v found w = (w ≡ (OfList (heard (listed v.0) (held v.0)), v.1))
+      × Agrees (listed v.0) (held v.0)
 
-  abbrev pub Learned : Step (Unit {0}) → Me (Unit {0}) (Known E) → ℕ → Me (Unit {0}) (Known E) → Type 0
-  Learned s v found w = (w ≡ (OfPass (learned (held v.0) (listed v.0)), v.1)) × Owns (held v.0) (listed v.0)
+  abbrev pub Learned : Step (Unit {0}) → Me (Unit {0}) (Known E) → ℕ → Me (Unit {0}) (Known E)
+      → Type 0
+  Learned s v found w = (w ≡ (OfPass (learned (held v.0) (listed v.0)), v.1))
+      × Owns (held v.0) (listed v.0)
 
-  abbrev pub Closed : Step (Unit {0}) → Me (Unit {0}) (Known E) → ℕ → Me (Unit {0}) (Known E) → Type 0
+  abbrev pub Closed : Step (Unit {0}) → Me (Unit {0}) (Known E) → ℕ → Me (Unit {0}) (Known E)
+      → Type 0
   Closed s v found w = (w ≡ v) × IsComplete (listed v.0)

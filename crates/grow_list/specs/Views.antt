@@ -28,7 +28,8 @@ module _ {E : Type 0} where
 
   -- the pass that has drawn its number
   abbrev pub newcomer : ℕ → ℕ → ℕ → Held E
-  newcomer seat number callers = record { seat = seat; number = number; callers = callers; seen = []; mine = [] }
+  newcomer seat number callers =
+      record { seat = seat; number = number; callers = callers; seen = []; mine = [] }
 
   -- what a view knows of the list, and of a pass
   abbrev pub listed : Known E → Listed E
@@ -57,7 +58,13 @@ module _ {E : Type 0} where
   -- the list with an entry of this number behind it, marked as pending
   abbrev pub longer : Listed E → ℕ → List E → Listed E
   longer l n entry =
-      record { list = l.list ++ entry; numbers = l.numbers ++ n ∷ []; callers = l.callers; pending = Some n }
+      record {
+        list = l.list ++ entry;
+        numbers = l.numbers ++ n ∷ [];
+        callers = l.callers;
+        pending =
+            Some n;
+      }
 
   -- the mark is cleared where the pass has taken the entry in
   abbrev pub heard : Listed E → Held E → Listed E
@@ -65,7 +72,8 @@ module _ {E : Type 0} where
     list = l.list;
     numbers = l.numbers;
     callers = l.callers;
-    pending = if marks p.number l.pending && nat_le (length (entries_in p.number l)) (length p.mine) then None else l.pending;
+    pending = if marks p.number l.pending && nat_le (length (entries_in p.number l)) (length p.mine)
+        then None else l.pending;
   }
 
   -- what the pass has seen and what is its own, after it has met the list

@@ -17,7 +17,12 @@ grown_of g = record {
 }
 
 abbrev pub passed_of : {E : Type 0} → PassFields E → Passed E
-passed_of p = record { name = p.seat.table_id; number = p.number; seen = (held p.seat.me.0).seen; mine = (held p.seat.me.0).mine }
+passed_of p = record {
+  name = p.seat.table_id;
+  number = p.number;
+  seen = (held p.seat.me.0).seen;
+  mine = (held p.seat.me.0).mine;
+}
 
 -- the seat is the list's own, and knows its entries
 pub record IsWhole {E : Type 0} (g : GrowFields E) : Type 0 where

@@ -1,4 +1,5 @@
-//! What the seats of the table know of the list, and the rule over it: the kinds of atomic step, for the proofs alone.
+//! What the seats of the table know of the list, and the rule over it: the kinds of atomic step,
+//! for the proofs alone.
 ghost use Rattle.std.specs.Prelude.{ℕ, List, []};
 
 use atomic_table::{Join, Play, Split, TableRule};
@@ -11,7 +12,8 @@ pub struct Listed<E> {
     /// Beside each entry, the number of the pass that added it.
     pub numbers: LinkedList<u32>,
     pub callers: u32,
-    /// The number of the pass that added the last entry, where that pass hasn't taken the entry in yet.
+    /// The number of the pass that added the last entry, where that pass hasn't taken the entry in
+    /// yet.
     pub pending: Option<u32>,
 }
 
@@ -34,7 +36,8 @@ pub enum Known<E> {
     PassBeside(Held<E>, Listed<E>),
 }
 
-/// The rule. Word 0 is the length of the list and word 1 the next number, and the first seat is the list's.
+/// The rule. Word 0 is the length of the list and word 1 the next number, and the first seat is the
+/// list's.
 pub struct Growing;
 
 impl<E> TableRule<(), Known<E>, u32> for Growing {
@@ -94,7 +97,8 @@ impl<E> Adding<E> for Brand {
     ghost entry = { [] };
 }
 
-/// A store on word 0 by the list's seat, with a pass beside it: the entry joins the list and is marked as pending.
+/// A store on word 0 by the list's seat, with a pass beside it: the entry joins the list and is
+/// marked as pending.
 pub struct Adds<N>(PhantomData<N>);
 
 impl<E, N: Adding<E>> Play<(), Known<E>> for Adds<N> {

@@ -13,7 +13,8 @@ use inode_meta::OutOfMemory;
 use std::alloc::{AllocError, Global};
 use std::marker::Model;
 
-/// A list that only grows. Contracts see its name, its number of callers, its entries, beside each entry the number of
+/// A list that only grows. Contracts see its name, its number of callers, its entries, beside each
+/// entry the number of
 /// the pass that added it, and its room: for how many more entries it has memory.
 #[derive(Drop)]
 pub struct Grow<E> {
@@ -35,7 +36,8 @@ impl<E> Model for Grow<E> {
     ghost invariant = { IsWhole };
 }
 
-/// What one caller knows of a list. Contracts see the name of its list, its number, the list that it has seen, and its
+/// What one caller knows of a list. Contracts see the name of its list, its number, the list that
+/// it has seen, and its
 /// own entries, each with its place. It may stay with its caller while the list lies under a lock.
 pub struct Pass<E> {
     seat: Place<E>,
@@ -100,7 +102,8 @@ impl<E> Grow<E> {
         requires { 1 ≤ callers }
         ensures list { IfOk result (λ r. (r.0.list ≡ []) × (r.0.numbers ≡ []) × (r.0.callers ≡ callers)) }
         ensures count { IfOk result (λ r. length r.1.items ≡ callers) }
-        ensures passes { IfOk result (λ r. (k : ℕ) → k < callers → slice_get r.1.items k ≡ Some (fresh r.0.name k)) }
+        ensures passes { IfOk result (λ r. (k : ℕ) → k < callers → slice_get r.1.items k
+            ≡ Some (fresh r.0.name k)) }
         ensures each { IfOk result (λ r. HasEach r.0 r.1.items) }
     {
         let (table, mut seat) = Table::of_words(alloc, &[0, 0], &callers)?;
@@ -130,7 +133,8 @@ impl<E> Grow<E> {
         self.entries.reserve(more)
     }
 
-    /// Adds an entry by a pass of this list, in room that was reserved, and answers its place, from 0 on.
+    /// Adds an entry by a pass of this list, in room that was reserved, and answers its place, from
+    /// 0 on.
     /// The pass has then seen the list.
     pub fn push(&mut self, pass: &mut Pass<E>, entry: E) -> u64
         requires room { 1 ≤ self.old.spare }
@@ -199,14 +203,16 @@ impl<E> Grow<E> {
         self.entries.get(place as usize)
     }
 
-    /// Hands out the entries, and takes back the passes. What each pass saw begins the list, the list's entries of its
+    /// Hands out the entries, and takes back the passes. What each pass saw begins the list, the
+    /// list's entries of its
     /// number are its own, and each place of the list is one pass's.
     pub fn close(self, passes: Vec<Pass<E>>) -> Vec<E>
         requires { HasEach self passes.items }
         ensures list { result.items ≡ self.list }
         ensures seen { All (λ p. IsPrefix p.seen self.list) passes.items }
         ensures own { All (λ p. HasItsOwn self p) passes.items }
-        ensures places { (k : ℕ) → k < length self.list → count_by (λ p. has_place k p.mine) passes.items ≡ 1 }
+        ensures places { (k : ℕ) → k < length self.list
+            → count_by (λ p. has_place k p.mine) passes.items ≡ 1 }
     {
         let Grow {
             entries,
@@ -219,7 +225,8 @@ impl<E> Grow<E> {
         entries
     }
 
-    /// Closes the list of an owner that kept one pass for itself, and takes that pass apart from the others, so that no
+    /// Closes the list of an owner that kept one pass for itself, and takes that pass apart from
+    /// the others, so that no
     /// memory is needed to put them together. What holds of each pass is as for `close`.
     pub fn close_with(self, own: Pass<E>, passes: Vec<Pass<E>>) -> Vec<E>
         requires { HasEach self (own ∷ passes.items) }

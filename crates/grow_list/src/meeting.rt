@@ -1,4 +1,5 @@
-//! The steps on the table: how the list's seat and a pass's meet, how an entry is added, and how a number is drawn.
+//! The steps on the table: how the list's seat and a pass's meet, how an entry is added, and how a
+//! number is drawn.
 ghost use Rattle.std.specs.Prelude.{◌≡◌, ◌+◌, ◌^◌, ◌<◌, None, [], ◌∷◌, length, IfOk};
 ghost use Rattle.std.specs.Bool.{OnTrue};
 ghost use Rattle.grow_list.specs.declared.known.Known.TheVariants.{OfList, OfPass, ListBeside, PassBeside};
@@ -22,9 +23,11 @@ pub type Place<E> = Seat<(), Known<E>>;
 
 // A copy of the pass's seat comes to the list's.
 fn come<E>(board: &Board<E>, list: &mut Place<E>, pass: &mut Place<E>)
-    requires seats { (list.old.table_id ≡ board.now.table_id) × (pass.old.table_id ≡ board.now.table_id) }
+    requires seats { (list.old.table_id ≡ board.now.table_id)
+        × (pass.old.table_id ≡ board.now.table_id) }
     requires words { board.now.table_id.words ≡ 2 }
-    requires views { (list.old.me.0 ≡ OfList (listed list.old.me.0)) × (pass.old.me.0 ≡ OfPass (held pass.old.me.0)) }
+    requires views { (list.old.me.0 ≡ OfList (listed list.old.me.0))
+        × (pass.old.me.0 ≡ OfPass (held pass.old.me.0)) }
     ensures list { IsMoved list.old list.new (ListBeside (listed list.old.me.0) (held pass.old.me.0)) }
     ensures pass { IsMoved pass.old pass.new pass.old.me.0 }
 {
@@ -34,9 +37,11 @@ fn come<E>(board: &Board<E>, list: &mut Place<E>, pass: &mut Place<E>)
 
 // A copy of the list's seat comes to the pass's.
 fn visit<E>(board: &Board<E>, list: &mut Place<E>, pass: &mut Place<E>)
-    requires seats { (list.old.table_id ≡ board.now.table_id) × (pass.old.table_id ≡ board.now.table_id) }
+    requires seats { (list.old.table_id ≡ board.now.table_id)
+        × (pass.old.table_id ≡ board.now.table_id) }
     requires words { board.now.table_id.words ≡ 2 }
-    requires views { (list.old.me.0 ≡ OfList (listed list.old.me.0)) × (pass.old.me.0 ≡ OfPass (held pass.old.me.0)) }
+    requires views { (list.old.me.0 ≡ OfList (listed list.old.me.0))
+        × (pass.old.me.0 ≡ OfPass (held pass.old.me.0)) }
     ensures list { IsMoved list.old list.new list.old.me.0 }
     ensures pass { IsMoved pass.old pass.new (PassBeside (held pass.old.me.0) (listed list.old.me.0)) }
 {
@@ -57,7 +62,8 @@ fn hear<E>(board: &Board<E>, list: &mut Place<E>)
 
 // The pass's seat takes in the list beside it.
 fn learn<E>(board: &Board<E>, pass: &mut Place<E>)
-    requires seat { (pass.old.table_id ≡ board.now.table_id) × (pass.old.id ≡ (held pass.old.me.0).seat) }
+    requires seat { (pass.old.table_id ≡ board.now.table_id)
+        × (pass.old.id ≡ (held pass.old.me.0).seat) }
     requires words { board.now.table_id.words ≡ 2 }
     requires view { pass.old.me.0 ≡ PassBeside (held pass.old.me.0) (listed pass.old.me.0) }
     ensures pass { IsMoved pass.old pass.new (OfPass (learned (held pass.old.me.0) (listed pass.old.me.0))) }
@@ -66,7 +72,8 @@ fn learn<E>(board: &Board<E>, pass: &mut Place<E>)
     board.load::<Learns>(pass, 0);
 }
 
-// The entry joins the list, whose length is then `new_length`, and is pending for the pass beside it.
+// The entry joins the list, whose length is then `new_length`, and is pending for the pass beside
+// it.
 fn add<E, N: Adding<E>>(board: &Board<E>, list: &mut Place<E>, entry: &E, new_length: u64)
     requires seat { (list.old.table_id ≡ board.now.table_id) × (list.old.id ≡ 0) }
     requires words { board.now.table_id.words ≡ 2 }
@@ -74,18 +81,21 @@ fn add<E, N: Adding<E>>(board: &Board<E>, list: &mut Place<E>, entry: &E, new_le
     requires settled { (listed list.old.me.0).pending ≡ None }
     requires due { new_length ≡ length (listed list.old.me.0).list + 1 }
     requires entry { N.entry ≡ entry.now ∷ [] }
-    ensures { IsMoved list.old list.new (OfList (longer (listed list.old.me.0) (held list.old.me.0).number (entry.now ∷ []))) }
+    ensures { IsMoved list.old list.new
+        (OfList (longer (listed list.old.me.0) (held list.old.me.0).number (entry.now ∷ []))) }
 {
     board.store::<Adds<N>>(list, 0, new_length);
 }
 
 // The pass takes the pending entry in, and then the mark is cleared.
 fn settle<E>(board: &Board<E>, list: &mut Place<E>, pass: &mut Place<E>)
-    requires seats { (list.old.table_id ≡ board.now.table_id) × (pass.old.table_id ≡ board.now.table_id) }
+    requires seats { (list.old.table_id ≡ board.now.table_id)
+        × (pass.old.table_id ≡ board.now.table_id) }
     requires words { board.now.table_id.words ≡ 2 }
     requires list { (list.old.id ≡ 0) × (list.old.me.0 ≡ OfList (listed list.old.me.0)) }
     requires pass { IsPassSeat pass.old }
-    ensures list { IsMoved list.old list.new (OfList (heard (listed list.old.me.0) (learned (held pass.old.me.0) (listed list.old.me.0)))) }
+    ensures list { IsMoved list.old list.new
+        (OfList (heard (listed list.old.me.0) (learned (held pass.old.me.0) (listed list.old.me.0)))) }
     ensures pass { IsMoved pass.old pass.new (OfPass (learned (held pass.old.me.0) (listed list.old.me.0))) }
 {
     visit(board, list, pass);
@@ -96,7 +106,8 @@ fn settle<E>(board: &Board<E>, list: &mut Place<E>, pass: &mut Place<E>)
 
 /// A meeting both ways: the pass sees the list.
 pub fn meet<E>(board: &Board<E>, list: &mut Place<E>, pass: &mut Place<E>)
-    requires seats { (list.old.table_id ≡ board.now.table_id) × (pass.old.table_id ≡ board.now.table_id) }
+    requires seats { (list.old.table_id ≡ board.now.table_id)
+        × (pass.old.table_id ≡ board.now.table_id) }
     requires words { board.now.table_id.words ≡ 2 }
     requires list { IsListSeat list.old }
     requires pass { IsPassSeat pass.old }
@@ -110,7 +121,8 @@ pub fn meet<E>(board: &Board<E>, list: &mut Place<E>, pass: &mut Place<E>)
     learn(board, pass);
 }
 
-/// A meeting both ways, and then the entry is added by the pass. The length of the list is then `new_length`.
+/// A meeting both ways, and then the entry is added by the pass. The length of the list is then
+/// `new_length`.
 pub fn enter<E>(
     board: &Board<E>,
     list: &mut Place<E>,
@@ -118,13 +130,16 @@ pub fn enter<E>(
     entry: &E,
     new_length: u64,
 )
-    requires seats { (list.old.table_id ≡ board.now.table_id) × (pass.old.table_id ≡ board.now.table_id) }
+    requires seats { (list.old.table_id ≡ board.now.table_id)
+        × (pass.old.table_id ≡ board.now.table_id) }
     requires words { board.now.table_id.words ≡ 2 }
     requires list { IsListSeat list.old }
     requires pass { IsPassSeat pass.old }
     requires due { new_length ≡ length (listed list.old.me.0).list + 1 }
-    ensures list { IsMoved list.old list.new (OfList (grown (listed list.old.me.0) (held pass.old.me.0).number entry.now)) }
-    ensures pass { IsMoved pass.old pass.new (OfPass (enlarged (held pass.old.me.0) (listed list.old.me.0) entry.now)) }
+    ensures list { IsMoved list.old list.new
+        (OfList (grown (listed list.old.me.0) (held pass.old.me.0).number entry.now)) }
+    ensures pass { IsMoved pass.old pass.new
+        (OfPass (enlarged (held pass.old.me.0) (listed list.old.me.0) entry.now)) }
     ensures tallies { Tallies (listed list.old.me.0) (held pass.old.me.0) }
     ensures after { Tallies (listed list.new.me.0) (held pass.new.me.0) }
 {
@@ -142,12 +157,14 @@ fn draw<E, N: Drawing>(board: &Board<E>, seat: &mut Place<E>, due: u64) -> bool
     requires due { due < (listed seat.old.me.0).callers }
     requires small { due < 2 ^ 32 }
     requires drawing { N.seat ≡ seat.old.id }
-    ensures { OnTrue result (IsMoved seat.old seat.new (OfPass (newcomer seat.old.id due (listed seat.old.me.0).callers))) }
+    ensures { OnTrue result
+        (IsMoved seat.old seat.new (OfPass (newcomer seat.old.id due (listed seat.old.me.0).callers))) }
 {
     board.compare_exchange::<Draws<N>>(seat, 1, due, due + 1) == due
 }
 
-/// A new seat with the due number, which stands for a pass. Where the next number is another, which never comes, there
+/// A new seat with the due number, which stands for a pass. Where the next number is another, which
+/// never comes, there
 /// is no seat for it.
 pub fn take_number<E>(
     board: &Board<E>,
@@ -161,7 +178,8 @@ pub fn take_number<E>(
     requires small { due < 2 ^ 32 }
     ensures list { IsMoved list.old list.new list.old.me.0 }
     ensures table { IfOk result (λ seat. seat.table_id ≡ list.old.table_id) }
-    ensures drawn { IfOk result (λ seat. seat.me ≡ (OfPass (newcomer seat.id due (listed list.old.me.0).callers), [])) }
+    ensures drawn { IfOk result (λ seat. seat.me
+        ≡ (OfPass (newcomer seat.id due (listed list.old.me.0).callers), [])) }
 {
     let mut seat = board.split_seat::<Copies>(list);
     if draw::<E, Brand>(board, &mut seat, due) {
@@ -184,7 +202,8 @@ pub fn end<E>(board: &Board<E>, list: &mut Place<E>)
 
 /// A last meeting both ways, and then the pass's seat is joined away.
 pub fn part<E>(board: &Board<E>, list: &mut Place<E>, mut pass: Place<E>)
-    requires seats { (list.old.table_id ≡ board.now.table_id) × (pass.table_id ≡ board.now.table_id) }
+    requires seats { (list.old.table_id ≡ board.now.table_id)
+        × (pass.table_id ≡ board.now.table_id) }
     requires words { board.now.table_id.words ≡ 2 }
     requires list { IsListSeat list.old }
     requires pass { IsPassSeat pass × (pass.me.1 ≡ []) }

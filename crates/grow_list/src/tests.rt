@@ -8,14 +8,16 @@ use std::sync::{Mutex, Wait};
 use std::test::Fail;
 use std::thread::{Threads, join};
 
-/// A caller adds an entry, then any number of entries are added by others, and then the caller looks: its entry stands
+/// A caller adds an entry, then any number of entries are added by others, and then the caller
+/// looks: its entry stands
 /// in the list at the place that it was told, and no entry but its own has its number.
 fn stays<E: Drop>(grow: &mut Grow<E>, me: &mut Pass<E>, entry: E, others: Vec<(Pass<E>, E)>) -> u64
     requires room { length others.items < grow.old.spare }
     requires mine { me.old.name ≡ grow.old.name }
     requires theirs { All (λ t. t.0.name ≡ grow.old.name) others.items }
     ensures stands { slice_get grow.new.list result ≡ Some entry }
-    ensures alone { (k : ℕ) (x : E) → slice_get grow.new.list k ≡ Some x → slice_get grow.new.numbers k ≡ Some me.old.number
+    ensures alone { (k : ℕ) (x : E) → slice_get grow.new.list k ≡ Some x
+        → slice_get grow.new.numbers k ≡ Some me.old.number
         → (i : ℕ) × (slice_get (me.old.mine ++ (result, entry) ∷ []) i ≡ Some (k, x)) }
 {
     let place = grow.push(me, entry);

@@ -33,8 +33,11 @@ find-passes p (y ∷ ys) x found =
     ] refl found
 
 pub algo_id-algo_by_id : (id : ℕ) (a : Algo) → algo_by_id id ≡ Some a → algo_id a ≡ id
-algo_id-algo_by_id id a found = eqb-true (algo_id a) id (find-passes (λ b. algo_id b == id) algos a found)
+algo_id-algo_by_id id a found =
+    eqb-true (algo_id a) id (find-passes (λ b. algo_id b == id) algos a found)
 
-pub algo_name-algo_by_name : (name : List ℕ) (a : Algo) → algo_by_name name ≡ Some a → algo_name a ≡ name
+pub algo_name-algo_by_name : (name : List ℕ) (a : Algo) → algo_by_name name ≡ Some a → algo_name a
+    ≡ name
 algo_name-algo_by_name name a found =
-    (bytes_decides (algo_name a) name).0 (find-passes (λ b. bytes_eq (algo_name b) name) algos a found)
+    (bytes_decides (algo_name a) name).0
+    (find-passes (λ b. bytes_eq (algo_name b) name) algos a found)

@@ -5,7 +5,14 @@ use Rattle.hash_algos.specs.declared.algo.Algo.TheVariants.{Md5, Sha1, Sha256, S
 use Rattle.hash_algos.specs.declared.algo_set.AlgoSet.{AlgoSet}
 
 abbrev pub no_algos : AlgoSet
-no_algos = record { md5 = false; sha1 = false; sha256 = false; sha384 = false; sha512 = false; sha224 = false }
+no_algos = record {
+  md5 = false;
+  sha1 = false;
+  sha256 = false;
+  sha384 = false;
+  sha512 = false;
+  sha224 = false;
+}
 
 -- whether the set holds the algorithm
 abbrev pub holds_algo : AlgoSet → Algo → Bool

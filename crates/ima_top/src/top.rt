@@ -103,7 +103,8 @@ pub fn serve<S: Source, K: Sink, N: Sink, G: Gate + Sync>(
     ensures unread { reads_input (command_of (map string_bytes words.now)) ≡ false
         → script.new ≡ script.old }
 
-    // The input: a command that reads it reads it to its end, except at `READ_FAULT`, `TOO_LONG` and
+    // The input: a command that reads it reads it to its end, except at `READ_FAULT`, `TOO_LONG`
+    // and
     // `OUT_OF_MEMORY`.
     ensures whole_input { reads_input (command_of (map string_bytes words.now)) ≡ true
         → IsPastReading result → IsAtEnd (S.left script.new) }

@@ -3,7 +3,8 @@ use hash_algos::Digest;
 use std::marker::Model;
 use xattr_store::{Attrs, Bytes};
 
-/// An inode at the end of a run: its journal, and what the journal gives. Contracts see the record of
+/// An inode at the end of a run: its journal, and what the journal gives. Contracts see the record
+/// of
 /// its fields, the journal as a list.
 #[derive(Drop)]
 pub struct EndedInode {

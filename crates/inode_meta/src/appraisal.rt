@@ -1,7 +1,8 @@
 ghost use Rattle.std.specs.Prelude.{◌≡◌};
 ghost use Rattle.inode_meta.specs.Words.{evm_status_word, mode_word};
 
-/// What EVM says of an inode's protected attributes and metadata (the kernel's `enum integrity_status`).
+/// What EVM says of an inode's protected attributes and metadata (the kernel's `enum
+/// integrity_status`).
 #[derive(Clone, Copy, Debug, PartialEq, Eq)]
 pub enum EvmStatus {
     /// `security.evm` is the HMAC of the inode as it is.

@@ -11,7 +11,8 @@ pub struct Meta {
     pub gid: u32,
     /// File type and permission bits, as `st_mode` has them.
     pub mode: u16,
-    /// The UUID of the inode's file system, its first byte the most significant. No call changes it.
+    /// The UUID of the inode's file system, its first byte the most significant. No call changes
+    /// it.
     pub place: u128,
 }
 

@@ -15,7 +15,8 @@ pub enum Template {
     ImaNg,
     /// The fields `d-ng`, `n-ng` and `sig`.
     ImaSig,
-    /// The fields `d-ng`, `n-ng` and `buf`. Only buffers of critical data use it: no rule, action, settings or script holds it.
+    /// The fields `d-ng`, `n-ng` and `buf`. Only buffers of critical data use it: no rule, action,
+    /// settings or script holds it.
     ImaBuf,
 }
 

@@ -1,4 +1,5 @@
-/// The place of a step: which task, which of its calls, and which step of that call, each counted from 0.
+/// The place of a step: which task, which of its calls, and which step of that call, each counted
+/// from 0.
 #[derive(Clone, Copy, Debug, PartialEq, Eq)]
 pub struct Who {
     /// The task's number.

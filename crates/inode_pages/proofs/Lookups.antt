@@ -4,13 +4,15 @@ use Rattle.std.specs.Prelude.{slice_get}
 
 module _ {X : Type 0} where
   -- in the first part
-  pub get-append_left : (xs ys : List X) (k : ℕ) → k < length xs → slice_get (xs ++ ys) k ≡ slice_get xs k
+  pub get-append_left : (xs ys : List X) (k : ℕ) → k < length xs → slice_get (xs ++ ys) k
+      ≡ slice_get xs k
   get-append_left [] ys k within = absurd (omega arith)
   get-append_left (x ∷ xs) ys zero within = refl
   get-append_left (x ∷ xs) ys (suc k) within = get-append_left xs ys k (omega arith)
 
   -- in the second part
-  pub get-append_right : (xs ys : List X) (k : ℕ) → slice_get (xs ++ ys) (length xs + k) ≡ slice_get ys k
+  pub get-append_right : (xs ys : List X) (k : ℕ) → slice_get (xs ++ ys) (length xs + k)
+      ≡ slice_get ys k
   get-append_right [] ys k = let place : 0 + k ≡ k = omega arith in ap (slice_get ys) place
   get-append_right (x ∷ xs) ys k =
       let place : suc (length xs) + k ≡ suc (length xs + k) = omega arith in
@@ -21,7 +23,8 @@ module _ {X : Type 0} where
   get-drop zero xs k = let place : k ≡ 0 + k = omega arith in ap (slice_get xs) place
   get-drop (suc n) [] k = refl
   get-drop (suc n) (x ∷ xs) k =
-      let place : suc (n + k) ≡ suc n + k = omega arith in get-drop n xs k ∙ ap (slice_get (x ∷ xs)) place
+      let place : suc (n + k) ≡ suc n + k = omega arith in get-drop n xs k
+      ∙ ap (slice_get (x ∷ xs)) place
 
   -- among the first n
   pub get-take : (n : ℕ) (xs : List X) (k : ℕ) → k < n → slice_get (take n xs) k ≡ slice_get xs k

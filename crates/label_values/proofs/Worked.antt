@@ -116,7 +116,8 @@ new_and_empty : judge need.Signature None None status.Fail (record {
 new_and_empty = refl
 
 -- what mode fix writes on the verdict of this step
-abbrev mended : Need → Option AlgoSet → Option (List ℕ) → EvmStatus → Digest → Algo → ℕ → Bool → Mend
+abbrev mended : Need → Option AlgoSet → Option (List ℕ) → EvmStatus → Digest → Algo → ℕ → Bool
+    → Mend
 mended n algos bytes s file default size new =
     mend_for (judge n algos bytes s file default size new)
     (judge n algos bytes status.Pass file default size new) s (read_label bytes default)

@@ -93,7 +93,8 @@ pub fn append_named_digest(digest: &Digest, out: &mut Vec<u8>) -> Result<(), Out
     append_hex(out, b':', digest.as_slice())
 }
 
-/// Appends this byte and the bytes in hexadecimal, in lower case. After a refusal `out` is as before.
+/// Appends this byte and the bytes in hexadecimal, in lower case. After a refusal `out` is as
+/// before.
 pub fn append_hex(out: &mut Vec<u8>, before: u8, bytes: &[u8]) -> Result<(), OutOfMemory>
     ensures ok { OnOk result (out.new.items ≡ out.old.items ++ before ∷ encode_lower bytes.now) }
     ensures err { OnErr result (out.new.items ≡ out.old.items) }

@@ -26,10 +26,15 @@ last_below-found test (suc end) place is =
       at : (last_below test end ≡ Some place → Found test end place) → (b : Bool) → test end ≡ b
           → Found test (suc end) place
       at earlier true passes =
-          let here : Some end ≡ Some place = ap (λ (c : Bool). cond c (Some end) (last_below test end))
+          let here : Some end ≡ Some place =
+          ap (λ (c : Bool). cond c (Some end) (last_below test end))
           (sym passes) ∙ is in
           let same : end ≡ place = cc here in
-          record { below = omega (arith, same); passes = subst (λ (n : ℕ). test n ≡ true) same passes }
+          record {
+            below = omega (arith, same);
+            passes =
+                subst (λ (n : ℕ). test n ≡ true) same passes;
+          }
       at earlier false fails =
           let rest = earlier (ap (λ (c : Bool). cond c (Some end) (last_below test end)) (sym fails)
           ∙ is) in

@@ -148,7 +148,8 @@ answer_rises : (list : List Entry) (e : Entry) (o : Option ℕ) → place_of_sam
     (answer_named (placed_by o (length list)) (Some e))
     × (length list ≤ length (add_by o list e))
 answer_rises list e None h steps limit le b =
-    let end : length list < length (list ++ e ∷ []) = omega (arith, length-append list (e ∷ [])) in (
+    let end : length list < length (list ++ e ∷ []) = omega (arith, length-append list (e ∷ []))
+    in (
       below_more limit (length list) steps le b,
       one_below (length list)
           (length (list ++ e ∷ [])) end,

@@ -14,8 +14,10 @@ use Rattle.own_laws.proofs.Seeing.{collection_seen}
 -- in the order of the journal
 pub tells : LookTells
 tells i n seen list mine legal owned before own =
-    let same : own_past n (past list) ≡ reverse mine = own_bridge n list ∙ ap reverse own in record {
-      may = λ d m. may_own i n (past list) d legal owned (subst (λ xs. MayByOwn i xs d) (sym same) m);
+    let same : own_past n (past list) ≡ reverse mine = own_bridge n list
+    ∙ ap reverse own in record {
+      may = λ d m. may_own i n (past list) d legal owned
+          (subst (λ xs. MayByOwn i xs d) (sym same) m);
       check = λ file a.
           check_own n file (past list) owned
           (file_own i n file (past list) owned (ap (λ xs. is_gone (stage_in i file xs)) same ∙ a))

@@ -10,7 +10,8 @@ use Rattle.policy_text.proofs.ValuesAgain.{Again}
 abbrev set : Bool → Bool → Bool → Bool → Bool → Bool → AlgoSet
 set a b c d e f = record { md5 = a; sha1 = b; sha256 = c; sha384 = d; sha512 = e; sha224 = f }
 
-sets_again : (a b c d e f : Bool) → has_algos (set a b c d e f) ≡ true → Again algos_of (algos_text (set a b c d e f)) (set a b c d e f)
+sets_again : (a b c d e f : Bool) → has_algos (set a b c d e f) ≡ true
+    → Again algos_of (algos_text (set a b c d e f)) (set a b c d e f)
 sets_again true true true true true true h = (refl, refl)
 sets_again true true true true true false h = (refl, refl)
 sets_again true true true true false true h = (refl, refl)

@@ -18,34 +18,47 @@ abbrev pub comma_after : List (List ℕ) → List ℕ
 comma_after [] = []
 comma_after (n ∷ ns) = 44 ∷ []
 
-pub join_more : (ns : List (List ℕ)) (n : List ℕ) → join_with_byte 44 (ns ++ n ∷ []) ≡ join_with_byte 44 ns ++ (comma_after ns ++ n)
+pub join_more : (ns : List (List ℕ)) (n : List ℕ) → join_with_byte 44 (ns ++ n ∷ [])
+    ≡ join_with_byte 44 ns ++ (comma_after ns ++ n)
 join_more [] n = refl
 join_more (m ∷ []) n = refl
 join_more (m ∷ k ∷ ns) n = rw (join_more (k ∷ ns) n) (simp append_assoc)
 
 module _ (s : AlgoSet) (xs : List Algo) (i : ℕ) (lt : i < length xs) where
   names_more : map algo_name (filter (holds_algo s) (take (i + 1) xs))
-      ≡ map algo_name (filter (holds_algo s) (take i xs) ++ filter (holds_algo s) (get_or xs i algo.Md5 ∷ []))
+      ≡ map algo_name (filter (holds_algo s) (take i xs)
+      ++ filter (holds_algo s) (get_or xs i algo.Md5 ∷ []))
   names_more =
       ap (λ (ys : List Algo). map algo_name (filter (holds_algo s) ys)) (take_more xs i algo.Md5 lt)
-      ∙ ap (λ (ys : List Algo). map algo_name ys) (filter-append (holds_algo s) (take i xs) (get_or xs i algo.Md5 ∷ []))
+      ∙ ap (λ (ys : List Algo). map algo_name ys)
+      (filter-append (holds_algo s) (take i xs) (get_or xs i algo.Md5 ∷ []))
 
   -- one algorithm more, where the set holds it
   pub names_more_in : holds_algo s (get_or xs i algo.Md5) ≡ true
-      → map algo_name (filter (holds_algo s) (take (i + 1) xs)) ≡ map algo_name (filter (holds_algo s) (take i xs)) ++ algo_name (get_or xs i algo.Md5) ∷ []
-  names_more_in h = names_more ∙ rw h (map_push algo_name (filter (holds_algo s) (take i xs)) (get_or xs i algo.Md5))
+      → map algo_name (filter (holds_algo s) (take (i + 1) xs))
+      ≡ map algo_name (filter (holds_algo s) (take i xs)) ++ algo_name (get_or xs i algo.Md5) ∷ []
+  names_more_in h = names_more
+      ∙ rw h (map_push algo_name (filter (holds_algo s) (take i xs)) (get_or xs i algo.Md5))
 
   -- where it doesn't
   pub names_more_out : holds_algo s (get_or xs i algo.Md5) ≡ false
-      → map algo_name (filter (holds_algo s) (take (i + 1) xs)) ≡ map algo_name (filter (holds_algo s) (take i xs))
-  names_more_out h = names_more ∙ rw h (ap (λ (ys : List Algo). map algo_name ys) (append-nil (filter (holds_algo s) (take i xs))))
+      → map algo_name (filter (holds_algo s) (take (i + 1) xs))
+      ≡ map algo_name (filter (holds_algo s) (take i xs))
+  names_more_out h = names_more
+      ∙ rw h (ap (λ (ys : List Algo). map algo_name ys)
+      (append-nil (filter (holds_algo s) (take i xs))))
 
 comma_next : (ns : List (List ℕ)) (n : List ℕ) → comma_after (ns ++ n ∷ []) ≡ 44 ∷ []
 comma_next [] n = refl
 comma_next (m ∷ ns) n = refl
 
 -- a name is printed behind its comma
-pub printed : (front out comma new : List ℕ) (ns more : List (List ℕ)) (name : List ℕ) → out ≡ front ++ join_with_byte 44 ns → comma ≡ comma_after ns
-    → more ≡ ns ++ name ∷ [] → new ≡ out ++ (comma ++ name) → (new ≡ front ++ join_with_byte 44 more) × (44 ∷ [] ≡ comma_after more)
-printed front out comma new ns more name o k m n =
-    (rw (n, o, k, m, join_more ns name) (append_assoc front (join_with_byte 44 ns) (comma_after ns ++ name)), rw m (sym (comma_next ns name)))
+pub printed : (front out comma new : List ℕ) (ns more : List (List ℕ)) (name : List ℕ) → out ≡ front
+    ++ join_with_byte 44 ns → comma ≡ comma_after ns
+    → more ≡ ns ++ name ∷ [] → new ≡ out ++ (comma ++ name)
+    → (new ≡ front ++ join_with_byte 44 more) × (44 ∷ [] ≡ comma_after more)
+printed front out comma new ns more name o k m n = (
+  rw (n, o, k, m, join_more ns name)
+      (append_assoc front (join_with_byte 44 ns) (comma_after ns ++ name)),
+  rw m (sym (comma_next ns name)),
+)

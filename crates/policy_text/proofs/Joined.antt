@@ -17,22 +17,28 @@ right false b h = absurd (false≢true h)
 
 module _ (p : ℕ → Bool) (c : ℕ) where
   -- words without a separator, joined by one
-  pub parts_joined : p c ≡ true → (w : List ℕ) (ws : List (List ℕ)) → list_all (λ v. list_all (λ b. not (p b)) v) (w ∷ ws) ≡ true
+  pub parts_joined : p c ≡ true → (w : List ℕ) (ws : List (List ℕ))
+      → list_all (λ v. list_all (λ b. not (p b)) v) (w ∷ ws) ≡ true
       → slice_split p (join_with_byte c (w ∷ ws)) ≡ w ∷ ws
-  parts_joined parts w [] h = ap (λ (t : List ℕ). slice_split p t) (sym (append-nil w)) ∙ part p w [] (left _ _ h) refl
+  parts_joined parts w [] h = ap (λ (t : List ℕ). slice_split p t) (sym (append-nil w))
+      ∙ part p w [] (left _ _ h) refl
   parts_joined parts w (v ∷ ws) h =
       part p w (c ∷ join_with_byte c (v ∷ ws)) (left _ _ h) parts
       ∙ ap (λ (ts : List (List ℕ)). w ∷ ts) (rw parts (parts_joined parts v ws (right _ _ h)))
 
   -- what holds of the bytes of each word and of the byte between them
-  pub all_joined : p c ≡ true → (ws : List (List ℕ)) → list_all (λ v. list_all p v) ws ≡ true → list_all p (join_with_byte c ws) ≡ true
+  pub all_joined : p c ≡ true → (ws : List (List ℕ)) → list_all (λ v. list_all p v) ws ≡ true
+      → list_all p (join_with_byte c ws) ≡ true
   all_joined byte [] h = refl
   all_joined byte (w ∷ []) h = left _ _ h
   all_joined byte (w ∷ v ∷ ws) h =
       let here : list_all p w ≡ true = left _ _ h in
-      rw (list_all-append p w (c ∷ join_with_byte c (v ∷ ws)), here, byte) (all_joined byte (v ∷ ws) (right _ _ h))
+      rw (list_all-append p w (c ∷ join_with_byte c (v ∷ ws)), here, byte)
+      (all_joined byte (v ∷ ws) (right _ _ h))
 
 -- words that are filled are kept
 pub filled_kept : (ws : List (List ℕ)) → list_all is_filled ws ≡ true → filter is_filled ws ≡ ws
 filled_kept [] h = refl
-filled_kept (w ∷ ws) h = let here : is_filled w ≡ true = left _ _ h in rw here (ap (λ (ts : List (List ℕ)). w ∷ ts) (filled_kept ws (right _ _ h)))
+filled_kept (w ∷ ws) h = let here : is_filled w ≡ true =
+    left _ _ h in rw here
+    (ap (λ (ts : List (List ℕ)). w ∷ ts) (filled_kept ws (right _ _ h)))

@@ -13,25 +13,31 @@ module _ (token : List ℕ) (whole : Option (Key × List ℕ)) (ks : List Key) (
       rw add-one e
 
   -- a key that the token has is the first, where no earlier key was
-  pub key_here : (value : List ℕ) → n < length ks → value_in (get_or ks n d) token ≡ Some value → key_among (drop n ks) token ≡ whole → Some (get_or ks n d, value) ≡ whole
+  pub key_here : (value : List ℕ) → n < length ks → value_in (get_or ks n d) token ≡ Some value
+      → key_among (drop n ks) token ≡ whole → Some (get_or ks n d, value) ≡ whole
   key_here value lt found so_far = rw (at_key lt, found) at so_far
 
   -- a key that the token hasn't leaves the question to the keys behind it
-  pub key_later : (m : ℕ) → n < length ks → value_in (get_or ks n d) token ≡ None → m ≡ n + 1 → key_among (drop n ks) token ≡ whole → key_among (drop m ks) token ≡ whole
+  pub key_later : (m : ℕ) → n < length ks → value_in (get_or ks n d) token ≡ None → m ≡ n + 1
+      → key_among (drop n ks) token ≡ whole → key_among (drop m ks) token ≡ whole
   key_later m lt missed is so_far = rw is (rw (at_key lt, missed) at so_far)
 
   pub key_nowhere : length ks ≤ n → key_among (drop n ks) token ≡ whole → None ≡ whole
   key_nowhere le so_far = rw (drop_of_length-le ks le) at so_far
 
-texts_suc : {X : Type 0} (f : X → List ℕ) (xs : List X) (n : ℕ) (d : X) → n < length xs → flat_map f (take (suc n) xs) ≡ flat_map f (take n xs) ++ f (get_or xs n d)
+texts_suc : {X : Type 0} (f : X → List ℕ) (xs : List X) (n : ℕ) (d : X) → n < length xs
+    → flat_map f (take (suc n) xs) ≡ flat_map f (take n xs) ++ f (get_or xs n d)
 texts_suc f [] n d lt = absurd (omega (arith, lt))
 texts_suc f (x ∷ xs) zero d lt = append-nil (f x)
 texts_suc f (x ∷ xs) (suc n) d lt =
-    ap (λ (bs : List ℕ). f x ++ bs) (texts_suc f xs n d (omega (arith, lt))) ∙ sym (append_assoc (f x) (flat_map f (take n xs)) (f (get_or xs n d)))
+    ap (λ (bs : List ℕ). f x ++ bs) (texts_suc f xs n d (omega (arith, lt)))
+    ∙ sym (append_assoc (f x) (flat_map f (take n xs)) (f (get_or xs n d)))
 
 -- the texts of one key more
-pub texts_more : {X : Type 0} (f : X → List ℕ) (xs : List X) (n : ℕ) (d : X) → n < length xs → flat_map f (take (n + 1) xs) ≡ flat_map f (take n xs) ++ f (get_or xs n d)
+pub texts_more : {X : Type 0} (f : X → List ℕ) (xs : List X) (n : ℕ) (d : X) → n < length xs
+    → flat_map f (take (n + 1) xs) ≡ flat_map f (take n xs) ++ f (get_or xs n d)
 texts_more f xs n d lt = rw add-one (texts_suc f xs n d lt)
 
-pub printed_more : (start so_far now : List ℕ) (t u more : List ℕ) → so_far ≡ start ++ t → now ≡ so_far ++ more → u ≡ t ++ more → now ≡ start ++ u
+pub printed_more : (start so_far now : List ℕ) (t u more : List ℕ) → so_far ≡ start ++ t → now
+    ≡ so_far ++ more → u ≡ t ++ more → now ≡ start ++ u
 printed_more start so_far now t u more a b c = rw (b, a, c) (append_assoc start t more)

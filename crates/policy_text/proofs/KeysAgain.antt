@@ -1,4 +1,5 @@
--- What is printed of a rule's keys is read as those keys: a lemma for each key, and one induction over the table.
+-- What is printed of a rule's keys is read as those keys: a lemma for each key, and one induction
+-- over the table.
 use Rattle.std.proofs.Common.{◌≡◌, ℕ, ◌^◌, Bool, true, false, not, ◌||◌, ◌&&◌, List, [], ◌∷◌, ◌++◌, codes, Option, Some, None, is_none, is_some, Ok, nat_le, nat_lt, refl, sym, ap, ◌∙◌, inl, inr, arith}
 use Rattle.std.specs.Fmt.{decimal}
 use Rattle.std.specs.List.{list_all}
@@ -51,7 +52,8 @@ abbrev Reads : List ℕ → RuleValue → RuleValue → Type 0
 Reads word s t = (is_visible_word word ≡ true) × (with_token s word ≡ Ok t)
 
 -- a key that stands in the rule belongs to its action
-none_or : {A : Type 0} (o : Option A) (b : Bool) → is_some o ≡ true → (is_none o || b) ≡ true → b ≡ true
+none_or : {A : Type 0} (o : Option A) (b : Bool) → is_some o ≡ true → (is_none o || b) ≡ true → b
+    ≡ true
 none_or None b h k = absurd (false≢true h)
 none_or (Some x) b h k = k
 
@@ -64,77 +66,97 @@ so_or true b h k = k
 so_or false b h k = absurd (false≢true h)
 
 module _ (s : RuleValue) where
-  func_read : (o : Option Func) → is_some s.func ≡ false → is_some o ≡ true → Reads (codes "func=" ++ told func_word o) s (record s { func = o })
+  func_read : (o : Option Func) → is_some s.func ≡ false → is_some o ≡ true
+      → Reads (codes "func=" ++ told func_word o) s (record s { func = o })
   func_read None e h = absurd (false≢true h)
   func_read (Some x) e h = ((func_again x).0, rw (e, (func_again x).1) refl)
 
-  mask_read : (o : Option MaskTest) → is_some s.mask ≡ false → is_some o ≡ true → if_there (λ m. is_mask_bit m.bits) o ≡ true
+  mask_read : (o : Option MaskTest) → is_some s.mask ≡ false → is_some o ≡ true
+      → if_there (λ m. is_mask_bit m.bits) o ≡ true
       → Reads (codes "mask=" ++ told mask_text o) s (record s { mask = o })
   mask_read None e h k = absurd (false≢true h)
   mask_read (Some x) e h k = ((mask_again x k).0, rw (e, (mask_again x k).1) refl)
 
-  magic_read : (o : Option ℕ) → is_some s.fsmagic ≡ false → is_some o ≡ true → if_there (λ n. nat_le n 0xffff_ffff_ffff_ffff) o ≡ true
+  magic_read : (o : Option ℕ) → is_some s.fsmagic ≡ false → is_some o ≡ true
+      → if_there (λ n. nat_le n 0xffff_ffff_ffff_ffff) o ≡ true
       → Reads (codes "fsmagic=" ++ told magic_text o) s (record s { fsmagic = o })
   magic_read None e h k = absurd (false≢true h)
-  magic_read (Some x) e h k = ((magic_again x (leb-true _ _ k)).0, rw (e, (magic_again x (leb-true _ _ k)).1) refl)
+  magic_read (Some x) e h k =
+      ((magic_again x (leb-true _ _ k)).0, rw (e, (magic_again x (leb-true _ _ k)).1) refl)
 
-  uuid_read : (o : Option ℕ) → is_some s.fsuuid ≡ false → is_some o ≡ true → if_there (λ n. nat_lt n (2 ^ 128)) o ≡ true
+  uuid_read : (o : Option ℕ) → is_some s.fsuuid ≡ false → is_some o ≡ true
+      → if_there (λ n. nat_lt n (2 ^ 128)) o ≡ true
       → Reads (codes "fsuuid=" ++ told uuid_text o) s (record s { fsuuid = o })
   uuid_read None e h k = absurd (false≢true h)
-  uuid_read (Some x) e h k = ((uuid_again x (ltb-true _ _ k)).0, rw (e, (uuid_again x (ltb-true _ _ k)).1) refl)
+  uuid_read (Some x) e h k =
+      ((uuid_again x (ltb-true _ _ k)).0, rw (e, (uuid_again x (ltb-true _ _ k)).1) refl)
 
-  name_read : (o : Option (List ℕ)) → is_some s.fsname ≡ false → is_some o ≡ true → if_there (is_word 255) o ≡ true
+  name_read : (o : Option (List ℕ)) → is_some s.fsname ≡ false → is_some o ≡ true
+      → if_there (is_word 255) o ≡ true
       → Reads (codes "fsname=" ++ told (λ n. n) o) s (record s { fsname = o })
   name_read None e h k = absurd (false≢true h)
   name_read (Some x) e h k = (right _ _ k, rw (e, k) refl)
 
-  uid_read : (o : Option IdTest) → is_some s.uid ≡ false → is_some o ≡ true → if_there is_id o ≡ true → Reads (codes "uid" ++ told id_text o) s (record s { uid = o })
+  uid_read : (o : Option IdTest) → is_some s.uid ≡ false → is_some o ≡ true → if_there is_id o
+      ≡ true → Reads (codes "uid" ++ told id_text o) s (record s { uid = o })
   uid_read None e h k = absurd (false≢true h)
   uid_read (Some t) e h k = ((id_again t k).0, rw (sign_again t, e, (id_again t k).1) refl)
 
-  euid_read : (o : Option IdTest) → is_some s.euid ≡ false → is_some o ≡ true → if_there is_id o ≡ true → Reads (codes "euid" ++ told id_text o) s (record s { euid = o })
+  euid_read : (o : Option IdTest) → is_some s.euid ≡ false → is_some o ≡ true → if_there is_id o
+      ≡ true → Reads (codes "euid" ++ told id_text o) s (record s { euid = o })
   euid_read None e h k = absurd (false≢true h)
   euid_read (Some t) e h k = ((id_again t k).0, rw (sign_again t, e, (id_again t k).1) refl)
 
-  gid_read : (o : Option IdTest) → is_some s.gid ≡ false → is_some o ≡ true → if_there is_id o ≡ true → Reads (codes "gid" ++ told id_text o) s (record s { gid = o })
+  gid_read : (o : Option IdTest) → is_some s.gid ≡ false → is_some o ≡ true → if_there is_id o
+      ≡ true → Reads (codes "gid" ++ told id_text o) s (record s { gid = o })
   gid_read None e h k = absurd (false≢true h)
   gid_read (Some t) e h k = ((id_again t k).0, rw (sign_again t, e, (id_again t k).1) refl)
 
-  egid_read : (o : Option IdTest) → is_some s.egid ≡ false → is_some o ≡ true → if_there is_id o ≡ true → Reads (codes "egid" ++ told id_text o) s (record s { egid = o })
+  egid_read : (o : Option IdTest) → is_some s.egid ≡ false → is_some o ≡ true → if_there is_id o
+      ≡ true → Reads (codes "egid" ++ told id_text o) s (record s { egid = o })
   egid_read None e h k = absurd (false≢true h)
   egid_read (Some t) e h k = ((id_again t k).0, rw (sign_again t, e, (id_again t k).1) refl)
 
-  fowner_read : (o : Option IdTest) → is_some s.fowner ≡ false → is_some o ≡ true → if_there is_id o ≡ true → Reads (codes "fowner" ++ told id_text o) s (record s { fowner = o })
+  fowner_read : (o : Option IdTest) → is_some s.fowner ≡ false → is_some o ≡ true → if_there is_id o
+      ≡ true → Reads (codes "fowner" ++ told id_text o) s (record s { fowner = o })
   fowner_read None e h k = absurd (false≢true h)
   fowner_read (Some t) e h k = ((id_again t k).0, rw (sign_again t, e, (id_again t k).1) refl)
 
-  fgroup_read : (o : Option IdTest) → is_some s.fgroup ≡ false → is_some o ≡ true → if_there is_id o ≡ true → Reads (codes "fgroup" ++ told id_text o) s (record s { fgroup = o })
+  fgroup_read : (o : Option IdTest) → is_some s.fgroup ≡ false → is_some o ≡ true → if_there is_id o
+      ≡ true → Reads (codes "fgroup" ++ told id_text o) s (record s { fgroup = o })
   fgroup_read None e h k = absurd (false≢true h)
   fgroup_read (Some t) e h k = ((id_again t k).0, rw (sign_again t, e, (id_again t k).1) refl)
 
-  type_read : (n : Need) → not (is_any s.need) ≡ false → not (is_any n) ≡ true → is_appraise s.act ≡ true → Reads (codes "appraise_type=imasig") s (record s { need = n })
+  type_read : (n : Need) → not (is_any s.need) ≡ false → not (is_any n) ≡ true → is_appraise s.act
+      ≡ true → Reads (codes "appraise_type=imasig") s (record s { need = n })
   type_read need.Any e h a = absurd (false≢true h)
   type_read need.Signature e h a = (refl, rw (a, e) refl)
 
-  flag_read : (f : Bool) → s.blacklist ≡ false → f ≡ true → is_appraise s.act ≡ true → Reads (codes "appraise_flag=check_blacklist") s (record s { blacklist = f })
+  flag_read : (f : Bool) → s.blacklist ≡ false → f ≡ true → is_appraise s.act ≡ true
+      → Reads (codes "appraise_flag=check_blacklist") s (record s { blacklist = f })
   flag_read false e h a = absurd (false≢true h)
   flag_read true e h a = (refl, rw (a, e) refl)
 
-  algos_read : (o : Option AlgoSet) → is_some s.algos ≡ false → is_some o ≡ true → is_appraise s.act ≡ true → if_there has_algos o ≡ true
+  algos_read : (o : Option AlgoSet) → is_some s.algos ≡ false → is_some o ≡ true → is_appraise s.act
+      ≡ true → if_there has_algos o ≡ true
       → Reads (codes "appraise_algos=" ++ told algos_text o) s (record s { algos = o })
   algos_read None e h a k = absurd (false≢true h)
   algos_read (Some x) e h a k = ((algos_again x k).0, rw (a, e, (algos_again x k).1) refl)
 
-  directio_read : (f : Bool) → s.directio ≡ false → f ≡ true → Reads (codes "permit_directio" ++ []) s (record s { directio = f })
+  directio_read : (f : Bool) → s.directio ≡ false → f ≡ true
+      → Reads (codes "permit_directio" ++ []) s (record s { directio = f })
   directio_read false e h = absurd (false≢true h)
   directio_read true e h = (refl, rw e refl)
 
-  pcr_read : (o : Option ℕ) → is_some s.pcr ≡ false → is_some o ≡ true → is_measure s.act ≡ true → if_there (λ n. nat_lt n 24) o ≡ true
+  pcr_read : (o : Option ℕ) → is_some s.pcr ≡ false → is_some o ≡ true → is_measure s.act ≡ true
+      → if_there (λ n. nat_lt n 24) o ≡ true
       → Reads (codes "pcr=" ++ told decimal o) s (record s { pcr = o })
   pcr_read None e h a k = absurd (false≢true h)
-  pcr_read (Some n) e h a k = let again = number_again 23 n (omega (arith, ltb-true n 24 k)) (omega arith) in (again.0, rw (a, e, again.1) refl)
+  pcr_read (Some n) e h a k = let again = number_again 23 n (omega (arith, ltb-true n 24 k))
+      (omega arith) in (again.0, rw (a, e, again.1) refl)
 
-  template_read : (o : Option Template) → is_some s.template ≡ false → is_some o ≡ true → is_measure s.act ≡ true → if_there is_named_template o ≡ true
+  template_read : (o : Option Template) → is_some s.template ≡ false → is_some o ≡ true
+      → is_measure s.act ≡ true → if_there is_named_template o ≡ true
       → Reads (codes "template=" ++ told template_word o) s (record s { template = o })
   template_read None e h a k = absurd (false≢true h)
   template_read (Some template.Ima) e h a k = (refl, rw (a, e) refl)
@@ -143,7 +165,8 @@ module _ (s : RuleValue) where
   template_read (Some template.ImaBuf) e h a k = absurd (false≢true k)
 
 -- a key that the rule r has is read
-word_read : (k : Key) (r s : RuleValue) → IsRule r → s.act ≡ r.act → (row k).is_in s ≡ false → (row k).is_in r ≡ true → Reads (key_word k r) s (put k r s)
+word_read : (k : Key) (r s : RuleValue) → IsRule r → s.act ≡ r.act → (row k).is_in s ≡ false
+    → (row k).is_in r ≡ true → Reads (key_word k r) s (put k r s)
 word_read key.Func r s ok act e h = func_read s r.func e h
 word_read key.Mask r s ok act e h = mask_read s r.mask e h ok.mask
 word_read key.FsMagic r s ok act e h = magic_read s r.fsmagic e h ok.fsmagic
@@ -155,14 +178,21 @@ word_read key.Gid r s ok act e h = gid_read s r.gid e h ok.gid
 word_read key.Egid r s ok act e h = egid_read s r.egid e h ok.egid
 word_read key.Fowner r s ok act e h = fowner_read s r.fowner e h ok.fowner
 word_read key.Fgroup r s ok act e h = fgroup_read s r.fgroup e h ok.fgroup
-word_read key.AppraiseType r s ok act e h = type_read s r.need e h (ap is_appraise act ∙ not_or (is_any r.need) (is_appraise r.act) h ok.need)
-word_read key.AppraiseFlag r s ok act e h = flag_read s r.blacklist e h (ap is_appraise act ∙ so_or r.blacklist (is_appraise r.act) h ok.blacklist)
+word_read key.AppraiseType r s ok act e h =
+    type_read s r.need e h (ap is_appraise act ∙ not_or (is_any r.need) (is_appraise r.act) h ok.need)
+word_read key.AppraiseFlag r s ok act e h =
+    flag_read s r.blacklist e h (ap is_appraise act
+    ∙ so_or r.blacklist (is_appraise r.act) h ok.blacklist)
 word_read key.AppraiseAlgos r s ok act e h =
-    algos_read s r.algos e h (ap is_appraise act ∙ none_or r.algos (is_appraise r.act) h ok.appraise_algos) ok.algos
+    algos_read s r.algos e h (ap is_appraise act
+    ∙ none_or r.algos (is_appraise r.act) h ok.appraise_algos) ok.algos
 word_read key.Directio r s ok act e h = directio_read s r.directio e h
-word_read key.Pcr r s ok act e h = pcr_read s r.pcr e h (ap is_measure act ∙ none_or r.pcr (is_measure r.act) h ok.measure_pcr) ok.pcr
+word_read key.Pcr r s ok act e h =
+    pcr_read s r.pcr e h (ap is_measure act ∙ none_or r.pcr (is_measure r.act) h ok.measure_pcr)
+    ok.pcr
 word_read key.Template r s ok act e h =
-    template_read s r.template e h (ap is_measure act ∙ none_or r.template (is_measure r.act) h ok.measure_template) ok.template
+    template_read s r.template e h (ap is_measure act
+    ∙ none_or r.template (is_measure r.act) h ok.measure_template) ok.template
 
 -- a field that is none in both rules
 none_is : {A : Type 0} (o p : Option A) → is_some o ≡ false → is_some p ≡ false → o ≡ p
@@ -176,24 +206,39 @@ any_is need.Any need.Signature e h = absurd (false≢true (sym h))
 any_is need.Signature n e h = absurd (false≢true (sym e))
 
 -- a key that neither rule has leaves the rule as it is
-put_none : (k : Key) (r s : RuleValue) → (row k).is_in s ≡ false → (row k).is_in r ≡ false → put k r s ≡ s
-put_none key.Func r s e h = ap (λ (o : Option Func). record s { func = o }) (none_is r.func s.func h e)
-put_none key.Mask r s e h = ap (λ (o : Option MaskTest). record s { mask = o }) (none_is r.mask s.mask h e)
-put_none key.FsMagic r s e h = ap (λ (o : Option ℕ). record s { fsmagic = o }) (none_is r.fsmagic s.fsmagic h e)
-put_none key.FsUuid r s e h = ap (λ (o : Option ℕ). record s { fsuuid = o }) (none_is r.fsuuid s.fsuuid h e)
-put_none key.FsName r s e h = ap (λ (o : Option (List ℕ)). record s { fsname = o }) (none_is r.fsname s.fsname h e)
-put_none key.Uid r s e h = ap (λ (o : Option IdTest). record s { uid = o }) (none_is r.uid s.uid h e)
-put_none key.Euid r s e h = ap (λ (o : Option IdTest). record s { euid = o }) (none_is r.euid s.euid h e)
-put_none key.Gid r s e h = ap (λ (o : Option IdTest). record s { gid = o }) (none_is r.gid s.gid h e)
-put_none key.Egid r s e h = ap (λ (o : Option IdTest). record s { egid = o }) (none_is r.egid s.egid h e)
-put_none key.Fowner r s e h = ap (λ (o : Option IdTest). record s { fowner = o }) (none_is r.fowner s.fowner h e)
-put_none key.Fgroup r s e h = ap (λ (o : Option IdTest). record s { fgroup = o }) (none_is r.fgroup s.fgroup h e)
-put_none key.AppraiseType r s e h = ap (λ (n : Need). record s { need = n }) (any_is r.need s.need h e)
+put_none : (k : Key) (r s : RuleValue) → (row k).is_in s ≡ false → (row k).is_in r ≡ false
+    → put k r s ≡ s
+put_none key.Func r s e h =
+    ap (λ (o : Option Func). record s { func = o }) (none_is r.func s.func h e)
+put_none key.Mask r s e h = ap (λ (o : Option MaskTest). record s { mask = o })
+    (none_is r.mask s.mask h e)
+put_none key.FsMagic r s e h =
+    ap (λ (o : Option ℕ). record s { fsmagic = o }) (none_is r.fsmagic s.fsmagic h e)
+put_none key.FsUuid r s e h =
+    ap (λ (o : Option ℕ). record s { fsuuid = o }) (none_is r.fsuuid s.fsuuid h e)
+put_none key.FsName r s e h = ap (λ (o : Option (List ℕ)). record s { fsname = o })
+    (none_is r.fsname s.fsname h e)
+put_none key.Uid r s e h = ap (λ (o : Option IdTest). record s { uid = o })
+    (none_is r.uid s.uid h e)
+put_none key.Euid r s e h = ap (λ (o : Option IdTest). record s { euid = o })
+    (none_is r.euid s.euid h e)
+put_none key.Gid r s e h = ap (λ (o : Option IdTest). record s { gid = o })
+    (none_is r.gid s.gid h e)
+put_none key.Egid r s e h = ap (λ (o : Option IdTest). record s { egid = o })
+    (none_is r.egid s.egid h e)
+put_none key.Fowner r s e h = ap (λ (o : Option IdTest). record s { fowner = o })
+    (none_is r.fowner s.fowner h e)
+put_none key.Fgroup r s e h = ap (λ (o : Option IdTest). record s { fgroup = o })
+    (none_is r.fgroup s.fgroup h e)
+put_none key.AppraiseType r s e h =
+    ap (λ (n : Need). record s { need = n }) (any_is r.need s.need h e)
 put_none key.AppraiseFlag r s e h = ap (λ (f : Bool). record s { blacklist = f }) (h ∙ sym e)
-put_none key.AppraiseAlgos r s e h = ap (λ (o : Option AlgoSet). record s { algos = o }) (none_is r.algos s.algos h e)
+put_none key.AppraiseAlgos r s e h = ap (λ (o : Option AlgoSet). record s { algos = o })
+    (none_is r.algos s.algos h e)
 put_none key.Directio r s e h = ap (λ (f : Bool). record s { directio = f }) (h ∙ sym e)
 put_none key.Pcr r s e h = ap (λ (o : Option ℕ). record s { pcr = o }) (none_is r.pcr s.pcr h e)
-put_none key.Template r s e h = ap (λ (o : Option Template). record s { template = o }) (none_is r.template s.template h e)
+put_none key.Template r s e h = ap (λ (o : Option Template). record s { template = o })
+    (none_is r.template s.template h e)
 
 put_act : (k : Key) (r s : RuleValue) → (put k r s).act ≡ s.act
 put_act key.Func r s = refl
@@ -231,18 +276,26 @@ not_true true h = absurd (false≢true h)
 not_true false h = refl
 
 abbrev Again : List Key → RuleValue → RuleValue → Type 0
-Again ks r s = (list_all is_visible_word (key_words ks r) ≡ true) × (with_tokens s (key_words ks r) ≡ Ok (fill ks r s))
+Again ks r s = (list_all is_visible_word (key_words ks r) ≡ true)
+    × (with_tokens s (key_words ks r) ≡ Ok (fill ks r s))
 
-keys_read : (ks : List Key) (r s : RuleValue) → IsRule r → s.act ≡ r.act → is_fresh ks r s ≡ true → Again ks r s
+keys_read : (ks : List Key) (r s : RuleValue) → IsRule r → s.act ≡ r.act → is_fresh ks r s ≡ true
+    → Again ks r s
 keys_read [] r s ok act fresh = (refl, refl)
 keys_read (k ∷ ks) r s ok act fresh =
     let missing = not_true ((row k).is_in s) (left _ _ fresh) in
     let others = keys_read ks r (put k r s) ok (put_act k r s ∙ act) (right _ _ fresh) in
     elim (cases_Bool ((row k).is_in r)) [
-      | inl has ↦ let read = word_read k r s ok act missing has in rw has (rw read.0 others.0, rw read.1 others.1)
-      | inr hasnt ↦ rw hasnt (others.0, ap (λ (t : RuleValue). with_tokens t (key_words ks r)) (sym (put_none k r s missing hasnt)) ∙ others.1)
+      | inl has ↦ let read = word_read k r s ok act missing has
+          in rw has (rw read.0 others.0, rw read.1 others.1)
+      | inr hasnt ↦ rw hasnt (
+        others.0,
+        ap (λ (t : RuleValue). with_tokens t (key_words ks r))
+            (sym (put_none k r s missing hasnt)) ∙ others.1,
+      )
     ]
 
 -- the keys of a rule, from its action on
-pub keys_again : (r : RuleValue) → IsRule r → (list_all is_visible_word (key_words keys r) ≡ true) × (with_tokens (plain_rule r.act) (key_words keys r) ≡ Ok r)
+pub keys_again : (r : RuleValue) → IsRule r → (list_all is_visible_word (key_words keys r) ≡ true)
+    × (with_tokens (plain_rule r.act) (key_words keys r) ≡ Ok r)
 keys_again r ok = keys_read keys r (plain_rule r.act) ok refl refl

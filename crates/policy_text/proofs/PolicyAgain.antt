@@ -10,20 +10,26 @@ use Rattle.policy_text.specs.RuleValue.{RuleValue, IsRule}
 use Rattle.policy_text.specs.Spelling.{rule_text, policy_text}
 use Rattle.policy_text.proofs.RulesAgain.{rule_again, rule_on_one_line, rule_stands}
 
-with_rule : (done : List RuleValue) (r : RuleValue) → IsRule r → length done < 1024 → with_line done (rule_text r) ≡ Ok (done ++ r ∷ [])
+with_rule : (done : List RuleValue) (r : RuleValue) → IsRule r → length done < 1024
+    → with_line done (rule_text r) ≡ Ok (done ++ r ∷ [])
 with_rule done r ok room =
     let fits : nat_lt (length done) 1024 ≡ true = grind (arith, nat_tests) in
     rw (rule_stands r ok, rule_again r ok, fits) refl
 
-rules_again : (rs done : List RuleValue) (n : ℕ) → AllByRecursion IsRule rs → length done + length rs ≤ 1024
+rules_again : (rs done : List RuleValue) (n : ℕ) → AllByRecursion IsRule rs
+    → length done + length rs ≤ 1024
     → from_lines fault_at with_line n done (lines (policy_text rs)) ≡ Ok (done ++ rs)
 rules_again [] done n ok room = ap (λ (rs : List RuleValue). Ok rs) (sym (append-nil done))
 rules_again (r ∷ rs) done n ok room =
-    let here : with_line done (rule_text r) ≡ Ok (done ++ r ∷ []) = with_rule done r ok.0 (omega arith) in
-    let others : from_lines fault_at with_line (n + 1) (done ++ r ∷ []) (lines (policy_text rs)) ≡ Ok ((done ++ r ∷ []) ++ rs) =
+    let here : with_line done (rule_text r) ≡ Ok (done ++ r ∷ []) =
+    with_rule done r ok.0 (omega arith) in
+    let others : from_lines fault_at with_line (n + 1) (done ++ r ∷ []) (lines (policy_text rs))
+    ≡ Ok ((done ++ r ∷ []) ++ rs) =
     rules_again rs (done ++ r ∷ []) (n + 1) ok.1 (omega (arith, length-append done (r ∷ []))) in
-    ap (λ (ls : List (List ℕ)). from_lines fault_at with_line n done ls) (line_split (rule_text r) (policy_text rs) (rule_on_one_line r ok.0))
+    ap (λ (ls : List (List ℕ)). from_lines fault_at with_line n done ls)
+    (line_split (rule_text r) (policy_text rs) (rule_on_one_line r ok.0))
     ∙ rw here (others ∙ ap (λ (qs : List RuleValue). Ok qs) (append_assoc done (r ∷ []) rs))
 
-pub policy_again : (rs : List RuleValue) → AllByRecursion IsRule rs → length rs ≤ 1024 → policy_of (policy_text rs) ≡ Ok rs
+pub policy_again : (rs : List RuleValue) → AllByRecursion IsRule rs → length rs ≤ 1024
+    → policy_of (policy_text rs) ≡ Ok rs
 policy_again rs ok room = rules_again rs [] 1 ok (omega arith)

@@ -21,15 +21,19 @@ after true e = refl
 after false e = e
 
 -- one name more
-pub one_more : (s : AlgoSet) (name : List ℕ) (a : Algo) (ls : List (List ℕ)) (n m : ℕ) (whole : Option AlgoSet)
-    → drop n ls ≡ name ∷ drop (n + 1) ls → algo_by_name name ≡ Some a → m ≡ n + 1 → algos_from s (drop n ls) ≡ whole → algos_from (with_algo s a) (drop m ls) ≡ whole
+pub one_more : (s : AlgoSet) (name : List ℕ) (a : Algo) (ls : List (List ℕ)) (n m : ℕ)
+    (whole : Option AlgoSet)
+    → drop n ls ≡ name ∷ drop (n + 1) ls → algo_by_name name ≡ Some a → m ≡ n + 1
+    → algos_from s (drop n ls) ≡ whole → algos_from (with_algo s a) (drop m ls) ≡ whole
 one_more s name a ls n m whole item named is so_far = rw is (rw (item, named) at so_far)
 
 pub no_name : (s : AlgoSet) (name : List ℕ) (ls : List (List ℕ)) (n : ℕ) (whole : Option AlgoSet)
-    → drop n ls ≡ name ∷ drop (n + 1) ls → algo_by_name name ≡ None → algos_from s (drop n ls) ≡ whole → None ≡ whole
+    → drop n ls ≡ name ∷ drop (n + 1) ls → algo_by_name name ≡ None → algos_from s (drop n ls)
+    ≡ whole → None ≡ whole
 no_name s name ls n whole item bad so_far = rw (item, bad) at so_far
 
-pub all_names : (s : AlgoSet) (ls : List (List ℕ)) (n : ℕ) (whole : Option AlgoSet) → length ls ≤ n → algos_from s (drop n ls) ≡ whole → Some s ≡ whole
+pub all_names : (s : AlgoSet) (ls : List (List ℕ)) (n : ℕ) (whole : Option AlgoSet) → length ls ≤ n
+    → algos_from s (drop n ls) ≡ whole → Some s ≡ whole
 all_names s ls n whole le so_far = rw (drop_of_length-le ls le) at so_far
 
 -- a set with one algorithm more holds one
@@ -37,15 +41,25 @@ pub holds_one : (s : AlgoSet) (a : Algo) → has_algos (with_algo s a) ≡ true
 holds_one s algo.Md5 = refl
 holds_one s algo.Sha1 = after (holds_algo s algo.Md5) refl
 holds_one s algo.Sha256 = after (holds_algo s algo.Md5) (after (holds_algo s algo.Sha1) refl)
-holds_one s algo.Sha384 = after (holds_algo s algo.Md5) (after (holds_algo s algo.Sha1) (after (holds_algo s algo.Sha256) refl))
+holds_one s algo.Sha384 =
+    after (holds_algo s algo.Md5)
+    (after (holds_algo s algo.Sha1) (after (holds_algo s algo.Sha256) refl))
 holds_one s algo.Sha512 =
-    after (holds_algo s algo.Md5) (after (holds_algo s algo.Sha1) (after (holds_algo s algo.Sha256) (after (holds_algo s algo.Sha384) refl)))
+    after (holds_algo s algo.Md5)
+    (after (holds_algo s algo.Sha1)
+    (after (holds_algo s algo.Sha256) (after (holds_algo s algo.Sha384) refl)))
 holds_one s algo.Sha224 =
-    after (holds_algo s algo.Md5) (after (holds_algo s algo.Sha1) (after (holds_algo s algo.Sha256) (after (holds_algo s algo.Sha384) (after (holds_algo s algo.Sha512) refl))))
+    after (holds_algo s algo.Md5)
+    (after (holds_algo s algo.Sha1)
+    (after (holds_algo s algo.Sha256)
+    (after (holds_algo s algo.Sha384) (after (holds_algo s algo.Sha512) refl))))
 
 -- a line that gave no rule stops the reading
-pub stops_at : (ls : List (List ℕ)) (whole : Result (List RuleValue) Fault) (n : ℕ) (rules : List RuleValue) (line : List ℕ) (e : LineErr)
+pub stops_at : (ls : List (List ℕ)) (whole : Result (List RuleValue) Fault) (n : ℕ)
+    (rules : List RuleValue) (line : List ℕ) (e : LineErr)
     → drop n ls ≡ line ∷ drop (n + 1) ls → LineFails e (with_line rules line)
-    → from_lines fault_at with_line (n + 1) rules (drop n ls) ≡ whole → Fails (err_at (n + 1) e) whole
-stops_at ls whole n rules line (err.Refused c) item bad so_far = stops fault_at with_line ls whole n rules line c item bad so_far
+    → from_lines fault_at with_line (n + 1) rules (drop n ls) ≡ whole
+    → Fails (err_at (n + 1) e) whole
+stops_at ls whole n rules line (err.Refused c) item bad so_far =
+    stops fault_at with_line ls whole n rules line c item bad so_far
 stops_at ls whole n rules line err.OutOfMemory item bad so_far = tt

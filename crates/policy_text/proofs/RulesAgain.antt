@@ -20,7 +20,8 @@ use Rattle.policy_text.proofs.KeysAgain.{keys_again}
 use Rattle.policy_text.proofs.ValuesAgain.{act_again}
 
 -- words with one space between are the first, and the others behind a space each
-pub spaced : (w : List ℕ) (ks : List Key) (r : RuleValue) → join_with_byte 32 (w ∷ key_words ks r) ≡ w ++ flat_map (key_text r) ks
+pub spaced : (w : List ℕ) (ks : List Key) (r : RuleValue) → join_with_byte 32 (w ∷ key_words ks r)
+    ≡ w ++ flat_map (key_text r) ks
 spaced w [] r = sym (append-nil w)
 spaced w (k ∷ ks) r = elim (cases_Bool ((row k).is_in r)) [
   | inl e ↦ rw e (ap (λ (t : List ℕ). w ++ (32 ∷ t)) (spaced (key_word k r) ks r))
@@ -28,9 +29,12 @@ spaced w (k ∷ ks) r = elim (cases_Bool ((row k).is_in r)) [
 ]
 
 -- what is put behind `out` is the rule's text
-pub rule_put : (r : RuleValue) (start first last : List ℕ) → first ≡ start ++ act_word r.act → last ≡ first ++ flat_map (key_text r) keys → last ≡ start ++ rule_text r
+pub rule_put : (r : RuleValue) (start first last : List ℕ) → first ≡ start ++ act_word r.act → last
+    ≡ first ++ flat_map (key_text r) keys → last ≡ start ++ rule_text r
 unfolding rule_text
-rule_put r start first last a b = rw (b, a, spaced (act_word r.act) keys r) (append_assoc start (act_word r.act) (flat_map (key_text r) keys))
+rule_put r start first last a b =
+    rw (b, a, spaced (act_word r.act) keys r)
+    (append_assoc start (act_word r.act) (flat_map (key_text r) keys))
 
 act_visible : (a : Act) → is_visible_word (act_word a) ≡ true
 act_visible act.Measure = refl
@@ -77,22 +81,26 @@ module _ (r : RuleValue) (ok : IsRule r) where
   unfolding rule_text
   words_again =
       parts_joined (λ b. b == 32) 32 refl (act_word r.act) (key_words keys r)
-      (all_weaker is_visible_word (λ v. list_all (λ b. not (b == 32)) v) visible_spaceless (rule_words r) words_visible)
+      (all_weaker is_visible_word (λ v. list_all (λ b. not (b == 32)) v) visible_spaceless
+      (rule_words r) words_visible)
 
   pub rule_tokens : tokens (rule_text r) ≡ rule_words r
   unfolding rule_text
   rule_tokens =
       ap (filter is_filled)
       (parts_joined is_blank 32 refl (act_word r.act) (key_words keys r)
-      (all_weaker is_visible_word (λ v. list_all is_inked v) visible_inked (rule_words r) words_visible))
-      ∙ filled_kept (rule_words r) (all_weaker is_visible_word is_filled visible_filled (rule_words r) words_visible)
+      (all_weaker is_visible_word (λ v. list_all is_inked v) visible_inked (rule_words r)
+      words_visible))
+      ∙ filled_kept (rule_words r)
+      (all_weaker is_visible_word is_filled visible_filled (rule_words r) words_visible)
 
   -- the text of a rule is one line
   pub rule_on_one_line : is_one_line (rule_text r) ≡ true
   unfolding rule_text
   rule_on_one_line =
       all_joined (λ b. not (b == 10)) 32 refl (rule_words r)
-      (all_weaker is_visible_word (λ v. list_all (λ b. not (b == 10)) v) visible_flat (rule_words r) words_visible)
+      (all_weaker is_visible_word (λ v. list_all (λ b. not (b == 10)) v) visible_flat (rule_words r)
+      words_visible)
 
   pub rule_again : rule_of (rule_text r) ≡ Ok r
   rule_again = ap rule_of_tokens rule_tokens ∙ rw (act_again r.act).1 (keys_again r ok).1

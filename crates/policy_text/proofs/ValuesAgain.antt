@@ -52,14 +52,16 @@ func_again func.SetxattrCheck = (refl, refl)
 func_again func.PolicyCheck = (refl, refl)
 func_again func.MmapCheckReqprot = (refl, refl)
 
-pub template_again : (t : Template) → is_named_template t ≡ true → Again template_of (template_word t) t
+pub template_again : (t : Template) → is_named_template t ≡ true
+    → Again template_of (template_word t) t
 template_again template.Ima h = (refl, refl)
 template_again template.ImaNg h = (refl, refl)
 template_again template.ImaSig h = (refl, refl)
 template_again template.ImaBuf h = absurd (false≢true h)
 
 abbrev mask_at : ℕ → Type 0
-mask_at bits = (exact : Bool) → Again mask_of (mask_text (record { exact = exact; bits = bits })) (record { exact = exact; bits = bits })
+mask_at bits = (exact : Bool) → Again mask_of (mask_text (record { exact = exact; bits = bits }))
+    (record { exact = exact; bits = bits })
 
 mask_at_1 : mask_at 1
 mask_at_1 true = (refl, refl)
@@ -98,10 +100,13 @@ mask_bits_again n h = elim (cases_Bool (n == 1)) [
 pub mask_again : (m : MaskTest) → is_mask_bit m.bits ≡ true → Again mask_of (mask_text m) m
 mask_again m h = mask_bits_again m.bits h m.exact
 
-pub number_again : (most n : ℕ) → n ≤ most → most ≤ 0xffff_ffff → Again (number_of 10 most) (decimal n) n
+pub number_again : (most n : ℕ) → n ≤ most → most ≤ 0xffff_ffff
+    → Again (number_of 10 most) (decimal n) n
 number_again most n le small =
-    let fits : n < 10 ^ 64 = omega arith in
-    (visible-digits 10 n (omega arith) (omega arith) fits, number_of-digits 10 n (omega arith) (omega arith) fits most le)
+    let fits : n < 10 ^ 64 = omega arith in (
+      visible-digits 10 n (omega arith) (omega arith) fits,
+      number_of-digits 10 n (omega arith) (omega arith) fits most le,
+    )
 
 -- a user or a group: what is printed begins with its sign
 pub sign_again : (t : IdTest) → is_sign (id_text t) ≡ true
@@ -110,6 +115,9 @@ sign_again (id.Above n) = refl
 sign_again (id.Below n) = refl
 
 pub id_again : (t : IdTest) → is_id t ≡ true → Again id_of (id_text t) t
-id_again (id.Is n) h = let again = number_again 0xffff_ffff n (leb-true _ _ h) (omega arith) in (again.0, rw again.1 refl)
-id_again (id.Above n) h = let again = number_again 0xffff_ffff n (leb-true _ _ h) (omega arith) in (again.0, rw again.1 refl)
-id_again (id.Below n) h = let again = number_again 0xffff_ffff n (leb-true _ _ h) (omega arith) in (again.0, rw again.1 refl)
+id_again (id.Is n) h = let again = number_again 0xffff_ffff n (leb-true _ _ h) (omega arith)
+    in (again.0, rw again.1 refl)
+id_again (id.Above n) h = let again = number_again 0xffff_ffff n (leb-true _ _ h) (omega arith)
+    in (again.0, rw again.1 refl)
+id_again (id.Below n) h = let again = number_again 0xffff_ffff n (leb-true _ _ h) (omega arith)
+    in (again.0, rw again.1 refl)

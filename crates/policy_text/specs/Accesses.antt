@@ -8,7 +8,8 @@ use Rattle.policy_text.specs.declared.access.TheConstants.{MAY_EXEC, MAY_READ, M
 use Rattle.policy_text.specs.declared.rule.Func.{Func}
 use Rattle.policy_text.specs.declared.rule.Func.TheVariants as func
 
--- the hook's place in the kernel's inode cache: a function that no other names has that of opened files
+-- the hook's place in the kernel's inode cache: a function that no other names has that of opened
+-- files
 abbrev pub slot_of : Func → Slot
 slot_of func.BprmCheck = slot.Bprm
 slot_of func.MmapCheck = slot.Mmap

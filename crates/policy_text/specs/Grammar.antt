@@ -1,4 +1,5 @@
--- The grammar of policies: the rules of a text, or its first bad line and the cause of that line's first bad token.
+-- The grammar of policies: the rules of a text, or its first bad line and the cause of that line's
+-- first bad token.
 use Rattle.std.specs.Prelude.{ℕ, Bool, true, false, not, ◌==◌, List, [], ◌∷◌, ◌++◌, length, None, Result, Ok, Err, ok_or, nat_lt, if◌then◌else◌}
 use Rattle.inode_meta.specs.declared.appraisal.Need.TheVariants as need
 use Rattle.text_forms.specs.Lines.{◌>>=◌, lines, from_lines}
@@ -56,7 +57,8 @@ with_tokens r (token ∷ ts) = with_token r token >>= λ s. with_tokens s ts
 -- the rule of a line's tokens: the first is its action
 abbrev pub rule_of_tokens : List (List ℕ) → Result RuleValue RuleCause
 rule_of_tokens [] = Err cause.BadAction
-rule_of_tokens (token ∷ ts) = ok_or (act_of token) cause.BadAction >>= λ a. with_tokens (plain_rule a) ts
+rule_of_tokens (token ∷ ts) = ok_or (act_of token) cause.BadAction >>= λ a. with_tokens
+    (plain_rule a) ts
 
 abbrev pub rule_of : List ℕ → Result RuleValue RuleCause
 rule_of line = rule_of_tokens (tokens line)
@@ -71,7 +73,8 @@ is_skipped ((c ∷ cs) ∷ ts) = c == 35
 abbrev pub with_line : List RuleValue → List ℕ → Result (List RuleValue) RuleCause
 with_line rules line =
     if is_skipped (tokens line) then Ok rules
-    else rule_of line >>= λ r. if nat_lt (length rules) 1024 then Ok (rules ++ r ∷ []) else Err cause.TooMany
+    else rule_of line >>= λ r. if nat_lt (length rules) 1024 then Ok (rules ++ r ∷ [])
+    else Err cause.TooMany
 
 abbrev pub fault_at : ℕ → RuleCause → Fault
 fault_at n c = record { line = n; cause = c }

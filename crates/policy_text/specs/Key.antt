@@ -1,4 +1,5 @@
--- The keys of a rule: a row a key, with its name, the actions that it belongs to, how its value is read and printed, and its condition.
+-- The keys of a rule: a row a key, with its name, the actions that it belongs to, how its value is
+-- read and printed, and its condition.
 use Rattle.std.specs.Prelude.{ℕ, Bool, true, false, not, ◌==◌, ◌&&◌, ◌||◌, List, [], ◌∷◌, length, take, drop, codes, Option, Some, None, is_some, if◌then◌else◌}
 use Rattle.std.specs.Fmt.{decimal}
 use Rattle.std.specs.Option.{option_map}
@@ -45,7 +46,8 @@ told text_of None = []
 told text_of (Some x) = text_of x
 
 -- a key whose value fills a field
-abbrev pub field : {A : Type 0} → List ℕ → Shape → (RuleValue → Option A) → (A → RuleValue → RuleValue) → (List ℕ → Option A) → (A → List ℕ) → Row
+abbrev pub field : {A : Type 0} → List ℕ → Shape → (RuleValue → Option A)
+    → (A → RuleValue → RuleValue) → (List ℕ → Option A) → (A → List ℕ) → Row
 field name shape get set value_of text_of = record {
   name = name;
   shape = shape;
@@ -58,13 +60,17 @@ field name shape get set value_of text_of = record {
 }
 
 -- a field that is a condition
-abbrev pub condition : {A : Type 0} → List ℕ → Shape → (RuleValue → Option A) → (A → RuleValue → RuleValue) → (List ℕ → Option A) → (A → List ℕ) → (A → Access → Bool) → Row
+abbrev pub condition : {A : Type 0} → List ℕ → Shape → (RuleValue → Option A)
+    → (A → RuleValue → RuleValue) → (List ℕ → Option A) → (A → List ℕ) → (A → Access → Bool) → Row
 condition name shape get set value_of text_of test =
-    record (field name shape get set value_of text_of) { holds = λ r a. if_there (λ x. test x a) (get r) }
+    record (field name shape get set value_of text_of)
+    { holds = λ r a. if_there (λ x. test x a) (get r) }
 
 -- the number of a user or a group, behind its sign
-abbrev pub id_condition : List ℕ → (RuleValue → Option IdTest) → (IdTest → RuleValue → RuleValue) → (Access → ℕ) → Row
-id_condition name get set number = condition name shape.Signed get set id_of id_text (λ t a. id_holds t (number a))
+abbrev pub id_condition : List ℕ → (RuleValue → Option IdTest) → (IdTest → RuleValue → RuleValue)
+    → (Access → ℕ) → Row
+id_condition name get set number = condition name shape.Signed get set id_of id_text
+    (λ t a. id_holds t (number a))
 
 -- a key that has one value
 abbrev pub flag : List ℕ → Shape → List ℕ → (RuleValue → Bool) → (RuleValue → RuleValue) → Row
@@ -81,39 +87,56 @@ flag name shape only is_in set = record {
 
 -- the table
 abbrev pub row : Key → Row
-row key.Func = condition (codes "func=") shape.Valued (λ r. r.func) (λ f r. record r { func = Some f }) func_of func_word (λ f a. same_func f a.func)
-row key.Mask = condition (codes "mask=") shape.Valued (λ r. r.mask) (λ m r. record r { mask = Some m }) mask_of mask_text (λ m a. mask_holds m a.mask)
+row key.Func = condition (codes "func=") shape.Valued (λ r. r.func)
+    (λ f r. record r { func = Some f }) func_of func_word (λ f a. same_func f a.func)
+row key.Mask = condition (codes "mask=") shape.Valued (λ r. r.mask)
+    (λ m r. record r { mask = Some m }) mask_of mask_text (λ m a. mask_holds m a.mask)
 row key.FsMagic =
-    condition (codes "fsmagic=") shape.Valued (λ r. r.fsmagic) (λ n r. record r { fsmagic = Some n }) magic_of magic_text
+    condition (codes "fsmagic=") shape.Valued (λ r. r.fsmagic)
+    (λ n r. record r { fsmagic = Some n }) magic_of magic_text
     (λ n a. n == a.place.now.magic)
 row key.FsUuid =
-    condition (codes "fsuuid=") shape.Valued (λ r. r.fsuuid) (λ n r. record r { fsuuid = Some n }) uuid_of uuid_text
+    condition (codes "fsuuid=") shape.Valued (λ r. r.fsuuid) (λ n r. record r { fsuuid = Some n })
+    uuid_of uuid_text
     (λ n a. n == a.place.now.uuid)
 row key.FsName =
-    condition (codes "fsname=") shape.Valued (λ r. r.fsname) (λ n r. record r { fsname = Some n }) name_of (λ n. n)
+    condition (codes "fsname=") shape.Valued (λ r. r.fsname) (λ n r. record r { fsname = Some n })
+    name_of (λ n. n)
     (λ n a. bytes_eq n a.place.now.name)
-row key.Uid = id_condition (codes "uid") (λ r. r.uid) (λ t r. record r { uid = Some t }) (λ a. a.cred.now.uid)
-row key.Euid = id_condition (codes "euid") (λ r. r.euid) (λ t r. record r { euid = Some t }) (λ a. a.cred.now.euid)
-row key.Gid = id_condition (codes "gid") (λ r. r.gid) (λ t r. record r { gid = Some t }) (λ a. a.cred.now.gid)
-row key.Egid = id_condition (codes "egid") (λ r. r.egid) (λ t r. record r { egid = Some t }) (λ a. a.cred.now.egid)
-row key.Fowner = id_condition (codes "fowner") (λ r. r.fowner) (λ t r. record r { fowner = Some t }) (λ a. a.owner)
-row key.Fgroup = id_condition (codes "fgroup") (λ r. r.fgroup) (λ t r. record r { fgroup = Some t }) (λ a. a.group)
+row key.Uid = id_condition (codes "uid") (λ r. r.uid) (λ t r. record r { uid = Some t })
+    (λ a. a.cred.now.uid)
+row key.Euid = id_condition (codes "euid") (λ r. r.euid) (λ t r. record r { euid = Some t })
+    (λ a. a.cred.now.euid)
+row key.Gid = id_condition (codes "gid") (λ r. r.gid) (λ t r. record r { gid = Some t })
+    (λ a. a.cred.now.gid)
+row key.Egid = id_condition (codes "egid") (λ r. r.egid) (λ t r. record r { egid = Some t })
+    (λ a. a.cred.now.egid)
+row key.Fowner = id_condition (codes "fowner") (λ r. r.fowner) (λ t r. record r { fowner = Some t })
+    (λ a. a.owner)
+row key.Fgroup = id_condition (codes "fgroup") (λ r. r.fgroup) (λ t r. record r { fgroup = Some t })
+    (λ a. a.group)
 row key.AppraiseType =
-    record (flag (codes "appraise_type=") shape.Valued (codes "imasig") (λ r. not (is_any r.need)) (λ r. record r { need = need.Signature })) {
+    record (flag (codes "appraise_type=") shape.Valued (codes "imasig") (λ r. not (is_any r.need))
+    (λ r. record r { need = need.Signature })) {
       belongs = is_appraise;
       left_out = is_unsupported_type;
     }
 row key.AppraiseFlag =
-    record (flag (codes "appraise_flag=") shape.Valued (codes "check_blacklist") (λ r. r.blacklist) (λ r. record r { blacklist = true })) {
+    record (flag (codes "appraise_flag=") shape.Valued (codes "check_blacklist") (λ r. r.blacklist)
+    (λ r. record r { blacklist = true })) {
       belongs = is_appraise;
     }
 row key.AppraiseAlgos =
-    record (field (codes "appraise_algos=") shape.Valued (λ r. r.algos) (λ s r. record r { algos = Some s }) algos_of algos_text) { belongs = is_appraise }
-row key.Directio = flag (codes "permit_directio") shape.Bare [] (λ r. r.directio) (λ r. record r { directio = true })
+    record (field (codes "appraise_algos=") shape.Valued (λ r. r.algos)
+    (λ s r. record r { algos = Some s }) algos_of algos_text) { belongs = is_appraise }
+row key.Directio = flag (codes "permit_directio") shape.Bare [] (λ r. r.directio)
+    (λ r. record r { directio = true })
 row key.Pcr =
-    record (field (codes "pcr=") shape.Valued (λ r. r.pcr) (λ n r. record r { pcr = Some n }) (number_of 10 23) decimal) { belongs = is_measure }
+    record (field (codes "pcr=") shape.Valued (λ r. r.pcr) (λ n r. record r { pcr = Some n })
+    (number_of 10 23) decimal) { belongs = is_measure }
 row key.Template =
-    record (field (codes "template=") shape.Valued (λ r. r.template) (λ t r. record r { template = Some t }) template_of template_word) {
+    record (field (codes "template=") shape.Valued (λ r. r.template)
+    (λ t r. record r { template = Some t }) template_of template_word) {
       belongs = is_measure;
       left_out = is_unsupported_template;
     }
@@ -131,8 +154,10 @@ with_id _ t r = r
 -- all keys, in the order in which they are printed
 abbrev pub keys : List Key
 keys =
-    key.Func ∷ key.Mask ∷ key.FsMagic ∷ key.FsUuid ∷ key.FsName ∷ key.Uid ∷ key.Euid ∷ key.Gid ∷ key.Egid ∷ key.Fowner ∷ key.Fgroup
-    ∷ key.AppraiseType ∷ key.AppraiseFlag ∷ key.AppraiseAlgos ∷ key.Directio ∷ key.Pcr ∷ key.Template ∷ []
+    key.Func ∷ key.Mask ∷ key.FsMagic ∷ key.FsUuid ∷ key.FsName ∷ key.Uid ∷ key.Euid ∷ key.Gid
+    ∷ key.Egid ∷ key.Fowner ∷ key.Fgroup
+    ∷ key.AppraiseType ∷ key.AppraiseFlag ∷ key.AppraiseAlgos ∷ key.Directio ∷ key.Pcr
+    ∷ key.Template ∷ []
 
 abbrev pub starts : List ℕ → List ℕ → Bool
 starts token name = bytes_eq (take (length name) token) name
@@ -146,7 +171,8 @@ fits shape.Bare value = not (is_filled value)
 -- the value of the key in its token, the sign of an id key being a part of it
 abbrev pub value_in : Key → List ℕ → Option (List ℕ)
 value_in k token =
-    if starts token (row k).name && fits (row k).shape (drop (length (row k).name) token) then Some (drop (length (row k).name) token) else None
+    if starts token (row k).name && fits (row k).shape (drop (length (row k).name) token)
+    then Some (drop (length (row k).name) token) else None
 
 abbrev pub or_else : Key → Option (List ℕ) → Option (Key × List ℕ) → Option (Key × List ℕ)
 or_else k (Some value) other = Some (k, value)
@@ -162,14 +188,17 @@ key_of token = key_among keys token
 
 -- the keys that ask a security module about the task, and about the inode
 abbrev pub is_subject_key : List ℕ → Bool
-is_subject_key token = starts token (codes "subj_user=") || starts token (codes "subj_role=") || starts token (codes "subj_type=")
+is_subject_key token = starts token (codes "subj_user=") || starts token (codes "subj_role=")
+    || starts token (codes "subj_type=")
 
 abbrev pub is_object_key : List ℕ → Bool
-is_object_key token = starts token (codes "obj_user=") || starts token (codes "obj_role=") || starts token (codes "obj_type=")
+is_object_key token = starts token (codes "obj_user=") || starts token (codes "obj_role=")
+    || starts token (codes "obj_type=")
 
 abbrev pub is_other_key : List ℕ → Bool
 is_other_key token =
-    starts token (codes "keyrings=") || starts token (codes "label=") || starts token (codes "digest_type=")
+    starts token (codes "keyrings=") || starts token (codes "label=")
+    || starts token (codes "digest_type=")
     || starts token (codes "fs_subtype=")
 
 -- the keys of the kernel's that are left out here

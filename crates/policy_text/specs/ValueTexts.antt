@@ -29,7 +29,8 @@ func_word func.MmapCheckReqprot = codes "MMAP_CHECK_REQPROT"
 
 abbrev pub mask_bits_word : ℕ → List ℕ
 mask_bits_word bits =
-    if bits == 1 then codes "MAY_EXEC" else if bits == 2 then codes "MAY_WRITE" else if bits == 4 then codes "MAY_READ" else codes "MAY_APPEND"
+    if bits == 1 then codes "MAY_EXEC" else if bits == 2 then codes "MAY_WRITE" else if bits == 4
+    then codes "MAY_READ" else codes "MAY_APPEND"
 
 abbrev pub mask_text : MaskTest → List ℕ
 mask_text m = (if m.exact then [] else codes "^") ++ mask_bits_word m.bits

@@ -27,25 +27,32 @@ look_up (e ∷ es) word = if bytes_eq word e.0 then Some e.1 else look_up es wor
 abbrev pub act_of : List ℕ → Option Act
 act_of word =
     look_up
-    ((codes "measure", act.Measure) ∷ (codes "dont_measure", act.DontMeasure) ∷ (codes "appraise", act.Appraise)
-    ∷ (codes "dont_appraise", act.DontAppraise) ∷ (codes "audit", act.Audit) ∷ (codes "dont_audit", act.DontAudit)
+    ((codes "measure", act.Measure) ∷ (codes "dont_measure", act.DontMeasure)
+    ∷ (codes "appraise", act.Appraise)
+    ∷ (codes "dont_appraise", act.DontAppraise) ∷ (codes "audit", act.Audit)
+    ∷ (codes "dont_audit", act.DontAudit)
     ∷ (codes "hash", act.Hash) ∷ (codes "dont_hash", act.DontHash) ∷ []) word
 
 -- the hooks by their main names, and two by their other names
 abbrev pub func_of : List ℕ → Option Func
 func_of word =
     look_up
-    ((codes "BPRM_CHECK", func.BprmCheck) ∷ (codes "MMAP_CHECK", func.MmapCheck) ∷ (codes "FILE_MMAP", func.MmapCheck)
-    ∷ (codes "FILE_CHECK", func.FileCheck) ∷ (codes "PATH_CHECK", func.FileCheck) ∷ (codes "CREDS_CHECK", func.CredsCheck)
+    ((codes "BPRM_CHECK", func.BprmCheck) ∷ (codes "MMAP_CHECK", func.MmapCheck)
+    ∷ (codes "FILE_MMAP", func.MmapCheck)
+    ∷ (codes "FILE_CHECK", func.FileCheck) ∷ (codes "PATH_CHECK", func.FileCheck)
+    ∷ (codes "CREDS_CHECK", func.CredsCheck)
     ∷ (codes "MODULE_CHECK", func.ModuleCheck) ∷ (codes "FIRMWARE_CHECK", func.FirmwareCheck)
-    ∷ (codes "KEXEC_KERNEL_CHECK", func.KexecKernelCheck) ∷ (codes "KEXEC_INITRAMFS_CHECK", func.KexecInitramfsCheck)
-    ∷ (codes "KEXEC_CMDLINE", func.KexecCmdline) ∷ (codes "KEY_CHECK", func.KeyCheck) ∷ (codes "CRITICAL_DATA", func.CriticalData)
+    ∷ (codes "KEXEC_KERNEL_CHECK", func.KexecKernelCheck)
+    ∷ (codes "KEXEC_INITRAMFS_CHECK", func.KexecInitramfsCheck)
+    ∷ (codes "KEXEC_CMDLINE", func.KexecCmdline) ∷ (codes "KEY_CHECK", func.KeyCheck)
+    ∷ (codes "CRITICAL_DATA", func.CriticalData)
     ∷ (codes "SETXATTR_CHECK", func.SetxattrCheck) ∷ (codes "POLICY_CHECK", func.PolicyCheck)
     ∷ (codes "MMAP_CHECK_REQPROT", func.MmapCheckReqprot) ∷ []) word
 
 abbrev pub mask_bits_of : List ℕ → Option ℕ
 mask_bits_of word =
-    look_up ((codes "MAY_EXEC", 1) ∷ (codes "MAY_WRITE", 2) ∷ (codes "MAY_READ", 4) ∷ (codes "MAY_APPEND", 8) ∷ []) word
+    look_up ((codes "MAY_EXEC", 1) ∷ (codes "MAY_WRITE", 2) ∷ (codes "MAY_READ", 4)
+    ∷ (codes "MAY_APPEND", 8) ∷ []) word
 
 -- the name of a bit, behind `^` where the mask has to contain it alone
 abbrev pub mask_of : List ℕ → Option MaskTest
@@ -85,7 +92,8 @@ abbrev pub algos_of : List ℕ → Option AlgoSet
 algos_of text = algos_from no_algos (slice_split (λ b. b == 44) text)
 
 abbrev pub template_of : List ℕ → Option Template
-template_of word = look_up ((codes "ima", template.Ima) ∷ (codes "ima-ng", template.ImaNg) ∷ (codes "ima-sig", template.ImaSig) ∷ []) word
+template_of word = look_up ((codes "ima", template.Ima) ∷ (codes "ima-ng", template.ImaNg)
+    ∷ (codes "ima-sig", template.ImaSig) ∷ []) word
 
 -- the values of the kernel's that are left out here
 abbrev pub is_unsupported_type : List ℕ → Bool
@@ -93,5 +101,6 @@ is_unsupported_type word = bytes_eq word (codes "imasig|modsig") || bytes_eq wor
 
 abbrev pub is_unsupported_template : List ℕ → Bool
 is_unsupported_template word =
-    bytes_eq word (codes "ima-ngv2") || bytes_eq word (codes "ima-sigv2") || bytes_eq word (codes "ima-modsig")
+    bytes_eq word (codes "ima-ngv2") || bytes_eq word (codes "ima-sigv2")
+    || bytes_eq word (codes "ima-modsig")
     || bytes_eq word (codes "evm-sig")

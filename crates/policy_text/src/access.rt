@@ -33,7 +33,8 @@ pub const MAY_READ: u8 = 4;
 /// To append.
 pub const MAY_APPEND: u8 = 8;
 
-/// What a task wants of a file, where the policy is asked. The table of the hook that asks and of the
+/// What a task wants of a file, where the policy is asked. The table of the hook that asks and of
+/// the
 /// access mask stands here; [`Func::slot`] has the place of the verdict.
 #[derive(Clone, Copy, Debug, PartialEq, Eq)]
 pub enum Purpose {

@@ -1,4 +1,5 @@
-//! The keys of a rule: for each its name, the actions that it belongs to, and its place in the table.
+//! The keys of a rule: for each its name, the actions that it belongs to, and its place in the
+//! table.
 
 ghost use Rattle.std.specs.Prelude.{◌≡◌, ◌&&◌, length, take, drop, if◌then◌else◌, None, Some};
 ghost use Rattle.std.specs.Option.{option_map};
@@ -143,7 +144,8 @@ fn is_sign(value: &[u8]) -> bool
     }
 }
 
-/// The key of a token and its value: the sign of an id key belongs to its value, and a key that takes
+/// The key of a token and its value: the sign of an id key belongs to its value, and a key that
+/// takes
 /// no value has an empty one.
 pub fn key_of(token: &[u8]) -> Option<(Key, &[u8])>
     ensures { option_map (λ k. (k.0, k.1.now)) result ≡ key_of token.now }

@@ -239,7 +239,8 @@ impl Rule {
 
     fn with_type(self, value: &[u8]) -> Result<Rule, LineErr>
         requires { is_appraise self.act ≡ true }
-        ensures { LineGives result (ok_or ((row key.AppraiseType).read value.now self) cause.BadValue) }
+        ensures { LineGives result
+            (ok_or ((row key.AppraiseType).read value.now self) cause.BadValue) }
     {
         if value != b"imasig".as_slice() {
             return Err(LineErr::Refused(RuleCause::BadValue));
@@ -251,7 +252,8 @@ impl Rule {
 
     fn with_flag(self, value: &[u8]) -> Result<Rule, LineErr>
         requires { is_appraise self.act ≡ true }
-        ensures { LineGives result (ok_or ((row key.AppraiseFlag).read value.now self) cause.BadValue) }
+        ensures { LineGives result
+            (ok_or ((row key.AppraiseFlag).read value.now self) cause.BadValue) }
     {
         if value != b"check_blacklist".as_slice() {
             return Err(LineErr::Refused(RuleCause::BadValue));

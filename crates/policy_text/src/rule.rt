@@ -64,7 +64,8 @@ pub enum Func {
 }
 
 impl Func {
-    /// The place of the hook's verdict in the kernel's inode cache: a function that has none of its own
+    /// The place of the hook's verdict in the kernel's inode cache: a function that has none of its
+    /// own
     /// shares that of opened files.
     pub fn slot(self) -> Slot
         ensures { result ≡ slot_of self }
@@ -80,7 +81,8 @@ impl Func {
 /// The test that a rule makes of an access mask.
 #[derive(Clone, Copy, Debug, PartialEq, Eq)]
 pub struct MaskTest {
-    /// Whether the mask has to be these bits and no others (`mask=M`), or to contain them (`mask=^M`).
+    /// Whether the mask has to be these bits and no others (`mask=M`), or to contain them
+    /// (`mask=^M`).
     pub exact: bool,
     /// One of `MAY_EXEC` 1, `MAY_WRITE` 2, `MAY_READ` 4 and `MAY_APPEND` 8.
     pub bits: u8,
@@ -154,7 +156,8 @@ pub struct Rule {
     pub fowner: Option<IdTest>,
     /// `fgroup`: the inode's group.
     pub fgroup: Option<IdTest>,
-    /// `appraise_type=imasig`: the label has to be a signature. Any unless the action is `appraise`.
+    /// `appraise_type=imasig`: the label has to be a signature. Any unless the action is
+    /// `appraise`.
     pub need: Need,
     /// `appraise_flag=check_blacklist`, which has no effect. False unless the action is `appraise`.
     pub blacklist: bool,

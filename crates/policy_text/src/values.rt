@@ -108,7 +108,8 @@ pub fn mask_of(text: &[u8]) -> Option<MaskTest>
     }
 }
 
-/// The test of a user or a group: a sign and a number below 2^32, in digits with any zeros in front.
+/// The test of a user or a group: a sign and a number below 2^32, in digits with any zeros in
+/// front.
 pub fn id_of(text: &[u8]) -> Option<IdTest>
     ensures value { result ≡ id_of text.now }
     ensures id { IfSome result (λ test. IsTrue (is_id test)) }

@@ -17,7 +17,8 @@ abbrev behind : Line → List ℕ
 behind [] = []
 behind (w ∷ ws) = 32 ∷ join_with_byte 32 (w ∷ ws)
 
-tail_join : (a y u h : Bool) → behind (appraise_words a y ++ flag_words (codes "audit") u ++ flag_words (codes "hash") h)
+tail_join : (a y u h : Bool)
+    → behind (appraise_words a y ++ flag_words (codes "audit") u ++ flag_words (codes "hash") h)
     ≡ appraise_text a y ++ flag_text (codes " audit") u ++ flag_text (codes " hash") h
 tail_join true true true true = refl
 tail_join true true true false = refl
@@ -36,23 +37,31 @@ tail_join false false true false = refl
 tail_join false false false true = refl
 tail_join false false false false = refl
 
-parts : (m d t x : List ℕ) → 32 ∷ (m ++ 32 ∷ (d ++ 32 ∷ (t ++ x))) ≡ ((32 ∷ m ++ 32 ∷ []) ++ d ++ 32 ∷ [] ++ t) ++ x
+parts : (m d t x : List ℕ) → 32 ∷ (m ++ 32 ∷ (d ++ 32 ∷ (t ++ x)))
+    ≡ ((32 ∷ m ++ 32 ∷ []) ++ d ++ 32 ∷ [] ++ t) ++ x
 parts m d t x = simp append_assoc
 
-measured_join : (m d t : List ℕ) (ws : Line) → 32 ∷ join_with_byte 32 (m ∷ d ∷ t ∷ ws) ≡ ((32 ∷ m ++ 32 ∷ []) ++ d ++ 32 ∷ [] ++ t) ++ behind ws
-measured_join m d t [] = ap (λ l. 32 ∷ (m ++ 32 ∷ (d ++ 32 ∷ l))) (sym (append-nil t)) ∙ parts m d t []
+measured_join : (m d t : List ℕ) (ws : Line) → 32 ∷ join_with_byte 32 (m ∷ d ∷ t ∷ ws)
+    ≡ ((32 ∷ m ++ 32 ∷ []) ++ d ++ 32 ∷ [] ++ t) ++ behind ws
+measured_join m d t [] = ap (λ l. 32 ∷ (m ++ 32 ∷ (d ++ 32 ∷ l))) (sym (append-nil t))
+    ∙ parts m d t []
 measured_join m d t (w ∷ ws) = parts m d t (32 ∷ join_with_byte 32 (w ∷ ws))
 
 groups : (m a u h : List ℕ) → m ++ (a ++ u ++ h) ≡ m ++ a ++ u ++ h
 groups m a u h = simp append_assoc
 
 acts_join : (m a y u h : Bool) (pcr : ℕ) (t : Template)
-    → 32 ∷ join_with_byte 32 (or_dash (measure_words m pcr t ++ appraise_words a y ++ flag_words (codes "audit") u ++ flag_words (codes "hash") h))
-    ≡ (if m || a || u || h then measure_text m pcr t ++ appraise_text a y ++ flag_text (codes " audit") u ++ flag_text (codes " hash") h else codes " -")
+    → 32 ∷ join_with_byte 32
+    (or_dash (measure_words m pcr t ++ appraise_words a y ++ flag_words (codes "audit") u
+    ++ flag_words (codes "hash") h))
+    ≡ (if m || a || u || h then measure_text m pcr t ++ appraise_text a y
+    ++ flag_text (codes " audit") u ++ flag_text (codes " hash") h else codes " -")
 acts_join true a y u h pcr t =
-    measured_join (codes "measure") (decimal pcr) (template_word t) (appraise_words a y ++ flag_words (codes "audit") u ++ flag_words (codes "hash") h)
+    measured_join (codes "measure") (decimal pcr) (template_word t) (appraise_words a y
+    ++ flag_words (codes "audit") u ++ flag_words (codes "hash") h)
     ∙ ap (λ l. measure_text true pcr t ++ l) (tail_join a y u h)
-    ∙ groups (measure_text true pcr t) (appraise_text a y) (flag_text (codes " audit") u) (flag_text (codes " hash") h)
+    ∙ groups (measure_text true pcr t) (appraise_text a y) (flag_text (codes " audit") u)
+    (flag_text (codes " hash") h)
 acts_join false true true true true pcr t = refl
 acts_join false true true true false pcr t = refl
 acts_join false true true false true pcr t = refl
@@ -70,32 +79,45 @@ acts_join false false false true false pcr t = refl
 acts_join false false false false true pcr t = refl
 acts_join false false false false false pcr t = refl
 
-dash_join : (w : List ℕ) (ws : Line) → join_with_byte 32 (w ∷ or_dash ws) ≡ w ++ 32 ∷ join_with_byte 32 (or_dash ws)
+dash_join : (w : List ℕ) (ws : Line) → join_with_byte 32 (w ∷ or_dash ws) ≡ w ++ 32
+    ∷ join_with_byte 32 (or_dash ws)
 dash_join w [] = refl
 dash_join w (v ∷ ws) = refl
 
-acts_behind : (w : List ℕ) (t : Template) (a : Action) → join_with_byte 32 (w ∷ acts_words t a) ≡ w ++ acts_text t a
+acts_behind : (w : List ℕ) (t : Template) (a : Action) → join_with_byte 32 (w ∷ acts_words t a) ≡ w
+    ++ acts_text t a
 acts_behind w t a =
-    dash_join w (measure_words a.measure a.pcr (unwrap_or a.template t) ++ appraise_words a.appraise (is_any a.need) ++ flag_words (codes "audit") a.audit ++ flag_words (codes "hash") a.hash)
-    ∙ ap (λ l. w ++ l) (acts_join a.measure a.appraise (is_any a.need) a.audit a.hash a.pcr (unwrap_or a.template t))
+    dash_join w (measure_words a.measure a.pcr (unwrap_or a.template t)
+    ++ appraise_words a.appraise (is_any a.need) ++ flag_words (codes "audit") a.audit
+    ++ flag_words (codes "hash") a.hash)
+    ∙ ap (λ l. w ++ l) (acts_join a.measure a.appraise (is_any a.need) a.audit a.hash a.pcr
+    (unwrap_or a.template t))
 
 regroup : (a b c d : List ℕ) → a ++ (b ++ (c ++ d)) ≡ a ++ ((b ++ c) ++ d)
 regroup a b c d = simp append_assoc
 
 pub check_text : (t : Template) (g : Bool) (file : ℕ) (f : Func) (a : Action) (n : ℕ)
-    → join_with_byte 32 (deed_words t g (deed.Check file f a n)) ≡ codes "check " ++ (decimal file ++ 32 ∷ (func_word f ++ (rules_text g n ++ acts_text t a)))
+    → join_with_byte 32 (deed_words t g (deed.Check file f a n)) ≡ codes "check "
+    ++ (decimal file ++ 32 ∷ (func_word f ++ (rules_text g n ++ acts_text t a)))
 check_text t true file f a n =
-    ap (λ l. codes "check " ++ (decimal file ++ 32 ∷ (func_word f ++ (codes " rules " ++ l)))) (acts_behind (decimal n) t a)
-    ∙ ap (λ l. codes "check " ++ (decimal file ++ 32 ∷ l)) (regroup (func_word f) (codes " rules ") (decimal n) (acts_text t a))
-check_text t false file f a n = ap (λ l. codes "check " ++ (decimal file ++ 32 ∷ l)) (acts_behind (func_word f) t a)
+    ap (λ l. codes "check " ++ (decimal file ++ 32 ∷ (func_word f ++ (codes " rules " ++ l))))
+    (acts_behind (decimal n) t a)
+    ∙ ap (λ l. codes "check " ++ (decimal file ++ 32 ∷ l))
+    (regroup (func_word f) (codes " rules ") (decimal n) (acts_text t a))
+check_text t false file f a n = ap (λ l. codes "check " ++ (decimal file ++ 32 ∷ l))
+    (acts_behind (func_word f) t a)
 
 gather : (o k b d s f r a : List ℕ) → ((((o ++ (k ++ (b ++ d))) ++ s) ++ f) ++ r) ++ a
     ≡ o ++ (k ++ (b ++ (d ++ (s ++ (f ++ (r ++ a))))))
 gather o k b d s f r a = simp append_assoc
 
-pub check_pushed : (o fw : List ℕ) (t : Template) (g : Bool) (file : ℕ) (f : Func) (a : Action) (n : ℕ) → fw ≡ func_word f
-    → ((((o ++ (codes "check" ++ 32 ∷ decimal file)) ++ codes " ") ++ fw) ++ rules_text g n) ++ acts_text t a ≡ o ++ join_with_byte 32 (deed_words t g (deed.Check file f a n))
+pub check_pushed : (o fw : List ℕ) (t : Template) (g : Bool) (file : ℕ) (f : Func) (a : Action)
+    (n : ℕ) → fw ≡ func_word f
+    → ((((o ++ (codes "check" ++ 32 ∷ decimal file)) ++ codes " ") ++ fw) ++ rules_text g n)
+    ++ acts_text t a ≡ o ++ join_with_byte 32 (deed_words t g (deed.Check file f a n))
 check_pushed o fw t g file f a n e =
-    gather o (codes "check") (codes " ") (decimal file) (codes " ") fw (rules_text g n) (acts_text t a)
-    ∙ ap (λ w. o ++ (codes "check " ++ (decimal file ++ 32 ∷ (w ++ (rules_text g n ++ acts_text t a))))) e
+    gather o (codes "check") (codes " ") (decimal file) (codes " ") fw (rules_text g n)
+    (acts_text t a)
+    ∙ ap (λ w. o
+    ++ (codes "check " ++ (decimal file ++ 32 ∷ (w ++ (rules_text g n ++ acts_text t a))))) e
     ∙ ap (λ l. o ++ l) (sym (check_text t g file f a n))

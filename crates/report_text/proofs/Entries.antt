@@ -42,7 +42,8 @@ sig_words ImaSig sig = encode_lower sig ∷ []
 sig_words ImaBuf sig = encode_lower sig ∷ []
 
 pub fields_are : (t : Template) (e : Entry)
-    → map (λ f. field_text f e) (template_fields t) ≡ digest_text t e.digest ∷ e.name ∷ sig_words t e.sig
+    → map (λ f. field_text f e) (template_fields t) ≡ digest_text t e.digest ∷ e.name
+    ∷ sig_words t e.sig
 fields_are Ima e = refl
 fields_are ImaNg e = refl
 fields_are ImaSig e = refl
@@ -63,7 +64,11 @@ bytes_back bytes h = ap from_hex (hexes.decode_of-encode_lower bytes h)
 no_colon : (bs : List ℕ) → list_all (λ b. not (b == 58)) (encode_lower bs) ≡ true
 unfolding encode_with
 no_colon [] = refl
-no_colon (b ∷ bs) = rw (picked (λ c. not (c == 58)) lower_digits (b / 16) refl refl, picked (λ c. not (c == 58)) lower_digits (b % 16) refl refl) (no_colon bs)
+no_colon (b ∷ bs) =
+    rw (
+      picked (λ c. not (c == 58)) lower_digits (b / 16) refl refl,
+      picked (λ c. not (c == 58)) lower_digits (b % 16) refl refl,
+    ) (no_colon bs)
 
 -- ---- the register
 
@@ -87,25 +92,63 @@ pcr_back (suc (suc (suc (suc (suc (suc (suc (suc (suc zero))))))))) x h = refl
 pcr_back (suc (suc (suc (suc (suc (suc (suc (suc (suc (suc zero)))))))))) x h = refl
 pcr_back (suc (suc (suc (suc (suc (suc (suc (suc (suc (suc (suc zero))))))))))) x h = refl
 pcr_back (suc (suc (suc (suc (suc (suc (suc (suc (suc (suc (suc (suc zero)))))))))))) x h = refl
-pcr_back (suc (suc (suc (suc (suc (suc (suc (suc (suc (suc (suc (suc (suc zero))))))))))))) x h = refl
-pcr_back (suc (suc (suc (suc (suc (suc (suc (suc (suc (suc (suc (suc (suc (suc zero)))))))))))))) x h = refl
-pcr_back (suc (suc (suc (suc (suc (suc (suc (suc (suc (suc (suc (suc (suc (suc (suc zero))))))))))))))) x h = refl
-pcr_back (suc (suc (suc (suc (suc (suc (suc (suc (suc (suc (suc (suc (suc (suc (suc (suc zero)))))))))))))))) x h = refl
-pcr_back (suc (suc (suc (suc (suc (suc (suc (suc (suc (suc (suc (suc (suc (suc (suc (suc (suc zero))))))))))))))))) x h = refl
-pcr_back (suc (suc (suc (suc (suc (suc (suc (suc (suc (suc (suc (suc (suc (suc (suc (suc (suc (suc zero)))))))))))))))))) x h = refl
-pcr_back (suc (suc (suc (suc (suc (suc (suc (suc (suc (suc (suc (suc (suc (suc (suc (suc (suc (suc (suc zero))))))))))))))))))) x h = refl
-pcr_back (suc (suc (suc (suc (suc (suc (suc (suc (suc (suc (suc (suc (suc (suc (suc (suc (suc (suc (suc (suc zero)))))))))))))))))))) x h = refl
-pcr_back (suc (suc (suc (suc (suc (suc (suc (suc (suc (suc (suc (suc (suc (suc (suc (suc (suc (suc (suc (suc (suc zero))))))))))))))))))))) x h = refl
-pcr_back (suc (suc (suc (suc (suc (suc (suc (suc (suc (suc (suc (suc (suc (suc (suc (suc (suc (suc (suc (suc (suc (suc zero)))))))))))))))))))))) x h = refl
-pcr_back (suc (suc (suc (suc (suc (suc (suc (suc (suc (suc (suc (suc (suc (suc (suc (suc (suc (suc (suc (suc (suc (suc (suc zero))))))))))))))))))))))) x h = refl
-pcr_back (suc (suc (suc (suc (suc (suc (suc (suc (suc (suc (suc (suc (suc (suc (suc (suc (suc (suc (suc (suc (suc (suc (suc (suc n)))))))))))))))))))))))) x h = absurd (omega (arith, h))
+pcr_back (suc (suc (suc (suc (suc (suc (suc (suc (suc (suc (suc (suc (suc zero))))))))))))) x h =
+    refl
+pcr_back (suc (suc (suc (suc (suc (suc (suc (suc (suc (suc (suc (suc (suc (suc zero)))))))))))))) x
+    h = refl
+pcr_back (suc
+    (suc (suc (suc (suc (suc (suc (suc (suc (suc (suc (suc (suc (suc (suc zero))))))))))))))) x h =
+    refl
+pcr_back (suc
+    (suc (suc (suc (suc (suc (suc (suc (suc (suc (suc (suc (suc (suc (suc (suc zero)))))))))))))))) x
+    h = refl
+pcr_back (suc
+    (suc (suc (suc
+    (suc (suc (suc (suc (suc (suc (suc (suc (suc (suc (suc (suc (suc zero))))))))))))))))) x h = refl
+pcr_back (suc
+    (suc (suc (suc
+    (suc (suc (suc (suc (suc (suc (suc (suc (suc (suc (suc (suc (suc (suc zero)))))))))))))))))) x h =
+    refl
+pcr_back (suc
+    (suc (suc (suc
+    (suc (suc (suc (suc (suc (suc (suc (suc (suc (suc (suc (suc (suc (suc (suc zero)))))))))))))))))))
+    x h = refl
+pcr_back (suc
+    (suc (suc (suc
+    (suc (suc (suc
+    (suc (suc (suc (suc (suc (suc (suc (suc (suc (suc (suc (suc (suc zero)))))))))))))))))))) x h =
+    refl
+pcr_back (suc
+    (suc (suc (suc
+    (suc (suc (suc
+    (suc (suc (suc (suc (suc (suc (suc (suc (suc (suc (suc (suc (suc (suc zero))))))))))))))))))))) x
+    h = refl
+pcr_back (suc
+    (suc (suc (suc
+    (suc (suc (suc
+    (suc (suc (suc
+    (suc (suc (suc (suc (suc (suc (suc (suc (suc (suc (suc (suc zero)))))))))))))))))))))) x h = refl
+pcr_back (suc
+    (suc (suc (suc
+    (suc (suc (suc
+    (suc (suc (suc
+    (suc (suc (suc (suc (suc (suc (suc (suc (suc (suc (suc (suc (suc zero))))))))))))))))))))))) x h =
+    refl
+pcr_back (suc
+    (suc (suc (suc
+    (suc (suc (suc
+    (suc (suc (suc
+    (suc (suc (suc (suc (suc (suc (suc (suc (suc (suc (suc (suc (suc (suc n)))))))))))))))))))))))) x
+    h = absurd (omega (arith, h))
 
 -- ---- the digest
 
 abbrev algo_at : List ℕ → Algo
 algo_at w =
-    if bytes_eq w (codes "md5") then algo.Md5 else if bytes_eq w (codes "sha1") then algo.Sha1 else if bytes_eq w (codes "sha256") then algo.Sha256
-    else if bytes_eq w (codes "sha384") then algo.Sha384 else if bytes_eq w (codes "sha512") then algo.Sha512 else algo.Sha224
+    if bytes_eq w (codes "md5") then algo.Md5 else if bytes_eq w (codes "sha1") then algo.Sha1
+    else if bytes_eq w (codes "sha256") then algo.Sha256
+    else if bytes_eq w (codes "sha384") then algo.Sha384 else if bytes_eq w (codes "sha512")
+    then algo.Sha512 else algo.Sha224
 
 algo_back : (a : Algo) → algo_at (algo_name a) ≡ a
 algo_back algo.Md5 = refl
@@ -132,14 +175,20 @@ digest_at Ima w = record { algo = algo.Sha1; bytes = bytes_at w }
 digest_at _ w = digest_of_parts (slice_split (λ b. b == 58) w)
 
 named_back : (a : Algo) (bytes : List ℕ) → IsBytes bytes
-    → digest_of_parts (slice_split (λ b. b == 58) (algo_name a ++ codes ":" ++ encode_lower bytes)) ≡ record { algo = a; bytes = bytes }
+    → digest_of_parts (slice_split (λ b. b == 58) (algo_name a ++ codes ":" ++ encode_lower bytes))
+    ≡ record { algo = a; bytes = bytes }
 named_back a bytes h =
-    ap (λ (w : List ℕ). digest_of_parts (slice_split (λ b. b == 58) w)) (append_assoc (algo_name a) (codes ":") (encode_lower bytes))
-    ∙ ap digest_of_parts (parts_back 58 (algo_name a) (encode_lower bytes ∷ []) (rw (name_no_colon a, no_colon bytes) refl))
+    ap (λ (w : List ℕ). digest_of_parts (slice_split (λ b. b == 58) w))
+    (append_assoc (algo_name a) (codes ":") (encode_lower bytes))
+    ∙ ap digest_of_parts
+    (parts_back 58 (algo_name a) (encode_lower bytes ∷ [])
+    (rw (name_no_colon a, no_colon bytes) refl))
     ∙ rw (algo_back a, bytes_back bytes h) refl
 
-digest_back : (t : Template) (d : Digest) → IsBytes d.bytes → (t ≡ Ima → d.algo ≡ algo.Sha1) → digest_at t (digest_text t d) ≡ d
-digest_back Ima d h sha1 = let a : d.algo ≡ algo.Sha1 = sha1 refl in rw (bytes_back d.bytes h, sym a) refl
+digest_back : (t : Template) (d : Digest) → IsBytes d.bytes → (t ≡ Ima → d.algo ≡ algo.Sha1)
+    → digest_at t (digest_text t d) ≡ d
+digest_back Ima d h sha1 = let a : d.algo ≡ algo.Sha1 =
+    sha1 refl in rw (bytes_back d.bytes h, sym a) refl
 digest_back ImaNg d h sha1 = named_back d.algo d.bytes h
 digest_back ImaSig d h sha1 = named_back d.algo d.bytes h
 digest_back ImaBuf d h sha1 = named_back d.algo d.bytes h
@@ -150,7 +199,8 @@ abbrev sig_at : Line → List ℕ
 sig_at [] = []
 sig_at (w ∷ ws) = bytes_at w
 
-sig_back : (t : Template) (sig : List ℕ) → IsBytes sig → (t ≡ Ima → sig ≡ []) → (t ≡ ImaNg → sig ≡ []) → sig_at (sig_words t sig) ≡ sig
+sig_back : (t : Template) (sig : List ℕ) → IsBytes sig → (t ≡ Ima → sig ≡ [])
+    → (t ≡ ImaNg → sig ≡ []) → sig_at (sig_words t sig) ≡ sig
 sig_back Ima sig h ima ng = sym (ima refl)
 sig_back ImaNg sig h ima ng = sym (ng refl)
 sig_back ImaSig sig h ima ng = bytes_back sig h
@@ -160,8 +210,24 @@ sig_back ImaBuf sig h ima ng = bytes_back sig h
 
 abbrev entry_with : ℕ → Line → Entry
 entry_with pcr (hash ∷ t ∷ d ∷ name ∷ ws) =
-    record { pcr = pcr; template = template_at t; digest = digest_at (template_at t) d; name = name; sig = sig_at ws; violation = false }
-entry_with pcr _ = record { pcr = pcr; template = Ima; digest = record { algo = algo.Sha1; bytes = [] }; name = []; sig = []; violation = false }
+    record {
+      pcr = pcr;
+      template = template_at t;
+      digest = digest_at (template_at t) d;
+      name = name;
+      sig = sig_at ws;
+      violation = false;
+    }
+entry_with pcr _ =
+    record {
+      pcr = pcr;
+      template = Ima;
+      digest = record { algo = algo.Sha1; bytes = [] };
+      name =
+          [];
+      sig = [];
+      violation = false;
+    }
 
 abbrev entry_by : ℕ × Line → Entry
 entry_by p = entry_with p.0 p.1
@@ -171,11 +237,19 @@ entry_at ws = entry_by (pcr_at ws)
 
 pub entry_back : (e : Entry) → IsListEntry e → entry_at (entry_words e) ≡ printed_entry e
 entry_back e h =
-    ap (λ (fs : Line). entry_at (pcr_words e.pcr ++ encode_lower (template_digest e Sha1).bytes ∷ template_word e.template ∷ fs))
+    ap (λ (fs : Line). entry_at (pcr_words e.pcr ++ encode_lower (template_digest e Sha1).bytes
+    ∷ template_word e.template ∷ fs))
     (fields_are e.template e)
-    ∙ ap entry_by (pcr_back e.pcr (encode_lower (template_digest e Sha1).bytes ∷ template_word e.template ∷ digest_text e.template e.digest ∷ e.name ∷ sig_words e.template e.sig) h.entry.pcr)
-    ∙ rw (template_back e.template, digest_back e.template e.digest h.digest h.entry.digest_of_ima, sig_back e.template e.sig h.sig h.entry.sig_of_ima h.entry.sig_of_ima_ng) refl
+    ∙ ap entry_by
+    (pcr_back e.pcr (encode_lower (template_digest e Sha1).bytes ∷ template_word e.template
+    ∷ digest_text e.template e.digest ∷ e.name ∷ sig_words e.template e.sig) h.entry.pcr)
+    ∙ rw (
+      template_back e.template,
+      digest_back e.template e.digest h.digest h.entry.digest_of_ima,
+      sig_back e.template e.sig h.sig h.entry.sig_of_ima h.entry.sig_of_ima_ng,
+    ) refl
 
-pub entries_back : (es : List Entry) → AllByRecursion IsListEntry es → map entry_at (map entry_words es) ≡ map printed_entry es
+pub entries_back : (es : List Entry) → AllByRecursion IsListEntry es
+    → map entry_at (map entry_words es) ≡ map printed_entry es
 entries_back [] h = refl
 entries_back (e ∷ es) h = cc (entry_back e h.0, entries_back es h.1)

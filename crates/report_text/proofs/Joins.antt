@@ -142,19 +142,24 @@ regroup : (o p w d t : List ℕ)
     ≡ o ++ (((p ++ 32 ∷ w) ++ 32 ∷ (d ++ 32 ∷ (codes "=" ++ 32 ∷ t))) ++ 10 ∷ [])
 regroup o p w d t =
     gather o p (codes " ") w (codes " ") d (codes " = ") t (codes "\n")
-    ∙ ap (λ l. o ++ (p ++ 32 ∷ (w ++ 32 ∷ l))) (sym (append_assoc d (codes " = " ++ t) (codes "\n")))
+    ∙ ap (λ l. o ++ (p ++ 32 ∷ (w ++ 32 ∷ l)))
+    (sym (append_assoc d (codes " = " ++ t) (codes "\n")))
     ∙ ap (λ l. o ++ l) (spread p w (d ++ 32 ∷ (codes "=" ++ 32 ∷ t)) (10 ∷ []))
 
 -- the pieces of its line, as the code puts them
-pub event_pushed : (o : List ℕ) (t : Template) (g : Bool) (place : ℕ) (who : Who) (d : Deed) (s : Told)
+pub event_pushed : (o : List ℕ) (t : Template) (g : Bool) (place : ℕ) (who : Who) (d : Deed)
+    (s : Told)
     → d ≢ deed.Birth
-    → (((((((o ++ decimal place) ++ codes " ") ++ who_word who) ++ codes " ") ++ join_with_byte 32 (deed_words t g d)) ++ codes " = ") ++ join_with_byte 32 (told_words s)) ++ codes "\n"
+    → (((((((o ++ decimal place) ++ codes " ") ++ who_word who) ++ codes " ")
+    ++ join_with_byte 32 (deed_words t g d)) ++ codes " = ") ++ join_with_byte 32 (told_words s))
+    ++ codes "\n"
     ≡ o ++ line_text (decimal place ∷ step_words t g who d s)
 event_pushed o t g place who d s not_birth =
     let ds = deed_words t g d in
     let ts = told_words s in
     regroup o (decimal place) (who_word who) (join_with_byte 32 ds) (join_with_byte 32 ts)
-    ∙ ap (λ l. o ++ (((decimal place ++ 32 ∷ who_word who) ++ 32 ∷ (join_with_byte 32 ds ++ 32 ∷ l)) ++ 10 ∷ []))
+    ∙ ap (λ l. o ++ (((decimal place ++ 32 ∷ who_word who) ++ 32 ∷ (join_with_byte 32 ds ++ 32 ∷ l))
+    ++ 10 ∷ []))
     (sym (join_append (codes "=" ∷ []) ts refl (told_filled s)))
     ∙ ap (λ l. o ++ (((decimal place ++ 32 ∷ who_word who) ++ 32 ∷ l) ++ 10 ∷ []))
     (sym (join_append ds (codes "=" ∷ ts) (deed_filled t g d) refl))
@@ -189,4 +194,5 @@ pub lines_end : {X : Type 0} (lines : ℕ → List X → List Line) → ((k : �
     → out ++ text_of (lines i (drop i xs)) ≡ o → out ≡ o
 lines_end lines none o out xs i le h =
     sym (append-nil out)
-    ∙ ap (λ (ls : List Line). out ++ text_of ls) (sym (ap (lines i) (drop_all i xs le) ∙ none i)) ∙ h
+    ∙ ap (λ (ls : List Line). out ++ text_of ls) (sym (ap (lines i) (drop_all i xs le) ∙ none i))
+    ∙ h

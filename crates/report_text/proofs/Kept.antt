@@ -58,12 +58,15 @@ pub visible : (w : List ℕ) → list_all is_visible w ≡ true → is_clean w �
 visible w h = all_weaker is_visible is_clean_byte visible_kept w h
 
 pub number_kept : (n : ℕ) → Is64 n → is_clean (decimal n) ≡ true
-number_kept n h = visible (decimal n) (visible-digits 10 n (omega arith) (omega arith) (omega (arith, h)))
+number_kept n h =
+    visible (decimal n) (visible-digits 10 n (omega arith) (omega arith) (omega (arith, h)))
 
 pub octal_kept : (n : ℕ) → Is64 n → is_clean (digits 8 false n) ≡ true
-octal_kept n h = visible (digits 8 false n) (visible-digits 8 n (omega arith) (omega arith) (omega (arith, h)))
+octal_kept n h =
+    visible (digits 8 false n) (visible-digits 8 n (omega arith) (omega arith) (omega (arith, h)))
 
-pub picked : (p : ℕ → Bool) (xs : List ℕ) (i : ℕ) → list_all p xs ≡ true → p 0 ≡ true → p (slice_index xs i) ≡ true
+pub picked : (p : ℕ → Bool) (xs : List ℕ) (i : ℕ) → list_all p xs ≡ true → p 0 ≡ true
+    → p (slice_index xs i) ≡ true
 picked p [] i h z = z
 picked p (x ∷ xs) zero h z = left _ _ h
 picked p (x ∷ xs) (suc i) h z = picked p xs i (right _ _ h) z
@@ -72,7 +75,11 @@ picked p (x ∷ xs) (suc i) h z = picked p xs i (right _ _ h) z
 pub hex_kept : (bs : List ℕ) → is_clean (encode_lower bs) ≡ true
 unfolding encode_with
 hex_kept [] = refl
-hex_kept (b ∷ bs) = rw (picked is_clean_byte lower_digits (b / 16) refl refl, picked is_clean_byte lower_digits (b % 16) refl refl) (hex_kept bs)
+hex_kept (b ∷ bs) =
+    rw (
+      picked is_clean_byte lower_digits (b / 16) refl refl,
+      picked is_clean_byte lower_digits (b % 16) refl refl,
+    ) (hex_kept bs)
 
 pub append_kept : (a b : List ℕ) → is_clean a ≡ true → is_clean b ≡ true → is_clean (a ++ b) ≡ true
 append_kept a b h k = rw (list_all-append is_clean_byte a b, h, k) refl
@@ -114,12 +121,15 @@ func_kept f = visible (func_word f) (func_again f).0
 
 pub who_kept : (w : Who) → IsWho w → is_clean (who_word w) ≡ true
 who_kept w h =
-    append_kept (decimal w.task) (46 ∷ (decimal w.call ++ 46 ∷ decimal w.step)) (number_kept w.task h.task)
-    (append_kept (decimal w.call) (46 ∷ decimal w.step) (number_kept w.call h.call) (number_kept w.step h.step))
+    append_kept (decimal w.task) (46 ∷ (decimal w.call ++ 46 ∷ decimal w.step))
+    (number_kept w.task h.task)
+    (append_kept (decimal w.call) (46 ∷ decimal w.step) (number_kept w.call h.call)
+    (number_kept w.step h.step))
 
 -- ---- lists of words
 
-pub row_append : (a b : Line) → list_all is_clean a ≡ true → list_all is_clean b ≡ true → list_all is_clean (a ++ b) ≡ true
+pub row_append : (a b : Line) → list_all is_clean a ≡ true → list_all is_clean b ≡ true
+    → list_all is_clean (a ++ b) ≡ true
 row_append a b h k = rw (list_all-append is_clean a b, h, k) refl
 
 how_kept : (h : How) → list_all is_clean (how_words h) ≡ true
@@ -131,7 +141,8 @@ how_kept (how.Write false true) = refl
 how_kept (how.Write false false) = refl
 how_kept how.Exec = refl
 
-measure_kept : (m : Bool) (pcr : ℕ) (t : Template) → Is64 pcr → list_all is_clean (measure_words m pcr t) ≡ true
+measure_kept : (m : Bool) (pcr : ℕ) (t : Template) → Is64 pcr
+    → list_all is_clean (measure_words m pcr t) ≡ true
 measure_kept true pcr t h = rw (number_kept pcr h, template_kept t) refl
 measure_kept false pcr t h = refl
 
@@ -152,7 +163,8 @@ rules_kept : (g : Bool) (n : ℕ) → Is64 n → list_all is_clean (rules_words 
 rules_kept true n h = rw (number_kept n h) refl
 rules_kept false n h = refl
 
-length_kept : (o : Option (List ℕ)) → IfSome o (λ b. Is64 (length b)) → is_clean (length_word o) ≡ true
+length_kept : (o : Option (List ℕ)) → IfSome o (λ b. Is64 (length b)) → is_clean (length_word o)
+    ≡ true
 length_kept None h = refl
 length_kept (Some b) h = number_kept (length b) h
 
@@ -160,18 +172,30 @@ change_kept : (c : Change) → IsChange c → list_all is_clean (change_words c)
 change_kept (change.Mode m) h = rw (octal_kept m h) refl
 change_kept (change.Owner u g) h = rw (number_kept u h.0, number_kept g h.1) refl
 
-deed_kept : (t : Template) (g : Bool) (d : Deed) → IsDeed d → list_all is_clean (deed_words t g d) ≡ true
+deed_kept : (t : Template) (g : Bool) (d : Deed) → IsDeed d → list_all is_clean (deed_words t g d)
+    ≡ true
 deed_kept t g deed.Birth h = refl
 deed_kept t g (deed.Count how) h = how_kept how
 deed_kept t g (deed.Check file f a n) h =
-    let acts = dash_kept (measure_words a.measure a.pcr (unwrap_or a.template t) ++ appraise_words a.appraise (is_any a.need) ++ flag_words (codes "audit") a.audit ++ flag_words (codes "hash") a.hash)
-    (row_append (measure_words a.measure a.pcr (unwrap_or a.template t) ++ appraise_words a.appraise (is_any a.need) ++ flag_words (codes "audit") a.audit) (flag_words (codes "hash") a.hash)
-    (row_append (measure_words a.measure a.pcr (unwrap_or a.template t) ++ appraise_words a.appraise (is_any a.need)) (flag_words (codes "audit") a.audit)
-    (row_append (measure_words a.measure a.pcr (unwrap_or a.template t)) (appraise_words a.appraise (is_any a.need)) (measure_kept a.measure a.pcr (unwrap_or a.template t) (omega (arith, h.2.pcr))) (appraise_kept a.appraise (is_any a.need)))
+    let acts = dash_kept (measure_words a.measure a.pcr (unwrap_or a.template t)
+    ++ appraise_words a.appraise (is_any a.need) ++ flag_words (codes "audit") a.audit
+    ++ flag_words (codes "hash") a.hash)
+    (row_append (measure_words a.measure a.pcr (unwrap_or a.template t)
+    ++ appraise_words a.appraise (is_any a.need) ++ flag_words (codes "audit") a.audit)
+    (flag_words (codes "hash") a.hash)
+    (row_append (measure_words a.measure a.pcr (unwrap_or a.template t)
+    ++ appraise_words a.appraise (is_any a.need)) (flag_words (codes "audit") a.audit)
+    (row_append (measure_words a.measure a.pcr (unwrap_or a.template t))
+    (appraise_words a.appraise (is_any a.need))
+    (measure_kept a.measure a.pcr (unwrap_or a.template t) (omega (arith, h.2.pcr)))
+    (appraise_kept a.appraise (is_any a.need)))
     (flag_kept (codes "audit") a.audit refl)) (flag_kept (codes "hash") a.hash refl)) in
-    rw (number_kept file h.0, func_kept f) (row_append (rules_words g n) (acts_words t a) (rules_kept g n h.1) acts)
-deed_kept t g (deed.Read file from len) h = rw (number_kept file h.0, number_kept from h.1, number_kept len h.2) refl
-deed_kept t g (deed.Write file from bytes) h = rw (number_kept file h.0, number_kept from h.1, number_kept (length bytes) h.2) refl
+    rw (number_kept file h.0, func_kept f)
+    (row_append (rules_words g n) (acts_words t a) (rules_kept g n h.1) acts)
+deed_kept t g (deed.Read file from len) h =
+    rw (number_kept file h.0, number_kept from h.1, number_kept len h.2) refl
+deed_kept t g (deed.Write file from bytes) h =
+    rw (number_kept file h.0, number_kept from h.1, number_kept (length bytes) h.2) refl
 deed_kept t g (deed.Trunc file len) h = rw (number_kept file h.0, number_kept len h.1) refl
 deed_kept t g (deed.SetAttr name bytes admin) h = rw (h.0, length_kept bytes h.1) refl
 deed_kept t g (deed.SetMeta c) h = change_kept c h
@@ -225,21 +249,29 @@ told_kept (told.ToMToU n) h = rw (number_kept n h) refl
 told_kept (told.Status s) h = rw (status_kept s) refl
 told_kept (told.Read n d) h = rw (number_kept n h) refl
 told_kept (told.Grant g) h =
-    row_append (placed_words g.placed ++ verdict_words g.verdict) (admitted_words g.admitted g.labelled)
-    (row_append (placed_words g.placed) (verdict_words g.verdict) (placed_kept g.placed h) (verdict_kept g.verdict)) (admitted_kept g.admitted g.labelled)
+    row_append (placed_words g.placed ++ verdict_words g.verdict)
+    (admitted_words g.admitted g.labelled)
+    (row_append (placed_words g.placed) (verdict_words g.verdict) (placed_kept g.placed h)
+    (verdict_kept g.verdict)) (admitted_kept g.admitted g.labelled)
 
-made_kept : (t : Template) (g : Bool) (who : Who) (d : Deed) (o : Told) → IsWho who → IsDeed d → IsTold o
+made_kept : (t : Template) (g : Bool) (who : Who) (d : Deed) (o : Told) → IsWho who → IsDeed d
+    → IsTold o
     → list_all is_clean (who_word who ∷ deed_words t g d ++ codes "=" ∷ told_words o) ≡ true
-made_kept t g who d o hw hd ho = rw (who_kept who hw) (row_append (deed_words t g d) (codes "=" ∷ told_words o) (deed_kept t g d hd) (told_kept o ho))
+made_kept t g who d o hw hd ho =
+    rw (who_kept who hw)
+    (row_append (deed_words t g d) (codes "=" ∷ told_words o) (deed_kept t g d hd) (told_kept o ho))
 
-step_kept : (t : Template) (g : Bool) (who : Who) (d : Deed) (o : Told) → IsWho who → IsDeed d → IsTold o → list_all is_clean (step_words t g who d o) ≡ true
+step_kept : (t : Template) (g : Bool) (who : Who) (d : Deed) (o : Told) → IsWho who → IsDeed d
+    → IsTold o → list_all is_clean (step_words t g who d o) ≡ true
 step_kept t g who deed.Birth o hw hd ho = refl
 step_kept t g who (deed.Count h) o hw hd ho = made_kept t g who (deed.Count h) o hw hd ho
-step_kept t g who (deed.Check f fn a n) o hw hd ho = made_kept t g who (deed.Check f fn a n) o hw hd ho
+step_kept t g who (deed.Check f fn a n) o hw hd ho =
+    made_kept t g who (deed.Check f fn a n) o hw hd ho
 step_kept t g who (deed.Read f o2 n) o hw hd ho = made_kept t g who (deed.Read f o2 n) o hw hd ho
 step_kept t g who (deed.Write f o2 b) o hw hd ho = made_kept t g who (deed.Write f o2 b) o hw hd ho
 step_kept t g who (deed.Trunc f n) o hw hd ho = made_kept t g who (deed.Trunc f n) o hw hd ho
-step_kept t g who (deed.SetAttr n b a) o hw hd ho = made_kept t g who (deed.SetAttr n b a) o hw hd ho
+step_kept t g who (deed.SetAttr n b a) o hw hd ho =
+    made_kept t g who (deed.SetAttr n b a) o hw hd ho
 step_kept t g who (deed.SetMeta c) o hw hd ho = made_kept t g who (deed.SetMeta c) o hw hd ho
 step_kept t g who (deed.Take n) o hw hd ho = made_kept t g who (deed.Take n) o hw hd ho
 step_kept t g who (deed.Chunk n) o hw hd ho = made_kept t g who (deed.Chunk n) o hw hd ho
@@ -247,11 +279,17 @@ step_kept t g who (deed.Finish n) o hw hd ho = made_kept t g who (deed.Finish n)
 step_kept t g who (deed.Close n) o hw hd ho = made_kept t g who (deed.Close n) o hw hd ho
 step_kept t g who (deed.CloseTake n) o hw hd ho = made_kept t g who (deed.CloseTake n) o hw hd ho
 step_kept t g who (deed.CloseChunk n) o hw hd ho = made_kept t g who (deed.CloseChunk n) o hw hd ho
-step_kept t g who (deed.CloseFinish n) o hw hd ho = made_kept t g who (deed.CloseFinish n) o hw hd ho
+step_kept t g who (deed.CloseFinish n) o hw hd ho =
+    made_kept t g who (deed.CloseFinish n) o hw hd ho
 step_kept t g who (deed.Post n) o hw hd ho = made_kept t g who (deed.Post n) o hw hd ho
 step_kept t g who (deed.Wait n) o hw hd ho = made_kept t g who (deed.Wait n) o hw hd ho
 
-pub events_kept : (t : Template) (g : Bool) (k : ℕ) (es : List Event) → AllByRecursion IsEvent es → Is64 (k + length es) → list_all is_line (event_lines t g k es) ≡ true
+pub events_kept : (t : Template) (g : Bool) (k : ℕ) (es : List Event) → AllByRecursion IsEvent es
+    → Is64 (k + length es) → list_all is_line (event_lines t g k es) ≡ true
 events_kept t g k [] h fits = refl
 events_kept t g k (e ∷ es) h fits =
-    rw (number_kept k (omega (arith, fits)), step_kept t g e.who e.deed e.told h.0.who h.0.deed h.0.told) (events_kept t g (k + 1) es h.1 (omega (arith, fits)))
+    rw (
+      number_kept k (omega (arith, fits)),
+      step_kept t g e.who e.deed e.told h.0.who h.0.deed
+          h.0.told,
+    ) (events_kept t g (k + 1) es h.1 (omega (arith, fits)))

@@ -1,4 +1,5 @@
--- The words of an entry are its line in `ascii_runtime_measurements`; the words of an appended rule are its text.
+-- The words of an entry are its line in `ascii_runtime_measurements`; the words of an appended rule
+-- are its text.
 use Rattle.std.proofs.Common.{◌≡◌, ℕ, true, ◌==◌, nat_lt, List, [], ◌∷◌, ◌++◌, codes, map, refl, sym, ap, ◌∙◌, append_assoc, inl, inr}
 use Rattle.std.specs.Prelude.{decimal}
 use Rattle.std.specs.List.{flat_map, join_with_byte, onto_first}
@@ -20,7 +21,8 @@ use Rattle.policy_cell.specs.declared.cell.RuleEntry.{RuleEntry}
 use Rattle.report_text.specs.Words.{Line, who_word}
 use Rattle.report_text.specs.Report.{entry_words, pcr_words, rule_line}
 
-pcr_join : (pcr : ℕ) (h : List ℕ) (ws : Line) → join_with_byte 32 (pcr_words pcr ++ h ∷ ws) ≡ pcr_text pcr ++ 32 ∷ join_with_byte 32 (h ∷ ws)
+pcr_join : (pcr : ℕ) (h : List ℕ) (ws : Line) → join_with_byte 32 (pcr_words pcr ++ h ∷ ws)
+    ≡ pcr_text pcr ++ 32 ∷ join_with_byte 32 (h ∷ ws)
 pcr_join pcr h ws = elim (cases_Bool (nat_lt pcr 10)) [
   | inl e ↦ rw e refl
   | inr e ↦ rw e refl
@@ -43,10 +45,12 @@ entry_line e =
     let sum = encode_lower (template_digest e Sha1).bytes in
     ap (λ l. l ++ 10 ∷ [])
     (pcr_join e.pcr sum (template_word e.template ∷ map spell (template_fields e.template))
-    ∙ ap (λ l. pcr_text e.pcr ++ 32 ∷ (sum ++ 32 ∷ l)) (join_behind spell (template_word e.template) (template_fields e.template)))
+    ∙ ap (λ l. pcr_text e.pcr ++ 32 ∷ (sum ++ 32 ∷ l))
+    (join_behind spell (template_word e.template) (template_fields e.template)))
     ∙ regroup (pcr_text e.pcr) sum (template_word e.template) (fields_text e)
 
-join_more : (w : List ℕ) (ws : Line) → is_filled ws ≡ true → join_with_byte 32 (w ∷ ws) ≡ w ++ 32 ∷ join_with_byte 32 ws
+join_more : (w : List ℕ) (ws : Line) → is_filled ws ≡ true → join_with_byte 32 (w ∷ ws) ≡ w ++ 32
+    ∷ join_with_byte 32 ws
 join_more w [] h = absurd (false≢true h)
 join_more w (v ∷ ws) h = refl
 
@@ -66,4 +70,5 @@ pub rule_words : (place : ℕ) (r : RuleEntry) → join_with_byte 32 (rule_line 
     ≡ codes "rule" ++ 32 ∷ (decimal place ++ 32 ∷ (who_word r.who ++ 32 ∷ rule_text r.rule))
 rule_words place r =
     ap (λ l. codes "rule" ++ 32 ∷ (decimal place ++ 32 ∷ l))
-    (join_more (who_word r.who) (words (rule_text r.rule)) (has_word (rule_text r.rule)) ∙ ap (λ l. who_word r.who ++ 32 ∷ l) (join_with_byte-slice_split 32 (rule_text r.rule)))
+    (join_more (who_word r.who) (words (rule_text r.rule)) (has_word (rule_text r.rule))
+    ∙ ap (λ l. who_word r.who ++ 32 ∷ l) (join_with_byte-slice_split 32 (rule_text r.rule)))

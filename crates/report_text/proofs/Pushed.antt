@@ -23,7 +23,8 @@ use Rattle.report_text.proofs.Joins.{join_append}
 use Rattle.report_text.proofs.Lines.{entry_line, rule_words}
 
 -- lines made one of each element
-pub text_of_map : {X : Type 0} (f : X → Line) (xs : List X) → text_of (map f xs) ≡ flat_map (λ x. line_text (f x)) xs
+pub text_of_map : {X : Type 0} (f : X → Line) (xs : List X) → text_of (map f xs)
+    ≡ flat_map (λ x. line_text (f x)) xs
 text_of_map f [] = refl
 text_of_map f (x ∷ xs) = ap (λ l. line_text (f x) ++ l) (text_of_map f xs)
 
@@ -42,12 +43,15 @@ head_spread : (w l n c v z : List ℕ) → w ++ (z ++ (l ++ (n ++ (c ++ (v ++ z)
 head_spread w l n c v z = simp (append_assoc, append-nil)
 
 pub head_pushed : (o w n v : List ℕ)
-    → ((((o ++ codes "imakern report 1\nrun ") ++ w) ++ (codes "\nlist" ++ 32 ∷ n)) ++ (codes " violations" ++ 32 ∷ v)) ++ codes "\n"
+    → ((((o ++ codes "imakern report 1\nrun ") ++ w) ++ (codes "\nlist" ++ 32 ∷ n))
+    ++ (codes " violations" ++ 32 ∷ v)) ++ codes "\n"
     ≡ o ++ text_of ((codes "imakern" ∷ codes "report" ∷ codes "1" ∷ []) ∷ (codes "run" ∷ w ∷ [])
     ∷ (codes "list" ∷ n ∷ codes "violations" ∷ v ∷ []) ∷ [])
 head_pushed o w n v =
-    head_gather o (codes "imakern report 1\nrun ") w (codes "\nlist ") n (codes " violations ") v (codes "\n")
-    ∙ ap (λ l. o ++ (codes "imakern report 1\nrun " ++ l)) (head_spread w (codes "list ") n (codes " violations ") v (codes "\n"))
+    head_gather o (codes "imakern report 1\nrun ") w (codes "\nlist ") n (codes " violations ") v
+    (codes "\n")
+    ∙ ap (λ l. o ++ (codes "imakern report 1\nrun " ++ l))
+    (head_spread w (codes "list ") n (codes " violations ") v (codes "\n"))
 
 -- ---- a rule
 
@@ -56,15 +60,18 @@ rule_gather : (o k p s w b t n : List ℕ) → ((((((o ++ k) ++ p) ++ s) ++ w) +
 rule_gather o k p s w b t n = simp append_assoc
 
 pub rule_pushed : (o : List ℕ) (place : ℕ) (r : RuleEntry)
-    → ((((((o ++ codes "rule ") ++ decimal place) ++ codes " ") ++ who_word r.who) ++ codes " ") ++ rule_text r.rule) ++ codes "\n"
+    → ((((((o ++ codes "rule ") ++ decimal place) ++ codes " ") ++ who_word r.who) ++ codes " ")
+    ++ rule_text r.rule) ++ codes "\n"
     ≡ o ++ line_text (rule_line place r)
 rule_pushed o place r =
-    rule_gather o (codes "rule ") (decimal place) (codes " ") (who_word r.who) (codes " ") (rule_text r.rule) (codes "\n")
+    rule_gather o (codes "rule ") (decimal place) (codes " ") (who_word r.who) (codes " ")
+    (rule_text r.rule) (codes "\n")
     ∙ ap (λ l. o ++ (l ++ 10 ∷ [])) (sym (rule_words place r))
 
 -- ---- the registers
 
-register_gather : (o a p b h c d e k z : List ℕ) → ((((o ++ (a ++ p)) ++ (b ++ h)) ++ (c ++ d)) ++ (e ++ k)) ++ z
+register_gather : (o a p b h c d e k z : List ℕ)
+    → ((((o ++ (a ++ p)) ++ (b ++ h)) ++ (c ++ d)) ++ (e ++ k)) ++ z
     ≡ o ++ (a ++ (p ++ (b ++ (h ++ (c ++ (d ++ (e ++ (k ++ z))))))))
 register_gather o a p b h c d e k z = simp append_assoc
 
@@ -73,23 +80,29 @@ register_spread : (p b h n c e k : List ℕ) → p ++ (b ++ (h ++ (n ++ (c ++ (p
 register_spread p b h n c e k = simp (append_assoc, append-nil)
 
 pub register_pushed : (o p h k : List ℕ)
-    → ((((o ++ (codes "pcr sha1" ++ 32 ∷ p)) ++ 32 ∷ h) ++ (codes "\npcr sha256" ++ 32 ∷ p)) ++ 32 ∷ k) ++ codes "\n"
-    ≡ o ++ text_of ((codes "pcr" ∷ codes "sha1" ∷ p ∷ h ∷ []) ∷ (codes "pcr" ∷ codes "sha256" ∷ p ∷ k ∷ []) ∷ [])
+    → ((((o ++ (codes "pcr sha1" ++ 32 ∷ p)) ++ 32 ∷ h) ++ (codes "\npcr sha256" ++ 32 ∷ p)) ++ 32
+    ∷ k) ++ codes "\n"
+    ≡ o ++ text_of ((codes "pcr" ∷ codes "sha1" ∷ p ∷ h ∷ [])
+    ∷ (codes "pcr" ∷ codes "sha256" ∷ p ∷ k ∷ []) ∷ [])
 register_pushed o p h k =
-    register_gather o (codes "pcr sha1 ") p (codes " ") h (codes "\npcr sha256 ") p (codes " ") k (codes "\n")
+    register_gather o (codes "pcr sha1 ") p (codes " ") h (codes "\npcr sha256 ") p (codes " ") k
+    (codes "\n")
     ∙ ap (λ l. o ++ (codes "pcr sha1 " ++ l))
     (register_spread p (codes " ") h (codes "\n") (codes "pcr sha256 ") (codes " ") k)
 
 pub registers_on : (o out new : List ℕ) (list : List Entry) (banks : Banks) (n : ℕ) (named : Bool)
     → named ≡ list_any (λ e. e.pcr == n) list
-    → out ≡ o ++ text_of (pcr_lines_to list banks n) → new ≡ out ++ text_of (pcr_lines_at banks n named)
+    → out ≡ o ++ text_of (pcr_lines_to list banks n) → new ≡ out
+    ++ text_of (pcr_lines_at banks n named)
     → new ≡ o ++ text_of (pcr_lines_to list banks (n + 1))
 registers_on o out new list banks n named is h k =
     let one : suc n ≡ n + 1 = omega arith in
     k ∙ ap (λ l. l ++ text_of (pcr_lines_at banks n named)) h
     ∙ append_assoc o (text_of (pcr_lines_to list banks n)) (text_of (pcr_lines_at banks n named))
     ∙ ap (λ b. o ++ (text_of (pcr_lines_to list banks n) ++ text_of (pcr_lines_at banks n b))) is
-    ∙ ap (λ l. o ++ l) (sym (flat_map-append line_text (pcr_lines_to list banks n) (pcr_lines_at banks n (list_any (λ e. e.pcr == n) list))))
+    ∙ ap (λ l. o ++ l)
+    (sym (flat_map-append line_text (pcr_lines_to list banks n)
+    (pcr_lines_at banks n (list_any (λ e. e.pcr == n) list))))
     ∙ ap (λ (m : ℕ). o ++ text_of (pcr_lines_to list banks m)) one
 
 -- ---- an inode
@@ -100,10 +113,13 @@ inode_gather : (o i n s p a w b r c x z : List ℕ)
 inode_gather o i n s p a w b r c x z = simp append_assoc
 
 pub inode_head_pushed : (o n p w r x : List ℕ)
-    → (((((((o ++ (codes "inode" ++ 32 ∷ n)) ++ codes " ") ++ p) ++ (codes " writers" ++ 32 ∷ w)) ++ (codes " readers" ++ 32 ∷ r)) ++ (codes " execs" ++ 32 ∷ x)) ++ codes "\n")
-    ≡ o ++ line_text (codes "inode" ∷ n ∷ p ∷ codes "writers" ∷ w ∷ codes "readers" ∷ r ∷ codes "execs" ∷ x ∷ [])
+    → (((((((o ++ (codes "inode" ++ 32 ∷ n)) ++ codes " ") ++ p) ++ (codes " writers" ++ 32 ∷ w))
+    ++ (codes " readers" ++ 32 ∷ r)) ++ (codes " execs" ++ 32 ∷ x)) ++ codes "\n")
+    ≡ o ++ line_text (codes "inode" ∷ n ∷ p ∷ codes "writers" ∷ w ∷ codes "readers" ∷ r
+    ∷ codes "execs" ∷ x ∷ [])
 inode_head_pushed o n p w r x =
-    inode_gather o (codes "inode ") n (codes " ") p (codes " writers ") w (codes " readers ") r (codes " execs ") x (codes "\n")
+    inode_gather o (codes "inode ") n (codes " ") p (codes " writers ") w (codes " readers ") r
+    (codes " execs ") x (codes "\n")
 
 lines_gather : (o h f a m n z e : List ℕ) → ((((((o ++ h) ++ f) ++ a) ++ m) ++ n) ++ z) ++ e
     ≡ o ++ (h ++ (f ++ (a ++ (m ++ ((n ++ z) ++ e)))))
@@ -111,18 +127,24 @@ lines_gather o h f a m n z e = simp append_assoc
 
 pub inode_pushed : (o : List ℕ) (t : Template) (g : Bool) (k : ℕ) (i : EndedInode)
     → ((((((o ++ line_text (inode_head k i)) ++ line_text (codes "force" ∷ force_word i.force ∷ []))
-    ++ line_text (codes "attrs" ∷ decimal (length i.attrs) ∷ [])) ++ flat_map (λ p. line_text (attr_line p)) i.attrs)
-    ++ (codes "events" ++ 32 ∷ decimal (length i.journal))) ++ codes "\n") ++ text_of (event_lines t g 0 i.journal)
+    ++ line_text (codes "attrs" ∷ decimal (length i.attrs) ∷ []))
+    ++ flat_map (λ p. line_text (attr_line p)) i.attrs)
+    ++ (codes "events" ++ 32 ∷ decimal (length i.journal))) ++ codes "\n")
+    ++ text_of (event_lines t g 0 i.journal)
     ≡ o ++ text_of (inode_lines t g k i)
 inode_pushed o t g k i =
-    let events : List Line = (codes "events" ∷ decimal (length i.journal) ∷ []) ∷ event_lines t g 0 i.journal in
+    let events : List Line = (codes "events" ∷ decimal (length i.journal) ∷ [])
+    ∷ event_lines t g 0 i.journal in
     let head = line_text (inode_head k i) in
     let force = line_text (codes "force" ∷ force_word i.force ∷ []) in
     let attrs = line_text (codes "attrs" ∷ decimal (length i.attrs) ∷ []) in
     lines_gather o head force attrs (flat_map (λ p. line_text (attr_line p)) i.attrs)
-    (codes "events" ++ 32 ∷ decimal (length i.journal)) (codes "\n") (text_of (event_lines t g 0 i.journal))
-    ∙ ap (λ l. o ++ (head ++ (force ++ (attrs ++ (l ++ text_of events))))) (sym (text_of_map attr_line i.attrs))
-    ∙ ap (λ l. o ++ (head ++ (force ++ (attrs ++ l)))) (sym (flat_map-append line_text (map attr_line i.attrs) events))
+    (codes "events" ++ 32 ∷ decimal (length i.journal)) (codes "\n")
+    (text_of (event_lines t g 0 i.journal))
+    ∙ ap (λ l. o ++ (head ++ (force ++ (attrs ++ (l ++ text_of events)))))
+    (sym (text_of_map attr_line i.attrs))
+    ∙ ap (λ l. o ++ (head ++ (force ++ (attrs ++ l))))
+    (sym (flat_map-append line_text (map attr_line i.attrs) events))
 
 -- ---- a reply
 
@@ -149,7 +171,8 @@ pub answer_pushed : (o : List ℕ) (call : ℕ) (r : Reply)
     ≡ o ++ line_text (decimal call ∷ reply_words r)
 answer_pushed o call r =
     answer_gather o (decimal call) (codes " ") (join_with_byte 32 (reply_words r)) (codes "\n")
-    ∙ ap (λ l. o ++ (l ++ 10 ∷ [])) (sym (join_append (decimal call ∷ []) (reply_words r) refl (reply_filled r)))
+    ∙ ap (λ l. o ++ (l ++ 10 ∷ []))
+    (sym (join_append (decimal call ∷ []) (reply_words r) refl (reply_filled r)))
 
 -- ---- the whole
 
@@ -158,11 +181,13 @@ whole_gather : (h e p a i t z : List ℕ) → (((((([] ++ h) ++ e) ++ p) ++ a) +
 whole_gather h e p a i t z = simp append_assoc
 
 pub report_pushed : (h : List Line) (es : List Entry) (p a i t : List Line)
-    → (((((([] ++ text_of h) ++ flat_map ascii_line es) ++ text_of p) ++ text_of a) ++ text_of i) ++ text_of t) ++ codes "end\n"
+    → (((((([] ++ text_of h) ++ flat_map ascii_line es) ++ text_of p) ++ text_of a) ++ text_of i)
+    ++ text_of t) ++ codes "end\n"
     ≡ text_of (h ++ (map entry_words es ++ (p ++ (a ++ (i ++ (t ++ (codes "end" ∷ []) ∷ []))))))
 report_pushed h es p a i t =
     let end : List Line = (codes "end" ∷ []) ∷ [] in
-    whole_gather (text_of h) (flat_map ascii_line es) (text_of p) (text_of a) (text_of i) (text_of t) (codes "end\n")
+    whole_gather (text_of h) (flat_map ascii_line es) (text_of p) (text_of a) (text_of i)
+    (text_of t) (codes "end\n")
     ∙ sym (
     flat_map-append line_text h (map entry_words es ++ (p ++ (a ++ (i ++ (t ++ end)))))
     ∙ ap (λ l. text_of h ++ l) (

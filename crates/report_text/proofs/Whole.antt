@@ -48,7 +48,8 @@ use Rattle.report_text.proofs.Rules.{rule_at, rules_back, rules_kept}
 
 -- ---- parts of a list
 
-parts_by_length : {X : Type 0} (a b x y : List X) → length a ≡ length b → a ++ x ≡ b ++ y → (a ≡ b) × (x ≡ y)
+parts_by_length : {X : Type 0} (a b x y : List X) → length a ≡ length b → a ++ x ≡ b ++ y → (a ≡ b)
+    × (x ≡ y)
 parts_by_length [] [] x y n e = (refl, e)
 parts_by_length [] (b ∷ bs) x y n e = absurd (omega (arith, n))
 parts_by_length (a ∷ xs) [] x y n e = absurd (omega (arith, n))
@@ -60,7 +61,8 @@ length_map : {X Y : Type 0} (f : X → Y) (xs : List X) → length (map f xs) �
 length_map f [] = refl
 length_map f (x ∷ xs) = omega (arith, length_map f xs)
 
-length_events : (t : Template) (g : Bool) (k : ℕ) (es : List Event) → length (event_lines t g k es) ≡ length es
+length_events : (t : Template) (g : Bool) (k : ℕ) (es : List Event) → length (event_lines t g k es)
+    ≡ length es
 length_events t g k [] = refl
 length_events t g k (e ∷ es) = omega (arith, length_events t g (k + 1) es)
 
@@ -73,7 +75,8 @@ length_rules k (r ∷ rs) = omega (arith, length_rules (k + 1) rs)
 -- the one algorithm with so many bytes
 abbrev algo_sized : ℕ → Algo
 algo_sized n =
-    if n == 16 then algo.Md5 else if n == 20 then algo.Sha1 else if n == 32 then algo.Sha256 else if n == 48 then algo.Sha384 else if n == 64 then algo.Sha512 else algo.Sha224
+    if n == 16 then algo.Md5 else if n == 20 then algo.Sha1 else if n == 32 then algo.Sha256
+    else if n == 48 then algo.Sha384 else if n == 64 then algo.Sha512 else algo.Sha224
 
 abbrev digest_from : List ℕ → Digest
 digest_from bytes = record { algo = algo_sized (length bytes); bytes = bytes }
@@ -84,7 +87,8 @@ reply_ok _ = reply.Done
 
 abbrev reply_eperm : Line → Reply
 reply_eperm [] = reply.Done
-reply_eperm (w ∷ ws) = if bytes_eq w (codes "evm-attribute") then reply.EvmName else if bytes_eq w (codes "admin") then reply.NotAdmin else reply.Status (status_at w)
+reply_eperm (w ∷ ws) = if bytes_eq w (codes "evm-attribute") then reply.EvmName
+    else if bytes_eq w (codes "admin") then reply.NotAdmin else reply.Status (status_at w)
 
 abbrev reply_eacces : Line → Reply
 reply_eacces [] = reply.Done
@@ -112,7 +116,8 @@ status_reply evm.Fail = refl
 status_reply evm.Old = refl
 status_reply evm.Unknown = refl
 
-sized_back : (a : Algo) (bytes : List ℕ) → length bytes ≡ algo_size a → algo_sized (length bytes) ≡ a
+sized_back : (a : Algo) (bytes : List ℕ) → length bytes ≡ algo_size a → algo_sized (length bytes)
+    ≡ a
 sized_back algo.Md5 bytes h = rw h refl
 sized_back algo.Sha1 bytes h = rw h refl
 sized_back algo.Sha256 bytes h = rw h refl
@@ -120,7 +125,8 @@ sized_back algo.Sha384 bytes h = rw h refl
 sized_back algo.Sha512 bytes h = rw h refl
 sized_back algo.Sha224 bytes h = rw h refl
 
-bytes_reply : (n : ℕ) (d : Digest) → Is64 n → HasDigestSize d → IsBytes d.bytes → reply_at (reply_words (reply.Bytes n d)) ≡ reply.Bytes n d
+bytes_reply : (n : ℕ) (d : Digest) → Is64 n → HasDigestSize d → IsBytes d.bytes
+    → reply_at (reply_words (reply.Bytes n d)) ≡ reply.Bytes n d
 bytes_reply n d h a k = rw (value_back n h, bytes_back d.bytes k, sized_back d.algo d.bytes a) refl
 
 reply_back : (r : Reply) → IsReply r → reply_at (reply_words r) ≡ r
@@ -162,20 +168,25 @@ stops [] = true
 stops ([] ∷ ls) = true
 stops ((w ∷ ws) ∷ ls) = not (is_number w)
 
-stopped : (k : ℕ) (r : Reply) (ls x : List Line) → Is64 k → stops x ≡ true → x ≡ (decimal k ∷ reply_words r) ∷ ls → ⊥
+stopped : (k : ℕ) (r : Reply) (ls x : List Line) → Is64 k → stops x ≡ true → x
+    ≡ (decimal k ∷ reply_words r) ∷ ls → ⊥
 stopped k r ls x h s e =
     let one : stops ((decimal k ∷ reply_words r) ∷ ls) ≡ false = rw (number_is k h) refl in
     false≢true (sym one ∙ sym (ap stops e) ∙ s)
 
-replies_tell : (k : ℕ) (a b : List Reply) (x y : List Line) → AllByRecursion IsReply a → AllByRecursion IsReply b
+replies_tell : (k : ℕ) (a b : List Reply) (x y : List Line) → AllByRecursion IsReply a
+    → AllByRecursion IsReply b
     → Is64 (k + length a) → Is64 (k + length b) → stops x ≡ true → stops y ≡ true
     → reply_lines k a ++ x ≡ reply_lines k b ++ y → (a ≡ b) × (x ≡ y)
 replies_tell k [] [] x y p q m n s t e = (refl, e)
-replies_tell k [] (b ∷ bs) x y p q m n s t e = absurd (stopped k b (reply_lines (k + 1) bs ++ y) x (omega (arith, n)) s e)
-replies_tell k (a ∷ rs) [] x y p q m n s t e = absurd (stopped k a (reply_lines (k + 1) rs ++ x) y (omega (arith, m)) t (sym e))
+replies_tell k [] (b ∷ bs) x y p q m n s t e =
+    absurd (stopped k b (reply_lines (k + 1) bs ++ y) x (omega (arith, n)) s e)
+replies_tell k (a ∷ rs) [] x y p q m n s t e =
+    absurd (stopped k a (reply_lines (k + 1) rs ++ x) y (omega (arith, m)) t (sym e))
 replies_tell k (a ∷ rs) (b ∷ bs) x y p q m n s t e =
     let first = reply_tells a b p.0 q.0 (cc) in
-    let others = replies_tell (k + 1) rs bs x y p.1 q.1 (omega (arith, m)) (omega (arith, n)) s t (cc) in
+    let others = replies_tell (k + 1) rs bs x y p.1 q.1 (omega (arith, m)) (omega (arith, n)) s t
+    (cc) in
     (cc (first, others.0), others.1)
 
 -- ---- tasks
@@ -187,46 +198,70 @@ tasks_stop : (k : ℕ) (ts : List EndedTask) → stops (all_task_lines k ts ++ e
 tasks_stop k [] = refl
 tasks_stop k (t ∷ ts) = refl
 
-tasks_tell : (k : ℕ) (a b : List EndedTask) → AllByRecursion FitsTask a → AllByRecursion FitsTask b → length a ≡ length b
-    → all_task_lines k a ++ ending ≡ all_task_lines k b ++ ending → map (λ t. t.replies) a ≡ map (λ t. t.replies) b
+tasks_tell : (k : ℕ) (a b : List EndedTask) → AllByRecursion FitsTask a → AllByRecursion FitsTask b
+    → length a ≡ length b
+    → all_task_lines k a ++ ending ≡ all_task_lines k b ++ ending → map (λ t. t.replies) a
+    ≡ map (λ t. t.replies) b
 tasks_tell k [] [] p q n e = refl
 tasks_tell k [] (b ∷ bs) p q n e = absurd (omega (arith, n))
 tasks_tell k (a ∷ ts) [] p q n e = absurd (omega (arith, n))
 tasks_tell k (a ∷ ts) (b ∷ bs) p q n e =
-    let same : task_lines k a ++ (all_task_lines (k + 1) ts ++ ending) ≡ task_lines k b ++ (all_task_lines (k + 1) bs ++ ending) =
-    sym (append_assoc (task_lines k a) (all_task_lines (k + 1) ts) ending) ∙ e ∙ append_assoc (task_lines k b) (all_task_lines (k + 1) bs) ending in
-    let here = replies_tell 0 a.replies b.replies (all_task_lines (k + 1) ts ++ ending) (all_task_lines (k + 1) bs ++ ending) p.0.replies q.0.replies
-    (omega (arith, p.0.count)) (omega (arith, q.0.count)) (tasks_stop (k + 1) ts) (tasks_stop (k + 1) bs) (cc) in
+    let same : task_lines k a ++ (all_task_lines (k + 1) ts ++ ending) ≡ task_lines k b
+    ++ (all_task_lines (k + 1) bs ++ ending) =
+    sym (append_assoc (task_lines k a) (all_task_lines (k + 1) ts) ending) ∙ e
+    ∙ append_assoc (task_lines k b) (all_task_lines (k + 1) bs) ending in
+    let here = replies_tell 0 a.replies b.replies (all_task_lines (k + 1) ts ++ ending)
+    (all_task_lines (k + 1) bs ++ ending) p.0.replies q.0.replies
+    (omega (arith, p.0.count)) (omega (arith, q.0.count)) (tasks_stop (k + 1) ts)
+    (tasks_stop (k + 1) bs) (cc) in
     let others = tasks_tell (k + 1) ts bs p.1 q.1 (omega (arith, n)) here.1 in
     cc (here.0, others)
 
 -- ---- inodes
 
-inode_tells : (t : Template) (g : Bool) (k : ℕ) (a b : EndedInode) (x y : List Line) → FitsInode a → FitsInode b
-    → inode_lines t g k a ++ x ≡ inode_lines t g k b ++ y → (map (printed t g) a.journal ≡ map (printed t g) b.journal) × (x ≡ y)
+inode_tells : (t : Template) (g : Bool) (k : ℕ) (a b : EndedInode) (x y : List Line) → FitsInode a
+    → FitsInode b
+    → inode_lines t g k a ++ x ≡ inode_lines t g k b ++ y
+    → (map (printed t g) a.journal ≡ map (printed t g) b.journal) × (x ≡ y)
 inode_tells t g k a b x y p q e =
-    let attrs = decimal_injective (length a.attrs) (length b.attrs) p.attr_count q.attr_count (cc) in
-    let tail : (map attr_line a.attrs ++ (codes "events" ∷ decimal (length a.journal) ∷ []) ∷ event_lines t g 0 a.journal) ++ x
-    ≡ (map attr_line b.attrs ++ (codes "events" ∷ decimal (length b.journal) ∷ []) ∷ event_lines t g 0 b.journal) ++ y = cc in
-    let same : map attr_line a.attrs ++ ((codes "events" ∷ decimal (length a.journal) ∷ []) ∷ event_lines t g 0 a.journal ++ x)
-    ≡ map attr_line b.attrs ++ ((codes "events" ∷ decimal (length b.journal) ∷ []) ∷ event_lines t g 0 b.journal ++ y) =
-    sym (append_assoc (map attr_line a.attrs) ((codes "events" ∷ decimal (length a.journal) ∷ []) ∷ event_lines t g 0 a.journal) x) ∙ tail
-    ∙ append_assoc (map attr_line b.attrs) ((codes "events" ∷ decimal (length b.journal) ∷ []) ∷ event_lines t g 0 b.journal) y in
-    let rest = parts_by_length (map attr_line a.attrs) (map attr_line b.attrs) _ _ (length_map attr_line a.attrs ∙ attrs ∙ sym (length_map attr_line b.attrs)) same in
-    let count = decimal_injective (length a.journal) (length b.journal) p.count q.count (cc (rest.1)) in
+    let attrs = decimal_injective (length a.attrs) (length b.attrs) p.attr_count q.attr_count (cc)
+    in
+    let tail : (map attr_line a.attrs ++ (codes "events" ∷ decimal (length a.journal) ∷ [])
+    ∷ event_lines t g 0 a.journal) ++ x
+    ≡ (map attr_line b.attrs ++ (codes "events" ∷ decimal (length b.journal) ∷ [])
+    ∷ event_lines t g 0 b.journal) ++ y = cc in
+    let same : map attr_line a.attrs
+    ++ ((codes "events" ∷ decimal (length a.journal) ∷ []) ∷ event_lines t g 0 a.journal ++ x)
+    ≡ map attr_line b.attrs
+    ++ ((codes "events" ∷ decimal (length b.journal) ∷ []) ∷ event_lines t g 0 b.journal ++ y) =
+    sym (append_assoc (map attr_line a.attrs) ((codes "events" ∷ decimal (length a.journal) ∷ [])
+    ∷ event_lines t g 0 a.journal) x) ∙ tail
+    ∙ append_assoc (map attr_line b.attrs) ((codes "events" ∷ decimal (length b.journal) ∷ [])
+    ∷ event_lines t g 0 b.journal) y in
+    let rest = parts_by_length (map attr_line a.attrs) (map attr_line b.attrs) _ _
+    (length_map attr_line a.attrs ∙ attrs ∙ sym (length_map attr_line b.attrs)) same in
+    let count = decimal_injective (length a.journal) (length b.journal) p.count q.count
+    (cc (rest.1)) in
     let events = parts_by_length (event_lines t g 0 a.journal) (event_lines t g 0 b.journal) x y
-    (length_events t g 0 a.journal ∙ count ∙ sym (length_events t g 0 b.journal)) (cc (rest.1)) in
-    (sym (events_back t g 0 a.journal p.events) ∙ ap (map (event_at g)) events.0 ∙ events_back t g 0 b.journal q.events, events.1)
+    (length_events t g 0 a.journal ∙ count ∙ sym (length_events t g 0 b.journal)) (cc (rest.1)) in (
+      sym (events_back t g 0 a.journal p.events) ∙ ap (map (event_at g)) events.0
+          ∙ events_back t g 0 b.journal q.events,
+      events.1,
+    )
 
-inodes_tell : (t : Template) (g : Bool) (k : ℕ) (a b : List EndedInode) (x y : List Line) → AllByRecursion FitsInode a → AllByRecursion FitsInode b
+inodes_tell : (t : Template) (g : Bool) (k : ℕ) (a b : List EndedInode) (x y : List Line)
+    → AllByRecursion FitsInode a → AllByRecursion FitsInode b
     → length a ≡ length b → all_inode_lines t g k a ++ x ≡ all_inode_lines t g k b ++ y
-    → (map (λ i. map (printed t g) i.journal) a ≡ map (λ i. map (printed t g) i.journal) b) × (x ≡ y)
+    → (map (λ i. map (printed t g) i.journal) a ≡ map (λ i. map (printed t g) i.journal) b)
+    × (x ≡ y)
 inodes_tell t g k [] [] x y p q n e = (refl, e)
 inodes_tell t g k [] (b ∷ bs) x y p q n e = absurd (omega (arith, n))
 inodes_tell t g k (a ∷ xs) [] x y p q n e = absurd (omega (arith, n))
 inodes_tell t g k (a ∷ xs) (b ∷ bs) x y p q n e =
-    let first = inode_tells t g k a b (all_inode_lines t g (k + 1) xs ++ x) (all_inode_lines t g (k + 1) bs ++ y) p.0 q.0
-    (sym (append_assoc (inode_lines t g k a) (all_inode_lines t g (k + 1) xs) x) ∙ e ∙ append_assoc (inode_lines t g k b) (all_inode_lines t g (k + 1) bs) y) in
+    let first = inode_tells t g k a b (all_inode_lines t g (k + 1) xs ++ x)
+    (all_inode_lines t g (k + 1) bs ++ y) p.0 q.0
+    (sym (append_assoc (inode_lines t g k a) (all_inode_lines t g (k + 1) xs) x) ∙ e
+    ∙ append_assoc (inode_lines t g k b) (all_inode_lines t g (k + 1) bs) y) in
     let others = inodes_tell t g (k + 1) xs bs x y p.1 q.1 (omega (arith, n)) first.1 in
     (cc (first.0, others.0), others.1)
 
@@ -240,22 +275,30 @@ abbrev after_pcrs : List Line → List Line
 after_pcrs [] = []
 after_pcrs (l ∷ ls) = if is_pcr l then after_pcrs ls else l ∷ ls
 
-skip_at : (banks : Banks) (n : ℕ) (b : Bool) (x : List Line) → after_pcrs (pcr_lines_at banks n b ++ x) ≡ after_pcrs x
+skip_at : (banks : Banks) (n : ℕ) (b : Bool) (x : List Line)
+    → after_pcrs (pcr_lines_at banks n b ++ x) ≡ after_pcrs x
 skip_at banks n true x = refl
 skip_at banks n false x = refl
 
-skip_to : (list : List Entry) (banks : Banks) (n : ℕ) (x : List Line) → after_pcrs (pcr_lines_to list banks n ++ x) ≡ after_pcrs x
+skip_to : (list : List Entry) (banks : Banks) (n : ℕ) (x : List Line)
+    → after_pcrs (pcr_lines_to list banks n ++ x) ≡ after_pcrs x
 skip_to list banks zero x = refl
 skip_to list banks (suc n) x =
-    ap after_pcrs (append_assoc (pcr_lines_to list banks n) (pcr_lines_at banks n (list_any (λ e. e.pcr == n) list)) x)
+    ap after_pcrs
+    (append_assoc (pcr_lines_to list banks n)
+    (pcr_lines_at banks n (list_any (λ e. e.pcr == n) list)) x)
     ∙ skip_to list banks n (pcr_lines_at banks n (list_any (λ e. e.pcr == n) list) ++ x)
     ∙ skip_at banks n (list_any (λ e. e.pcr == n) list) x
 
 abbrev behind_pcrs : Ended → List Line
-behind_pcrs e = appended_lines e.grows e.base e.rules ++ (all_inode_lines e.template e.grows 0 e.inodes ++ (all_task_lines 0 e.tasks ++ ending))
+behind_pcrs e = appended_lines e.grows e.base e.rules
+    ++ (all_inode_lines e.template e.grows 0 e.inodes ++ (all_task_lines 0 e.tasks ++ ending))
 
-no_pcr : (g : Bool) (base : ℕ) (rules : List RuleEntry) (t : Template) (inodes : List EndedInode) (tasks : List EndedTask)
-    → let x = appended_lines g base rules ++ (all_inode_lines t g 0 inodes ++ (all_task_lines 0 tasks ++ ending)) in after_pcrs x ≡ x
+no_pcr : (g : Bool) (base : ℕ) (rules : List RuleEntry) (t : Template) (inodes : List EndedInode)
+    (tasks : List EndedTask)
+    → let x = appended_lines g base rules
+    ++ (all_inode_lines t g 0 inodes ++ (all_task_lines 0 tasks ++ ending)) in after_pcrs x
+    ≡ x
 no_pcr true base rules t inodes tasks = refl
 no_pcr false base rules t [] [] = refl
 no_pcr false base rules t [] (k ∷ ks) = refl
@@ -267,39 +310,53 @@ abbrev behind_head : List Line → List Line
 behind_head (mark ∷ run ∷ list ∷ ls) = ls
 behind_head _ = []
 
-appended_tell : (g : Bool) (base : ℕ) (a b : List RuleEntry) (x y : List Line) → AllByRecursion IsRuleEntry a → AllByRecursion IsRuleEntry b
+appended_tell : (g : Bool) (base : ℕ) (a b : List RuleEntry) (x y : List Line)
+    → AllByRecursion IsRuleEntry a → AllByRecursion IsRuleEntry b
     → Is64 (base + length a) → Is64 (base + length b) → (g ≡ false → a ≡ []) → (g ≡ false → b ≡ [])
     → appended_lines g base a ++ x ≡ appended_lines g base b ++ y → (a ≡ b) × (x ≡ y)
 appended_tell true base a b x y p q m n u v e =
-    let count = decimal_injective (length a) (length b) (omega (arith, m)) (omega (arith, n)) (cc) in
-    let parts = parts_by_length (rule_lines base a) (rule_lines base b) x y (length_rules base a ∙ count ∙ sym (length_rules base b)) (cc) in
+    let count = decimal_injective (length a) (length b) (omega (arith, m)) (omega (arith, n)) (cc)
+    in
+    let parts = parts_by_length (rule_lines base a) (rule_lines base b) x y (length_rules base a
+    ∙ count ∙ sym (length_rules base b)) (cc) in
     (sym (rules_back base a p) ∙ ap (map rule_at) parts.0 ∙ rules_back base b q, parts.1)
 appended_tell false base a b x y p q m n u v e = (u refl ∙ sym (v refl), e)
 
-lines_tell : (a b : Ended) → Fits a → Fits b → IsOneScript a b → report_lines a ≡ report_lines b → IsTold a b
+lines_tell : (a b : Ended) → Fits a → Fits b → IsOneScript a b → report_lines a ≡ report_lines b
+    → IsTold a b
 lines_tell a b p q s e =
     let count = decimal_injective (length a.list) (length b.list) p.count q.count (cc) in
-    let tails : map entry_words a.list ++ (pcr_lines a.list a.banks ++ behind_pcrs a) ≡ map entry_words b.list ++ (pcr_lines b.list b.banks ++ behind_pcrs b) = ap behind_head e in
-    let list = parts_by_length (map entry_words a.list) (map entry_words b.list) (pcr_lines a.list a.banks ++ behind_pcrs a) (pcr_lines b.list b.banks ++ behind_pcrs b)
+    let tails : map entry_words a.list ++ (pcr_lines a.list a.banks ++ behind_pcrs a)
+    ≡ map entry_words b.list ++ (pcr_lines b.list b.banks ++ behind_pcrs b) = ap behind_head e
+    in
+    let list = parts_by_length (map entry_words a.list) (map entry_words b.list)
+    (pcr_lines a.list a.banks ++ behind_pcrs a) (pcr_lines b.list b.banks ++ behind_pcrs b)
     (length_map entry_words a.list ∙ count ∙ sym (length_map entry_words b.list)) tails in
-    let back = λ (c : Ended). skip_to c.list c.banks 24 (behind_pcrs c) ∙ no_pcr c.grows c.base c.rules c.template c.inodes c.tasks in
+    let back = λ (c : Ended). skip_to c.list c.banks 24 (behind_pcrs c)
+    ∙ no_pcr c.grows c.base c.rules c.template c.inodes c.tasks in
     let behind : behind_pcrs a ≡ behind_pcrs b = sym (back a) ∙ ap after_pcrs list.1 ∙ back b in
-    let behind2 : appended_lines a.grows a.base a.rules ++ (all_inode_lines a.template a.grows 0 a.inodes ++ (all_task_lines 0 a.tasks ++ ending))
-    ≡ appended_lines a.grows a.base b.rules ++ (all_inode_lines a.template a.grows 0 b.inodes ++ (all_task_lines 0 b.tasks ++ ending)) =
+    let behind2 : appended_lines a.grows a.base a.rules
+    ++ (all_inode_lines a.template a.grows 0 a.inodes ++ (all_task_lines 0 a.tasks ++ ending))
+    ≡ appended_lines a.grows a.base b.rules
+    ++ (all_inode_lines a.template a.grows 0 b.inodes ++ (all_task_lines 0 b.tasks ++ ending)) =
     rw (s.grows, s.base, s.template) (rw (s.grows, s.base, s.template) at behind) in
-    let rules = appended_tell a.grows a.base a.rules b.rules _ _ p.rules q.rules p.rules_count (rw s.base q.rules_count) s.none_of_a (λ g. s.none_of_b (sym s.grows ∙ g)) behind2 in
-    let inodes = inodes_tell a.template a.grows 0 a.inodes b.inodes _ _ p.inodes q.inodes s.inodes rules.1 in
+    let rules = appended_tell a.grows a.base a.rules b.rules _ _ p.rules q.rules p.rules_count
+    (rw s.base q.rules_count) s.none_of_a (λ g. s.none_of_b (sym s.grows ∙ g)) behind2 in
+    let inodes = inodes_tell a.template a.grows 0 a.inodes b.inodes _ _ p.inodes q.inodes s.inodes
+    rules.1 in
     let tasks = tasks_tell 0 a.tasks b.tasks p.tasks q.tasks s.tasks inodes.1 in
     record {
       events = inodes.0;
-      entries = sym (entries_back a.list p.entries) ∙ ap (map entry_at) list.0 ∙ entries_back b.list q.entries;
+      entries = sym (entries_back a.list p.entries) ∙ ap (map entry_at) list.0
+          ∙ entries_back b.list q.entries;
       rules = rules.0;
       replies = tasks;
     }
 
 -- ---- every word is kept
 
-rows_append : (a b : List Line) → list_all is_line a ≡ true → list_all is_line b ≡ true → list_all is_line (a ++ b) ≡ true
+rows_append : (a b : List Line) → list_all is_line a ≡ true → list_all is_line b ≡ true
+    → list_all is_line (a ++ b) ≡ true
 rows_append a b h k = rw (list_all-append is_line a b, h, k) refl
 
 digit_kept : (n : ℕ) → n < 10 → is_clean_byte (48 + n) ≡ true
@@ -315,14 +372,18 @@ graphic_kept (b ∷ bs) h =
 pcr_kept : (pcr : ℕ) → pcr < 24 → list_all is_clean (pcr_words pcr) ≡ true
 pcr_kept pcr h = elim (cases_Bool (nat_lt pcr 10)) [
   | inl e ↦ rw (e, digit_kept (pcr % 10) (omega arith)) refl
-  | inr e ↦ rw (e, digit_kept (pcr % 10) (omega arith), digit_kept (pcr / 10) (omega (arith, h))) refl
+  | inr e ↦ rw (e, digit_kept (pcr % 10) (omega arith), digit_kept (pcr / 10) (omega (arith, h)))
+      refl
 ]
 
 digest_kept : (t : Template) (d : Digest) → is_clean (digest_text t d) ≡ true
 digest_kept Ima d = hex_kept d.bytes
-digest_kept ImaNg d = append_kept (algo_name d.algo ++ codes ":") (encode_lower d.bytes) (append_kept (algo_name d.algo) (codes ":") (algo_kept d.algo) refl) (hex_kept d.bytes)
-digest_kept ImaSig d = append_kept (algo_name d.algo ++ codes ":") (encode_lower d.bytes) (append_kept (algo_name d.algo) (codes ":") (algo_kept d.algo) refl) (hex_kept d.bytes)
-digest_kept ImaBuf d = append_kept (algo_name d.algo ++ codes ":") (encode_lower d.bytes) (append_kept (algo_name d.algo) (codes ":") (algo_kept d.algo) refl) (hex_kept d.bytes)
+digest_kept ImaNg d = append_kept (algo_name d.algo ++ codes ":") (encode_lower d.bytes)
+    (append_kept (algo_name d.algo) (codes ":") (algo_kept d.algo) refl) (hex_kept d.bytes)
+digest_kept ImaSig d = append_kept (algo_name d.algo ++ codes ":") (encode_lower d.bytes)
+    (append_kept (algo_name d.algo) (codes ":") (algo_kept d.algo) refl) (hex_kept d.bytes)
+digest_kept ImaBuf d = append_kept (algo_name d.algo ++ codes ":") (encode_lower d.bytes)
+    (append_kept (algo_name d.algo) (codes ":") (algo_kept d.algo) refl) (hex_kept d.bytes)
 
 sig_kept : (t : Template) (s : List ℕ) → list_all is_clean (sig_words t s) ≡ true
 sig_kept Ima s = refl
@@ -330,75 +391,113 @@ sig_kept ImaNg s = refl
 sig_kept ImaSig s = rw (hex_kept s) refl
 sig_kept ImaBuf s = rw (hex_kept s) refl
 
-is_line_append : (a : Line) (w : List ℕ) (ws : Line) → list_all is_clean a ≡ true → list_all is_clean (w ∷ ws) ≡ true → is_line (a ++ w ∷ ws) ≡ true
+is_line_append : (a : Line) (w : List ℕ) (ws : Line) → list_all is_clean a ≡ true
+    → list_all is_clean (w ∷ ws) ≡ true → is_line (a ++ w ∷ ws) ≡ true
 is_line_append [] w ws h k = k
 is_line_append (v ∷ a) w ws h k = row_append (v ∷ a) (w ∷ ws) h k
 
-fields_kept : (e : Entry) → IsListEntry e → list_all is_clean (map (λ f. field_text f e) (template_fields e.template)) ≡ true
+fields_kept : (e : Entry) → IsListEntry e
+    → list_all is_clean (map (λ f. field_text f e) (template_fields e.template)) ≡ true
 fields_kept e h =
     ap (list_all is_clean) (fields_are e.template e)
-    ∙ rw (digest_kept e.template e.digest, graphic_kept e.name h.entry.name_graphic) (sig_kept e.template e.sig)
+    ∙ rw (digest_kept e.template e.digest, graphic_kept e.name h.entry.name_graphic)
+    (sig_kept e.template e.sig)
 
 entry_kept : (e : Entry) → IsListEntry e → is_line (entry_words e) ≡ true
 entry_kept e h =
-    is_line_append (pcr_words e.pcr) (encode_lower (template_digest e bank.Sha1).bytes) (template_word e.template ∷ map (λ f. field_text f e) (template_fields e.template))
+    is_line_append (pcr_words e.pcr) (encode_lower (template_digest e bank.Sha1).bytes)
+    (template_word e.template ∷ map (λ f. field_text f e) (template_fields e.template))
     (pcr_kept e.pcr h.entry.pcr)
     (rw (hex_kept (template_digest e bank.Sha1).bytes, template_kept e.template) (fields_kept e h))
 
-entries_kept : (es : List Entry) → AllByRecursion IsListEntry es → list_all is_line (map entry_words es) ≡ true
+entries_kept : (es : List Entry) → AllByRecursion IsListEntry es
+    → list_all is_line (map entry_words es) ≡ true
 entries_kept [] h = refl
 entries_kept (e ∷ es) h = rw (entry_kept e h.0) (entries_kept es h.1)
 
-pcr_at_kept : (banks : Banks) (n : ℕ) (b : Bool) → n < 24 → list_all is_line (pcr_lines_at banks n b) ≡ true
-pcr_at_kept banks n true h = rw (number_kept n (omega (arith, h)), hex_kept (register banks bank.Sha1 n), hex_kept (register banks bank.Sha256 n)) refl
+pcr_at_kept : (banks : Banks) (n : ℕ) (b : Bool) → n < 24
+    → list_all is_line (pcr_lines_at banks n b) ≡ true
+pcr_at_kept banks n true h =
+    rw (
+      number_kept n (omega (arith, h)),
+      hex_kept (register banks bank.Sha1 n),
+      hex_kept (register banks bank.Sha256 n),
+    ) refl
 pcr_at_kept banks n false h = refl
 
-pcr_to_kept : (list : List Entry) (banks : Banks) (n : ℕ) → n ≤ 24 → list_all is_line (pcr_lines_to list banks n) ≡ true
+pcr_to_kept : (list : List Entry) (banks : Banks) (n : ℕ) → n ≤ 24
+    → list_all is_line (pcr_lines_to list banks n) ≡ true
 pcr_to_kept list banks zero h = refl
 pcr_to_kept list banks (suc n) h =
-    rows_append (pcr_lines_to list banks n) (pcr_lines_at banks n (list_any (λ e. e.pcr == n) list)) (pcr_to_kept list banks n (omega (arith, h)))
+    rows_append (pcr_lines_to list banks n) (pcr_lines_at banks n (list_any (λ e. e.pcr == n) list))
+    (pcr_to_kept list banks n (omega (arith, h)))
     (pcr_at_kept banks n (list_any (λ e. e.pcr == n) list) (omega (arith, h)))
 
-appended_kept : (g : Bool) (base : ℕ) (rs : List RuleEntry) → AllByRecursion IsRuleEntry rs → Is64 (base + length rs) → list_all is_line (appended_lines g base rs) ≡ true
-appended_kept true base rs h fits = rw (number_kept (length rs) (omega (arith, fits))) (rules_kept base rs h fits)
+appended_kept : (g : Bool) (base : ℕ) (rs : List RuleEntry) → AllByRecursion IsRuleEntry rs
+    → Is64 (base + length rs) → list_all is_line (appended_lines g base rs) ≡ true
+appended_kept true base rs h fits = rw (number_kept (length rs) (omega (arith, fits)))
+    (rules_kept base rs h fits)
 appended_kept false base rs h fits = refl
 
 force_kept : (f : Option Digest) → is_clean (force_word f) ≡ true
 force_kept None = refl
-force_kept (Some d) = append_kept (algo_name d.algo ++ codes ":") (encode_lower d.bytes) (append_kept (algo_name d.algo) (codes ":") (algo_kept d.algo) refl) (hex_kept d.bytes)
+force_kept (Some d) = append_kept (algo_name d.algo ++ codes ":") (encode_lower d.bytes)
+    (append_kept (algo_name d.algo) (codes ":") (algo_kept d.algo) refl) (hex_kept d.bytes)
 
-attrs_kept : (ps : List Pair) → AllByRecursion (λ (p : Pair). IsClean p.0) ps → list_all is_line (map attr_line ps) ≡ true
+attrs_kept : (ps : List Pair) → AllByRecursion (λ (p : Pair). IsClean p.0) ps
+    → list_all is_line (map attr_line ps) ≡ true
 attrs_kept [] h = refl
 attrs_kept (p ∷ ps) h = rw (h.0, hex_kept p.1) (attrs_kept ps h.1)
 
-inode_kept : (t : Template) (g : Bool) (k : ℕ) (i : EndedInode) → Is64 k → FitsInode i → list_all is_line (inode_lines t g k i) ≡ true
+inode_kept : (t : Template) (g : Bool) (k : ℕ) (i : EndedInode) → Is64 k → FitsInode i
+    → list_all is_line (inode_lines t g k i) ≡ true
 inode_kept t g k i fits h =
-    let events : list_all is_line ((codes "events" ∷ decimal (length i.journal) ∷ []) ∷ event_lines t g 0 i.journal) ≡ true =
-    rw (number_kept (length i.journal) h.count) (events_kept t g 0 i.journal h.events (omega (arith, h.count))) in
-    rw (number_kept k fits, h.path, number_kept i.writers h.writers, number_kept i.readers h.readers, number_kept i.execs h.execs, force_kept i.force, number_kept (length i.attrs) h.attr_count)
-    (rows_append (map attr_line i.attrs) ((codes "events" ∷ decimal (length i.journal) ∷ []) ∷ event_lines t g 0 i.journal) (attrs_kept i.attrs h.attrs) events)
+    let events : list_all is_line ((codes "events" ∷ decimal (length i.journal) ∷ [])
+    ∷ event_lines t g 0 i.journal) ≡ true =
+    rw (number_kept (length i.journal) h.count)
+    (events_kept t g 0 i.journal h.events (omega (arith, h.count))) in
+    rw (
+      number_kept k fits,
+      h.path,
+      number_kept i.writers h.writers,
+      number_kept i.readers h.readers,
+      number_kept i.execs h.execs,
+      force_kept i.force,
+      number_kept (length i.attrs) h.attr_count,
+    )
+    (rows_append (map attr_line i.attrs) ((codes "events" ∷ decimal (length i.journal) ∷ [])
+    ∷ event_lines t g 0 i.journal) (attrs_kept i.attrs h.attrs) events)
 
-inodes_kept : (t : Template) (g : Bool) (k : ℕ) (ins : List EndedInode) → AllByRecursion FitsInode ins → Is64 (k + length ins) → list_all is_line (all_inode_lines t g k ins) ≡ true
+inodes_kept : (t : Template) (g : Bool) (k : ℕ) (ins : List EndedInode)
+    → AllByRecursion FitsInode ins → Is64 (k + length ins)
+    → list_all is_line (all_inode_lines t g k ins) ≡ true
 inodes_kept t g k [] h fits = refl
 inodes_kept t g k (i ∷ ins) h fits =
-    rows_append (inode_lines t g k i) (all_inode_lines t g (k + 1) ins) (inode_kept t g k i (omega (arith, fits)) h.0) (inodes_kept t g (k + 1) ins h.1 (omega (arith, fits)))
+    rows_append (inode_lines t g k i) (all_inode_lines t g (k + 1) ins)
+    (inode_kept t g k i (omega (arith, fits)) h.0)
+    (inodes_kept t g (k + 1) ins h.1 (omega (arith, fits)))
 
-replies_kept : (k : ℕ) (rs : List Reply) → AllByRecursion IsReply rs → Is64 (k + length rs) → list_all is_line (reply_lines k rs) ≡ true
+replies_kept : (k : ℕ) (rs : List Reply) → AllByRecursion IsReply rs → Is64 (k + length rs)
+    → list_all is_line (reply_lines k rs) ≡ true
 replies_kept k [] h fits = refl
-replies_kept k (r ∷ rs) h fits = rw (number_kept k (omega (arith, fits)), reply_kept r h.0) (replies_kept (k + 1) rs h.1 (omega (arith, fits)))
+replies_kept k (r ∷ rs) h fits = rw (number_kept k (omega (arith, fits)), reply_kept r h.0)
+    (replies_kept (k + 1) rs h.1 (omega (arith, fits)))
 
 done_kept : (b : Bool) → is_clean (if b then codes "done" else codes "unfinished") ≡ true
 done_kept true = refl
 done_kept false = refl
 
-tasks_kept : (k : ℕ) (ts : List EndedTask) → AllByRecursion FitsTask ts → Is64 (k + length ts) → list_all is_line (all_task_lines k ts) ≡ true
+tasks_kept : (k : ℕ) (ts : List EndedTask) → AllByRecursion FitsTask ts → Is64 (k + length ts)
+    → list_all is_line (all_task_lines k ts) ≡ true
 tasks_kept k [] h fits = refl
 tasks_kept k (t ∷ ts) h fits =
     rows_append (task_lines k t) (all_task_lines (k + 1) ts)
-    (rw (number_kept k (omega (arith, fits)), done_kept t.done) (replies_kept 0 t.replies h.0.replies (omega (arith, h.0.count))))
+    (rw (number_kept k (omega (arith, fits)), done_kept t.done)
+    (replies_kept 0 t.replies h.0.replies (omega (arith, h.0.count))))
     (tasks_kept (k + 1) ts h.1 (omega (arith, fits)))
 
-run_kept : (s d : Bool) → is_clean (if s then codes "stuck" else if d then codes "done" else codes "unfinished") ≡ true
+run_kept : (s d : Bool)
+    → is_clean (if s then codes "stuck" else if d then codes "done" else codes "unfinished") ≡ true
 run_kept true d = refl
 run_kept false true = refl
 run_kept false false = refl
@@ -411,13 +510,24 @@ report_kept e h =
     rw (
       run_kept e.stuck (list_all (λ t. t.done) e.tasks),
       number_kept (length e.list) h.count,
-      number_kept (count_by (λ x. x.violation) e.list) (let le = count_le e.list in omega (arith, le, h.count)),
+      number_kept (count_by (λ x. x.violation) e.list)
+          (let le = count_le e.list in omega (arith, le, h.count)),
     )
-    (rows_append (map entry_words e.list) (pcr_lines e.list e.banks ++ behind_pcrs e) (entries_kept e.list h.entries)
-    (rows_append (pcr_lines e.list e.banks) (behind_pcrs e) (pcr_to_kept e.list e.banks 24 (omega arith))
-    (rows_append (appended_lines e.grows e.base e.rules) (all_inode_lines e.template e.grows 0 e.inodes ++ (all_task_lines 0 e.tasks ++ ending)) (appended_kept e.grows e.base e.rules h.rules h.rules_count)
-    (rows_append (all_inode_lines e.template e.grows 0 e.inodes) (all_task_lines 0 e.tasks ++ ending) (inodes_kept e.template e.grows 0 e.inodes h.inodes (omega (arith, h.inodes_count)))
-    (rows_append (all_task_lines 0 e.tasks) ending (tasks_kept 0 e.tasks h.tasks (omega (arith, h.tasks_count))) refl)))))
+    (rows_append (map entry_words e.list) (pcr_lines e.list e.banks ++ behind_pcrs e)
+    (entries_kept e.list h.entries)
+    (rows_append (pcr_lines e.list e.banks) (behind_pcrs e)
+    (pcr_to_kept e.list e.banks 24 (omega arith))
+    (rows_append (appended_lines e.grows e.base e.rules)
+    (all_inode_lines e.template e.grows 0 e.inodes ++ (all_task_lines 0 e.tasks ++ ending))
+    (appended_kept e.grows e.base e.rules h.rules h.rules_count)
+    (rows_append (all_inode_lines e.template e.grows 0 e.inodes) (all_task_lines 0 e.tasks
+    ++ ending) (inodes_kept e.template e.grows 0 e.inodes h.inodes
+    (omega (arith, h.inodes_count)))
+    (rows_append (all_task_lines 0 e.tasks) ending
+    (tasks_kept 0 e.tasks h.tasks (omega (arith, h.tasks_count))) refl)))))
 
-pub report_tells : (a b : Ended) → Fits a → Fits b → IsOneScript a b → report_of a ≡ report_of b → IsTold a b
-report_tells a b p q s e = lines_tell a b p q s (text_tells (report_lines a) (report_lines b) (report_kept a p) (report_kept b q) e)
+pub report_tells : (a b : Ended) → Fits a → Fits b → IsOneScript a b → report_of a ≡ report_of b
+    → IsTold a b
+report_tells a b p q s e =
+    lines_tell a b p q s
+    (text_tells (report_lines a) (report_lines b) (report_kept a p) (report_kept b q) e)

@@ -35,7 +35,8 @@ abbrev pub printed_deed : Template → Bool → Deed → Deed
 printed_deed default grows (deed.Check file func action rules) =
     deed.Check file func (printed_action default action) (if grows then rules else 0)
 printed_deed default grows (deed.Write file from bytes) = deed.Write file from (blank bytes)
-printed_deed default grows (deed.SetAttr name bytes admin) = deed.SetAttr name (option_map blank bytes) false
+printed_deed default grows (deed.SetAttr name bytes admin) =
+    deed.SetAttr name (option_map blank bytes) false
 printed_deed default grows d = d
 
 abbrev pub no_digest : Digest
@@ -52,18 +53,27 @@ birth_event = record { who = nobody; deed = deed.Birth; told = told.Nothing }
 
 abbrev pub printed_by : Template → Bool → Event → Deed → Event
 printed_by default grows e deed.Birth = birth_event
-printed_by default grows e d = record { who = e.who; deed = printed_deed default grows d; told = printed_told e.told }
+printed_by default grows e d =
+    record { who = e.who; deed = printed_deed default grows d; told = printed_told e.told }
 
 abbrev pub printed : Template → Bool → Event → Event
 printed default grows e = printed_by default grows e e.deed
 
 -- a line of the list doesn't tell whether its entry is a violation
 abbrev pub printed_entry : Entry → Entry
-printed_entry e = record { pcr = e.pcr; template = e.template; digest = e.digest; name = e.name; sig = e.sig; violation = false }
+printed_entry e = record {
+  pcr = e.pcr;
+  template = e.template;
+  digest = e.digest;
+  name = e.name;
+  sig = e.sig;
+  violation = false;
+}
 
 -- what equal reports of two runs of one script tell
 pub record IsTold (a b : Ended) : Type 0 where
-  pub events : map (λ i. map (printed a.template a.grows) i.journal) a.inodes ≡ map (λ i. map (printed a.template a.grows) i.journal) b.inodes
+  pub events : map (λ i. map (printed a.template a.grows) i.journal) a.inodes
+      ≡ map (λ i. map (printed a.template a.grows) i.journal) b.inodes
   pub entries : map printed_entry a.list ≡ map printed_entry b.list
   pub rules : a.rules ≡ b.rules
   pub replies : map (λ t. t.replies) a.tasks ≡ map (λ t. t.replies) b.tasks

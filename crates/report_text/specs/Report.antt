@@ -29,7 +29,8 @@ use Rattle.call_steps.specs.declared.reply.Reply.TheVariants as reply
 
 -- a register's number, right in a width of 2: below 10 an empty word stands before it
 abbrev pub pcr_words : ℕ → Line
-pcr_words pcr = if nat_lt pcr 10 then [] ∷ ((48 + pcr % 10) ∷ []) ∷ [] else ((48 + pcr / 10) ∷ (48 + pcr % 10) ∷ []) ∷ []
+pcr_words pcr = if nat_lt pcr 10 then [] ∷ ((48 + pcr % 10) ∷ [])
+    ∷ [] else ((48 + pcr / 10) ∷ (48 + pcr % 10) ∷ []) ∷ []
 
 -- the words of the line in `ascii_runtime_measurements`
 abbrev pub entry_words : Entry → Line
@@ -43,7 +44,8 @@ abbrev pub pcr_lines_at : Banks → ℕ → Bool → List Line
 pcr_lines_at banks pcr false = []
 pcr_lines_at banks pcr true =
     (codes "pcr" ∷ codes "sha1" ∷ decimal pcr ∷ encode_lower (register banks Sha1 pcr) ∷ [])
-    ∷ (codes "pcr" ∷ codes "sha256" ∷ decimal pcr ∷ encode_lower (register banks Sha256 pcr) ∷ []) ∷ []
+    ∷ (codes "pcr" ∷ codes "sha256" ∷ decimal pcr ∷ encode_lower (register banks Sha256 pcr) ∷ [])
+    ∷ []
 
 -- the registers below n that an entry names
 abbrev pub pcr_lines_to : List Entry → Banks → ℕ → List Line
@@ -64,7 +66,8 @@ rule_lines place [] = []
 rule_lines place (r ∷ rs) = rule_line place r ∷ rule_lines (place + 1) rs
 
 abbrev pub appended_lines : Bool → ℕ → List RuleEntry → List Line
-appended_lines true base rules = (codes "appended" ∷ decimal (length rules) ∷ []) ∷ rule_lines base rules
+appended_lines true base rules = (codes "appended" ∷ decimal (length rules) ∷ [])
+    ∷ rule_lines base rules
 appended_lines false base rules = []
 
 -- ---- the inodes
@@ -92,7 +95,8 @@ inode_lines default grows number i =
 
 abbrev pub all_inode_lines : Template → Bool → ℕ → List EndedInode → List Line
 all_inode_lines default grows number [] = []
-all_inode_lines default grows number (i ∷ rest) = inode_lines default grows number i ++ all_inode_lines default grows (number + 1) rest
+all_inode_lines default grows number (i ∷ rest) = inode_lines default grows number i
+    ++ all_inode_lines default grows (number + 1) rest
 
 -- ---- the tasks
 
@@ -117,7 +121,8 @@ reply_lines call (r ∷ rs) = (decimal call ∷ reply_words r) ∷ reply_lines (
 
 abbrev pub task_lines : ℕ → EndedTask → List Line
 task_lines number t =
-    (codes "task" ∷ decimal number ∷ (if t.done then codes "done" else codes "unfinished") ∷ []) ∷ reply_lines 0 t.replies
+    (codes "task" ∷ decimal number ∷ (if t.done then codes "done" else codes "unfinished") ∷ [])
+    ∷ reply_lines 0 t.replies
 
 abbrev pub all_task_lines : ℕ → List EndedTask → List Line
 all_task_lines number [] = []
@@ -126,7 +131,8 @@ all_task_lines number (t ∷ rest) = task_lines number t ++ all_task_lines (numb
 -- ---- the whole
 
 abbrev pub ending_word : Ended → List ℕ
-ending_word e = if e.stuck then codes "stuck" else if list_all (λ t. t.done) e.tasks then codes "done" else codes "unfinished"
+ending_word e = if e.stuck then codes "stuck" else if list_all (λ t. t.done) e.tasks
+    then codes "done" else codes "unfinished"
 
 abbrev pub head_lines : Ended → List Line
 head_lines e =

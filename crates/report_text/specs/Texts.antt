@@ -1,4 +1,5 @@
--- The same words as texts: parts of a line with the space before or behind them, which stand or don't.
+-- The same words as texts: parts of a line with the space before or behind them, which stand or
+-- don't.
 use Rattle.std.specs.Prelude.{ℕ, Bool, true, false, ◌||◌, List, [], ◌∷◌, ◌++◌, codes, decimal, Option, Some, None, unwrap_or, if◌then◌else◌}
 use Rattle.std.specs.List.{join_with_byte}
 use Rattle.ima_templates.specs.declared.entry.Placed.{Placed}
@@ -36,7 +37,8 @@ rules_text true n = codes " rules " ++ decimal n
 rules_text false n = []
 
 abbrev pub measure_text : Bool → ℕ → Template → List ℕ
-measure_text true pcr template = codes " measure " ++ decimal pcr ++ codes " " ++ template_word template
+measure_text true pcr template = codes " measure " ++ decimal pcr ++ codes " "
+    ++ template_word template
 measure_text false pcr template = []
 
 abbrev pub appraise_text : Bool → Bool → List ℕ

@@ -62,7 +62,8 @@ or_dash (w ∷ ws) = w ∷ ws
 -- what the families do, with the template that will be used
 abbrev pub acts_words : Template → Action → Line
 acts_words default a =
-    or_dash (measure_words a.measure a.pcr (unwrap_or a.template default) ++ appraise_words a.appraise (is_any a.need)
+    or_dash (measure_words a.measure a.pcr (unwrap_or a.template default)
+    ++ appraise_words a.appraise (is_any a.need)
     ++ flag_words (codes "audit") a.audit ++ flag_words (codes "hash") a.hash)
 
 -- the number of rules is shown where rules can be appended
@@ -82,14 +83,18 @@ abbrev pub deed_words : Template → Bool → Deed → Line
 deed_words default grows deed.Birth = codes "birth" ∷ []
 deed_words default grows (deed.Count how) = codes "count" ∷ how_words how
 deed_words default grows (deed.Check file func action rules) =
-    codes "check" ∷ decimal file ∷ func_word func ∷ rules_words grows rules ++ acts_words default action
+    codes "check" ∷ decimal file ∷ func_word func ∷ rules_words grows rules
+    ++ acts_words default action
 deed_words default grows (deed.Take file) = codes "take" ∷ decimal file ∷ []
 deed_words default grows (deed.Chunk file) = codes "chunk" ∷ decimal file ∷ []
 deed_words default grows (deed.Finish file) = codes "finish" ∷ decimal file ∷ []
-deed_words default grows (deed.Read file from len) = codes "read" ∷ decimal file ∷ decimal from ∷ decimal len ∷ []
-deed_words default grows (deed.Write file from bytes) = codes "write" ∷ decimal file ∷ decimal from ∷ decimal (length bytes) ∷ []
+deed_words default grows (deed.Read file from len) = codes "read" ∷ decimal file ∷ decimal from
+    ∷ decimal len ∷ []
+deed_words default grows (deed.Write file from bytes) = codes "write" ∷ decimal file ∷ decimal from
+    ∷ decimal (length bytes) ∷ []
 deed_words default grows (deed.Trunc file len) = codes "trunc" ∷ decimal file ∷ decimal len ∷ []
-deed_words default grows (deed.SetAttr name bytes admin) = codes "set-attr" ∷ name ∷ length_word bytes ∷ []
+deed_words default grows (deed.SetAttr name bytes admin) = codes "set-attr" ∷ name
+    ∷ length_word bytes ∷ []
 deed_words default grows (deed.SetMeta change) = codes "set-meta" ∷ change_words change
 deed_words default grows (deed.Close file) = codes "close" ∷ decimal file ∷ []
 deed_words default grows (deed.CloseTake file) = codes "close-take" ∷ decimal file ∷ []
@@ -111,10 +116,12 @@ verdict_words (Some Pass) = codes "pass" ∷ []
 verdict_words (Some (Deny cause)) = codes "deny" ∷ cause_word cause ∷ []
 
 abbrev pub admitted_words : Bool → Bool → Line
-admitted_words admitted labelled = (if admitted then codes "admitted" else codes "refused") ∷ flag_words (codes "labelled") labelled
+admitted_words admitted labelled = (if admitted then codes "admitted" else codes "refused")
+    ∷ flag_words (codes "labelled") labelled
 
 abbrev pub grant_words : Grant → Line
-grant_words g = placed_words g.placed ++ verdict_words g.verdict ++ admitted_words g.admitted g.labelled
+grant_words g = placed_words g.placed ++ verdict_words g.verdict
+    ++ admitted_words g.admitted g.labelled
 
 abbrev pub told_words : Told → Line
 told_words (told.Image image) = codes "image" ∷ []
@@ -146,11 +153,13 @@ told_words told.Nothing = codes "nothing" ∷ []
 -- an event behind its place
 abbrev pub step_words : Template → Bool → Who → Deed → Told → Line
 step_words default grows who deed.Birth t = codes "birth" ∷ []
-step_words default grows who d t = who_word who ∷ deed_words default grows d ++ codes "=" ∷ told_words t
+step_words default grows who d t = who_word who ∷ deed_words default grows d ++ codes "="
+    ∷ told_words t
 
 abbrev pub event_words : Template → Bool → ℕ → Event → Line
 event_words default grows place e = decimal place ∷ step_words default grows e.who e.deed e.told
 
 abbrev pub event_lines : Template → Bool → ℕ → List Event → List Line
 event_lines default grows place [] = []
-event_lines default grows place (e ∷ es) = event_words default grows place e ∷ event_lines default grows (place + 1) es
+event_lines default grows place (e ∷ es) = event_words default grows place e
+    ∷ event_lines default grows (place + 1) es

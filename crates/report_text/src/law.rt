@@ -6,7 +6,9 @@ ghost use Rattle.report_text.specs.Ranges.{Fits};
 ghost use Rattle.report_text.specs.Report.{report_of};
 ghost use Rattle.run_model.specs.EndedValue.{EndedValue as Ended};
 
-/// Equal reports of two runs of one script tell of equal events, entries, rules and replies, but for what a line doesn't print.
+/// Equal reports of two runs of one script tell of equal events, entries, rules and replies, but
+/// for what a line doesn't print.
 pub fn report_tells()
-    ensures { (a b : Ended) → Fits a → Fits b → IsOneScript a b → report_of a ≡ report_of b → IsTold a b }
+    ensures { (a b : Ended) → Fits a → Fits b → IsOneScript a b → report_of a ≡ report_of b
+        → IsTold a b }
 {}

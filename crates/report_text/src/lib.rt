@@ -1,4 +1,5 @@
-//! The report of a run: its list, registers, appended rules, journals and replies, in lines of words
+//! The report of a run: its list, registers, appended rules, journals and replies, in lines of
+//! words
 //! parted by one space.
 //!
 //! The definitions stand in `specs/`. That equal reports of two runs of one script tell of equal

@@ -33,56 +33,116 @@ line act = record {
   template = None;
 }
 
--- a file of user 7 on ext4, opened under the mask by a task of the user `uid` with the effective user 0
+-- a file of user 7 on ext4, opened under the mask by a task of the user `uid` with the effective
+-- user 0
 abbrev opened : ℕ → ℕ → Access
 opened mask uid = record {
   func = func.FileCheck;
   mask = mask;
-  cred = record { ref_ptr = (0, 0); now = record { uid = uid; euid = 0; gid = 2; egid = 3; admin = false } };
+  cred = record {
+    ref_ptr = (0, 0);
+    now =
+        record { uid = uid; euid = 0; gid = 2; egid = 3; admin = false };
+  };
   owner = 7;
   group = 8;
-  place = record { ref_ptr = (0, 0); now = record { magic = 0xef53; uuid = 5; name = 101 ∷ 120 ∷ 116 ∷ 52 ∷ []; versions = true } };
+  place = record {
+    ref_ptr = (0, 0);
+    now =
+        record { magic = 0xef53; uuid = 5; name = 101 ∷ 120 ∷ 116 ∷ 52 ∷ []; versions = true };
+  };
 }
 
--- `dont_measure uid=0`, `measure`, `appraise`: the first line of a family decides, and it doesn't end another family
-first_of_family : decide_of (record (line act.DontMeasure) { uid = Some (Is 0) } ∷ line act.Measure ∷ line act.Appraise ∷ []) (opened 4 0)
-    ≡ record { measure = false; pcr = 10; template = None; appraise = true; need = need.Any; algos = None; audit = false; hash = false }
+-- `dont_measure uid=0`, `measure`, `appraise`: the first line of a family decides, and it doesn't
+-- end another family
+first_of_family : decide_of (record (line act.DontMeasure) { uid = Some (Is 0) } ∷ line act.Measure
+    ∷ line act.Appraise ∷ []) (opened 4 0)
+    ≡ record {
+      measure = false;
+      pcr = 10;
+      template = None;
+      appraise = true;
+      need = need.Any;
+      algos =
+          None;
+      audit = false;
+      hash = false;
+    }
 first_of_family = refl
 
-first_for_others : decide_of (record (line act.DontMeasure) { uid = Some (Is 0) } ∷ record (line act.Measure) { pcr = Some 11 } ∷ line act.Appraise ∷ []) (opened 4 1000)
-    ≡ record { measure = true; pcr = 11; template = None; appraise = true; need = need.Any; algos = None; audit = false; hash = false }
+first_for_others : decide_of (record (line act.DontMeasure) { uid = Some (Is 0) }
+    ∷ record (line act.Measure) { pcr = Some 11 } ∷ line act.Appraise ∷ []) (opened 4 1000)
+    ≡ record {
+      measure = true;
+      pcr = 11;
+      template = None;
+      appraise = true;
+      need = need.Any;
+      algos =
+          None;
+      audit = false;
+      hash = false;
+    }
 first_for_others = refl
 
-nothing_matches : decide_of (record (line act.Hash) { func = Some func.BprmCheck } ∷ []) (opened 4 0)
-    ≡ record { measure = false; pcr = 10; template = None; appraise = false; need = need.Any; algos = None; audit = false; hash = false }
+nothing_matches : decide_of (record (line act.Hash) { func = Some func.BprmCheck } ∷ [])
+    (opened 4 0)
+    ≡ record {
+      measure = false;
+      pcr = 10;
+      template = None;
+      appraise = false;
+      need = need.Any;
+      algos = None;
+      audit = false;
+      hash = false;
+    }
 nothing_matches = refl
 
 -- an open for reading and writing under `mask=MAY_READ` and under `mask=^MAY_READ`
-exact_mask : rule_matches (record (line act.Measure) { mask = Some (record { exact = true; bits = 4 }) }) (opened 6 0) ≡ false
+exact_mask : rule_matches
+    (record (line act.Measure) { mask = Some (record { exact = true; bits = 4 }) }) (opened 6 0)
+    ≡ false
 exact_mask = refl
 
-contained_mask : rule_matches (record (line act.Measure) { mask = Some (record { exact = false; bits = 4 }) }) (opened 6 0) ≡ true
+contained_mask : rule_matches
+    (record (line act.Measure) { mask = Some (record { exact = false; bits = 4 }) }) (opened 6 0)
+    ≡ true
 contained_mask = refl
 
-missing_mask : rule_matches (record (line act.Measure) { mask = Some (record { exact = false; bits = 1 }) }) (opened 6 0) ≡ false
+missing_mask : rule_matches
+    (record (line act.Measure) { mask = Some (record { exact = false; bits = 1 }) }) (opened 6 0)
+    ≡ false
 missing_mask = refl
 
 -- `uid` and `euid` are two numbers, and `>` leaves the number itself out
-uid_apart : rule_matches (record (line act.Measure) { uid = Some (Is 0); euid = Some (Is 0) }) (opened 4 1000) ≡ false
+uid_apart : rule_matches (record (line act.Measure) { uid = Some (Is 0); euid = Some (Is 0) })
+    (opened 4 1000) ≡ false
 uid_apart = refl
 
 euid_alone : rule_matches (record (line act.Measure) { euid = Some (Is 0) }) (opened 4 1000) ≡ true
 euid_alone = refl
 
-above_itself : rule_matches (record (line act.Measure) { uid = Some (Above 1000) }) (opened 4 1000) ≡ false
+above_itself : rule_matches (record (line act.Measure) { uid = Some (Above 1000) }) (opened 4 1000)
+    ≡ false
 above_itself = refl
 
-above_less : rule_matches (record (line act.Measure) { uid = Some (Above 999); fowner = Some (Below 8) }) (opened 4 1000) ≡ true
+above_less : rule_matches
+    (record (line act.Measure) { uid = Some (Above 999); fowner = Some (Below 8) }) (opened 4 1000)
+    ≡ true
 above_less = refl
 
 -- the keys of the file system
-on_ext4 : rule_matches (record (line act.Measure) { fsmagic = Some 0xef53; fsuuid = Some 5; fsname = Some (101 ∷ 120 ∷ 116 ∷ 52 ∷ []) }) (opened 4 0) ≡ true
+on_ext4 : rule_matches
+    (record (line act.Measure) {
+      fsmagic = Some 0xef53;
+      fsuuid = Some 5;
+      fsname =
+          Some (101 ∷ 120 ∷ 116 ∷ 52 ∷ []);
+    }) (opened 4 0) ≡ true
 on_ext4 = refl
 
-on_another : rule_matches (record (line act.Measure) { fsmagic = Some 0xef53; fsname = Some (101 ∷ 120 ∷ 116 ∷ 51 ∷ []) }) (opened 4 0) ≡ false
+on_another : rule_matches
+    (record (line act.Measure) { fsmagic = Some 0xef53; fsname = Some (101 ∷ 120 ∷ 116 ∷ 51 ∷ []) })
+    (opened 4 0) ≡ false
 on_another = refl

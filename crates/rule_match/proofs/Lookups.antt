@@ -4,7 +4,8 @@ use Rattle.std.specs.Prelude.{slice_get}
 
 module _ {X : Type 0} where
   -- the element behind a first part
-  pub get-seam : (xs : List X) (y : X) (ys : List X) → slice_get (xs ++ (y ∷ ys)) (length xs) ≡ Some y
+  pub get-seam : (xs : List X) (y : X) (ys : List X) → slice_get (xs ++ (y ∷ ys)) (length xs)
+      ≡ Some y
   get-seam [] y ys = refl
   get-seam (x ∷ xs) y ys = get-seam xs y ys
 
@@ -13,17 +14,20 @@ module _ {X : Type 0} where
   get-drop zero xs k = let place : k ≡ 0 + k = omega arith in ap (slice_get xs) place
   get-drop (suc n) [] k = refl
   get-drop (suc n) (x ∷ xs) k =
-      let place : suc (n + k) ≡ suc n + k = omega arith in get-drop n xs k ∙ ap (slice_get (x ∷ xs)) place
+      let place : suc (n + k) ≡ suc n + k = omega arith in get-drop n xs k
+      ∙ ap (slice_get (x ∷ xs)) place
 
   -- an element of the first n is one of the list
-  pub get-take : (n : ℕ) (xs : List X) (k : ℕ) (y : X) → slice_get (take n xs) k ≡ Some y → slice_get xs k ≡ Some y
+  pub get-take : (n : ℕ) (xs : List X) (k : ℕ) (y : X) → slice_get (take n xs) k ≡ Some y
+      → slice_get xs k ≡ Some y
   get-take zero xs k y is = absurd cc
   get-take (suc n) [] k y is = absurd cc
   get-take (suc n) (x ∷ xs) zero y is = is
   get-take (suc n) (x ∷ xs) (suc k) y is = get-take n xs k y is
 
   -- the first n and the next
-  pub take-next : (n : ℕ) (xs : List X) (y : X) → slice_get xs n ≡ Some y → take (n + 1) xs ≡ take n xs ++ y ∷ []
+  pub take-next : (n : ℕ) (xs : List X) (y : X) → slice_get xs n ≡ Some y → take (n + 1) xs
+      ≡ take n xs ++ y ∷ []
   take-next n [] y is = absurd cc
   take-next zero (x ∷ xs) y is = let same : x ≡ y = cc in ap (λ z. z ∷ []) same
   take-next (suc n) (x ∷ xs) y is =

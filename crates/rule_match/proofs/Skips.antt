@@ -19,15 +19,18 @@ fails : (a : Access) (func : Option Func) (magic : Option ℕ)
     → same_group (record { func = func; magic = magic }) (group_of_func a) ≡ false
     → same_group (record { func = func; magic = magic }) (group_of_magic a) ≡ false
     → same_group (record { func = func; magic = magic }) group_of_neither ≡ false
-    → (if_there (λ f. same_func f a.func) func ≡ false) ⊎ (if_there (λ n. n == a.place.now.magic) magic ≡ false)
+    → (if_there (λ f. same_func f a.func) func ≡ false)
+    ⊎ (if_there (λ n. n == a.place.now.magic) magic ≡ false)
 fails a None None both by_func by_magic neither = absurd cc
 fails a None (Some m) both by_func by_magic neither = inr by_magic
 fails a (Some f) None both by_func by_magic neither = inl (true_of_and _ by_func)
 fails a (Some f) (Some m) both by_func by_magic neither = and_cases _ _ both
 
 pub matches_not : (a : Access) (r : RuleValue)
-    → same_group (group_of r) (group_of_both a) ≡ false → same_group (group_of r) (group_of_func a) ≡ false
-    → same_group (group_of r) (group_of_magic a) ≡ false → same_group (group_of r) group_of_neither ≡ false
+    → same_group (group_of r) (group_of_both a) ≡ false → same_group (group_of r) (group_of_func a)
+    ≡ false
+    → same_group (group_of r) (group_of_magic a) ≡ false → same_group (group_of r) group_of_neither
+    ≡ false
     → rule_matches r a ≡ false
 matches_not a r both by_func by_magic neither =
     ⊎_elim

@@ -29,15 +29,19 @@ no_family false = refl
 
 module _ (a : Access) where
   -- one family's place, behind rules that don't match
-  skipped : (f : Family) (front back : List RuleValue) (o : Option ℕ) → ((i : ℕ) (r : RuleValue) → slice_get back i ≡ Some r → rule_matches r a ≡ false)
+  skipped : (f : Family) (front back : List RuleValue) (o : Option ℕ)
+      → ((i : ℕ) (r : RuleValue) → slice_get back i ≡ Some r → rule_matches r a ≡ false)
       → o ≡ place_of_first f front a → o ≡ place_of_first f (front ++ back) a
   skipped f front back o none is =
       is ∙ sym (or-none (place_of_first f front a))
-      ∙ ap (option_or (place_of_first f front a)) (sym (position-none (decides f a) (0 + length front) back (λ i r at. and_right (is_of f r.act) (rule_matches r a) (none i r at))))
+      ∙ ap (option_or (place_of_first f front a))
+      (sym (position-none (decides f a) (0 + length front) back
+      (λ i r at. and_right (is_of f r.act) (rule_matches r a) (none i r at))))
       ∙ sym (position-append (decides f a) 0 front back)
 
   -- rules that don't match decide nothing
-  pub deciders-skip : (front back : List RuleValue) (d : Deciders) → ((i : ℕ) (r : RuleValue) → slice_get back i ≡ Some r → rule_matches r a ≡ false)
+  pub deciders-skip : (front back : List RuleValue) (d : Deciders)
+      → ((i : ℕ) (r : RuleValue) → slice_get back i ≡ Some r → rule_matches r a ≡ false)
       → AreDeciders a front d → AreDeciders a (front ++ back) d
   deciders-skip front back d none are = record {
     measuring = skipped Measuring front back d.measuring none are.measuring;
@@ -47,19 +51,23 @@ module _ (a : Access) where
   }
 
   -- one family's place, behind any rules, where it is found
-  settled : (f : Family) (front back : List RuleValue) (o : Option ℕ) → is_some o ≡ true → o ≡ place_of_first f front a → o ≡ place_of_first f (front ++ back) a
+  settled : (f : Family) (front back : List RuleValue) (o : Option ℕ) → is_some o ≡ true → o
+      ≡ place_of_first f front a → o ≡ place_of_first f (front ++ back) a
   settled f front back o some is =
-      is ∙ sym (some-or (place_of_first f front a) (position_from (decides f a) (0 + length front) back) (ap is_some (sym is) ∙ some))
+      is ∙ sym (some-or (place_of_first f front a)
+      (position_from (decides f a) (0 + length front) back) (ap is_some (sym is) ∙ some))
       ∙ sym (position-append (decides f a) 0 front back)
 
   -- once each family has its line, no later rule counts
-  pub deciders-complete : (front back : List RuleValue) (d : Deciders) → is_complete d ≡ true → AreDeciders a front d → AreDeciders a (front ++ back) d
+  pub deciders-complete : (front back : List RuleValue) (d : Deciders) → is_complete d ≡ true
+      → AreDeciders a front d → AreDeciders a (front ++ back) d
   deciders-complete front back d whole are =
       let three = and_true_left _ _ whole in
       let two = and_true_left _ _ three in
       record {
         measuring = settled Measuring front back d.measuring (and_true_left _ _ two) are.measuring;
-        appraising = settled Appraising front back d.appraising (and_true_right _ _ two) are.appraising;
+        appraising = settled Appraising front back d.appraising (and_true_right _ _ two)
+            are.appraising;
         auditing = settled Auditing front back d.auditing (and_true_right _ _ three) are.auditing;
         hashing = settled Hashing front back d.hashing (and_true_right _ _ whole) are.hashing;
       }
@@ -73,8 +81,10 @@ module _ (a : Access) where
       and_true_right false y is = absurd cc
 
   -- one family's place, after one more rule that matches
-  passed : (f : Family) (front : List RuleValue) (r : RuleValue) (line : ℕ) (o : Option ℕ) → rule_matches r a ≡ true → line ≡ length front
-      → o ≡ place_of_first f front a → decided_with o f r.act line ≡ place_of_first f (front ++ r ∷ []) a
+  passed : (f : Family) (front : List RuleValue) (r : RuleValue) (line : ℕ) (o : Option ℕ)
+      → rule_matches r a ≡ true → line ≡ length front
+      → o ≡ place_of_first f front a → decided_with o f r.act line
+      ≡ place_of_first f (front ++ r ∷ []) a
   passed f front r line o matches end is =
       choose (is_of f r.act) (ap (λ (b : Bool). is_of f r.act && b) matches)
       ∙ sym (position-append (decides f a) 0 front (r ∷ []))
@@ -83,20 +93,27 @@ module _ (a : Access) where
       here = omega (arith, end)
 
       choose : (b : Bool) → decides f a r ≡ (b && true)
-          → cond b (option_or o (Some line)) o ≡ option_or (place_of_first f front a) (position_from (decides f a) (0 + length front) (r ∷ []))
+          → cond b (option_or o (Some line)) o
+          ≡ option_or (place_of_first f front a)
+          (position_from (decides f a) (0 + length front) (r ∷ []))
       choose true test =
           (λ i. option_or (is i) (Some (here i)))
-          ∙ ap (λ (b : Bool). option_or (place_of_first f front a) (cond b (Some (0 + length front)) None)) (sym test)
+          ∙ ap (λ (b : Bool). option_or (place_of_first f front a)
+          (cond b (Some (0 + length front)) None)) (sym test)
       choose false test =
           is ∙ sym (or-none (place_of_first f front a))
-          ∙ ap (λ (b : Bool). option_or (place_of_first f front a) (cond b (Some (0 + length front)) None)) (sym test)
+          ∙ ap (λ (b : Bool). option_or (place_of_first f front a)
+          (cond b (Some (0 + length front)) None)) (sym test)
 
   -- what is found, after one more rule
-  pub deciders-next : (front : List RuleValue) (r : RuleValue) (line : ℕ) (d : Deciders) → line ≡ length front
+  pub deciders-next : (front : List RuleValue) (r : RuleValue) (line : ℕ) (d : Deciders) → line
+      ≡ length front
       → AreDeciders a front d → AreDeciders a (front ++ r ∷ []) (after_line a line r d)
   deciders-next front r line d end are = choose (rule_matches r a) refl where
-    only : (i : ℕ) (s : RuleValue) → rule_matches r a ≡ false → slice_get (r ∷ []) i ≡ Some s → rule_matches s a ≡ false
-    only i s fails at = let same : r ≡ s = the_one i s at in ap (λ t. rule_matches t a) (sym same) ∙ fails
+    only : (i : ℕ) (s : RuleValue) → rule_matches r a ≡ false → slice_get (r ∷ []) i ≡ Some s
+        → rule_matches s a ≡ false
+    only i s fails at = let same : r ≡ s = the_one i s at in ap (λ t. rule_matches t a) (sym same)
+        ∙ fails
       where
         the_one : (i : ℕ) (s : RuleValue) → slice_get (r ∷ []) i ≡ Some s → r ≡ s
         the_one zero s at = cc
@@ -117,19 +134,35 @@ module _ (a : Access) where
     choose false fails = deciders-skip front (r ∷ []) d (λ i s at. only i s fails at) are
 
   -- the action of the rules at these places is what the rules have done
-  carried : (f : Family) (rules : List RuleValue) (o : Option ℕ) → o ≡ place_of_first f rules a → carried_at rules o ≡ carried_out (option_and_then (slice_get rules) (place_of_first f rules a))
+  carried : (f : Family) (rules : List RuleValue) (o : Option ℕ) → o ≡ place_of_first f rules a
+      → carried_at rules o
+      ≡ carried_out (option_and_then (slice_get rules) (place_of_first f rules a))
   carried f rules o is = ap (carried_at rules) is
 
   pub decided_by : (rules : List RuleValue) (d : Deciders) → AreDeciders a rules d
-      → action_of (carried_at rules d.measuring) (carried_at rules d.appraising) (carried_at rules d.auditing) (carried_at rules d.hashing) ≡ decide_of rules a
+      → action_of (carried_at rules d.measuring) (carried_at rules d.appraising)
+      (carried_at rules d.auditing) (carried_at rules d.hashing) ≡ decide_of rules a
   decided_by rules d are =
       let found = λ (f : Family). find_at_position (decides f a) [] rules in
-      λ i. action_of (carried_out ((ap (option_and_then (slice_get rules)) are.measuring ∙ found Measuring) i)) (carried_out ((ap (option_and_then (slice_get rules)) are.appraising ∙ found Appraising) i))
-      (carried_out ((ap (option_and_then (slice_get rules)) are.auditing ∙ found Auditing) i)) (carried_out ((ap (option_and_then (slice_get rules)) are.hashing ∙ found Hashing) i))
+      λ i. action_of
+      (carried_out ((ap (option_and_then (slice_get rules)) are.measuring ∙ found Measuring) i))
+      (carried_out ((ap (option_and_then (slice_get rules)) are.appraising ∙ found Appraising) i))
+      (carried_out ((ap (option_and_then (slice_get rules)) are.auditing ∙ found Auditing) i))
+      (carried_out ((ap (option_and_then (slice_get rules)) are.hashing ∙ found Hashing) i))
 
 -- the families apart make one action
-pub action_joined : (v : ActionValue) (m p u h : Option RuleValue) (audit hash : Bool) → v ≡ action_of m p None None → audit ≡ is_some u → hash ≡ is_some h
-    → record { measure = v.measure; pcr = v.pcr; template = v.template; appraise = v.appraise; need = v.need; algos = v.algos; audit = audit; hash = hash } ≡ action_of m p u h
+pub action_joined : (v : ActionValue) (m p u h : Option RuleValue) (audit hash : Bool) → v
+    ≡ action_of m p None None → audit ≡ is_some u → hash ≡ is_some h
+    → record {
+      measure = v.measure;
+      pcr = v.pcr;
+      template = v.template;
+      appraise = v.appraise;
+      need = v.need;
+      algos = v.algos;
+      audit = audit;
+      hash = hash;
+    } ≡ action_of m p u h
 action_joined v m p u h audit hash same audits hashes =
     λ i. record {
       measure = (same i).measure;

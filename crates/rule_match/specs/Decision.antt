@@ -51,7 +51,8 @@ carried_out None = None
 carried_out (Some r) = if is_done r.act then Some r else None
 
 -- the action of the rules that are carried out, one at most for each family
-abbrev pub action_of : Option RuleValue → Option RuleValue → Option RuleValue → Option RuleValue → ActionValue
+abbrev pub action_of : Option RuleValue → Option RuleValue → Option RuleValue → Option RuleValue
+    → ActionValue
 action_of measure appraise audit hash = record {
   measure = is_some measure;
   pcr = unwrap_or (option_and_then (λ r. r.pcr) measure) DEFAULT_PCR;

@@ -30,11 +30,12 @@ abbrev pub group_of_neither : Group
 group_of_neither = record { func = None; magic = None }
 
 -- the candidates are the lines of those groups from `start` on
-pub record StandsAt (start : ℕ) (rules : List RuleValue) (a : Access) (c : Candidates) : Type 0 where
-  pub both : c.both.now ≡ lines_from (group_of_both a) start (drop start rules)
-  pub func : c.func.now ≡ lines_from (group_of_func a) start (drop start rules)
-  pub magic : c.magic.now ≡ lines_from (group_of_magic a) start (drop start rules)
-  pub neither : c.neither.now ≡ lines_from group_of_neither start (drop start rules)
+pub record StandsAt (start : ℕ) (rules : List RuleValue) (a : Access) (c : Candidates) : Type 0
+  where
+    pub both : c.both.now ≡ lines_from (group_of_both a) start (drop start rules)
+    pub func : c.func.now ≡ lines_from (group_of_func a) start (drop start rules)
+    pub magic : c.magic.now ≡ lines_from (group_of_magic a) start (drop start rules)
+    pub neither : c.neither.now ≡ lines_from group_of_neither start (drop start rules)
 
 abbrev pub earlier_of : Option ℕ → Option ℕ → Option ℕ
 earlier_of None n = n

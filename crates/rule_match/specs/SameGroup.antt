@@ -8,7 +8,8 @@ use Rattle.rule_match.specs.Group.{group_writes, same_group}
 use Rattle.rule_match.specs.declared.group.Group.{Group}
 use denote.Enum.Bare.{same_true, sameb}
 
-option_eq-true : {T : Type 0} (E : T → T → Bool) → ((x y : T) → E x y ≡ true → x ≡ y) → (o p : Option T) → option_eq E o p ≡ true → o ≡ p
+option_eq-true : {T : Type 0} (E : T → T → Bool) → ((x y : T) → E x y ≡ true → x ≡ y)
+    → (o p : Option T) → option_eq E o p ≡ true → o ≡ p
 option_eq-true E decides None None same = refl
 option_eq-true E decides None (Some y) same = absurd cc
 option_eq-true E decides (Some x) None same = absurd cc
@@ -19,8 +20,10 @@ nat_eq-true m n same = grind (arith, nat_tests)
 
 pub same_group-true : (g h : Group) → same_group g h ≡ true → g ≡ h
 same_group-true g h same =
-    let func : g.func ≡ h.func = option_eq-true (sameb the_type) (same_true the_type (search rules)) g.func h.func (first_so _ _ same) in
-    let magic : g.magic ≡ h.magic = option_eq-true nat_eq nat_eq-true g.magic h.magic (second_so _ _ same) in
+    let func : g.func ≡ h.func = option_eq-true (sameb the_type) (same_true the_type (search rules))
+    g.func h.func (first_so _ _ same) in
+    let magic : g.magic ≡ h.magic = option_eq-true nat_eq nat_eq-true g.magic h.magic
+    (second_so _ _ same) in
     λ i. record { func = func i; magic = magic i }
 
 pub same_group-hashed : (g h : Group) → same_group g h ≡ true → group_writes g ≡ group_writes h

@@ -8,7 +8,8 @@ use policy_text::{Access, Key, Rule};
 /// Whether the rule matches the access: what it says by each of its keys holds. A key that it
 /// doesn't have holds of every access, and so do the options.
 ///
-/// `euid` and `egid` compare the effective numbers alone. For a task that may set its ids the kernel
+/// `euid` and `egid` compare the effective numbers alone. For a task that may set its ids the
+/// kernel
 /// also looks at the real and the saved ones.
 pub fn matches(r: &Rule, a: &Access) -> bool
     ensures { result ≡ rule_matches r.now a.now }

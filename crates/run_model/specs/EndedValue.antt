@@ -42,7 +42,8 @@ inodes_ended scene (s ∷ ss) (j ∷ js) = ended_inode (inode_of scene s) j ∷ 
 abbrev pub tasks_ended : List Program → List Thought → List EndedTaskValue
 tasks_ended [] thoughts = []
 tasks_ended (p ∷ ps) [] = []
-tasks_ended (p ∷ ps) (t ∷ ts) = record { done = is_done p t; replies = t.replies } ∷ tasks_ended ps ts
+tasks_ended (p ∷ ps) (t ∷ ts) = record { done = is_done p t; replies = t.replies }
+    ∷ tasks_ended ps ts
 
 abbrev pub appends : Call → Bool
 appends (call.AddRule rule) = true

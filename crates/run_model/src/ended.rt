@@ -34,7 +34,8 @@ pub struct Ended {
     pub banks: Banks,
     /// The tasks, in the order of their numbers.
     pub tasks: Vec<EndedTask>,
-    /// Whether some task isn't done and each that isn't waits for a semaphore of which nothing is left.
+    /// Whether some task isn't done and each that isn't waits for a semaphore of which nothing is
+    /// left.
     pub stuck: bool,
     /// The template of the script.
     pub template: Template,

@@ -43,8 +43,10 @@ module _ {X : Type 0} (made : List (List ℕ) → X) (bad : X) where
   below_seven r0 r1 r2 r3 r4 r5 r6 (a ∷ b ∷ c ∷ []) bound = r3 a.now b.now c.now
   below_seven r0 r1 r2 r3 r4 r5 r6 (a ∷ b ∷ c ∷ d ∷ []) bound = r4 a.now b.now c.now d.now
   below_seven r0 r1 r2 r3 r4 r5 r6 (a ∷ b ∷ c ∷ d ∷ e ∷ []) bound = r5 a.now b.now c.now d.now e.now
-  below_seven r0 r1 r2 r3 r4 r5 r6 (a ∷ b ∷ c ∷ d ∷ e ∷ f ∷ []) bound = r6 a.now b.now c.now d.now e.now f.now
-  below_seven r0 r1 r2 r3 r4 r5 r6 (a ∷ b ∷ c ∷ d ∷ e ∷ f ∷ g ∷ more) bound = absurd (omega (arith, bound))
+  below_seven r0 r1 r2 r3 r4 r5 r6 (a ∷ b ∷ c ∷ d ∷ e ∷ f ∷ []) bound =
+      r6 a.now b.now c.now d.now e.now f.now
+  below_seven r0 r1 r2 r3 r4 r5 r6 (a ∷ b ∷ c ∷ d ∷ e ∷ f ∷ g ∷ more) bound =
+      absurd (omega (arith, bound))
 
   pub below_eight : made [] ≡ bad
       → ((a : List ℕ) → made (a ∷ []) ≡ bad)
@@ -60,7 +62,11 @@ module _ {X : Type 0} (made : List (List ℕ) → X) (bad : X) where
   below_eight r0 r1 r2 r3 r4 r5 r6 r7 (a ∷ b ∷ []) bound = r2 a.now b.now
   below_eight r0 r1 r2 r3 r4 r5 r6 r7 (a ∷ b ∷ c ∷ []) bound = r3 a.now b.now c.now
   below_eight r0 r1 r2 r3 r4 r5 r6 r7 (a ∷ b ∷ c ∷ d ∷ []) bound = r4 a.now b.now c.now d.now
-  below_eight r0 r1 r2 r3 r4 r5 r6 r7 (a ∷ b ∷ c ∷ d ∷ e ∷ []) bound = r5 a.now b.now c.now d.now e.now
-  below_eight r0 r1 r2 r3 r4 r5 r6 r7 (a ∷ b ∷ c ∷ d ∷ e ∷ f ∷ []) bound = r6 a.now b.now c.now d.now e.now f.now
-  below_eight r0 r1 r2 r3 r4 r5 r6 r7 (a ∷ b ∷ c ∷ d ∷ e ∷ f ∷ g ∷ []) bound = r7 a.now b.now c.now d.now e.now f.now g.now
-  below_eight r0 r1 r2 r3 r4 r5 r6 r7 (a ∷ b ∷ c ∷ d ∷ e ∷ f ∷ g ∷ h ∷ more) bound = absurd (omega (arith, bound))
+  below_eight r0 r1 r2 r3 r4 r5 r6 r7 (a ∷ b ∷ c ∷ d ∷ e ∷ []) bound =
+      r5 a.now b.now c.now d.now e.now
+  below_eight r0 r1 r2 r3 r4 r5 r6 r7 (a ∷ b ∷ c ∷ d ∷ e ∷ f ∷ []) bound =
+      r6 a.now b.now c.now d.now e.now f.now
+  below_eight r0 r1 r2 r3 r4 r5 r6 r7 (a ∷ b ∷ c ∷ d ∷ e ∷ f ∷ g ∷ []) bound =
+      r7 a.now b.now c.now d.now e.now f.now g.now
+  below_eight r0 r1 r2 r3 r4 r5 r6 r7 (a ∷ b ∷ c ∷ d ∷ e ∷ f ∷ g ∷ h ∷ more) bound =
+      absurd (omega (arith, bound))

@@ -2,8 +2,12 @@
 use Rattle.std.proofs.Common.{◌≡◌, ℕ, ◌-◌, List, [], ◌∷◌, ◌++◌, length, take, refl, ap, arith}
 use Rattle.std.proofs.Math.Seq.{take-append_seam}
 
-pub shown : (out label rest : List ℕ) (len : ℕ) → out ≡ label ++ rest → len ≡ length label → take len out ≡ label
+pub shown : (out label rest : List ℕ) (len : ℕ) → out ≡ label ++ rest → len ≡ length label
+    → take len out ≡ label
 shown out label rest len o l = rw (o, l) (take-append_seam label rest)
 
-pub shown_from_start : (out label rest : List ℕ) (len : ℕ) → out ≡ label ++ rest → len ≡ length label → take (len - 0) out ≡ label
-shown_from_start out label rest len o l = let same : len - 0 ≡ len = omega arith in rw same (shown out label rest len o l)
+pub shown_from_start : (out label rest : List ℕ) (len : ℕ) → out ≡ label ++ rest → len
+    ≡ length label → take (len - 0) out ≡ label
+shown_from_start out label rest len o l = let same : len - 0 ≡ len =
+    omega arith in rw same
+    (shown out label rest len o l)

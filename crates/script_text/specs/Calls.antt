@@ -35,13 +35,16 @@ alone more r = if is_filled more then Err cause.BadField else r
 
 -- the number of the path's file
 abbrev pub inode_at : List (List ℕ) → List ℕ → Result ℕ LineCause
-inode_at paths path = if is_path path then ok_or (place_in paths path) cause.Unknown else Err cause.BadField
+inode_at paths path = if is_path path then ok_or (place_in paths path) cause.Unknown
+    else Err cause.BadField
 
 -- `create` or not, and then `trunc` or not
 abbrev pub flags_of : List (List ℕ) → Option (Bool × Bool)
 flags_of [] = Some (false, false)
-flags_of (a ∷ []) = look_up ((codes "create", (true, false)) ∷ (codes "trunc", (false, true)) ∷ []) a
-flags_of (a ∷ b ∷ []) = if bytes_eq a (codes "create") && bytes_eq b (codes "trunc") then Some (true, true) else None
+flags_of (a ∷ []) = look_up ((codes "create", (true, false)) ∷ (codes "trunc", (false, true)) ∷ [])
+    a
+flags_of (a ∷ b ∷ []) = if bytes_eq a (codes "create") && bytes_eq b (codes "trunc")
+    then Some (true, true) else None
 flags_of _ = None
 
 -- only a file open for writing is cut
@@ -60,16 +63,19 @@ open_of _ paths = Err cause.BadField
 
 abbrev pub read_of : List (List ℕ) → Called
 read_of (fd ∷ off ∷ len ∷ more) =
-    alone more (field (descriptor_of fd) λ f. field (offset_of off) λ o. field (portion_of len) λ n. Ok (call.Read f o n))
+    alone more (field (descriptor_of fd) λ f. field (offset_of off) λ o. field (portion_of len) λ n.
+    Ok (call.Read f o n))
 read_of _ = Err cause.BadField
 
 abbrev pub write_of : List (List ℕ) → Called
 write_of (fd ∷ off ∷ bytes ∷ more) =
-    alone more (field (descriptor_of fd) λ f. field (offset_of off) λ o. field (value_of 1 most_content bytes) λ v. Ok (call.Write f o v))
+    alone more (field (descriptor_of fd) λ f. field (offset_of off) λ o. field
+    (value_of 1 most_content bytes) λ v. Ok (call.Write f o v))
 write_of _ = Err cause.BadField
 
 abbrev pub ftruncate_of : List (List ℕ) → Called
-ftruncate_of (fd ∷ len ∷ []) = field (descriptor_of fd) λ f. field (offset_of len) λ n. Ok (call.Ftruncate f n)
+ftruncate_of (fd ∷ len ∷ []) = field (descriptor_of fd) λ f. field (offset_of len) λ n. Ok
+    (call.Ftruncate f n)
 ftruncate_of _ = Err cause.BadField
 
 abbrev pub close_of : List (List ℕ) → Called
@@ -81,12 +87,14 @@ mapping_of word = look_up ((codes "read", false) ∷ (codes "exec", true) ∷ []
 
 abbrev pub mmap_of : List (List ℕ) → Called
 mmap_of (map ∷ fd ∷ way ∷ []) =
-    field (small_of map) λ m. field (descriptor_of fd) λ f. field (mapping_of way) λ exec. Ok (call.Mmap m f exec)
+    field (small_of map) λ m. field (descriptor_of fd) λ f. field (mapping_of way) λ exec. Ok
+    (call.Mmap m f exec)
 mmap_of _ = Err cause.BadField
 
 abbrev pub mread_of : List (List ℕ) → Called
 mread_of (map ∷ off ∷ len ∷ more) =
-    alone more (field (small_of map) λ m. field (offset_of off) λ o. field (portion_of len) λ n. Ok (call.Mread m o n))
+    alone more (field (small_of map) λ m. field (offset_of off) λ o. field (portion_of len) λ n. Ok
+    (call.Mread m o n))
 mread_of _ = Err cause.BadField
 
 -- the number of a map, a run or a semaphore alone
@@ -95,7 +103,8 @@ small_in (n ∷ []) = ok_or (small_of n) cause.BadField
 small_in _ = Err cause.BadField
 
 abbrev pub exec_of : Reader
-exec_of (run ∷ path ∷ []) paths = field (small_of run) λ r. inode_at paths path >>= λ i. Ok (call.Exec r i)
+exec_of (run ∷ path ∷ []) paths = field (small_of run) λ r. inode_at paths path >>= λ i. Ok
+    (call.Exec r i)
 exec_of _ paths = Err cause.BadField
 
 abbrev pub name_of : List ℕ → Option (List ℕ)
@@ -103,20 +112,24 @@ name_of text = if is_word 255 text then Some text else None
 
 abbrev pub setxattr_of : Reader
 setxattr_of (path ∷ name ∷ bytes ∷ more) paths =
-    alone more (field (name_of name) λ n. field (value_of 0 most_set bytes) λ v. inode_at paths path >>= λ i. Ok (call.SetAttr i n (Some v)))
+    alone more (field (name_of name) λ n. field (value_of 0 most_set bytes) λ v. inode_at paths path
+    >>= λ i. Ok (call.SetAttr i n (Some v)))
 setxattr_of _ paths = Err cause.BadField
 
 abbrev pub removexattr_of : Reader
-removexattr_of (path ∷ name ∷ []) paths = field (name_of name) λ n. inode_at paths path >>= λ i. Ok (call.SetAttr i n None)
+removexattr_of (path ∷ name ∷ []) paths = field (name_of name) λ n. inode_at paths path >>= λ i. Ok
+    (call.SetAttr i n None)
 removexattr_of _ paths = Err cause.BadField
 
 abbrev pub chmod_of : Reader
-chmod_of (path ∷ mode ∷ []) paths = field (mode_of mode) λ m. inode_at paths path >>= λ i. Ok (call.SetMeta i (change.Mode m))
+chmod_of (path ∷ mode ∷ []) paths = field (mode_of mode) λ m. inode_at paths path >>= λ i. Ok
+    (call.SetMeta i (change.Mode m))
 chmod_of _ paths = Err cause.BadField
 
 abbrev pub chown_of : Reader
 chown_of (path ∷ uid ∷ gid ∷ []) paths =
-    field (id_of uid) λ u. field (id_of gid) λ g. inode_at paths path >>= λ i. Ok (call.SetMeta i (change.Owner u g))
+    field (id_of uid) λ u. field (id_of gid) λ g. inode_at paths path >>= λ i. Ok
+    (call.SetMeta i (change.Owner u g))
 chown_of _ paths = Err cause.BadField
 
 -- the file of a path alone

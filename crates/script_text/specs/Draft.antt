@@ -42,7 +42,17 @@ plain_script = record {
 }
 
 abbrev pub start : Draft
-start = record { script = plain_script; at = 0; unsealed = false; counted = 0; calls = 0; appended = 0; sum = 0; paths = [] }
+start = record {
+  script = plain_script;
+  at = 0;
+  unsealed = false;
+  counted = 0;
+  calls = 0;
+  appended =
+      0;
+  sum = 0;
+  paths = [];
+}
 
 -- the last of a list, if there is one
 abbrev pub last_of : {A : Type 0} → List A → Option A

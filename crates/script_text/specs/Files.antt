@@ -42,15 +42,18 @@ path_of text = if is_path text then Some text else None
 abbrev pub numeral_of : List ℕ → Option (List ℕ)
 numeral_of text = if is_short_numeral 10 text then Some text else None
 
-abbrev pub front_with : Option (List ℕ) → Option (List ℕ) → Option ℕ → Option ℕ → Option ℕ → Option ℕ → Option ℕ → Option Front
+abbrev pub front_with : Option (List ℕ) → Option (List ℕ) → Option ℕ → Option ℕ → Option ℕ
+    → Option ℕ → Option ℕ → Option Front
 front_with (Some p) (Some f) (Some i) (Some g) (Some u) (Some o) (Some m) =
     Some (record { path = p; fs = f; ino = i; generation = g; uid = u; gid = o; mode = m })
 front_with _ _ _ _ _ _ _ = None
 
 abbrev pub front_of : List ℕ → List ℕ → List ℕ → List ℕ → List ℕ → List ℕ → List ℕ → Option Front
 front_of p f i g u o m =
-    front_with (path_of p) (behind_by numeral_of (codes "fs=") f) (behind_by ino_of (codes "ino=") i) (behind_by id_of (codes "gen=") g)
-    (behind_by id_of (codes "uid=") u) (behind_by id_of (codes "gid=") o) (behind_by mode_of (codes "mode=") m)
+    front_with (path_of p) (behind_by numeral_of (codes "fs=") f)
+    (behind_by ino_of (codes "ino=") i) (behind_by id_of (codes "gen=") g)
+    (behind_by id_of (codes "uid=") u) (behind_by id_of (codes "gid=") o)
+    (behind_by mode_of (codes "mode=") m)
 
 -- the file as its block begins, on the file system n
 abbrev pub block_of : Front → ℕ → Super → Bool → List ℕ → FileBlock
@@ -61,7 +64,14 @@ block_of f n s present content = record {
     present = present;
     content = content;
     attrs = [];
-    meta = record { ino = f.ino; generation = f.generation; uid = f.uid; gid = f.gid; mode = f.mode; place = s.uuid };
+    meta = record {
+      ino = f.ino;
+      generation = f.generation;
+      uid = f.uid;
+      gid = f.gid;
+      mode = f.mode;
+      place = s.uuid;
+    };
     versions = s.versions;
   };
 }
@@ -91,10 +101,12 @@ with_block b d =
 abbrev pub on_super : Front → Bool → List ℕ → Draft → Option ℕ → Made
 on_super f present content d None = Err cause.Unknown
 on_super f present content d (Some n) =
-    ok_or (slice_get d.script.supers n) cause.Unknown >>= λ s. with_block (block_of f n s present content) d
+    ok_or (slice_get d.script.supers n) cause.Unknown >>= λ s. with_block
+    (block_of f n s present content) d
 
 abbrev pub with_front : Front → Bool → List ℕ → Draft → Made
-with_front f present content d = on_super f present content d (place_among (length d.script.supers) f.fs)
+with_front f present content d =
+    on_super f present content d (place_among (length d.script.supers) f.fs)
 
 abbrev pub content_of : List ℕ → Option (List ℕ)
 content_of text = value_of 0 most_content text
@@ -107,11 +119,13 @@ file_in _ = None
 
 unfoldable pub with_file : List (List ℕ) → Draft → Made
 with_file words d =
-    field (file_in words) λ f. field (behind_by content_of (codes "content=") f.1) λ content. with_front f.0 true content d
+    field (file_in words) λ f. field (behind_by content_of (codes "content=") f.1) λ content.
+    with_front f.0 true content d
 
 -- `absent PATH fs=NUM ino=NUM gen=NUM uid=NUM gid=NUM mode=MODE`
 abbrev pub front_in : List (List ℕ) → Option Front
-front_in (p ∷ f ∷ i ∷ g ∷ u ∷ o ∷ m ∷ more) = if is_filled more then None else front_of p f i g u o m
+front_in (p ∷ f ∷ i ∷ g ∷ u ∷ o ∷ m ∷ more) = if is_filled more then None
+    else front_of p f i g u o m
 front_in _ = None
 
 unfoldable pub with_absent : List (List ℕ) → Draft → Made
@@ -128,7 +142,8 @@ abbrev pub is_counted : List ℕ → Bool
 is_counted name = not (bytes_eq name ima_name || bytes_eq name evm_name)
 
 abbrev pub attrs_put : List ℕ → List ℕ → FileBlock → FileBlock
-attrs_put name bytes b = record b { image = record b.image { attrs = put name bytes b.image.attrs } }
+attrs_put name bytes b =
+    record b { image = record b.image { attrs = put name bytes b.image.attrs } }
 
 abbrev pub counted_length : List ℕ → List ℕ → ℕ
 counted_length name bytes = if is_counted name then length bytes else 0
@@ -164,7 +179,8 @@ two _ = None
 -- `attr NAME VALUE`, in the block of the last file
 unfoldable pub with_attr : List (List ℕ) → Draft → Made
 with_attr words d =
-    field (two words) λ w. field (name_of w.0) λ name. field (value_of 0 most_value w.1) λ bytes. with_pair name bytes d
+    field (two words) λ w. field (name_of w.0) λ name. field (value_of 0 most_value w.1) λ bytes.
+    with_pair name bytes d
 
 -- ---- the seal
 
@@ -176,7 +192,8 @@ abbrev pub sealed : Setup → Algo → FileBlock → FileBlock
 sealed evm a b =
     record b {
       image = record b.image {
-        attrs = renewed evm (put ima_name (label_of (digest_of a b.image.content)) b.image.attrs) b.image.meta;
+        attrs = renewed evm (put ima_name (label_of (digest_of a b.image.content)) b.image.attrs)
+            b.image.meta;
       };
     }
 
@@ -184,7 +201,8 @@ sealed evm a b =
 unfoldable pub with_seal : List (List ℕ) → Draft → Made
 with_seal [] d =
     Ok (record d {
-      script = record d.script { files = change_last (sealed (setup_of d.script) d.script.hash) d.script.files };
+      script = record d.script
+          { files = change_last (sealed (setup_of d.script) d.script.hash) d.script.files };
       unsealed = false;
     })
 with_seal _ d = Err cause.BadField

@@ -1,4 +1,5 @@
--- The grammar of scripts: the script of a text, or its first bad line with the least cause that holds of it.
+-- The grammar of scripts: the script of a text, or its first bad line with the least cause that
+-- holds of it.
 use Rattle.std.specs.Prelude.{ℕ, List, Option, Result, Ok, Err, ok_or, if◌then◌else◌}
 use Rattle.text_forms.specs.Lines.{◌>>=◌}
 use Rattle.script_words.specs.declared.fault.Fault.{Fault}
@@ -14,7 +15,8 @@ use Rattle.script_text.specs.Tasks.{with_call_line, with_rounds, with_rule, with
 use Rattle.script_text.specs.declared.head.Head.{Head}
 use Rattle.script_text.specs.declared.head.Head.TheVariants as head
 
--- what a line makes of the draft: by its first word, by the text behind that, and by the text's words
+-- what a line makes of the draft: by its first word, by the text behind that, and by the text's
+-- words
 unfoldable pub with_head : Head → Option (List ℕ) → List (List ℕ) → Draft → Made
 with_head head.Imakern text words d = with_version words d
 with_head head.Hash text words d = with_hash words d
@@ -38,7 +40,8 @@ with_head head.Schedule text words d = with_schedule (all_fields text) d
 
 -- first the line's place, and then its words
 unfoldable pub placed : Head → Option (List ℕ) → Draft → Made
-placed h text d = if stands h d then with_head h text (fields text) (record d { at = rank h }) else Err cause.OutOfPlace
+placed h text d = if stands h d then with_head h text (fields text) (record d { at = rank h })
+    else Err cause.OutOfPlace
 
 abbrev pub headed : List ℕ × Option (List ℕ) → Draft → Made
 headed l d = ok_or (head_of l.0) cause.BadWord >>= λ h. placed h l.1 d

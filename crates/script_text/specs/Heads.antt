@@ -10,21 +10,30 @@ use Rattle.script_text.specs.declared.head.Head.TheVariants as head
 abbrev pub call_word_of : List ℕ → Option CallWord
 call_word_of text =
     look_up
-    ((codes "open", word.Open) ∷ (codes "read", word.Read) ∷ (codes "write", word.Write) ∷ (codes "ftruncate", word.Ftruncate)
-    ∷ (codes "close", word.Close) ∷ (codes "mmap", word.Mmap) ∷ (codes "mread", word.Mread) ∷ (codes "munmap", word.Munmap)
+    ((codes "open", word.Open) ∷ (codes "read", word.Read) ∷ (codes "write", word.Write)
+    ∷ (codes "ftruncate", word.Ftruncate)
+    ∷ (codes "close", word.Close) ∷ (codes "mmap", word.Mmap) ∷ (codes "mread", word.Mread)
+    ∷ (codes "munmap", word.Munmap)
     ∷ (codes "exec", word.Exec) ∷ (codes "endexec", word.Endexec) ∷ (codes "setxattr", word.SetAttr)
-    ∷ (codes "removexattr", word.RemoveAttr) ∷ (codes "chmod", word.Chmod) ∷ (codes "chown", word.Chown) ∷ (codes "post", word.Post)
-    ∷ (codes "wait", word.Wait) ∷ (codes "addrule", word.AddRule) ∷ (codes "module", word.Module) ∷ (codes "firmware", word.Firmware)
+    ∷ (codes "removexattr", word.RemoveAttr) ∷ (codes "chmod", word.Chmod)
+    ∷ (codes "chown", word.Chown) ∷ (codes "post", word.Post)
+    ∷ (codes "wait", word.Wait) ∷ (codes "addrule", word.AddRule) ∷ (codes "module", word.Module)
+    ∷ (codes "firmware", word.Firmware)
     ∷ []) text
 
 abbrev pub section_of : List ℕ → Option Head
 section_of text =
     look_up
-    ((codes "imakern", head.Imakern) ∷ (codes "hash", head.Hash) ∷ (codes "template", head.Template) ∷ (codes "boot", head.Boot)
-    ∷ (codes "appraise", head.Appraise) ∷ (codes "evm", head.Evm) ∷ (codes "evm_xattrs", head.EvmXattrs)
-    ∷ (codes "evm_format", head.EvmFormat) ∷ (codes "fs", head.Fs) ∷ (codes "file", head.File) ∷ (codes "absent", head.Absent)
-    ∷ (codes "attr", head.Attr) ∷ (codes "seal", head.Seal) ∷ (codes "rule", head.Rule) ∷ (codes "task", head.Task)
-    ∷ (codes "schedule", head.Schedule) ∷ (codes "rounds", head.Rounds) ∷ (codes "threads", head.Threads) ∷ []) text
+    ((codes "imakern", head.Imakern) ∷ (codes "hash", head.Hash) ∷ (codes "template", head.Template)
+    ∷ (codes "boot", head.Boot)
+    ∷ (codes "appraise", head.Appraise) ∷ (codes "evm", head.Evm)
+    ∷ (codes "evm_xattrs", head.EvmXattrs)
+    ∷ (codes "evm_format", head.EvmFormat) ∷ (codes "fs", head.Fs) ∷ (codes "file", head.File)
+    ∷ (codes "absent", head.Absent)
+    ∷ (codes "attr", head.Attr) ∷ (codes "seal", head.Seal) ∷ (codes "rule", head.Rule)
+    ∷ (codes "task", head.Task)
+    ∷ (codes "schedule", head.Schedule) ∷ (codes "rounds", head.Rounds)
+    ∷ (codes "threads", head.Threads) ∷ []) text
 
 abbrev pub head_with : Option CallWord → Option Head → Option Head
 head_with (Some w) other = Some (head.Call w)
@@ -71,7 +80,8 @@ repeats _ = false
 abbrev pub in_order : ℕ → Bool → ℕ → Bool
 in_order rank again at = nat_le 1 at && (nat_lt at rank || (again && at == rank))
 
--- whether the line can stand behind those before it: an attribute and a seal in the block of a file that is there and isn't sealed,
+-- whether the line can stand behind those before it: an attribute and a seal in the block of a file
+-- that is there and isn't sealed,
 -- and a call in that of a task
 abbrev pub stands : Head → Draft → Bool
 stands head.Imakern d = d.at == 0

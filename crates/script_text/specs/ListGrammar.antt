@@ -32,7 +32,8 @@ abbrev pub Made : Type 0
 Made = Result ListDraft LineCause
 
 abbrev pub head_of : List ℕ → Option ListHead
-head_of text = look_up ((codes "file", head.File) ∷ (codes "imalist", head.Imalist) ∷ (codes "end", head.End) ∷ []) text
+head_of text = look_up ((codes "file", head.File) ∷ (codes "imalist", head.Imalist)
+    ∷ (codes "end", head.End) ∷ []) text
 
 -- `imalist` first, and then the others up to `end`
 abbrev pub stands : ListHead → ListDraft → Bool
@@ -41,7 +42,8 @@ stands _ d = d.at == 1
 
 -- `imalist 1`
 abbrev pub with_version : List (List ℕ) → ListDraft → Made
-with_version (w ∷ []) d = if bytes_eq w (codes "1") then Ok (record d { at = 1 }) else Err cause.BadField
+with_version (w ∷ []) d = if bytes_eq w (codes "1") then Ok (record d { at = 1 })
+    else Err cause.BadField
 with_version _ d = Err cause.BadField
 
 abbrev pub listed : Listed → ListDraft → Made
@@ -70,7 +72,8 @@ abbrev pub placed : ListHead → List (List ℕ) → ListDraft → Made
 placed h words d = if stands h d then with_head h words d else Err cause.OutOfPlace
 
 abbrev pub add : ListDraft → List ℕ → Made
-add d line = let l = cut_line line in ok_or (head_of l.0) cause.BadWord >>= λ h. placed h (fields l.1) d
+add d line = let l = cut_line line in ok_or (head_of l.0) cause.BadWord >>= λ h. placed h
+    (fields l.1) d
 
 abbrev pub is_over : ListDraft → Bool
 is_over d = d.at == 2

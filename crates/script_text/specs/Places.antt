@@ -16,4 +16,5 @@ place_in (p ∷ ps) path = if bytes_eq path p then Some 0 else one_on (place_in 
 
 -- the map has each path under its number
 abbrev pub Finds : {A : Type 0} → BTreeMap (Vec ℕ A) ℕ → List (List ℕ) → Type 0
-Finds places paths = (path : List ℕ) → get_by (λ k. slice_cmp nat_cmp path k.items) places ≡ place_in paths path
+Finds places paths = (path : List ℕ) → get_by (λ k. slice_cmp nat_cmp path k.items) places
+    ≡ place_in paths path

@@ -45,21 +45,30 @@ boot_algo _ a = a
 
 -- the first entry's digest is zeros, unless a `boot` line follows
 abbrev pub hashed_by : Algo → Draft → Draft
-hashed_by a d = record d { script = record d.script { hash = a; boot = zero_digest (boot_algo d.script.template a) } }
+hashed_by a d =
+    record d {
+      script =
+          record d.script { hash = a; boot = zero_digest (boot_algo d.script.template a) };
+    }
 
 unfoldable pub with_hash : List (List ℕ) → Draft → Made
 with_hash (w ∷ []) d = ok_or (algo_by_name w) cause.BadField >>= λ a. Ok (hashed_by a d)
 with_hash _ d = Err cause.BadField
 
 abbrev pub shown_by : Template → Draft → Draft
-shown_by t d = record d { script = record d.script { template = t; boot = zero_digest (boot_algo t d.script.hash) } }
+shown_by t d =
+    record d {
+      script =
+          record d.script { template = t; boot = zero_digest (boot_algo t d.script.hash) };
+    }
 
 unfoldable pub with_template : List (List ℕ) → Draft → Made
 with_template (w ∷ []) d = ok_or (template_of w) cause.BadField >>= λ t. Ok (shown_by t d)
 with_template _ d = Err cause.BadField
 
 abbrev pub digest_sized : Algo → List ℕ → Result DigestValue LineCause
-digest_sized a bytes = if length bytes == algo_size a then Ok (record { algo = a; bytes = bytes }) else Err cause.BadField
+digest_sized a bytes = if length bytes == algo_size a then Ok (record { algo = a; bytes = bytes })
+    else Err cause.BadField
 
 -- a digest of as many bytes as the algorithm has, which are 64 at most
 abbrev pub digest_in : Algo → List ℕ → Result DigestValue LineCause
@@ -76,28 +85,34 @@ with_boot words d =
 
 abbrev pub mode_named : List ℕ → Option Mode
 mode_named word =
-    look_up ((codes "enforce", mode.Enforce) ∷ (codes "log", mode.Log) ∷ (codes "fix", mode.Fix) ∷ (codes "off", mode.Off) ∷ []) word
+    look_up ((codes "enforce", mode.Enforce) ∷ (codes "log", mode.Log) ∷ (codes "fix", mode.Fix)
+    ∷ (codes "off", mode.Off) ∷ []) word
 
 unfoldable pub with_mode : List (List ℕ) → Draft → Made
-with_mode (w ∷ []) d = ok_or (mode_named w) cause.BadField >>= λ m. Ok (record d { script = record d.script { mode = m } })
+with_mode (w ∷ []) d =
+    ok_or (mode_named w) cause.BadField >>= λ m. Ok
+    (record d { script = record d.script { mode = m } })
 with_mode _ d = Err cause.BadField
 
 unfoldable pub with_key : List (List ℕ) → Draft → Made
-with_key (w ∷ []) d = ok_or (value_of 1 most_key w) cause.BadField >>= λ k. Ok (record d { script = record d.script { key = Some k } })
+with_key (w ∷ []) d = ok_or (value_of 1 most_key w) cause.BadField >>= λ k. Ok
+    (record d { script = record d.script { key = Some k } })
 with_key _ d = Err cause.BadField
 
 -- ---- the names that EVM protects beside the five
 
 -- a name of 10 to 255 bytes that begins with `security.`, but for that of the HMAC itself
 abbrev pub is_added_name : List ℕ → Bool
-is_added_name w = is_word 255 w && nat_le 10 (length w) && starts w (codes "security.") && not (bytes_eq w evm_name)
+is_added_name w = is_word 255 w && nat_le 10 (length w) && starts w (codes "security.")
+    && not (bytes_eq w evm_name)
 
 abbrev pub is_protected : List ℕ → Draft → Bool
 is_protected w d = list_any (bytes_eq w) (five_names ++ d.script.added)
 
 -- `.` locks the list
 unfoldable pub locked : Draft → Made
-locked d = if d.script.locked then Err cause.Locked else Ok (record d { script = record d.script { locked = true } })
+locked d = if d.script.locked then Err cause.Locked
+    else Ok (record d { script = record d.script { locked = true } })
 
 unfoldable pub with_added : List ℕ → Draft → Made
 with_added w d =
@@ -117,7 +132,9 @@ abbrev pub format_of : List ℕ → Option ℕ
 format_of word = look_up ((codes "1", 1) ∷ (codes "2", 2) ∷ []) word
 
 unfoldable pub with_format : List (List ℕ) → Draft → Made
-with_format (w ∷ []) d = ok_or (format_of w) cause.BadField >>= λ f. Ok (record d { script = record d.script { format = f } })
+with_format (w ∷ []) d =
+    ok_or (format_of w) cause.BadField >>= λ f. Ok
+    (record d { script = record d.script { format = f } })
 with_format _ d = Err cause.BadField
 
 -- ---- file systems
@@ -135,7 +152,8 @@ super_with _ _ _ _ = None
 
 abbrev pub super_of : List ℕ → List ℕ → List ℕ → List ℕ → Option Super
 super_of m u n v =
-    super_with (behind_by magic_of (codes "magic=") m) (behind_by uuid_of (codes "uuid=") u) (behind_by name_of (codes "name=") n) (versions_of v)
+    super_with (behind_by magic_of (codes "magic=") m) (behind_by uuid_of (codes "uuid=") u)
+    (behind_by name_of (codes "name=") n) (versions_of v)
 
 -- `fs magic=MAGIC uuid=UUID name=WORD versions`, or `noversions`
 abbrev pub super_in : List (List ℕ) → Option Super
@@ -145,5 +163,6 @@ super_in _ = None
 unfoldable pub with_super : List (List ℕ) → Draft → Made
 with_super words d =
     field (super_in words) λ s.
-    if nat_lt (length d.script.supers) most_supers then Ok (record d { script = record d.script { supers = d.script.supers ++ s ∷ [] } })
+    if nat_lt (length d.script.supers) most_supers
+    then Ok (record d { script = record d.script { supers = d.script.supers ++ s ∷ [] } })
     else Err cause.TooMany

@@ -31,12 +31,15 @@ has_room d = nat_lt (length d.script.rules + d.appended) most_rules
 unfoldable pub with_rule : Option (List ℕ) → Draft → Made
 with_rule text d =
     rule_of text >>= λ r.
-    if has_room d then Ok (record d { script = record d.script { rules = d.script.rules ++ r ∷ [] } }) else Err cause.TooMany
+    if has_room d
+    then Ok (record d { script = record d.script { rules = d.script.rules ++ r ∷ [] } })
+    else Err cause.TooMany
 
 -- ---- tasks
 
 abbrev pub cred_with : Option ℕ → Option ℕ → Option ℕ → Option ℕ → Option Bool → Option Cred
-cred_with (Some u) (Some e) (Some g) (Some f) (Some admin) = Some (record { uid = u; euid = e; gid = g; egid = f; admin = admin })
+cred_with (Some u) (Some e) (Some g) (Some f) (Some admin) =
+    Some (record { uid = u; euid = e; gid = g; egid = f; admin = admin })
 cred_with _ _ _ _ _ = None
 
 -- `admin` or nothing
@@ -47,13 +50,16 @@ admin_of _ = None
 
 abbrev pub cred_of : List ℕ → List ℕ → List ℕ → List ℕ → List (List ℕ) → Option Cred
 cred_of u e g f more =
-    cred_with (behind_by id_of (codes "uid=") u) (behind_by id_of (codes "euid=") e) (behind_by id_of (codes "gid=") g)
+    cred_with (behind_by id_of (codes "uid=") u) (behind_by id_of (codes "euid=") e)
+    (behind_by id_of (codes "gid=") g)
     (behind_by id_of (codes "egid=") f) (admin_of more)
 
 unfoldable pub with_cred : Cred → Draft → Made
 with_cred c d =
     if nat_lt (length d.script.tasks) most_tasks
-    then Ok (record d { script = record d.script { tasks = d.script.tasks ++ record { cred = c; calls = [] } ∷ [] } })
+    then Ok (record d {
+      script = record d.script { tasks = d.script.tasks ++ record { cred = c; calls = [] } ∷ [] };
+    })
     else Err cause.TooMany
 
 -- `task uid=NUM euid=NUM gid=NUM egid=NUM`, and `admin` behind it or not
@@ -122,11 +128,13 @@ few_turns ts = if nat_lt most_turns (length ts) then Err cause.TooMany else Ok t
 
 abbrev pub turns_of : ℕ → List (List ℕ) → Result (List ℕ) LineCause
 turns_of tasks words =
-    if not (list_all (is_short_numeral 10) words) then Err cause.BadField else turns_from tasks words >>= few_turns
+    if not (list_all (is_short_numeral 10) words) then Err cause.BadField
+    else turns_from tasks words >>= few_turns
 
 -- `schedule` and the numbers of tasks
 unfoldable pub with_schedule : List (List ℕ) → Draft → Made
-with_schedule words d = turns_of (length d.script.tasks) words >>= λ turns. Ok (ended (ending.Schedule turns) d)
+with_schedule words d = turns_of (length d.script.tasks) words >>= λ turns. Ok
+    (ended (ending.Schedule turns) d)
 
 unfoldable pub with_rounds : List (List ℕ) → Draft → Made
 with_rounds [] d = Ok (ended ending.Rounds d)
@@ -138,5 +146,6 @@ threads_of text = if_any (short_number_of 10 most_threads text)
 
 -- `threads NUM`
 unfoldable pub with_threads : List (List ℕ) → Draft → Made
-with_threads (w ∷ []) d = ok_or (threads_of w) cause.BadField >>= λ n. Ok (ended (ending.Threads n) d)
+with_threads (w ∷ []) d =
+    ok_or (threads_of w) cause.BadField >>= λ n. Ok (ended (ending.Threads n) d)
 with_threads _ d = Err cause.BadField

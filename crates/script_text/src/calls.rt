@@ -33,7 +33,8 @@ pub fn call_of(
     fields: &[&[u8]],
     paths: &Paths,
 ) -> Result<Call, LineErr>
-    ensures { LineGives result (call_of word (option_copied text.entry) (map (λ w. w.now) fields.now) paths.now) }
+    ensures { LineGives result
+        (call_of word (option_copied text.entry) (map (λ w. w.now) fields.now) paths.now) }
 {
     if word == CallWord::AddRule {
         let rule = rule_of(alloc, text)?;

@@ -78,7 +78,8 @@ impl Draft {
         present: bool,
         content: Bytes,
     ) -> Result<(), LineErr>
-        ensures { LineMakes result (with_front (front_view front.now) present content self.old) self.new }
+        ensures { LineMakes result (with_front (front_view front.now) present content self.old)
+            self.new }
     {
         let fs = place_among(self.supers.len(), front.fs).ok_or(LineCause::Unknown)?;
         let place = self.supers.get(fs).ok_or(LineCause::Unknown)?;
@@ -186,7 +187,8 @@ fn front_in<'a>(fields: &[&'a [u8]]) -> Option<Front<'a>>
 }
 
 fn file_in<'a>(fields: &[&'a [u8]]) -> Option<(Front<'a>, &'a [u8])>
-    ensures { option_map (λ f. (front_view f.0, f.1.now)) result ≡ file_in (map (λ w. w.now) fields.now) }
+    ensures { option_map (λ f. (front_view f.0, f.1.now)) result
+        ≡ file_in (map (λ w. w.now) fields.now) }
 {
     let [
         path,
@@ -249,7 +251,8 @@ pub fn pop_last<T>(items: &mut Vec<T>) -> Option<T>
 #[tactic(auto, unfolding(crate::specs::Draft::change_last))]
 fn put_on_last(files: &mut Vec<FileBlock>, name: &[u8], value: &[u8]) -> Result<(), LineErr>
     requires { length value.now ≤ 4096 }
-    ensures ok { OnOk result (files.new.items ≡ change_last (attrs_put name.now value.now) files.old.items) }
+    ensures ok { OnOk result (files.new.items
+        ≡ change_last (attrs_put name.now value.now) files.old.items) }
     ensures err { IfErr result (λ e. e ≡ LineErr.OutOfMemory) }
 {
     match pop_last(files) {
@@ -287,7 +290,8 @@ fn front_of<'a>(
     gid: &[u8],
     mode: &[u8],
 ) -> Option<Front<'a>>
-    ensures { option_map front_view result ≡ front_of path.now fs.now ino.now generation.now uid.now gid.now mode.now }
+    ensures { option_map front_view result ≡ front_of path.now fs.now ino.now generation.now uid.now
+        gid.now mode.now }
 {
     let path = path_of(path)?;
     let fs = numeral_behind(fs)?;
@@ -344,7 +348,8 @@ fn mode_behind(text: &[u8]) -> Option<u16>
 }
 
 fn content_behind(alloc: Global, text: &[u8]) -> Result<Bytes, LineErr>
-    ensures { LineGives result (ok_or (behind_by content_of (codes "content=") text.now) cause.BadField) }
+    ensures { LineGives result
+        (ok_or (behind_by content_of (codes "content=") text.now) cause.BadField) }
 {
     let value = text.strip_prefix(b"content=").ok_or(LineCause::BadField)?;
     value_of(alloc, value, 0, CONTENT)
@@ -359,7 +364,8 @@ fn block_of(
     present: bool,
     content: Bytes,
 ) -> Result<FileBlock, AllocError>
-    ensures { IfOk result (λ block. block ≡ block_of (front_view front.now) fs place.now present content) }
+    ensures { IfOk result (λ block. block
+        ≡ block_of (front_view front.now) fs place.now present content) }
 {
     let meta = Meta {
         ino: front.ino,
@@ -427,7 +433,8 @@ fn digest_of(algo: Algo, content: &[u8]) -> Digest
 
 // The file with the label of its content.
 fn label_put(algo: Algo, file: FileBlock) -> Result<FileBlock, LineErr>
-    ensures ok { IfOk result (λ b. b ≡ attrs_put ima_name (label_of (digest_of algo file.image.content)) file) }
+    ensures ok { IfOk result
+        (λ b. b ≡ attrs_put ima_name (label_of (digest_of algo file.image.content)) file) }
     ensures err { IfErr result (λ e. e ≡ LineErr.OutOfMemory) }
 {
     let mut out = [0; MAX_LABEL];

@@ -64,7 +64,9 @@ impl Draft {
         text: Option<&[u8]>,
         fields: &[&[u8]],
     ) -> Result<(), LineErr>
-        ensures { LineMakes result (with_head head (option_copied text.entry) (map (λ w. w.now) fields.now) self.old) self.new }
+        ensures { LineMakes result
+            (with_head head (option_copied text.entry) (map (λ w. w.now) fields.now) self.old)
+            self.new }
     {
         match head {
             Head::Imakern => self.with_version(fields),

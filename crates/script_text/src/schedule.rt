@@ -22,7 +22,8 @@ impl Draft {
     /// `schedule` and the numbers of tasks
     #[tactic(auto, unfolding(crate::specs::Tasks::with_schedule))]
     pub fn with_schedule(&mut self, alloc: Global, text: Option<&[u8]>) -> Result<(), LineErr>
-        ensures { LineMakes result (with_schedule (all_fields (option_copied text.entry)) self.old) self.new }
+        ensures { LineMakes result (with_schedule (all_fields (option_copied text.entry)) self.old)
+            self.new }
     {
         let turns = match text {
             Some(numbers) => turns_of(alloc, self.tasks.len(), numbers)?,
@@ -33,7 +34,8 @@ impl Draft {
     }
 }
 
-// The forms of all words come first, then whether the tasks are there, then how many turns they are.
+// The forms of all words come first, then whether the tasks are there, then how many turns they
+// are.
 fn turns_of(alloc: Global, tasks: usize, numbers: &[u8]) -> Result<Turns, LineErr>
     requires { tasks ≤ 64 }
     ensures { LineGives result (turns_of tasks (words numbers.now)) }

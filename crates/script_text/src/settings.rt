@@ -301,7 +301,8 @@ fn super_of(
     name: &[u8],
     versions: &[u8],
 ) -> Result<Super, LineErr>
-    ensures { LineGives result (ok_or (super_of magic.now uuid.now name.now versions.now) cause.BadField) }
+    ensures { LineGives result
+        (ok_or (super_of magic.now uuid.now name.now versions.now) cause.BadField) }
 {
     let magic = magic_behind(magic).ok_or(LineCause::BadField)?;
     let uuid = uuid_behind(uuid).ok_or(LineCause::BadField)?;

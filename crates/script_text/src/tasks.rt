@@ -79,7 +79,9 @@ impl Draft {
         text: Option<&[u8]>,
         fields: &[&[u8]],
     ) -> Result<(), LineErr>
-        ensures { LineMakes result (with_call_line word (option_copied text.entry) (map (λ w. w.now) fields.now) self.old) self.new }
+        ensures { LineMakes result
+            (with_call_line word (option_copied text.entry) (map (λ w. w.now) fields.now) self.old)
+            self.new }
     {
         let call = call_of(alloc, word, text, fields, &self.paths)?;
         self.with_call(call)

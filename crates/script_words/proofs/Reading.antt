@@ -23,23 +23,28 @@ some_line text = long_filled _ _ (length-slice_split (λ b. b == 10) text)
 module _ {S : Type 0} (step : S → List ℕ → Result S LineCause) (ends : S → Bool) where
   -- a line that isn't the last makes a state, from which the others go on
   pub one_more : (n : ℕ) (s : S) (line : List ℕ) (others : List (List ℕ)) → is_filled others ≡ true
-      → from_ended step ends n s (line ∷ others) ≡ (at_line fault_at n (step_over step s line) >>= λ t. from_ended step ends (n + 1) t others)
+      → from_ended step ends n s (line ∷ others)
+      ≡ (at_line fault_at n (step_over step s line) >>= λ t. from_ended step ends (n + 1) t others)
   one_more n s line [] h = absurd (cc h)
   one_more n s line (next ∷ ls) h = refl
 
-  module _ (n : ℕ) (s : S) (line after rest : List ℕ) (whole : Result S Fault) (cut_off : lines rest ≡ line ∷ lines after)
+  module _ (n : ℕ) (s : S) (line after rest : List ℕ) (whole : Result S Fault) (cut_off : lines rest
+      ≡ line ∷ lines after)
       (so_far : from_ended step ends n s (lines rest) ≡ whole) where
-    here : (at_line fault_at n (step_over step s line) >>= λ t. from_ended step ends (n + 1) t (lines after)) ≡ whole
+    here : (at_line fault_at n (step_over step s line) >>= λ t. from_ended step ends (n + 1) t
+        (lines after)) ≡ whole
     here = rw (cut_off, one_more n s line (lines after) (some_line after)) at so_far
 
     -- over a skipped line, and over one that makes the state t
     pub goes_over : is_skipped line ≡ true → from_ended step ends (n + 1) s (lines after) ≡ whole
     goes_over skipped = rw skipped at here
 
-    pub goes_on : (t : S) → is_skipped line ≡ false → step s line ≡ Ok t → from_ended step ends (n + 1) t (lines after) ≡ whole
+    pub goes_on : (t : S) → is_skipped line ≡ false → step s line ≡ Ok t
+        → from_ended step ends (n + 1) t (lines after) ≡ whole
     goes_on t read good = rw (read, good) at here
 
     -- a bad line stops the reading
-    pub stops : (e : LineErr) → is_skipped line ≡ false → LineFails e (step s line) → Fails (err_at n e) whole
+    pub stops : (e : LineErr) → is_skipped line ≡ false → LineFails e (step s line)
+        → Fails (err_at n e) whole
     stops (err.Refused c) read bad = sym (rw (read, bad) at here)
     stops err.OutOfMemory read bad = tt

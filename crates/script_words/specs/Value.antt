@@ -18,7 +18,8 @@ abbrev pub text_value : List ℕ → Option (List ℕ)
 text_value bytes = if list_all is_visible bytes then Some bytes else None
 
 abbrev pub byte_of : ℕ → ℕ → Option ℕ
-byte_of high low = if is_digit high 16 && is_digit low 16 then Some (16 * digit_value high + digit_value low) else None
+byte_of high low = if is_digit high 16
+    && is_digit low 16 then Some (16 * digit_value high + digit_value low) else None
 
 -- a colon and two hexadecimal digits
 abbrev pub end_byte : List ℕ → Option ℕ
@@ -31,7 +32,8 @@ fill_at most digits end = end_byte end >>= λ b. short_number_of 10 most digits 
 -- a number, a colon, and the two digits of a byte: how often, and which
 abbrev pub fill_of : ℕ → List ℕ → Option (ℕ × ℕ)
 fill_of most fill =
-    if nat_le 3 (length fill) then fill_at most (take (length fill - 3) fill) (drop (length fill - 3) fill) else None
+    if nat_le 3 (length fill) then fill_at most (take (length fill - 3) fill)
+    (drop (length fill - 3) fill) else None
 
 abbrev pub fill_value : ℕ → List ℕ → Option (List ℕ)
 fill_value most fill = option_map (λ f. replicate f.0 f.1) (fill_of most fill)
@@ -45,7 +47,8 @@ any_value most text =
 
 -- at least so many bytes, and at most so many
 abbrev pub within : ℕ → ℕ → List ℕ → Option (List ℕ)
-within least most bytes = if nat_le least (length bytes) && nat_le (length bytes) most then Some bytes else None
+within least most bytes = if nat_le least (length bytes) && nat_le (length bytes) most
+    then Some bytes else None
 
 abbrev pub value_of : ℕ → ℕ → List ℕ → Option (List ℕ)
 value_of least most text = any_value most text >>= within least most

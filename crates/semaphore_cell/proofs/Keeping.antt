@@ -64,7 +64,8 @@ counts_set counts f g change at new within small before after is s below = by (c
   by : (at ≡ s) ⊎ (at ≡ s → ⊥) → get_or (set counts at new) s 0 ≡ g s
   by (inl same) =
       ap (λ k. get_or (set counts at new) k 0) (sym same)
-      ∙ get_or-set_same counts at new 0 within ∙ is ∙ ap change (before at small) ∙ ap (λ k. change (f k)) same
+      ∙ get_or-set_same counts at new 0 within ∙ is ∙ ap change (before at small)
+      ∙ ap (λ k. change (f k)) same
       ∙ sym (after s ∙ ap (λ b. cond b (change (f s)) (f s)) (eq-eqb at s same))
   by (inr other) =
       get_or-set_other counts at s new 0 (λ e. other (sym e)) ∙ before s below
@@ -72,7 +73,8 @@ counts_set counts f g change at new within small before after is s below = by (c
 
 -- a cell with one event more, by the pass of its task
 pub IsSemaphores-more : (c d : Inside) (w : Who) (deed : Deed) (number : ℕ) → IsSemaphores c
-    → semaphore_says (past c.journal.list) deed ≡ Some told.Done → caller_in w.task deed ≡ w.task + 1
+    → semaphore_says (past c.journal.list) deed ≡ Some told.Done → caller_in w.task deed
+    ≡ w.task + 1
     → number ≡ w.task + 1 → number < d.journal.callers
     → ((s : ℕ) → s < 256 → get_or d.left s 0 ≡ left s (done w deed ∷ past c.journal.list))
     → d.journal.list ≡ c.journal.list ++ done w deed ∷ []
@@ -83,7 +85,8 @@ IsSemaphores-more c d w deed number kept says caller is below counts list number
     let newest : past d.journal.list ≡ done w deed ∷ past c.journal.list =
     ap past list ∙ past_more c.journal.list (done w deed) in
     let signed : All (λ e. (0 < caller_of e) × (caller_of e < d.journal.callers)) c.journal.list =
-    subst (λ (n : ℕ). All (λ e. (0 < caller_of e) × (caller_of e < n)) c.journal.list) (sym callers) kept.signed in
+    subst (λ (n : ℕ). All (λ e. (0 < caller_of e) × (caller_of e < n)) c.journal.list) (sym callers)
+    kept.signed in
     let last : (0 < caller_in w.task deed) × (caller_in w.task deed < d.journal.callers) =
     (omega (arith, caller), omega (arith, caller, is, below)) in
     record {
@@ -97,17 +100,24 @@ IsSemaphores-more c d w deed number kept says caller is below counts list number
           (All-push (λ e. (0 < caller_of e) × (caller_of e < d.journal.callers)) c.journal.list
           (done w deed) signed last);
       own = subst (IsIdle d.journal) (sym own)
-          (record { name = kept.own.name ∙ sym name; number = kept.own.number; mine = kept.own.mine });
+          (record {
+            name = kept.own.name ∙ sym name;
+            number = kept.own.number;
+            mine =
+                kept.own.mine;
+          });
     }
 
 -- at the start
 pub IsSemaphores-start : (c : Inside) → c.left ≡ replicate 256 0 → c.journal.list ≡ []
-    → c.journal.numbers ≡ [] → c.own.name ≡ c.journal.name → c.own.number ≡ 0 → c.own.mine ≡ [] → IsSemaphores c
+    → c.journal.numbers ≡ [] → c.own.name ≡ c.journal.name → c.own.number ≡ 0 → c.own.mine ≡ []
+    → IsSemaphores c
 unfolding past
 IsSemaphores-start c zeros list numbers name number mine =
     let none : past c.journal.list ≡ [] = ap past list in
     record {
-      counts = λ s small. ap (λ (l : List ℕ). get_or l s 0) zeros ∙ get_or-replicate 256 s 0 0 small ∙ ap (left s) (sym none);
+      counts = λ s small. ap (λ (l : List ℕ). get_or l s 0) zeros ∙ get_or-replicate 256 s 0 0 small
+          ∙ ap (left s) (sym none);
       legal = subst LegalSemaphores (sym none) tt;
       numbers = numbers ∙ ap (map caller_of) (sym list);
       signed = subst (All (λ e. (0 < caller_of e) × (caller_of e < c.journal.callers))) (sym list)

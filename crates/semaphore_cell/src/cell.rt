@@ -73,14 +73,16 @@ impl SemaphoreCell {
 
     /// Posts to a semaphore or waits for one, by the pass of the step's task, in room that was
     /// reserved, and answers the place of its event, from 0 on. None is blocked: a wait for a
-    /// semaphore of which nothing is left, or a deed that is on no semaphore. The pass has then seen
+    /// semaphore of which nothing is left, or a deed that is on no semaphore. The pass has then
+    /// seen
     /// the journal.
     pub fn signal(&mut self, pass: &mut Pass<Event>, who: Who, deed: Deed) -> Option<u64>
         requires room { 1 ≤ self.old.spare }
         requires name { pass.old.name ≡ self.old.name }
         requires number { pass.old.number ≡ who.task + 1 }
 
-        ensures says { option_map (λ _. Told.Done) result ≡ semaphore_says (past self.old.list) deed }
+        ensures says { option_map (λ _. Told.Done) result
+            ≡ semaphore_says (past self.old.list) deed }
         ensures place { IfSome result (λ place. place ≡ length self.old.list) }
         ensures list { self.new.list
             ≡ self.old.list ++ made who deed (semaphore_says (past self.old.list) deed) }

@@ -33,7 +33,8 @@ module _ {X : Type 0} (p : X → Bool) where
   place_is xs = let le = prefix_len-le-length (λ x. not (p x)) xs in grind (arith, nat_tests)
 
   -- a part without a separator is the first part, where a separator or nothing follows
-  pub part : (w rest : List X) → list_all (λ x. not (p x)) w ≡ true → begins p rest ≡ true → slice_split p (w ++ rest) ≡ w ∷ drop 1 (slice_split p rest)
+  pub part : (w rest : List X) → list_all (λ x. not (p x)) w ≡ true → begins p rest ≡ true
+      → slice_split p (w ++ rest) ≡ w ∷ drop 1 (slice_split p rest)
   part [] [] h b = refl
   part [] (x ∷ xs) h b = rw b refl
   part (x ∷ w) rest h b = elim (cases_Bool (p x)) [
@@ -49,24 +50,30 @@ blanks_off (b ∷ bs) = elim (cases_Bool (is_blank b)) [
   | inr e ↦ rw (e, e) refl
 ]
 
-rest_of : (rest : List ℕ) → begins is_blank rest ≡ true → filter is_filled (drop 1 (slice_split is_blank rest)) ≡ tokens rest
+rest_of : (rest : List ℕ) → begins is_blank rest ≡ true
+    → filter is_filled (drop 1 (slice_split is_blank rest)) ≡ tokens rest
 rest_of [] b = refl
 rest_of (x ∷ xs) b = rw b refl
 
 -- a word without blanks is the first token, where a blank or nothing follows
-pub tokens-word : (c : ℕ) (w rest : List ℕ) → list_all is_inked (c ∷ w) ≡ true → begins is_blank rest ≡ true → tokens ((c ∷ w) ++ rest) ≡ (c ∷ w) ∷ tokens rest
-tokens-word c w rest h b = rw (part is_blank (c ∷ w) rest h b) (ap (λ (ts : List (List ℕ)). (c ∷ w) ∷ ts) (rest_of rest b))
+pub tokens-word : (c : ℕ) (w rest : List ℕ) → list_all is_inked (c ∷ w) ≡ true
+    → begins is_blank rest ≡ true → tokens ((c ∷ w) ++ rest) ≡ (c ∷ w) ∷ tokens rest
+tokens-word c w rest h b =
+    rw (part is_blank (c ∷ w) rest h b) (ap (λ (ts : List (List ℕ)). (c ∷ w) ∷ ts) (rest_of rest b))
 
 -- the first token, where it is not empty
-pub first_token : (w rest : List ℕ) → is_filled w ≡ true → list_all is_inked w ≡ true → begins is_blank rest ≡ true → tokens (w ++ rest) ≡ w ∷ tokens rest
+pub first_token : (w rest : List ℕ) → is_filled w ≡ true → list_all is_inked w ≡ true
+    → begins is_blank rest ≡ true → tokens (w ++ rest) ≡ w ∷ tokens rest
 first_token [] rest f h b = absurd (false≢true f)
 first_token (c ∷ w) rest f h b = tokens-word c w rest h b
 
-empty_token : (text : List ℕ) → begins is_inked text ≡ true → take (position_or_len is_blank text) text ≡ [] → text ≡ []
+empty_token : (text : List ℕ) → begins is_inked text ≡ true
+    → take (position_or_len is_blank text) text ≡ [] → text ≡ []
 empty_token [] b e = refl
 empty_token (c ∷ cs) b e = elim (cases_Bool (is_blank c)) [
   | inl blank ↦ absurd (false≢true (rw blank at b))
-  | inr inked ↦ let one : take (1 + position_or_len is_blank cs) (c ∷ cs) ≡ [] = rw inked at e in absurd (cc (rw one-add at one))
+  | inr inked ↦ let one : take (1 + position_or_len is_blank cs) (c ∷ cs) ≡ [] =
+      rw inked at e in absurd (cc (rw one-add at one))
 ]
 
 nothing_left : (n : ℕ) → tokens (drop n []) ≡ []
@@ -74,20 +81,27 @@ nothing_left zero = refl
 nothing_left (suc n) = refl
 
 -- what is cut off the line after its blanks: with no token there, the line has none
-pub next_none : (line : List ℕ) → let text = drop (position_or_len is_inked line) line in let n = position_or_len is_blank text in
+pub next_none : (line : List ℕ) → let text = drop (position_or_len is_inked line) line in let n =
+    position_or_len is_blank text in
     take n text ≡ [] → (tokens line ≡ []) × (tokens (drop n text) ≡ [])
 next_none line e =
     let text = drop (position_or_len is_inked line) line in
     let none : text ≡ [] = empty_token text (after_cut is_inked line) e in
-    let n = position_or_len is_blank text in
-    (sym (blanks_off line) ∙ ap tokens none, ap (λ (t : List ℕ). tokens (drop n t)) none ∙ nothing_left n)
+    let n = position_or_len is_blank text in (
+      sym (blanks_off line) ∙ ap tokens none,
+      ap (λ (t : List ℕ). tokens (drop n t)) none
+          ∙ nothing_left n,
+    )
 
-pub next_some : (line : List ℕ) → let text = drop (position_or_len is_inked line) line in let n = position_or_len is_blank text in
+pub next_some : (line : List ℕ) → let text = drop (position_or_len is_inked line) line in let n =
+    position_or_len is_blank text in
     is_filled (take n text) ≡ true → tokens line ≡ take n text ∷ tokens (drop n text)
 next_some line f =
     let text = drop (position_or_len is_inked line) line in
     let n = position_or_len is_blank text in
-    sym (blanks_off line) ∙ ap tokens (sym (take-append-drop n text)) ∙ first_token (take n text) (drop n text) f (before_cut is_blank text) (after_cut is_blank text)
+    sym (blanks_off line) ∙ ap tokens (sym (take-append-drop n text))
+    ∙ first_token (take n text) (drop n text) f (before_cut is_blank text)
+    (after_cut is_blank text)
 
 -- the token and the rest that are cut off a line, as by one call of `next`
 pub record IsNext (line token rest : List ℕ) : Type 0 where
@@ -102,10 +116,13 @@ filled_from_length : (w : List ℕ) → length w ≢ 0 → is_filled w ≡ true
 filled_from_length [] ne = absurd (ne refl)
 filled_from_length (x ∷ xs) ne = refl
 
-pub is_next : (line text token rest : List ℕ) (start end : ℕ) → start ≡ unwrap_or (position is_inked line) (length line) → text ≡ drop start line
-    → end ≡ unwrap_or (position is_blank text) (length text) → token ≡ take end text → rest ≡ drop end text → IsNext line token rest
+pub is_next : (line text token rest : List ℕ) (start end : ℕ) → start
+    ≡ unwrap_or (position is_inked line) (length line) → text ≡ drop start line
+    → end ≡ unwrap_or (position is_blank text) (length text) → token ≡ take end text → rest
+    ≡ drop end text → IsNext line token rest
 is_next line text token rest start end s t e w r =
-    let text_is : text ≡ drop (position_or_len is_inked line) line = t ∙ ap (λ (k : ℕ). drop k line) (s ∙ place_is is_inked line) in
+    let text_is : text ≡ drop (position_or_len is_inked line) line = t
+    ∙ ap (λ (k : ℕ). drop k line) (s ∙ place_is is_inked line) in
     let end_is : end ≡ position_or_len is_blank (drop (position_or_len is_inked line) line) =
     e ∙ place_is is_blank text ∙ ap (λ (xs : List ℕ). position_or_len is_blank xs) text_is in
     rw (w, r, end_is, text_is) (record {

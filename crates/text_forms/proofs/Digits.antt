@@ -15,7 +15,8 @@ none_above false v most h = refl
 
 -- digits whose first few stand for a number above the limit have none
 pub number_of-above : (radix most : ℕ) (ds : List ℕ) (i value digit : ℕ) → 1 ≤ radix → i < length ds
-    → value ≡ digits_value radix (take i ds) → digit ≡ digit_value (get_or ds i 0) → most < value * radix + digit → None ≡ number_of radix most ds
+    → value ≡ digits_value radix (take i ds) → digit ≡ digit_value (get_or ds i 0)
+    → most < value * radix + digit → None ≡ number_of radix most ds
 number_of-above radix most ds i value digit low at v d above =
     let here = digits_value_more radix ds i at in
     let grows = digits_value-take-le radix ds (i + 1) low in
@@ -26,7 +27,10 @@ number_of-above radix most ds i value digit low at v d above =
 pub more_digits : (radix : ℕ) (ds : List ℕ) (i value digit : ℕ) → i < length ds
     → value ≡ digits_value radix (take i ds) → list_all (λ c. is_digit c radix) (take i ds) ≡ true
     → digit_value (get_or ds i 0) < radix → digit ≡ digit_value (get_or ds i 0)
-    → (value * radix + digit ≡ digits_value radix (take (i + 1) ds)) × (list_all (λ c. is_digit c radix) (take (i + 1) ds) ≡ true)
+    → (value * radix + digit ≡ digits_value radix (take (i + 1) ds))
+    × (list_all (λ c. is_digit c radix) (take (i + 1) ds) ≡ true)
 more_digits radix ds i value digit at v all fits d =
-    let yes : is_digit (get_or ds i 0) radix ≡ true = grind (arith, nat_tests) in
-    (rw (v, d) (sym (digits_value_more radix ds i at)), rw (list_all_more (λ c. is_digit c radix) ds i 0 at, all, yes) refl)
+    let yes : is_digit (get_or ds i 0) radix ≡ true = grind (arith, nat_tests) in (
+      rw (v, d) (sym (digits_value_more radix ds i at)),
+      rw (list_all_more (λ c. is_digit c radix) ds i 0 at, all, yes) refl,
+    )

@@ -5,10 +5,12 @@ use Rattle.std.proofs.Math.ListN.{drop_of_length-le}
 
 module _ {X : Type 0} (p : X → Bool) (xs : List X) (n : ℕ) (whole : Bool) where
   -- an item that passes leaves the question to the items behind it
-  pub all_goes_on : (m : ℕ) (x : X) → drop n xs ≡ x ∷ drop (n + 1) xs → p x ≡ true → m ≡ n + 1 → list_all p (drop n xs) ≡ whole → list_all p (drop m xs) ≡ whole
+  pub all_goes_on : (m : ℕ) (x : X) → drop n xs ≡ x ∷ drop (n + 1) xs → p x ≡ true → m ≡ n + 1
+      → list_all p (drop n xs) ≡ whole → list_all p (drop m xs) ≡ whole
   all_goes_on m x item passes is so_far = rw is (rw (item, passes) at so_far)
 
-  pub all_stops : (x : X) → drop n xs ≡ x ∷ drop (n + 1) xs → p x ≡ false → list_all p (drop n xs) ≡ whole → false ≡ whole
+  pub all_stops : (x : X) → drop n xs ≡ x ∷ drop (n + 1) xs → p x ≡ false → list_all p (drop n xs)
+      ≡ whole → false ≡ whole
   all_stops x item fails so_far = rw (item, fails) at so_far
 
   pub all_is_done : length xs ≤ n → list_all p (drop n xs) ≡ whole → true ≡ whole

@@ -10,7 +10,9 @@ use Rattle.text_forms.proofs.Visible.{number_of-digits}
 
 -- the number of a text is its value, where the text has the form and the value is within the limit
 pub short_number_by_value : (radix most : ℕ) (text : List ℕ)
-    → short_number_of radix most text ≡ (if is_short_numeral radix text && nat_le (digits_value radix text) most then Some (digits_value radix text) else None)
+    → short_number_of radix most text
+    ≡ (if is_short_numeral radix text && nat_le (digits_value radix text) most
+    then Some (digits_value radix text) else None)
 short_number_by_value radix most text = elim (cases_Bool (is_short text)) [
   | inl e ↦ rw e refl
   | inr e ↦ rw e refl
@@ -44,32 +46,40 @@ module _ (radix : ℕ) (low : 2 ≤ radix) (high : radix ≤ 16) where
       let parts' : 0 * radix + n % radix ≡ n = rw none at parts in
       omega arith
 
-  leads_onto : (k n : ℕ) (acc : List ℕ) → 0 < n → n < radix ^ k → leads (digits_onto k radix false n acc) ≡ true
+  leads_onto : (k n : ℕ) (acc : List ℕ) → 0 < n → n < radix ^ k
+      → leads (digits_onto k radix false n acc) ≡ true
   leads_onto zero n acc positive fits = absurd (omega (arith, pow-zero radix))
   leads_onto (suc k) n acc positive fits =
       elim (cases_Bool (n / radix == 0)) [
         | inl last ↦ rw last (glyph_leads (n % radix) acc (omega (arith, one_digit n last)))
         | inr more ↦
             let positive' : 0 < n / radix = grind (arith, nat_tests) in
-            let fits' : n / radix < radix ^ k = (div-lt_iff_lt-mul some).1 (omega (arith, pow-suc radix k)) in
+            let fits' : n / radix < radix ^ k =
+            (div-lt_iff_lt-mul some).1 (omega (arith, pow-suc radix k)) in
             rw more (leads_onto k (n / radix) (digit_glyph false (n % radix) ∷ acc) positive' fits')
       ]
 
-  short_onto : (k n : ℕ) → n < radix ^ suc k → is_short (digits_onto (suc k) radix false n []) ≡ true
+  short_onto : (k n : ℕ) → n < radix ^ suc k → is_short (digits_onto (suc k) radix false n [])
+      ≡ true
   short_onto k zero fits =
       let parts = div-add-mod' 0 radix in
       let last : (0 / radix == 0) ≡ true = grind (arith, nat_tests, div-le_self 0 radix) in
       rw last refl
-  short_onto k (suc n) fits = short_from_leads (digits_onto (suc k) radix false (suc n) []) (leads_onto (suc k) (suc n) [] (omega arith) fits)
+  short_onto k (suc n) fits = short_from_leads (digits_onto (suc k) radix false (suc n) [])
+      (leads_onto (suc k) (suc n) [] (omega arith) fits)
 
   short_digits : (n : ℕ) → n < radix ^ 64 → is_short (digits radix false n) ≡ true
   unfolding digits
   short_digits n fits = short_onto 63 n fits
 
   -- what is printed of a number is read as that number
-  pub short_number_of-digits : (most n : ℕ) → n < radix ^ 64 → n ≤ most → short_number_of radix most (digits radix false n) ≡ Some n
-  short_number_of-digits most n fits le = rw (short_digits n fits) (number_of-digits radix n low high fits most le)
+  pub short_number_of-digits : (most n : ℕ) → n < radix ^ 64 → n ≤ most
+      → short_number_of radix most (digits radix false n) ≡ Some n
+  short_number_of-digits most n fits le =
+      rw (short_digits n fits) (number_of-digits radix n low high fits most le)
 
 -- the same of decimal digits
-pub short_number_of-decimal : (most n : ℕ) → n < 2 ^ 64 → n ≤ most → short_number_of 10 most (decimal n) ≡ Some n
-short_number_of-decimal most n fits le = short_number_of-digits 10 (omega arith) (omega arith) most n (omega arith) le
+pub short_number_of-decimal : (most n : ℕ) → n < 2 ^ 64 → n ≤ most
+    → short_number_of 10 most (decimal n) ≡ Some n
+short_number_of-decimal most n fits le = short_number_of-digits 10 (omega arith) (omega arith) most
+    n (omega arith) le

@@ -22,10 +22,12 @@ right true b h = h
 right false b h = absurd (false≢true h)
 
 -- parts joined by a byte that none of them has are the parts between that byte
-pub parts_back : (c : ℕ) (w : List ℕ) (ws : List (List ℕ)) → list_all (λ v. list_all (λ b. not (b == c)) v) (w ∷ ws) ≡ true
+pub parts_back : (c : ℕ) (w : List ℕ) (ws : List (List ℕ))
+    → list_all (λ v. list_all (λ b. not (b == c)) v) (w ∷ ws) ≡ true
     → slice_split (λ b. b == c) (join_with_byte c (w ∷ ws)) ≡ w ∷ ws
 parts_back c w [] h =
-    ap (λ (t : List ℕ). slice_split (λ b. b == c) t) (sym (append-nil w)) ∙ part (λ b. b == c) w [] (left _ _ h) refl
+    ap (λ (t : List ℕ). slice_split (λ b. b == c) t) (sym (append-nil w))
+    ∙ part (λ b. b == c) w [] (left _ _ h) refl
 parts_back c w (v ∷ ws) h =
     part (λ b. b == c) w (c ∷ join_with_byte c (v ∷ ws)) (left _ _ h) (same_byte c)
     ∙ ap (λ (ts : List (List ℕ)). w ∷ ts) (rw (same_byte c) (parts_back c v ws (right _ _ h)))
@@ -37,32 +39,44 @@ no_newline : (b : ℕ) → is_clean_byte b ≡ true → not (b == 10) ≡ true
 no_newline b h = left _ _ h
 
 -- the words of a line of a report
-pub words_back : (w : List ℕ) (ws : List (List ℕ)) → is_line (w ∷ ws) ≡ true → words (join_with_byte 32 (w ∷ ws)) ≡ w ∷ ws
+pub words_back : (w : List ℕ) (ws : List (List ℕ)) → is_line (w ∷ ws) ≡ true
+    → words (join_with_byte 32 (w ∷ ws)) ≡ w ∷ ws
 words_back w ws h =
-    parts_back 32 w ws (all_weaker is_clean (λ v. list_all (λ b. not (b == 32)) v) (λ v k. all_weaker is_clean_byte (λ b. not (b == 32)) no_space v k) (w ∷ ws) h)
+    parts_back 32 w ws
+    (all_weaker is_clean (λ v. list_all (λ b. not (b == 32)) v)
+    (λ v k. all_weaker is_clean_byte (λ b. not (b == 32)) no_space v k) (w ∷ ws) h)
 
-flat_words : (ws : List (List ℕ)) → list_all is_clean ws ≡ true → list_all (λ b. not (b == 10)) (join_with_byte 32 ws) ≡ true
+flat_words : (ws : List (List ℕ)) → list_all is_clean ws ≡ true
+    → list_all (λ b. not (b == 10)) (join_with_byte 32 ws) ≡ true
 flat_words [] h = refl
 flat_words (w ∷ []) h = all_weaker is_clean_byte (λ b. not (b == 10)) no_newline w (left _ _ h)
 flat_words (w ∷ v ∷ ws) h =
-    rw (list_all-append (λ b. not (b == 10)) w (32 ∷ join_with_byte 32 (v ∷ ws)), all_weaker is_clean_byte (λ b. not (b == 10)) no_newline w (left _ _ h))
+    rw (
+      list_all-append (λ b. not (b == 10)) w (32 ∷ join_with_byte 32 (v ∷ ws)),
+      all_weaker is_clean_byte (λ b. not (b == 10)) no_newline w (left _ _ h),
+    )
     (flat_words (v ∷ ws) (right _ _ h))
 
 -- a line that no newline is in is taken off the text
-pub line_split : (text rest : List ℕ) → list_all (λ b. not (b == 10)) text ≡ true → lines ((text ++ 10 ∷ []) ++ rest) ≡ text ∷ lines rest
-line_split text rest flat = ap lines (append_assoc text (10 ∷ []) rest) ∙ part (λ b. b == 10) text (10 ∷ rest) flat refl
+pub line_split : (text rest : List ℕ) → list_all (λ b. not (b == 10)) text ≡ true
+    → lines ((text ++ 10 ∷ []) ++ rest) ≡ text ∷ lines rest
+line_split text rest flat = ap lines (append_assoc text (10 ∷ []) rest)
+    ∙ part (λ b. b == 10) text (10 ∷ rest) flat refl
 
 -- the lines of a report, and one empty line behind the last newline
-pub lines_back : (ls : List (List (List ℕ))) → list_all is_line ls ≡ true → map words (lines (text_of ls)) ≡ ls ++ ([] ∷ []) ∷ []
+pub lines_back : (ls : List (List (List ℕ))) → list_all is_line ls ≡ true
+    → map words (lines (text_of ls)) ≡ ls ++ ([] ∷ []) ∷ []
 lines_back [] h = refl
 lines_back ([] ∷ ls) h = absurd (false≢true h)
 lines_back ((w ∷ ws) ∷ ls) h =
-    ap (λ (ts : List (List ℕ)). map words ts) (line_split (join_with_byte 32 (w ∷ ws)) (text_of ls) (flat_words (w ∷ ws) (left _ _ h)))
+    ap (λ (ts : List (List ℕ)). map words ts)
+    (line_split (join_with_byte 32 (w ∷ ws)) (text_of ls) (flat_words (w ∷ ws) (left _ _ h)))
     ∙ ap (λ (l : List (List ℕ)). l ∷ map words (lines (text_of ls))) (words_back w ws (left _ _ h))
     ∙ ap (λ (more : List (List (List ℕ))). (w ∷ ws) ∷ more) (lines_back ls (right _ _ h))
 
 -- two reports with one text are one report
-pub text_tells : (a b : List (List (List ℕ))) → list_all is_line a ≡ true → list_all is_line b ≡ true → text_of a ≡ text_of b → a ≡ b
+pub text_tells : (a b : List (List (List ℕ))) → list_all is_line a ≡ true → list_all is_line b
+    ≡ true → text_of a ≡ text_of b → a ≡ b
 text_tells a b h k e =
     append_cancel_right a b (([] ∷ []) ∷ [])
     (sym (lines_back a h) ∙ ap (λ (t : List ℕ). map words (lines t)) e ∙ lines_back b k)

@@ -9,11 +9,13 @@ use Rattle.uuid.specs.Text.{hyphenated_text, lower, parsed_hyphenated}
 abbrev pub without_0x : List ℕ → List ℕ
 without_0x [] = []
 without_0x (c ∷ []) = c ∷ []
-without_0x (c ∷ d ∷ digits) = if (c == 48) && ((d == 120) || (d == 88)) then digits else c ∷ d ∷ digits
+without_0x (c ∷ d ∷ digits) = if (c == 48) && ((d == 120) || (d == 88)) then digits else c ∷ d
+    ∷ digits
 
 -- `0x` or `0X` or neither, then 1 to 16 hexadecimal digits
 abbrev pub magic_of : List ℕ → Option ℕ
-magic_of text = if nat_le (length (without_0x text)) 16 then number_of 16 0xffff_ffff_ffff_ffff (without_0x text) else None
+magic_of text = if nat_le (length (without_0x text)) 16 then number_of 16 0xffff_ffff_ffff_ffff
+    (without_0x text) else None
 
 -- `0x` and digits in lower case, without leading zeros
 abbrev pub magic_text : ℕ → List ℕ

@@ -23,13 +23,18 @@ abbrev pub at_line : {A C F : Type 0} → (ℕ → C → F) → ℕ → Result A
 at_line fault n (Ok x) = Ok x
 at_line fault n (Err cause) = Err (fault n cause)
 
--- what the lines make of the state s, where the first of them has the number n: the last state, or the first fault
-abbrev pub from_lines : {S C F : Type 0} → (ℕ → C → F) → (S → List ℕ → Result S C) → ℕ → S → List (List ℕ) → Result S F
+-- what the lines make of the state s, where the first of them has the number n: the last state, or
+-- the first fault
+abbrev pub from_lines : {S C F : Type 0} → (ℕ → C → F) → (S → List ℕ → Result S C) → ℕ → S
+    → List (List ℕ) → Result S F
 from_lines fault step n s [] = Ok s
-from_lines fault step n s (l ∷ ls) = at_line fault n (step s l) >>= λ t. from_lines fault step (n + 1) t ls
+from_lines fault step n s (l ∷ ls) = at_line fault n (step s l) >>= λ t. from_lines fault step
+    (n + 1) t ls
 
--- f is the fault of the first bad line, where the first line has the number n: the lines before it make a state, and it is bad there
-pub record IsFirstBad (S C F : Type 0) (fault : ℕ → C → F) (step : S → List ℕ → Result S C) (n : ℕ) (s : S) (ls : List (List ℕ)) (f : F) : Type 0 where
+-- f is the fault of the first bad line, where the first line has the number n: the lines before it
+-- make a state, and it is bad there
+pub record IsFirstBad (S C F : Type 0) (fault : ℕ → C → F) (step : S → List ℕ → Result S C) (n : ℕ)
+    (s : S) (ls : List (List ℕ)) (f : F) : Type 0 where
   pub before : List (List ℕ)
   pub line : List ℕ
   pub after : List (List ℕ)

@@ -9,10 +9,12 @@ use Rattle.text_forms.specs.Tokens.{is_filled}
 abbrev pub is_numeral : ℕ → List ℕ → Bool
 is_numeral radix digits = is_filled digits && list_all (λ c. is_digit c radix) digits
 
--- the number that the digits stand for, where it is at most `most`: any number of zeros may stand in front
+-- the number that the digits stand for, where it is at most `most`: any number of zeros may stand
+-- in front
 abbrev pub number_of : ℕ → ℕ → List ℕ → Option ℕ
 number_of radix most digits =
-    if is_numeral radix digits && nat_le (digits_value radix digits) most then Some (digits_value radix digits) else None
+    if is_numeral radix digits && nat_le (digits_value radix digits) most
+    then Some (digits_value radix digits) else None
 
 -- no zero stands in front of another digit
 abbrev pub is_short : List ℕ → Bool

@@ -1,7 +1,8 @@
 //! What the texts of lines share: policies, scripts and lists are read and printed by these forms.
 //!
 //! A text is lines, a line is tokens parted by blanks ([`Tokens`]) or words parted by one space
-//! ([`words`]), and a number is digits ([`number_of`], [`short_number_of`]). The definitions stand in
+//! ([`words`]), and a number is digits ([`number_of`], [`short_number_of`]). The definitions stand
+//! in
 //! `specs/`, and `proofs/` has the lemmas that what is printed can be read back.
 #![tactic(auto)]
 

@@ -15,7 +15,8 @@ IsFoundAt name [] k = ⊥
 IsFoundAt name (a ∷ rest) zero = byte_order name a.0 ≡ Equal
 IsFoundAt name (a ∷ rest) (suc k) = (byte_order name a.0 ≡ Greater) × IsFoundAt name rest k
 
--- the name isn't there: those before place k come before it, and the one at k, if there is one, behind it
+-- the name isn't there: those before place k come before it, and the one at k, if there is one,
+-- behind it
 abbrev pub IsGapAt : List ℕ → List Pair → ℕ → Type 0
 IsGapAt name [] zero = Unit {0}
 IsGapAt name [] (suc k) = ⊥

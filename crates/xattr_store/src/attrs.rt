@@ -33,7 +33,8 @@ impl From<AllocError> for SetErr {
 #[derive(Clone, Copy, Debug, PartialEq, Eq)]
 pub struct NoData;
 
-/// The extended attributes of an inode. Contracts see the list of pairs of name and value: each name
+/// The extended attributes of an inode. Contracts see the list of pairs of name and value: each
+/// name
 /// once, in byte order, with values of at most [`MAX_VALUE`] bytes.
 #[derive(Debug, Drop)]
 pub struct Attrs {
@@ -85,7 +86,8 @@ impl Attrs {
         Ok(())
     }
 
-    /// Removes the name; `NoData` exactly where it isn't there, and then the attributes are as before.
+    /// Removes the name; `NoData` exactly where it isn't there, and then the attributes are as
+    /// before.
     pub fn remove(&mut self, name: &[u8]) -> Result<(), NoData>
         ensures ok { OnOk result (self.new ≡ without name.now self.old) }
         ensures no_data { IsErr result ↔ (value name.now self.old ≡ None) }

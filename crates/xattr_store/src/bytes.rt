@@ -4,7 +4,8 @@ use inode_meta::OutOfMemory;
 use std::alloc::Global;
 use std::marker::Model;
 
-/// A byte string that owns its memory, as a path, a name or the value of an attribute. Contracts see its list of bytes.
+/// A byte string that owns its memory, as a path, a name or the value of an attribute. Contracts
+/// see its list of bytes.
 #[derive(Debug, Drop)]
 pub struct Bytes {
     bytes: Vec<u8>,

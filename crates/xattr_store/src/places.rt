@@ -29,7 +29,8 @@ pub fn put_value(
     name: &[u8],
     value: &[u8],
 ) -> Result<(), OutOfMemory>
-    ensures { pairs.new.items ≡ (if is_ok result then put name.now value.now pairs.old.items else pairs.old.items) }
+    ensures { pairs.new.items
+        ≡ (if is_ok result then put name.now value.now pairs.old.items else pairs.old.items) }
 {
     let alloc = *pairs.allocator();
     let value = Bytes::from_slice(alloc, value)?;

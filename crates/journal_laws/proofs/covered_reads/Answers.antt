@@ -3,4 +3,5 @@ use Rattle.journal_laws.proofs.Covered.{covered}
 use Rattle.journal_laws.proofs.covered_reads.Goals as goal
 
 pub returns : goal.returns
-returns c = λ i list p who file from len t h reads listed path kept. covered i list p file h.1.1 h.1.0.1.0 reads listed path kept
+returns c = λ i list p who file from len t h reads listed path kept. covered i list p file h.1.1
+    h.1.0.1.0 reads listed path kept

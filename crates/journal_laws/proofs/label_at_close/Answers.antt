@@ -10,5 +10,7 @@ use Rattle.journal_laws.proofs.label_at_close.Goals as goal
 pub returns : goal.returns
 returns c = λ i p who file h. (
   labelled i p who file h.1.0 h.1.1,
-  ap label_in (labelled i p who file h.1.0 h.1.1) ∙ label-put i.settings.evm (attributes i p) (label_of (digest_of i.settings.hash (content p))) (metadata p),
+  ap label_in (labelled i p who file h.1.0 h.1.1)
+      ∙ label-put i.settings.evm (attributes i p) (label_of (digest_of i.settings.hash (content p)))
+      (metadata p),
 )

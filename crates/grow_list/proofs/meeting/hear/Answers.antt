@@ -3,4 +3,8 @@ use Rattle.grow_list.proofs.Moves.{hears_as}
 use Rattle.grow_list.proofs.meeting.hear.Goals as goal
 
 pub load-requires : goal.load-requires
-load-requires g c = (c.requires.seat.0, omega (arith, c.requires.words), hears_as _ _ _ _ c.requires.seat.1 c.requires.view)
+load-requires g c = (
+  c.requires.seat.0,
+  omega (arith, c.requires.words),
+  hears_as _ _ _ _ c.requires.seat.1 c.requires.view,
+)

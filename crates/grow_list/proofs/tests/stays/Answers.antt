@@ -18,11 +18,14 @@ pub returns-clause-stands : goal.returns-clause-stands
 returns-clause-stands g c =
     let mine = c.look.ensures.mine ∙ c.push-place.ensures.mine in
     let place = length c.args.me.now.mine in
-    (own_stands c.look.new.self c.look.new.pass c.look.ensures.own place c.push-place.result c.args.entry (ap (λ xs. slice_get xs place) mine ∙ slice_get-push c.args.me.now.mine (c.push-place.result, c.args.entry))).0
+    (own_stands c.look.new.self c.look.new.pass c.look.ensures.own place c.push-place.result
+    c.args.entry (ap (λ xs. slice_get xs place) mine
+    ∙ slice_get-push c.args.me.now.mine (c.push-place.result, c.args.entry))).0
 
 pub returns-clause-alone : goal.returns-clause-alone
 returns-clause-alone g c = λ k x entry number.
     let mine = c.look.ensures.mine ∙ c.push-place.ensures.mine in
     let same = c.look.ensures.same_pass.1 ∙ c.push-place.ensures.same_pass.1 in
-    let h = own_has c.look.new.self c.look.new.pass c.look.ensures.own k x entry (number ∙ ap Some (sym same)) in
+    let h = own_has c.look.new.self c.look.new.pass c.look.ensures.own k x entry
+    (number ∙ ap Some (sym same)) in
     (h.0, ap (λ xs. slice_get xs h.0) (sym mine) ∙ h.1)

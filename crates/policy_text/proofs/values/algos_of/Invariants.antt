@@ -6,6 +6,7 @@ use Rattle.policy_text.proofs.values.algos_of.Given as goal
 
 abbrev pub invariant-loop-name : goal.invariant-loop-name
 invariant-loop-name l = record {
-  so_far : algos_from l.algos (drop (length l.yielded) (slice_split (λ b. b == 44) l.text)) ≡ algos_of l.text;
+  so_far : algos_from l.algos (drop (length l.yielded) (slice_split (λ b. b == 44) l.text))
+      ≡ algos_of l.text;
   filled : 0 < length l.yielded → has_algos l.algos ≡ true;
 }

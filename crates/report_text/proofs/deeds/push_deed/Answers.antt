@@ -12,6 +12,7 @@ returns-in_ok-push_acts-in-Check c = record {
     c.as_bytes-in-Check.ensures.value,
     c.in-Check.is,
   )
-      (check_pushed c.args.out.now.items c.word.result.now c.args.default c.args.grows c.in-Check.file
+      (check_pushed c.args.out.now.items c.word.result.now c.args.default c.args.grows
+      c.in-Check.file
       c.in-Check.func c.in-Check.action c.in-Check.rules c.word.ensures);
 }

@@ -7,10 +7,14 @@ use Rattle.report_text.proofs.inodes.push_head.Goals as goal
 pub returns : goal.returns
 returns c =
     let i = c.args.inode.now in
-    let path_is : c.inode.inside.path ≡ i.path = ap (λ (v : EndedInodeValue). v.path) c.inode.view_is in
-    let writers_are : c.inode.inside.writers ≡ i.writers = ap (λ (v : EndedInodeValue). v.writers) c.inode.view_is in
-    let readers_are : c.inode.inside.readers ≡ i.readers = ap (λ (v : EndedInodeValue). v.readers) c.inode.view_is in
-    let execs_are : c.inode.inside.execs ≡ i.execs = ap (λ (v : EndedInodeValue). v.execs) c.inode.view_is in
+    let path_is : c.inode.inside.path ≡ i.path =
+    ap (λ (v : EndedInodeValue). v.path) c.inode.view_is in
+    let writers_are : c.inode.inside.writers ≡ i.writers =
+    ap (λ (v : EndedInodeValue). v.writers) c.inode.view_is in
+    let readers_are : c.inode.inside.readers ≡ i.readers =
+    ap (λ (v : EndedInodeValue). v.readers) c.inode.view_is in
+    let execs_are : c.inode.inside.execs ≡ i.execs =
+    ap (λ (v : EndedInodeValue). v.execs) c.inode.view_is in
     rw (
       c.in_ok-extend_from_slice-3.ensures.items,
       c.in_ok-push_numbers-4.ensures,

@@ -6,9 +6,12 @@ use Rattle.report_text.proofs.inodes.push_inode.Goals as goal
 pub returns : goal.returns
 returns c =
     let i = c.args.inode.now in
-    let journal_is : c.inode.inside.journal.items ≡ i.journal = ap (λ (v : EndedInodeValue). v.journal) c.inode.view_is in
-    let attrs_is : c.inode.inside.attrs ≡ i.attrs = ap (λ (v : EndedInodeValue). v.attrs) c.inode.view_is in
-    let force_is : c.inode.inside.force ≡ i.force = ap (λ (v : EndedInodeValue). v.force) c.inode.view_is in
+    let journal_is : c.inode.inside.journal.items ≡ i.journal =
+    ap (λ (v : EndedInodeValue). v.journal) c.inode.view_is in
+    let attrs_is : c.inode.inside.attrs ≡ i.attrs =
+    ap (λ (v : EndedInodeValue). v.attrs) c.inode.view_is in
+    let force_is : c.inode.inside.force ≡ i.force =
+    ap (λ (v : EndedInodeValue). v.force) c.inode.view_is in
     rw (
       c.in_ok-push_events.ensures,
       c.in_ok-extend_from_slice.ensures.items,

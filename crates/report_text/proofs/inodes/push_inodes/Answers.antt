@@ -7,11 +7,14 @@ pub loop-number-preserved : goal.loop-number-preserved
 loop-number-preserved c =
     let t = c.args.default in
     let g = c.args.grows in
-    lines_on (all_inode_lines t g) (inode_lines t g) (λ n x xs. refl) _ _ _ c.args.inodes.now c.loop-number.number
-    c.index-inodes-number.result c.loop-number-test.true c.index-inodes-number.is c.loop-number.invariant
+    lines_on (all_inode_lines t g) (inode_lines t g) (λ n x xs. refl) _ _ _ c.args.inodes.now
+    c.loop-number.number
+    c.index-inodes-number.result c.loop-number-test.true c.index-inodes-number.is
+    c.loop-number.invariant
     c.in_ok-push_inode.ensures
 
 pub returns : goal.returns
 returns c =
-    lines_end (all_inode_lines c.args.default c.args.grows) (λ k. refl) _ _ c.args.inodes.now c.loop-number.number
+    lines_end (all_inode_lines c.args.default c.args.grows) (λ k. refl) _ _ c.args.inodes.now
+    c.loop-number.number
     c.loop-number-test.false c.loop-number.invariant

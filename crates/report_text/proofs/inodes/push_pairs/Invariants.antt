@@ -7,4 +7,5 @@ use Rattle.report_text.proofs.inodes.push_pairs.Given as goal
 
 abbrev pub invariant-loop-pair : goal.invariant-loop-pair
 invariant-loop-pair l =
-    l.out.items ≡ l.fn.out.items ++ flat_map (λ p. line_text (attr_line p)) (take l.pair-index l.pairs)
+    l.out.items ≡ l.fn.out.items
+    ++ flat_map (λ p. line_text (attr_line p)) (take l.pair-index l.pairs)

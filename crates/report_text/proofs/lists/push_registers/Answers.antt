@@ -13,4 +13,5 @@ pub returns : goal.returns
 returns c =
     let all : c.loop-pcr.pcr ≡ 24 = omega arith in
     c.loop-pcr.invariant
-    ∙ ap (λ (n : ℕ). c.args.out.now.items ++ text_of (pcr_lines_to c.args.list.now c.args.banks.now n)) all
+    ∙ ap (λ (n : ℕ). c.args.out.now.items
+    ++ text_of (pcr_lines_to c.args.list.now c.args.banks.now n)) all

@@ -18,4 +18,5 @@ returns c =
       c.from-number.ensures,
     )
     (register_pushed c.args.out.now.items (decimal c.args.pcr)
-    (encode_lower (register c.args.banks.now Sha1 c.args.pcr)) (encode_lower (register c.args.banks.now Sha256 c.args.pcr)))
+    (encode_lower (register c.args.banks.now Sha1 c.args.pcr))
+    (encode_lower (register c.args.banks.now Sha256 c.args.pcr)))

@@ -11,10 +11,14 @@ returns c =
     let banks_are : c.e.inside.banks ≡ e.banks = ap (λ (v : EndedValue). v.banks) c.e.view_is in
     let grows_is : c.e.inside.grows ≡ e.grows = ap (λ (v : EndedValue). v.grows) c.e.view_is in
     let base_is : c.e.inside.base ≡ e.base = ap (λ (v : EndedValue). v.base) c.e.view_is in
-    let rules_are : c.e.inside.rules.items ≡ e.rules = ap (λ (v : EndedValue). v.rules) c.e.view_is in
-    let template_is : c.e.inside.template ≡ e.template = ap (λ (v : EndedValue). v.template) c.e.view_is in
-    let inodes_are : c.e.inside.inodes.items ≡ e.inodes = ap (λ (v : EndedValue). v.inodes) c.e.view_is in
-    let tasks_are : c.e.inside.tasks.items ≡ e.tasks = ap (λ (v : EndedValue). v.tasks) c.e.view_is in
+    let rules_are : c.e.inside.rules.items ≡ e.rules = ap (λ (v : EndedValue). v.rules) c.e.view_is
+    in
+    let template_is : c.e.inside.template ≡ e.template =
+    ap (λ (v : EndedValue). v.template) c.e.view_is in
+    let inodes_are : c.e.inside.inodes.items ≡ e.inodes =
+    ap (λ (v : EndedValue). v.inodes) c.e.view_is in
+    let tasks_are : c.e.inside.tasks.items ≡ e.tasks = ap (λ (v : EndedValue). v.tasks) c.e.view_is
+    in
     rw (
       c.in_ok-extend_from_slice.ensures.items,
       c.in_ok-push_tasks.ensures,
@@ -38,5 +42,6 @@ returns c =
       inodes_are,
       tasks_are,
     )
-    (report_pushed (head_lines e) e.list (pcr_lines e.list e.banks) (appended_lines e.grows e.base e.rules)
+    (report_pushed (head_lines e) e.list (pcr_lines e.list e.banks)
+    (appended_lines e.grows e.base e.rules)
     (all_inode_lines e.template e.grows 0 e.inodes) (all_task_lines 0 e.tasks))

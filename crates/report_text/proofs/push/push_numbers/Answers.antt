@@ -10,10 +10,12 @@ loop-number-preserved c =
     let ns = c.args.numbers.now in
     let i = c.loop-number.number-index in
     numbers_on _ _ _ _ ns i c.loop-number-test.true c.loop-number.invariant
-    (c.in_ok-push_number.ensures ∙ ap (λ l. l ++ decimal (get_or ns i 0)) c.in_ok-push.ensures.items)
+    (c.in_ok-push_number.ensures
+    ∙ ap (λ l. l ++ decimal (get_or ns i 0)) c.in_ok-push.ensures.items)
 
 pub returns : goal.returns
 returns c =
     c.loop-number.invariant
-    ∙ ap (λ (ns : List ℕ). c.args.out.now.items ++ join_with_byte 32 (c.args.words.now ∷ map decimal ns))
+    ∙ ap (λ (ns : List ℕ). c.args.out.now.items
+    ++ join_with_byte 32 (c.args.words.now ∷ map decimal ns))
     (take_all c.loop-number.number-index c.args.numbers.now c.loop-number-test.false)

@@ -10,10 +10,12 @@ pub loop-call-preserved : goal.loop-call-preserved
 loop-call-preserved c =
     let r = c.index-replies-call.result in
     let k = c.loop-call.call in
-    lines_on reply_lines (λ n x. (decimal n ∷ reply_words x) ∷ []) (λ n x xs. refl) _ _ _ c.args.replies.now k r
+    lines_on reply_lines (λ n x. (decimal n ∷ reply_words x) ∷ []) (λ n x xs. refl) _ _ _
+    c.args.replies.now k r
     c.loop-call-test.true c.index-replies-call.is c.loop-call.invariant
     (c.in_ok-push_answer.ensures
-    ∙ ap (λ l. c.loop-call.out.items ++ l) (sym (append-nil (line_text (decimal k ∷ reply_words r)))))
+    ∙ ap (λ l. c.loop-call.out.items ++ l)
+    (sym (append-nil (line_text (decimal k ∷ reply_words r)))))
 
 pub returns : goal.returns
 returns c =

@@ -6,4 +6,5 @@ use Rattle.script_text.proofs.calls.open_of.Goals as goal
 
 pub returns-in_default : goal.returns-in_default
 returns-in_default c =
-    below_three (λ (ws : List (List ℕ)). open_of ws c.args.paths.now) (Err cause.BadField) refl (λ a. refl) (λ a b. refl) c.args.fields.now (omega arith)
+    below_three (λ (ws : List (List ℕ)). open_of ws c.args.paths.now) (Err cause.BadField) refl
+    (λ a. refl) (λ a b. refl) c.args.fields.now (omega arith)

@@ -5,4 +5,5 @@ use Rattle.script_text.proofs.Fields.{below_three}
 use Rattle.script_text.proofs.calls.read_of.Goals as goal
 
 pub returns-in_default : goal.returns-in_default
-returns-in_default c = below_three read_of (Err cause.BadField) refl (λ a. refl) (λ a b. refl) c.args.fields.now (omega arith)
+returns-in_default c = below_three read_of (Err cause.BadField) refl (λ a. refl) (λ a b. refl)
+    c.args.fields.now (omega arith)

@@ -5,7 +5,8 @@ use Rattle.text_forms.specs.Words.{words}
 use Rattle.script_text.proofs.schedule.all_numerals.Given as goal
 
 abbrev pub invariant-loop-word : goal.invariant-loop-word
-invariant-loop-word l = list_all (is_short_numeral 10) (words l.rest) ≡ list_all (is_short_numeral 10) (words l.numbers)
+invariant-loop-word l = list_all (is_short_numeral 10) (words l.rest)
+    ≡ list_all (is_short_numeral 10) (words l.numbers)
 
 abbrev pub decreases-loop-word : goal.decreases-loop-word
 decreases-loop-word l = length l.rest

@@ -6,7 +6,8 @@ use Rattle.script_text.proofs.schedule.turns_from.Given as goal
 
 -- the turns so far, and behind them those of the words that are left
 abbrev pub invariant-loop-word : goal.invariant-loop-word
-invariant-loop-word l = onto l.turns.items (turns_from l.tasks (words l.rest)) ≡ turns_from l.tasks (words l.numbers)
+invariant-loop-word l = onto l.turns.items (turns_from l.tasks (words l.rest))
+    ≡ turns_from l.tasks (words l.numbers)
 
 abbrev pub decreases-loop-word : goal.decreases-loop-word
 decreases-loop-word l = length l.rest

@@ -5,4 +5,6 @@ use Rattle.script_text.proofs.Fields.{below_four}
 use Rattle.script_text.proofs.settings.super_in.Goals as goal
 
 pub returns-in_default : goal.returns-in_default
-returns-in_default c = below_four (λ (ws : List (List ℕ)). ok_or (super_in ws) cause.BadField) (Err cause.BadField) refl (λ a. refl) (λ a b. refl) (λ a b d. refl) c.args.fields.now (omega arith)
+returns-in_default c = below_four (λ (ws : List (List ℕ)). ok_or (super_in ws) cause.BadField)
+    (Err cause.BadField) refl (λ a. refl) (λ a b. refl) (λ a b d. refl) c.args.fields.now
+    (omega arith)

@@ -9,5 +9,6 @@ returns-in-Some c =
     rw c.in-Some.is
     (map_from_collect _ c.collect.ensures.ran
     (YieldsList-from_take 9
-    (YieldsList-from_slice_split _ (λ b. b == 32) c.in-Some.words.now (cc) (cc) (cc) (λ x b q k. search (rules, tests)))
+    (YieldsList-from_slice_split _ (λ b. b == 32) c.in-Some.words.now (cc) (cc) (cc)
+    (λ x b q k. search (rules, tests)))
     c.take.ensures.count))

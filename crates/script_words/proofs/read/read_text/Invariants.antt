@@ -6,7 +6,8 @@ use Rattle.script_words.proofs.read.read_text.Given as goal
 -- the lines that are left make of the state what the text makes
 abbrev pub invariant-loop-line : goal.invariant-loop-line
 invariant-loop-line g l = record {
-  so_far : from_ended g.T.Grammar.step g.T.Grammar.ends l.number l.state (lines l.rest) ≡ text_of g.T.Grammar.step g.T.Grammar.ends l.fn.start l.text;
+  so_far : from_ended g.T.Grammar.step g.T.Grammar.ends l.number l.state (lines l.rest)
+      ≡ text_of g.T.Grammar.step g.T.Grammar.ends l.fn.start l.text;
   few : l.number + length l.rest ≤ length l.text + 1;
 }
 

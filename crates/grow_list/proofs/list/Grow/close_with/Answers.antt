@@ -8,14 +8,19 @@ use Rattle.grow_list.proofs.list.Grow.close_with.Goals as goal
 pub part-requires-clause-seats : goal.part-requires-clause-seats
 part-requires-clause-seats g c =
     let name = ap (λ v. v.name) c.self.view_is in
-    let own = All-head (λ p. p.name ≡ c.args.self.name) c.args.own c.args.passes.items c.requires.of_list in
-    (c.end.ensures.list.table_id ∙ c.self.invariant.board, sym c.into_place.ensures.pass.name ∙ own ∙ sym name ∙ c.self.invariant.board)
+    let own = All-head (λ p. p.name ≡ c.args.self.name) c.args.own c.args.passes.items
+    c.requires.of_list in (
+      c.end.ensures.list.table_id ∙ c.self.invariant.board,
+      sym c.into_place.ensures.pass.name ∙ own
+          ∙ sym name ∙ c.self.invariant.board,
+    )
 
 pub take_back-requires-clause-of_list : goal.take_back-requires-clause-of_list
 take_back-requires-clause-of_list g c =
     let name = ap (λ v. v.name) c.self.view_is in
     let here = sym name ∙ sym c.end.ensures.list.table_id ∙ sym c.part.ensures.list.table_id in
-    All-weaker (λ p. p.name ≡ c.args.self.name) (λ p. p.name ≡ c.part.new.list.table_id) (λ p e. e ∙ here) c.args.passes.items
+    All-weaker (λ p. p.name ≡ c.args.self.name) (λ p. p.name ≡ c.part.new.list.table_id)
+    (λ p e. e ∙ here) c.args.passes.items
     (All-tail (λ p. p.name ≡ c.args.self.name) c.args.own c.args.passes.items c.requires.of_list)
 
 pub returns-clause-seen : goal.returns-clause-seen
@@ -25,9 +30,13 @@ returns-clause-seen g c =
     let end = ap (λ m. m.0) c.end.ensures.list.me in
     let pass = c.into_place.ensures.pass in
     let place = held c.into_place.result.me.0 in
-    let own = accounts l c.args.own place pass.number pass.seen pass.mine (tallies_at c.end.new.list.me.0 c.self.inside.seat.me.0 place end c.part.ensures.tallies) in
-    let others = accounts_at c.part.new.list.me.0 c.self.inside.seat.me.0 c.args.passes.items (ap (λ m. m.0) c.part.ensures.list.me ∙ end) c.take_back.ensures.accounts in
-    all_saw c.args.self l (c.args.own ∷ c.args.passes.items) (c.self.invariant.list ∙ ap (λ v. v.list) is) (All-cons (Accounts l) c.args.own c.args.passes.items own others)
+    let own = accounts l c.args.own place pass.number pass.seen pass.mine
+    (tallies_at c.end.new.list.me.0 c.self.inside.seat.me.0 place end c.part.ensures.tallies)
+    in
+    let others = accounts_at c.part.new.list.me.0 c.self.inside.seat.me.0 c.args.passes.items
+    (ap (λ m. m.0) c.part.ensures.list.me ∙ end) c.take_back.ensures.accounts in
+    all_saw c.args.self l (c.args.own ∷ c.args.passes.items) (c.self.invariant.list
+    ∙ ap (λ v. v.list) is) (All-cons (Accounts l) c.args.own c.args.passes.items own others)
 
 pub returns-clause-places : goal.returns-clause-places
 returns-clause-places g c =
@@ -36,7 +45,13 @@ returns-clause-places g c =
     let end = ap (λ m. m.0) c.end.ensures.list.me in
     let pass = c.into_place.ensures.pass in
     let place = held c.into_place.result.me.0 in
-    let own = accounts l c.args.own place pass.number pass.seen pass.mine (tallies_at c.end.new.list.me.0 c.self.inside.seat.me.0 place end c.part.ensures.tallies) in
-    let others = accounts_at c.part.new.list.me.0 c.self.inside.seat.me.0 c.args.passes.items (ap (λ m. m.0) c.part.ensures.list.me ∙ end) c.take_back.ensures.accounts in
-    places c.args.self l (c.args.own ∷ c.args.passes.items) (c.self.invariant.list ∙ ap (λ v. v.list) is) (ap (λ v. v.numbers) is) (c.self.invariant.callers ∙ ap (λ v. v.callers) is)
-    c.end.ensures.complete c.requires (All-cons (Accounts l) c.args.own c.args.passes.items own others)
+    let own = accounts l c.args.own place pass.number pass.seen pass.mine
+    (tallies_at c.end.new.list.me.0 c.self.inside.seat.me.0 place end c.part.ensures.tallies)
+    in
+    let others = accounts_at c.part.new.list.me.0 c.self.inside.seat.me.0 c.args.passes.items
+    (ap (λ m. m.0) c.part.ensures.list.me ∙ end) c.take_back.ensures.accounts in
+    places c.args.self l (c.args.own ∷ c.args.passes.items) (c.self.invariant.list
+    ∙ ap (λ v. v.list) is) (ap (λ v. v.numbers) is) (c.self.invariant.callers
+    ∙ ap (λ v. v.callers) is)
+    c.end.ensures.complete c.requires
+    (All-cons (Accounts l) c.args.own c.args.passes.items own others)

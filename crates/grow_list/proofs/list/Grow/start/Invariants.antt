@@ -12,5 +12,6 @@ invariant-loop-number g l = record {
   view : l.seat.me.0 ≡ newborn l.callers;
   count : length l.passes.items ≡ l.number;
   room : vec_capacity l.passes ≡ l.callers;
-  each : (k : ℕ) → k < length l.passes.items → slice_get l.passes.items k ≡ Some (fresh l.seat.table_id k);
+  each : (k : ℕ) → k < length l.passes.items → slice_get l.passes.items k
+      ≡ Some (fresh l.seat.table_id k);
 }

@@ -7,6 +7,7 @@ pub returns-in-Some : goal.returns-in-Some
 returns-in-Some c =
     let pages = c.self.inside.pages.items in
     let at : slice_get pages (length pages - 1) ≡ Some c.in-Some.last.now =
-    ap (λ (l : List (List ℕ)). slice_get l (length l - 1)) (sym c.deref.ensures.value) ∙ sym c.in-Some.ensures.value in
+    ap (λ (l : List (List ℕ)). slice_get l (length l - 1)) (sym c.deref.ensures.value)
+    ∙ sym c.in-Some.ensures.value in
     let some = length_by_last _ pages c.in-Some.last.now c.self.invariant.pages_are at in
     omega (arith, some, ap length c.self.view_is, ap length c.as_slice.ensures.bytes, c.len.ensures)

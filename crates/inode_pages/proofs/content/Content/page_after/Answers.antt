@@ -11,5 +11,6 @@ returns c =
     let before : c.saturating_sub.result ≡ 4096 * c.args.k - c.args.from = omega arith in
     let room : c.saturating_sub-2.result ≡ 4096 - (c.args.from - 4096 * c.args.k) = omega arith in
     c.in_ok-page.ensures
-    ∙ (λ i. overwritten (c.piece.ensures.piece i) (at i) ((c.bytes_at-part.ensures ∙ (λ j. bytes_at c.args.b.now (before j) (room j))) i))
+    ∙ (λ i. overwritten (c.piece.ensures.piece i) (at i)
+    ((c.bytes_at-part.ensures ∙ (λ j. bytes_at c.args.b.now (before j) (room j))) i))
     ∙ sym (bytes_at-written c.args.self.now c.args.from c.args.b.now (4096 * c.args.k) 4096)

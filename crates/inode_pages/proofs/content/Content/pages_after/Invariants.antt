@@ -8,5 +8,6 @@ abbrev pub invariant-loop-k : goal.invariant-loop-k
 invariant-loop-k l = record {
   count : l.first + vec_len l.pages ≡ l.k;
   room : vec_capacity l.pages ≡ l.count;
-  each : (j : ℕ) → j < vec_len l.pages → slice_get l.pages.items j ≡ Some (piece_at (overwritten l.self l.from l.b) (l.first + j));
+  each : (j : ℕ) → j < vec_len l.pages → slice_get l.pages.items j
+      ≡ Some (piece_at (overwritten l.self l.from l.b) (l.first + j));
 }

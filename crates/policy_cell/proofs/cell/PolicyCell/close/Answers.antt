@@ -8,8 +8,11 @@ use Rattle.policy_cell.proofs.cell.PolicyCell.close.Goals as goal
 
 pub returns-clause-seen : goal.returns-clause-seen
 returns-clause-seen c =
-    subst (λ (g : Grown RuleEntry). All (λ p. IsPrefix p.seen g.list) c.args.passes.items) (ap (λ v. v.appended) c.self.view_is) c.close.ensures.seen
+    subst (λ (g : Grown RuleEntry). All (λ p. IsPrefix p.seen g.list) c.args.passes.items)
+    (ap (λ v. v.appended) c.self.view_is) c.close.ensures.seen
 
 pub returns-clause-places : goal.returns-clause-places
 returns-clause-places c =
-    subst (λ (g : Grown RuleEntry). (k : ℕ) → k < length g.list → count_by (λ p. has_place k p.mine) c.args.passes.items ≡ 1) (ap (λ v. v.appended) c.self.view_is) c.close.ensures.places
+    subst (λ (g : Grown RuleEntry). (k : ℕ) → k < length g.list
+    → count_by (λ p. has_place k p.mine) c.args.passes.items ≡ 1)
+    (ap (λ v. v.appended) c.self.view_is) c.close.ensures.places

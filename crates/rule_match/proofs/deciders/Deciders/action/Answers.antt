@@ -12,7 +12,12 @@ copied_some (Some x) = refl
 pub returns : goal.returns
 returns c =
     let measured = c.with_measure-measured.ensures None None None c.none.ensures in
-    let both = c.with_appraise-action.ensures (option_copied c.carried_out.result) None None measured in
-    action_joined _ (option_copied c.carried_out.result) (option_copied c.carried_out-2.result) (option_copied c.carried_out-3.result) (option_copied c.carried_out-4.result) c.is_some.result c.is_some-2.result
-    (c.action.view_is ∙ both) (c.is_some.ensures ∙ copied_some c.carried_out-3.result) (c.is_some-2.ensures ∙ copied_some c.carried_out-4.result)
-    ∙ (λ i. action_of (c.carried_out.ensures i) (c.carried_out-2.ensures i) (c.carried_out-3.ensures i) (c.carried_out-4.ensures i))
+    let both = c.with_appraise-action.ensures (option_copied c.carried_out.result) None None
+    measured in
+    action_joined _ (option_copied c.carried_out.result) (option_copied c.carried_out-2.result)
+    (option_copied c.carried_out-3.result) (option_copied c.carried_out-4.result) c.is_some.result
+    c.is_some-2.result
+    (c.action.view_is ∙ both) (c.is_some.ensures ∙ copied_some c.carried_out-3.result)
+    (c.is_some-2.ensures ∙ copied_some c.carried_out-4.result)
+    ∙ (λ i. action_of (c.carried_out.ensures i) (c.carried_out-2.ensures i)
+    (c.carried_out-3.ensures i) (c.carried_out-4.ensures i))

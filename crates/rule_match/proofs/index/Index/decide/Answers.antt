@@ -8,5 +8,7 @@ pub returns : goal.returns
 returns c =
     let found = c.deciders.result in
     c.action.ensures
-    ∙ ap (λ rules. action_of (carried_at rules c.deciders.result.measuring) (carried_at rules c.deciders.result.appraising) (carried_at rules c.deciders.result.auditing) (carried_at rules c.deciders.result.hashing)) (c.deref.ensures.value ∙ c.self.view_is)
+    ∙ ap (λ rules. action_of (carried_at rules c.deciders.result.measuring)
+    (carried_at rules c.deciders.result.appraising) (carried_at rules c.deciders.result.auditing)
+    (carried_at rules c.deciders.result.hashing)) (c.deref.ensures.value ∙ c.self.view_is)
     ∙ decided_by c.args.a.now c.args.self.now c.deciders.result c.deciders.ensures

@@ -8,7 +8,8 @@ pub invariant_of-self-2 : goal.invariant_of-self-2
 invariant_of-self-2 c =
     let group : c.of.result ≡ group_of c.args.rule = search rules in
     let line : c.len.result ≡ 0 + length c.self.inside.rules.items = search rules in
-    let items : c.push_reserved.new.self.items ≡ c.self.inside.rules.items ++ c.args.rule ∷ [] = search rules in
+    let items : c.push_reserved.new.self.items ≡ c.self.inside.rules.items ++ c.args.rule ∷ [] =
+    search rules in
     record {
       lines = λ g.
           c.in_ok-add_line.ensures.ok g

@@ -10,5 +10,6 @@ invariant_of-paths c =
     let copy_is : c.in_ok-from_slice.field-0 ≡ c.args.path.now = c.in_ok-from_slice.ensures.bytes in
     let place_is : c.len-place.result ≡ length c.paths.inside.paths.items = search rules in
     let found = one_path_more key c.paths.inside.places c.insert.new.self c.paths.inside.paths.items
-    (rw place_is at c.in_ok-insert.ensures.updates) c.paths.invariant (rw (key_is, c.paths.view_is) c.requires.absent) in
+    (rw place_is at c.in_ok-insert.ensures.updates) c.paths.invariant
+    (rw (key_is, c.paths.view_is) c.requires.absent) in
     rw (c.in_ok-push.ensures.items, copy_is, ← key_is) found

@@ -16,23 +16,37 @@ use Rattle.semaphore_cell.proofs.cell.SemaphoreCell.signal.Goals.{in-Post, in-Wa
 pub overflow_add-self : goal.overflow_add-self
 overflow_add-self c =
     let small : c.in-Post.sem < 256 = omega arith in
-    let is : get_or c.self.inside.left c.in-Post.sem 0 ≡ left c.in-Post.sem (past c.self.inside.journal.list) =
+    let is : get_or c.self.inside.left c.in-Post.sem 0
+    ≡ left c.in-Post.sem (past c.self.inside.journal.list) =
     c.self.invariant.counts c.in-Post.sem small in
-    let within : posts c.in-Post.sem (past c.self.inside.journal.list) ≤ length (past c.self.inside.journal.list) =
+    let within : posts c.in-Post.sem (past c.self.inside.journal.list) ≤ length
+    (past c.self.inside.journal.list) =
     posts_within c.in-Post.sem (past c.self.inside.journal.list) in
     let grown : length c.push-place.new.self.list ≡ length c.self.inside.journal.list + 1 =
     ap length c.push-place.ensures.list ∙ length-append c.self.inside.journal.list _ in
-    omega (arith, is, within, grown, past_length c.self.inside.journal.list, c.len-len.ensures, c.len-len.type_inv)
+    omega (
+      arith,
+      is,
+      within,
+      grown,
+      past_length c.self.inside.journal.list,
+      c.len-len.ensures,
+      c.len-len.type_inv,
+    )
 
 pub invariant_of-self : goal.invariant_of-self
 invariant_of-self c =
     let small : c.in-Post.sem < 256 = omega arith in
-    IsSemaphores-more c.self.inside _ c.args.who (deed.Post c.in-Post.sem) c.args.pass.now.number c.self.invariant refl refl
+    IsSemaphores-more c.self.inside _ c.args.who (deed.Post c.in-Post.sem) c.args.pass.now.number
+    c.self.invariant refl refl
     c.requires.number (omega (arith, c.push-place.ensures.number, c.push-place.ensures.same_pass.1))
-    (counts_set c.self.inside.left (λ s. left s (past c.self.inside.journal.list)) _ (λ n. n + 1) c.in-Post.sem _
+    (counts_set c.self.inside.left (λ s. left s (past c.self.inside.journal.list)) _ (λ n. n + 1)
+    c.in-Post.sem _
     (omega (arith, c.self.told)) small c.self.invariant.counts
-    (λ s. left_post s c.in-Post.sem c.args.who (past c.self.inside.journal.list) c.self.invariant.legal) refl)
-    c.push-place.ensures.list c.push-place.ensures.numbers c.push-place.ensures.kept.0 c.push-place.ensures.kept.1 refl
+    (λ s. left_post s c.in-Post.sem c.args.who (past c.self.inside.journal.list)
+    c.self.invariant.legal) refl)
+    c.push-place.ensures.list c.push-place.ensures.numbers c.push-place.ensures.kept.0
+    c.push-place.ensures.kept.1 refl
 
 -- with something left, a wait is told that it is done
 may_wait : (n : ℕ) → 0 < n → cond (nat_lt 0 n) (Some told.Done) None ≡ Some told.Done
@@ -43,15 +57,19 @@ invariant_of-self-then-self-sem-gt0 c =
     let small : c.in-Wait.sem < 256 = omega arith in
     let some : 0 < left c.in-Wait.sem (past c.self.inside.journal.list) =
     subst (λ (n : ℕ). 0 < n) (c.self.invariant.counts c.in-Wait.sem small) c.if-self-sem-gt0.true in
-    IsSemaphores-more c.self.inside _ c.args.who (deed.Wait c.in-Wait.sem) c.args.pass.now.number c.self.invariant
-    (may_wait _ some) refl c.requires.number (omega (arith, c.push.ensures.number, c.push.ensures.same_pass.1))
-    (counts_set c.self.inside.left (λ s. left s (past c.self.inside.journal.list)) _ (λ n. n - 1) c.in-Wait.sem _
+    IsSemaphores-more c.self.inside _ c.args.who (deed.Wait c.in-Wait.sem) c.args.pass.now.number
+    c.self.invariant
+    (may_wait _ some) refl c.requires.number
+    (omega (arith, c.push.ensures.number, c.push.ensures.same_pass.1))
+    (counts_set c.self.inside.left (λ s. left s (past c.self.inside.journal.list)) _ (λ n. n - 1)
+    c.in-Wait.sem _
     (omega (arith, c.self.told)) small c.self.invariant.counts
     (λ s. left_wait s c.in-Wait.sem c.args.who (past c.self.inside.journal.list)) refl)
     c.push.ensures.list c.push.ensures.numbers c.push.ensures.kept.0 c.push.ensures.kept.1 refl
 
 -- the entries of the pass stand in the journal
-below_both : (g h : Grown Event) (p q : Passed Event) → g ≡ h → p ≡ q → All (λ x. x.0 < length h.list) q.mine
+below_both : (g h : Grown Event) (p q : Passed Event) → g ≡ h → p ≡ q
+    → All (λ x. x.0 < length h.list) q.mine
     → All (λ x. x.0 < length g.list) p.mine
 below_both g h p q same_list same_pass below =
     subst (λ (x : Grown Event × Passed Event). All (λ y. y.0 < length x.0.list) x.1.mine)

@@ -12,12 +12,14 @@ index-requires c =
 
 pub returns-in-Ok : goal.returns-in-Ok
 returns-in-Ok c =
-    let found : IsFoundAt c.args.name.now c.self.inside.pairs.items c.in-Ok.place = rw (← c.deref.ensures.value) c.in-Ok.ensures in
+    let found : IsFoundAt c.args.name.now c.self.inside.pairs.items c.in-Ok.place =
+    rw (← c.deref.ensures.value) c.in-Ok.ensures in
     rw (← c.self.view_is)
     (ap Some (c.as_slice.ensures.bytes ∙ ap (λ (p : Pair). p.1) c.index.ensures)
     ∙ sym (value_found _ _ _ c.index.result.now found))
 
 pub returns-in-Err : goal.returns-in-Err
 returns-in-Err c =
-    let gap : IsGapAt c.args.name.now c.self.inside.pairs.items c.in-Err.field-0 = rw (← c.deref.ensures.value) c.in-Err.ensures in
+    let gap : IsGapAt c.args.name.now c.self.inside.pairs.items c.in-Err.field-0 =
+    rw (← c.deref.ensures.value) c.in-Err.ensures in
     rw (← c.self.view_is) (sym (value_gap _ _ _ c.self.invariant gap))
