@@ -186,7 +186,8 @@ module _ {E : Type 0} where
 
   -- each place of the list is exactly one pass's
   pub places : (g : Grown E) (l : Listed E) (passes : List (Passed E)) → l.list ≡ g.list → l.numbers
-      ≡ g.numbers → l.callers ≡ g.callers → IsComplete l → HasEach g passes → All (Accounts l) passes
+      ≡ g.numbers → l.callers ≡ g.callers → IsComplete l → HasEach g passes
+      → All (Accounts l) passes
       → (k : ℕ) → k < length g.list → count_by (λ p. has_place k p.mine) passes ≡ 1
   places g l passes list numbers callers complete each all k within =
       let n = get_or g.numbers k 0 in

@@ -82,7 +82,8 @@ module _ {E : Type 0} where
   rises_in false low y ys above rest i j k m x z before e f = rest i j k m x z before e f
 
   rises : (n low : ℕ) (ms : List ℕ) (xs : List E) (i j k m : ℕ) (x z : E) → i < j
-      → slice_get (entries_from n low ms xs) i ≡ Some (k, x) → slice_get (entries_from n low ms xs) j
+      → slice_get (entries_from n low ms xs) i ≡ Some (k, x)
+      → slice_get (entries_from n low ms xs) j
       ≡ Some (m, z) → k < m
   unfolding Stands
   rises n low [] xs i j k m x z before e f = absurd (none-some (k, x) e)

@@ -113,7 +113,8 @@ module _ {E : Type 0} where
   own_entries t l is n = λ i. entries_of n (is.numbers i) (is.list i)
 
   pub settled : (t : Story E) (n : ℕ) → t.pending ≡ None
-      → Counts t.pending n (entries_of n t.numbers t.list) (t.mine n) → entries_of n t.numbers t.list
+      → Counts t.pending n (entries_of n t.numbers t.list) (t.mine n)
+      → entries_of n t.numbers t.list
       ≡ t.mine n
   settled t n none counts =
       ⊎_elim (λ e. e)

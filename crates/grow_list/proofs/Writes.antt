@@ -107,7 +107,8 @@ module _ {E : Type 0} where
             (λ j v ne g. fits_on t u j v on (λ z. absurd (ne z)) (λ n d z. refl) g) (
               record {
                 list = prefix_same (l.list ++ e ∷ []) (t.list ++ e ∷ []) lists;
-                numbers = prefix_same (l.numbers ++ p.number ∷ []) (t.numbers ++ p.number ∷ []) nums;
+                numbers = prefix_same (l.numbers ++ p.number ∷ []) (t.numbers ++ p.number ∷ [])
+                    nums;
                 even = omega (
                   arith,
                   length-append l.numbers (p.number ∷ []),
@@ -125,8 +126,13 @@ module _ {E : Type 0} where
       → l.pending ≡ None → new ≡ length l.list + 1
       → Allows (Kept k) slots 0 (ListBeside l p, c) 0 (λ _. new)
       (λ _ w. w ≡ (OfList (longer l p.number (e ∷ [])), c))
-  adds k slots l p e c new none due s h homes at small =
-      (OfList (longer l p.number (e ∷ [])), keeps, tt, adds_kept k s h l p e c new none due at, refl)
+  adds k slots l p e c new none due s h homes at small = (
+    OfList (longer l p.number (e ∷ [])),
+    keeps,
+    tt,
+    adds_kept k s h l p e c new none due at,
+    refl,
+  )
 
 -- the draw of a number by a new seat
 module _ {E : Type 0} where

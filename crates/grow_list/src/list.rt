@@ -100,7 +100,8 @@ impl<E> Grow<E> {
     /// An empty list, and a pass for each of its callers, in the order of their numbers.
     pub fn start(alloc: Global, callers: u32) -> Result<(Grow<E>, Vec<Pass<E>>), OutOfMemory>
         requires { 1 ≤ callers }
-        ensures list { IfOk result (λ r. (r.0.list ≡ []) × (r.0.numbers ≡ []) × (r.0.callers ≡ callers)) }
+        ensures list { IfOk result (λ r. (r.0.list ≡ []) × (r.0.numbers ≡ [])
+            × (r.0.callers ≡ callers)) }
         ensures count { IfOk result (λ r. length r.1.items ≡ callers) }
         ensures passes { IfOk result (λ r. (k : ℕ) → k < callers → slice_get r.1.items k
             ≡ Some (fresh r.0.name k)) }

@@ -28,7 +28,8 @@ fn come<E>(board: &Board<E>, list: &mut Place<E>, pass: &mut Place<E>)
     requires words { board.now.table_id.words ≡ 2 }
     requires views { (list.old.me.0 ≡ OfList (listed list.old.me.0))
         × (pass.old.me.0 ≡ OfPass (held pass.old.me.0)) }
-    ensures list { IsMoved list.old list.new (ListBeside (listed list.old.me.0) (held pass.old.me.0)) }
+    ensures list { IsMoved list.old list.new
+        (ListBeside (listed list.old.me.0) (held pass.old.me.0)) }
     ensures pass { IsMoved pass.old pass.new pass.old.me.0 }
 {
     let copy = board.split_seat::<Copies>(pass);
@@ -43,7 +44,8 @@ fn visit<E>(board: &Board<E>, list: &mut Place<E>, pass: &mut Place<E>)
     requires views { (list.old.me.0 ≡ OfList (listed list.old.me.0))
         × (pass.old.me.0 ≡ OfPass (held pass.old.me.0)) }
     ensures list { IsMoved list.old list.new list.old.me.0 }
-    ensures pass { IsMoved pass.old pass.new (PassBeside (held pass.old.me.0) (listed list.old.me.0)) }
+    ensures pass { IsMoved pass.old pass.new
+        (PassBeside (held pass.old.me.0) (listed list.old.me.0)) }
 {
     let copy = board.split_seat::<Copies>(list);
     board.join_seat::<Meets>(pass, copy);
@@ -54,7 +56,8 @@ fn hear<E>(board: &Board<E>, list: &mut Place<E>)
     requires seat { (list.old.table_id ≡ board.now.table_id) × (list.old.id ≡ 0) }
     requires words { board.now.table_id.words ≡ 2 }
     requires view { list.old.me.0 ≡ ListBeside (listed list.old.me.0) (held list.old.me.0) }
-    ensures list { IsMoved list.old list.new (OfList (heard (listed list.old.me.0) (held list.old.me.0))) }
+    ensures list { IsMoved list.old list.new
+        (OfList (heard (listed list.old.me.0) (held list.old.me.0))) }
     ensures agrees { Agrees (listed list.old.me.0) (held list.old.me.0) }
 {
     board.load::<Hears>(list, 0);
@@ -66,7 +69,8 @@ fn learn<E>(board: &Board<E>, pass: &mut Place<E>)
         × (pass.old.id ≡ (held pass.old.me.0).seat) }
     requires words { board.now.table_id.words ≡ 2 }
     requires view { pass.old.me.0 ≡ PassBeside (held pass.old.me.0) (listed pass.old.me.0) }
-    ensures pass { IsMoved pass.old pass.new (OfPass (learned (held pass.old.me.0) (listed pass.old.me.0))) }
+    ensures pass { IsMoved pass.old pass.new
+        (OfPass (learned (held pass.old.me.0) (listed pass.old.me.0))) }
     ensures owns { Owns (held pass.old.me.0) (listed pass.old.me.0) }
 {
     board.load::<Learns>(pass, 0);
@@ -95,8 +99,10 @@ fn settle<E>(board: &Board<E>, list: &mut Place<E>, pass: &mut Place<E>)
     requires list { (list.old.id ≡ 0) × (list.old.me.0 ≡ OfList (listed list.old.me.0)) }
     requires pass { IsPassSeat pass.old }
     ensures list { IsMoved list.old list.new
-        (OfList (heard (listed list.old.me.0) (learned (held pass.old.me.0) (listed list.old.me.0)))) }
-    ensures pass { IsMoved pass.old pass.new (OfPass (learned (held pass.old.me.0) (listed list.old.me.0))) }
+        (OfList (heard (listed list.old.me.0)
+        (learned (held pass.old.me.0) (listed list.old.me.0)))) }
+    ensures pass { IsMoved pass.old pass.new
+        (OfPass (learned (held pass.old.me.0) (listed list.old.me.0))) }
 {
     visit(board, list, pass);
     learn(board, pass);
@@ -112,7 +118,8 @@ pub fn meet<E>(board: &Board<E>, list: &mut Place<E>, pass: &mut Place<E>)
     requires list { IsListSeat list.old }
     requires pass { IsPassSeat pass.old }
     ensures list { IsMoved list.old list.new list.old.me.0 }
-    ensures pass { IsMoved pass.old pass.new (OfPass (caught_up (held pass.old.me.0) (listed list.old.me.0))) }
+    ensures pass { IsMoved pass.old pass.new
+        (OfPass (caught_up (held pass.old.me.0) (listed list.old.me.0))) }
     ensures tallies { Tallies (listed list.old.me.0) (held pass.old.me.0) }
 {
     come(board, list, pass);
@@ -158,7 +165,8 @@ fn draw<E, N: Drawing>(board: &Board<E>, seat: &mut Place<E>, due: u64) -> bool
     requires small { due < 2 ^ 32 }
     requires drawing { N.seat ≡ seat.old.id }
     ensures { OnTrue result
-        (IsMoved seat.old seat.new (OfPass (newcomer seat.old.id due (listed seat.old.me.0).callers))) }
+        (IsMoved seat.old seat.new
+        (OfPass (newcomer seat.old.id due (listed seat.old.me.0).callers))) }
 {
     board.compare_exchange::<Draws<N>>(seat, 1, due, due + 1) == due
 }

@@ -65,8 +65,8 @@ impl Absorb for Vec<u8> {
 
     ghost keeps_all = { λ a. keeps_all a.items a.len a.ok.0 };
 
-    ghost keeps_further = { λ a b c first second. keeps_further a.items b.items c.items a.len b.len a.ok.0 b.ok.0
-        first second };
+    ghost keeps_further = { λ a b c first second.
+        keeps_further a.items b.items c.items a.len b.len a.ok.0 b.ok.0 first second };
 }
 
 /// A count of the bytes.

@@ -179,7 +179,8 @@ word_read key.Egid r s ok act e h = egid_read s r.egid e h ok.egid
 word_read key.Fowner r s ok act e h = fowner_read s r.fowner e h ok.fowner
 word_read key.Fgroup r s ok act e h = fgroup_read s r.fgroup e h ok.fgroup
 word_read key.AppraiseType r s ok act e h =
-    type_read s r.need e h (ap is_appraise act ∙ not_or (is_any r.need) (is_appraise r.act) h ok.need)
+    type_read s r.need e h (ap is_appraise act
+    ∙ not_or (is_any r.need) (is_appraise r.act) h ok.need)
 word_read key.AppraiseFlag r s ok act e h =
     flag_read s r.blacklist e h (ap is_appraise act
     ∙ so_or r.blacklist (is_appraise r.act) h ok.blacklist)

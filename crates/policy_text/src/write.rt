@@ -37,7 +37,8 @@ pub fn print(alloc: Global, policy: &Policy) -> Result<Vec<u8>, OutOfMemory>
 }
 
 fn push_line(text: &mut Vec<u8>, rule: &Rule) -> Result<(), AllocError>
-    ensures text { OnOk result (text.new.items ≡ text.old.items ++ (rule_text rule.now ++ 10 ∷ [])) }
+    ensures text { OnOk result (
+        text.new.items ≡ text.old.items ++ (rule_text rule.now ++ 10 ∷ [])) }
     ensures rule { IsRule rule.now }
 {
     match push_rule(text, rule) {

@@ -28,8 +28,10 @@ module _ (g : Group) where
   head_within k (r ∷ rules) l is =
       choose (same_group (group_of r) g) is (λ at. head_within (k + 1) rules l at) where
         choose : (b : Bool)
-            → head_of (cond b (k ∷ lines_from g (k + 1) rules) (lines_from g (k + 1) rules)) ≡ Some l
-            → (head_of (lines_from g (k + 1) rules) ≡ Some l → (k + 1 ≤ l) × (l < k + 1 + length rules))
+            → head_of (cond b (k ∷ lines_from g (k + 1) rules) (lines_from g (k + 1) rules))
+            ≡ Some l
+            → (head_of (lines_from g (k + 1) rules) ≡ Some l → (k + 1 ≤ l)
+            × (l < k + 1 + length rules))
             → (k ≤ l) × (l < k + suc (length rules))
         choose true at rest = let same : k ≡ l = same_Some k l at in (omega arith, omega arith)
         choose false at rest = let w = rest at in (omega (arith, w.0), omega (arith, w.1))
@@ -45,7 +47,8 @@ module _ (g : Group) where
       (λ j at all. above_head (k + 1) rules j r at all)
     where
       choose : (b : Bool) → same_group (group_of s) g ≡ b
-          → ((l : ℕ) → head_of (cond b (k ∷ lines_from g (k + 1) rules) (lines_from g (k + 1) rules))
+          → ((l : ℕ) → head_of
+          (cond b (k ∷ lines_from g (k + 1) rules) (lines_from g (k + 1) rules))
           ≡ Some l → k + i < l)
           → (j : ℕ) → slice_get (s ∷ rules) j ≡ Some r → j ≡ i
           → ((n : ℕ) → slice_get rules n ≡ Some r
@@ -74,7 +77,8 @@ module _ (g : Group) where
       after n is = ap (λ (m : ℕ). drop m (r ∷ rules)) is
 
       choose : (b : Bool)
-          → ((l : ℕ) → head_of (cond b (k ∷ lines_from g (k + 1) rules) (lines_from g (k + 1) rules))
+          → ((l : ℕ) → head_of
+          (cond b (k ∷ lines_from g (k + 1) rules) (lines_from g (k + 1) rules))
           ≡ Some l → line ≤ l) → (k ≡ line) ⊎ (k ≢ line)
           → (k + 1 ≤ line → ((l : ℕ) → head_of (lines_from g (k + 1) rules) ≡ Some l → line ≤ l)
           → lines_after line (lines_from g (k + 1) rules)

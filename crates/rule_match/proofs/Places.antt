@@ -49,7 +49,8 @@ module _ {X : Type 0} (p : X → Bool) where
       more rest =
           ap (λ (l : List X). option_and_then (slice_get l) (position_from p (length front + 1) xs))
           (sym along)
-          ∙ ap (λ (n : ℕ). option_and_then (slice_get (front ++ x ∷ [] ++ xs)) (position_from p n xs))
+          ∙ ap (λ (n : ℕ). option_and_then (slice_get (front ++ x ∷ [] ++ xs))
+          (position_from p n xs))
           (sym at)
           ∙ rest
 

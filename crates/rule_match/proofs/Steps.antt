@@ -151,7 +151,8 @@ module _ (rules : List RuleValue) (a : Access) (c : Candidates) (start : ℕ)
 
 -- what is found after the line that follows the first ones
 pub found_next : (rules : List RuleValue) (a : Access) (line : ℕ) (r : RuleValue)
-    (d next : Deciders) → line < length rules → r ≡ get_or rules line r → next ≡ after_line a line r d
+    (d next : Deciders) → line < length rules → r ≡ get_or rules line r → next
+    ≡ after_line a line r d
     → AreDeciders a (take line rules) d → AreDeciders a (take (line + 1) rules) next
 found_next rules a line r d next within read is found =
     let at : slice_get rules line ≡ Some r = slice_get_read rules (length rules) line r refl within

@@ -10,7 +10,8 @@ use std::alloc::{AllocError, Global};
 pub fn cut(text: &[u8], separator: u8) -> Option<(&[u8], &[u8])>
     ensures value { option_map (λ p. (p.0.now, p.1.now)) result ≡ cut separator text.now }
     ensures parts { MatchOption result (slice_split (λ b. b == separator) text.now ≡ text.now ∷ [])
-        (λ p. slice_split (λ b. b == separator) text.now ≡ p.0.now ∷ slice_split (λ b. b == separator) p.1.now) }
+        (λ p. slice_split (λ b. b == separator) text.now
+        ≡ p.0.now ∷ slice_split (λ b. b == separator) p.1.now) }
     ensures shorter { IfSome result (λ p. length p.1.now < length text.now) }
 {
     let at = memchr(separator, text)?;

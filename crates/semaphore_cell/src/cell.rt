@@ -150,7 +150,8 @@ impl SemaphoreCell {
         ensures numbers { self.new.numbers ≡ map caller_of self.new.list }
         ensures same_pass { (pass.new.name ≡ pass.old.name) × (pass.new.number ≡ pass.old.number) }
         ensures legal { LegalSemaphores (past self.new.list) }
-        ensures signed { All (λ e. (0 < caller_of e) × (caller_of e < self.new.callers)) self.new.list }
+        ensures signed { All (λ e. (0 < caller_of e) × (caller_of e < self.new.callers))
+            self.new.list }
     {
         self.journal.look(pass);
     }

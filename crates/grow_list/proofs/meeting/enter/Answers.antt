@@ -34,7 +34,8 @@ pass_after g c =
     c.args.entry.now c.meet.ensures.tallies)
 
 list_after : (g : given.Over) (c : goal.After-settle g) → c.settle.new.list.me.0
-    ≡ OfList (grown (listed c.args.list.now.me.0) (held c.args.pass.now.me.0).number c.args.entry.now)
+    ≡ OfList (grown (listed c.args.list.now.me.0) (held c.args.pass.now.me.0).number
+    c.args.entry.now)
 list_after g c =
     let l = listed c.args.list.now.me.0 in
     let p = held c.args.pass.now.me.0 in
