@@ -81,8 +81,7 @@ progress_of admin c m = unwrap_or m.progress (begun admin m.handles c)
 -- ---- the next step
 
 -- what a step does: nothing, an event on an inode, a check of one, whose action the rules are to
--- give, a deed on the semaphores,
--- or a rule more
+-- give, a deed on the semaphores, or a rule more
 pub data Step : Type 0 where
   Nothing : Step
   Does : ℕ → Deed → Step
@@ -166,8 +165,7 @@ moved c m g place (Over r) =
     (record { at = m.at + 1; progress = None; handles = handles_after c g r m.handles }, Some r)
 
 -- the task after its next step: by the place of the event, by what it was told, and after a check
--- by its action. At the call's last
--- step there is a reply
+-- by its action. At the call's last step there is a reply
 abbrev pub after_of : Mode → Bool → Call → Mind → ℕ → Told → Action → Mind × Option Reply
 after_of mode admin c m place t action =
     let g = progress_of admin c m in moved c m g place (next mode c g.due t action)

@@ -210,8 +210,7 @@ after_close r told.Begun = goes ask.CloseChunk r
 after_close r t = Over r
 
 -- what comes after a step: by the step, by the reply that its call has so far, by what the step was
--- told, and after a check by its
--- action
+-- told, and after a check by its action
 abbrev pub next_by : Mode → Course → Ask → Reply → Told → Action → Next
 next_by mode c ask.Count r t action = after_count c r t
 next_by mode c (ask.Check func mask) r t action = after_check mode c r action

@@ -68,9 +68,8 @@ fn allows_meta(status: EvmStatus) -> bool
 
 impl Evm {
     /// EVM with a key, if there is one, the names that are protected beside the kernel's five, in
-    /// the order
-    /// in which they were added, and the format of the HMAC's message: 1, or 2 with the file
-    /// system's UUID.
+    /// the order in which they were added, and the format of the HMAC's message: 1, or 2 with the
+    /// file system's UUID.
     pub fn new(
         alloc: Global,
         key: Option<&[u8]>,
@@ -124,10 +123,8 @@ impl Evm {
     }
 
     /// What EVM says of an inode: whether `security.evm` is the HMAC of its protected attributes
-    /// and
-    /// metadata as they are, is the HMAC of the older form, is missing or doesn't fit, or whether
-    /// there is
-    /// nothing to protect or no key.
+    /// and metadata as they are, is the HMAC of the older form, is missing or doesn't fit, or
+    /// whether there is nothing to protect or no key.
     pub fn status(&self, attrs: &Attrs, meta: &Meta) -> EvmStatus
         ensures { result ≡ evm_status self.now attrs.now meta.now }
     {
@@ -151,8 +148,7 @@ impl Evm {
     }
 
     /// Writes the HMAC anew, or takes `security.evm` away where nothing is protected any more.
-    /// Without a
-    /// key nothing changes. After memory ran out the attributes are as before.
+    /// Without a key nothing changes. After memory ran out the attributes are as before.
     pub fn renew(&self, attrs: &mut Attrs, meta: &Meta) -> Result<(), OutOfMemory>
         ensures ok { OnOk result (attrs.new ≡ renewed self.now attrs.old meta.now) }
         ensures err { OnErr result (attrs.new ≡ attrs.old) }

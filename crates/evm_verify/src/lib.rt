@@ -1,6 +1,5 @@
 //! EVM, the extended verification module: an HMAC over the protected attributes and the metadata of
-//! an
-//! inode (Documentation/ABI/testing/evm), its status and renewal, and the changes that it lets a
+//! an inode (Documentation/ABI/testing/evm), its status and renewal, and the changes that it lets a
 //! call make.
 #![tactic(auto)]
 

@@ -58,8 +58,7 @@ fn several(alloc: Global) -> Result<Attrs, Fail> {
 }
 
 // Expected values of `security.evm`: the type and the HMAC as `openssl dgst -sha1 -mac HMAC` gives
-// it, of
-// the values and the metadata written out by hand.
+// it, of the values and the metadata written out by hand.
 const OF_SHA1: &[u8] =
     b"\x02\x0a\xbb\xb6\x56\x45\x03\x4a\xcc\x25\x23\x84\x3b\x11\xd5\x04\x5a\x97\xee\xef\x69";
 

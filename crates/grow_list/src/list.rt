@@ -14,8 +14,8 @@ use std::alloc::{AllocError, Global};
 use std::marker::Model;
 
 /// A list that only grows. Contracts see its name, its number of callers, its entries, beside each
-/// entry the number of
-/// the pass that added it, and its room: for how many more entries it has memory.
+/// entry the number of the pass that added it, and its room: for how many more entries it has
+/// memory.
 #[derive(Drop)]
 pub struct Grow<E> {
     entries: Vec<E>,
@@ -37,8 +37,8 @@ impl<E> Model for Grow<E> {
 }
 
 /// What one caller knows of a list. Contracts see the name of its list, its number, the list that
-/// it has seen, and its
-/// own entries, each with its place. It may stay with its caller while the list lies under a lock.
+/// it has seen, and its own entries, each with its place. It may stay with its caller while the
+/// list lies under a lock.
 pub struct Pass<E> {
     seat: Place<E>,
     number: u32,
@@ -205,8 +205,7 @@ impl<E> Grow<E> {
     }
 
     /// Hands out the entries, and takes back the passes. What each pass saw begins the list, the
-    /// list's entries of its
-    /// number are its own, and each place of the list is one pass's.
+    /// list's entries of its number are its own, and each place of the list is one pass's.
     pub fn close(self, passes: Vec<Pass<E>>) -> Vec<E>
         requires { HasEach self passes.items }
         ensures list { result.items ≡ self.list }
@@ -227,8 +226,8 @@ impl<E> Grow<E> {
     }
 
     /// Closes the list of an owner that kept one pass for itself, and takes that pass apart from
-    /// the others, so that no
-    /// memory is needed to put them together. What holds of each pass is as for `close`.
+    /// the others, so that no memory is needed to put them together. What holds of each pass is as
+    /// for `close`.
     pub fn close_with(self, own: Pass<E>, passes: Vec<Pass<E>>) -> Vec<E>
         requires { HasEach self (own ∷ passes.items) }
         ensures list { result.items ≡ self.list }

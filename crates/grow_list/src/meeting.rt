@@ -172,8 +172,7 @@ fn draw<E, N: Drawing>(board: &Board<E>, seat: &mut Place<E>, due: u64) -> bool
 }
 
 /// A new seat with the due number, which stands for a pass. Where the next number is another, which
-/// never comes, there
-/// is no seat for it.
+/// never comes, there is no seat for it.
 pub fn take_number<E>(
     board: &Board<E>,
     list: &mut Place<E>,

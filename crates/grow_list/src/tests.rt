@@ -9,8 +9,8 @@ use std::test::Fail;
 use std::thread::{Threads, join};
 
 /// A caller adds an entry, then any number of entries are added by others, and then the caller
-/// looks: its entry stands
-/// in the list at the place that it was told, and no entry but its own has its number.
+/// looks: its entry stands in the list at the place that it was told, and no entry but its own has
+/// its number.
 fn stays<E: Drop>(grow: &mut Grow<E>, me: &mut Pass<E>, entry: E, others: Vec<(Pass<E>, E)>) -> u64
     requires room { length others.items < grow.old.spare }
     requires mine { me.old.name ≡ grow.old.name }

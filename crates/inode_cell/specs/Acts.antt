@@ -22,8 +22,7 @@ use Rattle.xattr_store.specs.Attrs.{Pair}
 use Rattle.inode_cell.specs.Value.{CellValue, IsSameCell}
 
 -- the step that does this deed, by the measurement list before it: it is told what the journal
--- says, and journal, pass and list
--- have what this leaves, and nothing else
+-- says, and journal, pass and list have what this leaves, and nothing else
 pub record Acts (old new : CellValue) (list list2 : List Entry) (pass pass2 : Passed Event) (who :
     Who) (d : Deed) (o : Option Told) : Type 0 where
   pub told : o ≡ outcome old.inode list d (past old.list)

@@ -5,8 +5,8 @@ use Rattle.inode_events.specs.Inode.{Inode}
 use Rattle.inode_events.specs.declared.told.Event.{Event}
 
 -- the inode, the name of its journal and how many callers that has, the name of the measurement
--- list and the number of the cell's
--- pass of it, for how many more events there is room, and the journal
+-- list and the number of the cell's pass of it, for how many more events there is room, and the
+-- journal
 pub record CellValue : Type 0 where
   pub inode : Inode
   pub journal : ListName

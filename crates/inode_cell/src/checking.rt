@@ -87,8 +87,7 @@ impl InodeCell {
     }
 
     /// Asks the rules for an access by a file: the action is the first match's, and a writer among
-    /// readers of a measured file,
-    /// or a measured reader among writers, is a violation of the list.
+    /// readers of a measured file, or a measured reader among writers, is a violation of the list.
     pub fn check(
         &mut self,
         pass: &mut Pass<Event>,

@@ -90,8 +90,8 @@ impl InodeCell {
     }
 
     /// The collection of a close ends with these digests, by its algorithm and by SHA-1: the label
-    /// is written where the writer
-    /// is still the only one, and the file is dropped. Answers whether the label was written.
+    /// is written where the writer is still the only one, and the file is dropped. Answers whether
+    /// the label was written.
     pub fn close_finish(
         &mut self,
         pass: &mut Pass<Event>,

@@ -57,8 +57,8 @@ fn digest_of(in_force: Option<InForce>) -> Option<Digest>
 
 impl InodeCell {
     /// The inode of this image under a path, with a pass for each task: that of the task t has the
-    /// number t + 1, and has seen
-    /// nothing yet. `book` is the cell's pass of the measurement list, and has no entry of its own.
+    /// number t + 1, and has seen nothing yet. `book` is the cell's pass of the measurement list,
+    /// and has no entry of its own.
     pub fn start(
         alloc: Global,
         path: &[u8],
@@ -102,9 +102,8 @@ impl InodeCell {
     }
 
     /// A pass of this cell sees the journal. What its own entries tell then holds of the journal:
-    /// what may be done by them may be
-    /// done, the last check of a file is theirs, and a collection that is open by them is as the
-    /// pass has seen it last.
+    /// what may be done by them may be done, the last check of a file is theirs, and a collection
+    /// that is open by them is as the pass has seen it last.
     pub fn look(&mut self, pass: &mut Pass<Event>)
         requires { pass.old.name ≡ self.old.journal }
         ensures list { self.new.list ≡ self.old.list }
@@ -120,10 +119,9 @@ impl InodeCell {
     }
 
     /// Hands out the journal with what is left of the inode, and the cell's pass of the measurement
-    /// list, and takes back the
-    /// passes that `start` answered. What each pass saw begins the journal, the journal's events of
-    /// its number are its own, and
-    /// each event but the birth is one pass's.
+    /// list, and takes back the passes that `start` answered. What each pass saw begins the
+    /// journal, the journal's events of its number are its own, and each event but the birth is one
+    /// pass's.
     pub fn close(self, passes: Vec<Pass<Event>>) -> (EndedInode, Pass<Entry>)
         requires { HasPasses self passes.items }
         ensures ended { IsEnded self result.0 }

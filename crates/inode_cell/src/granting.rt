@@ -251,8 +251,7 @@ impl InodeCell {
     }
 
     /// Asks for the digest in force, by what the file's last check asked for: `slot` is that of its
-    /// function, and `action` its
-    /// action. With none in force a collection begins.
+    /// function, and `action` its action. With none in force a collection begins.
     pub fn take(
         &mut self,
         pass: &mut Pass<Event>,
@@ -323,8 +322,7 @@ impl InodeCell {
     }
 
     /// The collection of a take ends with these digests, by its algorithm and by SHA-1: they come
-    /// in force, and the file is
-    /// granted.
+    /// in force, and the file is granted.
     pub fn finish(
         &mut self,
         pass: &mut Pass<Event>,

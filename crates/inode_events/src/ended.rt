@@ -4,8 +4,7 @@ use std::marker::Model;
 use xattr_store::{Attrs, Bytes};
 
 /// An inode at the end of a run: its journal, and what the journal gives. Contracts see the record
-/// of
-/// its fields, the journal as a list.
+/// of its fields, the journal as a list.
 #[derive(Drop)]
 pub struct EndedInode {
     /// The path.

@@ -48,8 +48,7 @@ pub fn is_stale(in_force: &Option<InForce>, writes: Writes) -> bool
 }
 
 /// Whether the event voids the digest in force, where `drop` says whether it drops the last writer,
-/// and `changed` whether the
-/// content is then taken as changed.
+/// and `changed` whether the content is then taken as changed.
 pub fn voids_digest(e: &Event, drop: bool, changed: bool) -> bool
     ensures { result ≡ voids_now e.now.deed e.now.told drop changed }
 {

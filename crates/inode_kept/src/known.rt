@@ -77,8 +77,8 @@ impl Known {
     }
 
     /// What a take or finish knows: whether its file is open for writing, the algorithm by which
-    /// its collection would hash, what
-    /// was asked of the file, and the digests of the collection that ends.
+    /// its collection would hash, what was asked of the file, and the digests of the collection
+    /// that ends.
     pub fn granting(writing: bool, algo: Algo, asked: Asked, sums: Option<Sums>) -> Known
         ensures { result ≡ record {
           gone = None;

@@ -1,10 +1,9 @@
 //! What is kept of an inode beside its journal, and how each event changes it.
 //!
 //! The definitions of a journal search it. The values here are what they say, moved along event by
-//! event: open files by kind,
-//! marks, metadata, whether there were writes, the open collection, the digest in force and the
-//! verdicts in force. Attributes
-//! and content are none of them: whoever holds those changes them.
+//! event: open files by kind, marks, metadata, whether there were writes, the open collection, the
+//! digest in force and the verdicts in force. Attributes and content are none of them: whoever
+//! holds those changes them.
 #![tactic(auto)]
 
 mod collecting;

@@ -97,8 +97,7 @@ fn update_after(e: &Event, writing: bool, last: bool, old: bool) -> bool
 
 impl Marks {
     /// The marks after an event. `last` says whether it drops the last writer, and `writing`
-    /// whether the file that it checks
-    /// or grants is open for writing.
+    /// whether the file that it checks or grants is open for writing.
     pub fn after(self, e: &Event, last: bool, writing: bool) -> Marks
         ensures { (p : List AnyEvent) → AreMarks p self
             → last ≡ is_last_drop e.now.deed e.now.told p → writing ≡ writes_named e.now.deed p

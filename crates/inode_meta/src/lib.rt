@@ -1,7 +1,6 @@
 //! The plain values that every layer speaks of: an inode's metadata, a task's credentials, the
-//! place of a step, and the
-//! small choices of IMA and EVM (status, appraisal mode, template, bank, slot), each with its
-//! printed word.
+//! place of a step, and the small choices of IMA and EVM (status, appraisal mode, template, bank,
+//! slot), each with its printed word.
 #![tactic(auto)]
 
 mod appraisal;

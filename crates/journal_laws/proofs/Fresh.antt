@@ -1,6 +1,6 @@
 -- Freshness: while nothing was written since its begin, a collection has taken the content as it
--- is, and the digest and the
--- verdicts in force are those computed anew. Where something was written, a writer is still there.
+-- is, and the digest and the verdicts in force are those computed anew. Where something was
+-- written, a writer is still there.
 use Rattle.std.proofs.Common.{◌≡◌, ℕ, ◌+◌, ◌*◌, ◌<◌, ◌≤◌, suc, Bool, true, false, cond, List, [], ◌∷◌, ◌++◌, length, take, drop, Option, Some, None, refl, sym, ◌∙◌, ap, subst, arith}
 use Rattle.std.specs.Prelude.{◌==◌}
 use Rattle.std.specs.Option.{option_or}

@@ -1,6 +1,5 @@
 -- From a measured check on that meets no violation, nothing is written while its file is held: a
--- writer that is there was
--- counted later, and its check would be told of the reader.
+-- writer that is there was counted later, and its check would be told of the reader.
 use Rattle.std.proofs.Common.{◌≡◌, ℕ, ◌<◌, Bool, true, false, ◌&&◌, cond, List, [], ◌∷◌, length, Option, Some, None, refl, sym, ◌∙◌, ap, subst, arith}
 use Rattle.std.specs.Prelude.{◌==◌, nat_lt, option_map}
 use Rattle.std.proofs.lemmas.Bool.{cond-true, cond-false, eqb-true, lt-ltb, ne_eqb, or_left}

@@ -1,6 +1,5 @@
 -- The laws of journals, each for every legal journal. Since what lies before an event of a legal
--- journal is legal too, a law
--- holds at each place of it.
+-- journal is legal too, a law holds at each place of it.
 use Rattle.std.specs.Prelude.{◌≡◌, ℕ, ◌+◌, ◌≤◌, true, false, All, List, ◌∷◌, ◌++◌, Some}
 use Rattle.hash_algos.specs.Digest.{digest_of}
 use Rattle.hash_algos.specs.declared.algo.Algo.TheVariants.{Sha1}
@@ -77,8 +76,7 @@ Freshness = (i : Inode) (p : List Event) → Legal i p → writers p ≡ 0 → I
     × AreVerdictsFresh i p
 
 -- a grant of mode enforce admits exactly on Pass; made of an unmodified file, it gives the verdict
--- over everything as it is, and admits
--- exactly where the file fits
+-- over everything as it is, and admits exactly where the file fits
 abbrev pub IsAdmitted : Inode → List Event → Deed → Grant → ℕ → Type 0
 IsAdmitted i p d grant file =
     (grant.admitted ≡ is_passed grant.verdict)
@@ -101,8 +99,7 @@ labelled_close who file p =
     record { who = who; deed = deed.CloseFinish file; told = told.LabelledDropped } ∷ p
 
 -- The label of a close: it is that of the digest, by the script's default algorithm, of the content
--- at that step; the HMAC is
--- renewed, and no other attribute changes.
+-- at that step; the HMAC is renewed, and no other attribute changes.
 abbrev pub CloseLabel : Type 0
 CloseLabel =
     (i : Inode) (p : List Event) (who : Who) (file : ℕ) → Legal i (labelled_close who file p)
@@ -118,8 +115,8 @@ FewCollections =
     (i : Inode) (p : List Event) → Legal i p → takes_begun p ≤ times_voided_before_last i p + 1
 
 -- Coverage: each read of a read-only file is covered by every list in which the journal's events
--- are listed. The last two
--- premises say what a cell keeps of its path, and the list of its entries by their type.
+-- are listed. The last two premises say what a cell keeps of its path, and the list of its entries
+-- by their type.
 abbrev pub Coverage : Type 0
 Coverage =
     (i : Inode) (list : List Entry) (p : List Event) (who : Who) (file from len : ℕ) (t : Told)

@@ -33,8 +33,8 @@ pub fn fresh_in_force()
 {}
 
 /// Enforcing appraisal admits a file exactly on Pass. A file that wasn't written since the begin of
-/// its digest is admitted
-/// exactly where digest and HMAC fit, and its verdict is the one computed anew.
+/// its digest is admitted exactly where digest and HMAC fit, and its verdict is the one computed
+/// anew.
 pub fn enforced_admission()
     ensures { Admission }
 {}
@@ -52,9 +52,8 @@ pub fn few_collections()
 {}
 
 /// Each read of a read-only file is covered: for every check before it whose action measures, the
-/// list has the digest of the
-/// content as it is, at the place that a later grant names, or a violation that was told at the
-/// check or since.
+/// list has the digest of the content as it is, at the place that a later grant names, or a
+/// violation that was told at the check or since.
 pub fn covered_reads()
     ensures { Coverage }
 {}

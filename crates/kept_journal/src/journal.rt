@@ -102,8 +102,7 @@ impl KeptJournal {
     }
 
     /// Adds an event in room that was reserved, and keeps everything else in step with it. The pass
-    /// is that of the event's
-    /// caller, and has then seen the journal.
+    /// is that of the event's caller, and has then seen the journal.
     pub fn enter(&mut self, pass: &mut Pass<Event>, event: Event, known: &Known)
         requires name { pass.old.name ≡ self.old.name }
         requires number { pass.old.number ≡ caller_of event }
@@ -142,8 +141,8 @@ impl KeptJournal {
     }
 
     /// The journal of an inode that comes into being, with a pass for each task: that of the task t
-    /// has the number t + 1, and
-    /// has seen nothing yet. The birth is by the journal's own pass, which has the number 0.
+    /// has the number t + 1, and has seen nothing yet. The birth is by the journal's own pass,
+    /// which has the number 0.
     pub fn start(
         alloc: Global,
         path: Bytes,
@@ -180,9 +179,8 @@ impl KeptJournal {
     }
 
     /// Hands out the path, the events and what is kept, and takes back the passes that `start`
-    /// answered. What each pass saw
-    /// begins the journal, the journal's events of its number are its own, and each event but the
-    /// birth is one pass's.
+    /// answered. What each pass saw begins the journal, the journal's events of its number are its
+    /// own, and each event but the birth is one pass's.
     pub fn close(self, passes: Vec<Pass<Event>>) -> (Bytes, Vec<Event>, State)
         requires { HasOthers self passes.items }
         ensures path { result.0 ≡ self.inode.path }

@@ -1,6 +1,5 @@
 -- The laws of merged runs: what tasks keep of the places of the measurement list, and how a run's
--- journals and the list come
--- together at its end.
+-- journals and the list come together at its end.
 use Rattle.std.specs.Prelude.{◌≡◌, ℕ, ◌<◌, ◌==◌, All, List, [], ◌∷◌, ◌++◌, length, reverse, Some, slice_get, count_by, if◌then◌else◌}
 use Rattle.std.specs.List.{AllZip}
 use mathlib.Core.List.{IsPrefix}
@@ -53,8 +52,8 @@ LogIsOrdered = (mode : Mode) (n : ℕ) (p : Program) (h : List Answer)
 -- ---- the end
 
 -- What the list's close gives of all passes but its own: the boot aggregate stands first and is
--- none of theirs, each other place
--- is one pass's, what each saw begins the list, and no entry is the same as an earlier one.
+-- none of theirs, each other place is one pass's, what each saw begins the list, and no entry is
+-- the same as an earlier one.
 pub record BookClosed (boot : Entry) (list : List Entry) (passes : List (Passed Entry)) : Type
     0 where
   pub first : slice_get list 0 ≡ Some boot

@@ -1,6 +1,6 @@
 //! How the journals of all inodes and the measurement list come together: what each task keeps of
-//! the places that its steps were
-//! told, and that the closes of the list and of the inodes make a merged run.
+//! the places that its steps were told, and that the closes of the list and of the inodes make a
+//! merged run.
 //!
 //! Each law is the contract of a function that does nothing.
 #![tactic(auto)]

@@ -1,6 +1,5 @@
 //! What a caller knows of a journal by its own entries: the stage of its files, their checks, how
-//! they are held, what may be done
-//! with them, and the collection that it has open.
+//! they are held, what may be done with them, and the collection that it has open.
 //!
 //! Each law is the contract of a function that does nothing.
 #![tactic(auto)]

@@ -34,8 +34,7 @@ pub const MAY_READ: u8 = 4;
 pub const MAY_APPEND: u8 = 8;
 
 /// What a task wants of a file, where the policy is asked. The table of the hook that asks and of
-/// the
-/// access mask stands here; [`Func::slot`] has the place of the verdict.
+/// the access mask stands here; [`Func::slot`] has the place of the verdict.
 #[derive(Clone, Copy, Debug, PartialEq, Eq)]
 pub enum Purpose {
     /// It is opened for reading.

@@ -145,8 +145,7 @@ fn is_sign(value: &[u8]) -> bool
 }
 
 /// The key of a token and its value: the sign of an id key belongs to its value, and a key that
-/// takes
-/// no value has an empty one.
+/// takes no value has an empty one.
 pub fn key_of(token: &[u8]) -> Option<(Key, &[u8])>
     ensures { option_map (λ k. (k.0, k.1.now)) result ≡ key_of token.now }
 {

@@ -65,8 +65,7 @@ pub enum Func {
 
 impl Func {
     /// The place of the hook's verdict in the kernel's inode cache: a function that has none of its
-    /// own
-    /// shares that of opened files.
+    /// own shares that of opened files.
     pub fn slot(self) -> Slot
         ensures { result ≡ slot_of self }
     {

@@ -1,6 +1,5 @@
 //! The report of a run: its list, registers, appended rules, journals and replies, in lines of
-//! words
-//! parted by one space.
+//! words parted by one space.
 //!
 //! The definitions stand in `specs/`. That equal reports of two runs of one script tell of equal
 //! events, entries, rules and replies is the law of [`law`].

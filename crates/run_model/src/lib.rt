@@ -1,11 +1,9 @@
 //! Whole runs: what a script sets up, what one turn of a task does, which runs are served, and
-//! which
-//! are shown.
+//! which are shown.
 //!
 //! The definitions of `specs/` speak of plain lists: a journal for each inode, the measurement
-//! list,
-//! the appended rules, and of each task its program and what it was told. What a run leaves is
-//! [`Ended`].
+//! list, the appended rules, and of each task its program and what it was told. What a run leaves
+//! is [`Ended`].
 #![tactic(auto)]
 
 mod ended;
@@ -39,8 +37,7 @@ pub fn placed_is_told()
 {}
 
 /// What a step leaves of the measurement list is what its event says of it: an entry that it adds
-/// at
-/// the end, one that it finds, or neither.
+/// at the end, one that it finds, or neither.
 pub fn step_is_listed()
     ensures { StepIsListed }
 {}

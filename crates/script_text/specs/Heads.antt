@@ -81,8 +81,7 @@ abbrev pub in_order : ℕ → Bool → ℕ → Bool
 in_order rank again at = nat_le 1 at && (nat_lt at rank || (again && at == rank))
 
 -- whether the line can stand behind those before it: an attribute and a seal in the block of a file
--- that is there and isn't sealed,
--- and a call in that of a task
+-- that is there and isn't sealed, and a call in that of a task
 abbrev pub stands : Head → Draft → Bool
 stands head.Imakern d = d.at == 0
 stands head.Attr d = d.at == 10 && d.unsealed

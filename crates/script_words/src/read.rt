@@ -18,8 +18,7 @@ pub trait Grammar: Drop {
     ghost ends: { Self → Bool };
 
     /// Takes one line more, which is neither empty nor a comment. A state that refused a line is of
-    /// no
-    /// further use.
+    /// no further use.
     fn add_line(&mut self, alloc: Global, line: &[u8]) -> Result<(), LineErr>
         ensures { LineMakes result (step self.old line.now) self.new };
 

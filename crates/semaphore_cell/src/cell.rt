@@ -74,8 +74,7 @@ impl SemaphoreCell {
     /// Posts to a semaphore or waits for one, by the pass of the step's task, in room that was
     /// reserved, and answers the place of its event, from 0 on. None is blocked: a wait for a
     /// semaphore of which nothing is left, or a deed that is on no semaphore. The pass has then
-    /// seen
-    /// the journal.
+    /// seen the journal.
     pub fn signal(&mut self, pass: &mut Pass<Event>, who: Who, deed: Deed) -> Option<u64>
         requires room { 1 ≤ self.old.spare }
         requires name { pass.old.name ≡ self.old.name }

@@ -1,6 +1,5 @@
 -- Extended attributes as a list of pairs of name and value. No name stands twice, and the names
--- stand
--- in byte order.
+-- stand in byte order.
 use Rattle.std.specs.Prelude.{◌≡◌, ℕ, ◌≤◌, List, [], ◌∷◌, length, Option}
 use Rattle.std.specs.Cmp.Lexicographic.{slice_cmp}
 use Rattle.std.specs.BTreeMap.{insert_entry}

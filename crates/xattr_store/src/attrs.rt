@@ -34,8 +34,7 @@ impl From<AllocError> for SetErr {
 pub struct NoData;
 
 /// The extended attributes of an inode. Contracts see the list of pairs of name and value: each
-/// name
-/// once, in byte order, with values of at most [`MAX_VALUE`] bytes.
+/// name once, in byte order, with values of at most [`MAX_VALUE`] bytes.
 #[derive(Debug, Drop)]
 pub struct Attrs {
     pairs: Vec<(Bytes, Bytes)>,
