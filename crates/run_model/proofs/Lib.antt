@@ -1,4 +1,6 @@
 pub mod Rows
+pub mod Whole
+pub mod Unserved
 pub mod Still
 pub mod PlacedAsTold
 pub mod Listed

@@ -1,0 +1,97 @@
+-- What holds of a shown run, at each place of each of its journals.
+use Rattle.std.specs.Prelude.{◌≡◌, ℕ, ◌+◌, ◌≤◌, true, List, ◌∷◌, Some}
+use Rattle.hash_algos.specs.Digest.{digest_of}
+use Rattle.inode_meta.specs.declared.appraisal.Mode.TheVariants.{Enforce}
+use Rattle.inode_meta.specs.declared.step.Who.{Who}
+use Rattle.label_values.specs.Labels.{label_of}
+use Rattle.inode_events.specs.Admission.{granted_file}
+use Rattle.inode_events.specs.Checks.{last_check}
+use Rattle.inode_events.specs.Counts.{takes_begun, times_voided_before_last}
+use Rattle.inode_events.specs.Coverage.{IsCovered}
+use Rattle.inode_events.specs.Files.{held, holds, is_reader, writers}
+use Rattle.inode_events.specs.Inode.{Inode}
+use Rattle.inode_events.specs.Integrity.{attributes, label, labelled_with}
+use Rattle.inode_events.specs.State.{content, metadata}
+use Rattle.inode_events.specs.declared.deed.Deed.{Deed}
+use Rattle.inode_events.specs.declared.deed.Deed.TheVariants as deed
+use Rattle.inode_events.specs.declared.told.Event.{Event}
+use Rattle.inode_events.specs.declared.told.Grant.{Grant}
+use Rattle.inode_events.specs.declared.told.Told.{Told}
+use Rattle.inode_events.specs.declared.told.Told.TheVariants as told
+use Rattle.journal_laws.specs.Laws.{AreVerdictsFresh, IsAdmitted, IsDigestFresh, labelled_close}
+use Rattle.call_steps.specs.declared.ending.Ending.{Ending}
+use Rattle.run_model.specs.Scene.{Scene}
+use Rattle.run_model.specs.Served.{Run}
+use Rattle.run_model.specs.Shown.{IsShown}
+use Rattle.shown_laws.specs.Places.{HasForms, Stood}
+
+-- ---- of a run
+
+-- whenever no writer holds an inode, its digest and its verdicts in force are those computed anew
+abbrev pub IsFresh : Scene → Run → Type 0
+IsFresh scene run = (inode : Inode) (p : List Event) → Stood scene run inode p → writers p ≡ 0
+    → IsDigestFresh inode p × AreVerdictsFresh inode p
+
+-- each read of a read-only file is covered by the list
+abbrev pub AreReadsCovered : Scene → Run → Type 0
+AreReadsCovered scene run =
+    (inode : Inode) (p : List Event) (who : Who) (file from len : ℕ) (t : Told)
+    → Stood scene run inode (record { who = who; deed = deed.Read file from len; told = t } ∷ p)
+    → holds is_reader (held file p) ≡ true → IsCovered inode run.list file p
+
+-- each grant of mode enforce that appraises admits an unmodified file exactly where it fits
+abbrev pub AreAdmitted : Scene → Run → Type 0
+AreAdmitted scene run =
+    (inode : Inode) (p : List Event) (who : Who) (d : Deed) (grant : Grant) (file : ℕ)
+    → Stood scene run inode (record { who = who; deed = d; told = told.Grant grant } ∷ p)
+    → granted_file d ≡ Some file → scene.settings.mode ≡ Enforce
+    → (last_check file p).action.appraise ≡ true → IsAdmitted inode p d grant file
+
+-- the label that a close writes is that of the digest of the content at that step, by the script's
+-- algorithm; the HMAC is renewed, and no other attribute changes
+abbrev pub AreLabelled : Scene → Run → Type 0
+AreLabelled scene run = (inode : Inode) (p : List Event) (who : Who) (file : ℕ)
+    → Stood scene run inode (labelled_close who file p)
+    → (attributes inode (labelled_close who file p) ≡ labelled_with inode
+    (digest_of scene.settings.hash (content p)) (metadata p) (attributes inode p))
+    × (label inode (labelled_close who file p)
+    ≡ Some (label_of (digest_of scene.settings.hash (content p))))
+
+-- the collections that takes began are at most one more than the events that voided a digest
+-- before the last of them
+abbrev pub IsRarelyHashed : Scene → Run → Type 0
+IsRarelyHashed scene run = (inode : Inode) (p : List Event) → Stood scene run inode p
+    → takes_begun p ≤ times_voided_before_last inode p + 1
+
+pub record IsSound (scene : Scene) (run : Run) : Type 0 where
+  pub fresh : IsFresh scene run
+  pub covered : AreReadsCovered scene run
+  pub admitted : AreAdmitted scene run
+  pub labelled : AreLabelled scene run
+  pub rarely_hashed : IsRarelyHashed scene run
+
+-- ---- the laws
+
+abbrev pub ShownIsFresh : Type 0
+ShownIsFresh = (scene : Scene) (ending : Ending) (run : Run) → IsShown scene ending run
+    → IsFresh scene run
+
+abbrev pub ShownIsCovered : Type 0
+ShownIsCovered = (scene : Scene) (ending : Ending) (run : Run) → IsShown scene ending run
+    → HasForms scene run → AreReadsCovered scene run
+
+abbrev pub ShownIsAdmitted : Type 0
+ShownIsAdmitted = (scene : Scene) (ending : Ending) (run : Run) → IsShown scene ending run
+    → AreAdmitted scene run
+
+abbrev pub ShownIsLabelled : Type 0
+ShownIsLabelled = (scene : Scene) (ending : Ending) (run : Run) → IsShown scene ending run
+    → AreLabelled scene run
+
+abbrev pub ShownIsRarelyHashed : Type 0
+ShownIsRarelyHashed = (scene : Scene) (ending : Ending) (run : Run) → IsShown scene ending run
+    → IsRarelyHashed scene run
+
+abbrev pub ShownIsSound : Type 0
+ShownIsSound = (scene : Scene) (ending : Ending) (run : Run) → IsShown scene ending run
+    → HasForms scene run → IsSound scene run

@@ -1,0 +1,28 @@
+-- The places of the journals of a run.
+use Rattle.std.specs.Prelude.{◌≡◌, ℕ, All, List, ◌++◌, Some, slice_get}
+use Rattle.ima_templates.specs.IsEntry.{IsEntry}
+use Rattle.ima_templates.specs.Path.{IsMeasuredPath}
+use Rattle.inode_meta.specs.declared.measurement.Template.TheVariants.{Ima}
+use Rattle.inode_events.specs.Inode.{Inode}
+use Rattle.inode_events.specs.Legal.{IsBorn}
+use Rattle.inode_events.specs.Past.{past}
+use Rattle.inode_events.specs.declared.told.Event.{Event}
+use Rattle.run_model.specs.Scene.{Scene, Station, inode_of}
+use Rattle.run_model.specs.Served.{Run}
+
+-- at some place of the inode's journal, these events lay before it, newest first
+pub record Stood (scene : Scene) (run : Run) (inode : Inode) (p : List Event) : Type 0 where
+  pub number : ℕ
+  pub station : Station
+  pub journal : List Event
+  pub at : slice_get scene.stations number ≡ Some station
+  pub journal_at : slice_get run.journals number ≡ Some journal
+  pub inode_is : inode_of scene station ≡ inode
+  pub later : List Event
+  pub is : past journal ≡ later ++ p
+  pub born : IsBorn p
+
+-- what the types of a script's paths and of a list's entries keep
+pub record HasForms (scene : Scene) (run : Run) : Type 0 where
+  pub paths : All (λ (s : Station). IsMeasuredPath Ima s.path) scene.stations
+  pub entries : All IsEntry run.list
