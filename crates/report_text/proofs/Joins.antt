@@ -1,7 +1,7 @@
 -- Words joined by spaces, and lines put one behind another.
-use Rattle.std.proofs.Common.{◌≡◌, ◌≢◌, ℕ, suc, ◌+◌, ◌<◌, ◌≤◌, Bool, true, false, List, [], ◌∷◌, ◌++◌, take, drop, map, get_or, length, codes, Option, Some, None, refl, sym, ap, ◌∙◌, append_assoc, drop-cons, add-one, arith}
+use Rattle.std.proofs.Common.{◌≡◌, ◌≢◌, ℕ, suc, ◌+◌, ◌<◌, ◌≤◌, Bool, true, List, [], ◌∷◌, ◌++◌, take, drop, map, get_or, length, codes, Option, Some, None, refl, sym, ap, ◌∙◌, append_assoc, drop-cons, arith}
 use Rattle.std.specs.Prelude.{decimal}
-use Rattle.std.specs.List.{flat_map, join_with_byte}
+use Rattle.std.specs.List.{join_with_byte}
 use Rattle.std.proofs.lemmas.Bool.{false≢true}
 use Rattle.std.proofs.lemmas.List.{append-nil, drop_all, map_push, take_more}
 use Rattle.std.proofs.lemmas.Grind.{flat_map-append}
@@ -18,7 +18,7 @@ use Rattle.inode_events.specs.declared.told.Told.TheVariants as told
 use Rattle.text_forms.specs.Tokens.{is_filled}
 use Rattle.text_forms.specs.Words.{text_of}
 use Rattle.report_text.specs.Texts.{line_text}
-use Rattle.report_text.specs.Words.{Line, admitted_words, deed_words, event_words, placed_words, step_words, told_words, verdict_words, who_word}
+use Rattle.report_text.specs.Words.{Line, admitted_words, deed_words, placed_words, step_words, told_words, verdict_words, who_word}
 
 -- one word more
 join_more : (w : List ℕ) (ws : Line) (v : List ℕ)

@@ -8,3 +8,4 @@ pub mod Checks
 pub mod Joins
 pub mod Pushed
 mod Examples
+pub mod Summed

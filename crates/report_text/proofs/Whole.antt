@@ -36,7 +36,7 @@ use Rattle.report_text.specs.Words.{Line, event_lines}
 use Rattle.policy_cell.specs.declared.cell.RuleEntry.{RuleEntry}
 use Rattle.inode_events.specs.EndedInode.{EndedInodeValue as EndedInode}
 use Rattle.run_model.specs.EndedValue.{EndedValue as Ended, EndedTaskValue as EndedTask}
-use Rattle.report_text.specs.Report.{pcr_words, entry_words, head_lines, pcr_lines_at, pcr_lines_to, pcr_lines, rule_lines, appended_lines, force_word, attr_line, inode_lines, all_inode_lines, reply_words, reply_lines, task_lines, all_task_lines, report_lines, report_of}
+use Rattle.report_text.specs.Report.{pcr_words, entry_words, pcr_lines_at, pcr_lines_to, pcr_lines, rule_lines, appended_lines, force_word, attr_line, inode_lines, all_inode_lines, reply_words, reply_lines, task_lines, all_task_lines, report_lines, report_of}
 use Rattle.report_text.specs.Printed.{printed, IsTold, IsOneScript}
 use Rattle.report_text.specs.Ranges.{Is64, IsListEntry, IsRuleEntry, FitsInode, IsReply, FitsTask, Fits, IsClean}
 use Rattle.report_text.proofs.Reading.{value, value_back, is_number, number_is, cause_at, cause_back, status_at, event_at, events_back}

@@ -2,4 +2,5 @@ pub mod Words
 pub mod Texts
 pub mod Printed
 pub mod Report
+pub mod Summary
 pub mod Ranges

@@ -17,7 +17,6 @@ use Rattle.list_format.specs.Line.{field_text}
 use Rattle.policy_text.specs.Spelling.{rule_text}
 use Rattle.text_forms.specs.Words.{words, text_of}
 use Rattle.xattr_store.specs.Attrs.{Pair}
-use Rattle.inode_events.specs.declared.told.Event.{Event}
 use Rattle.report_text.specs.Words.{Line, event_lines, who_word}
 use Rattle.inode_events.specs.EndedInode.{EndedInodeValue as EndedInode}
 use Rattle.run_model.specs.EndedValue.{EndedTaskValue as EndedTask, EndedValue as Ended}

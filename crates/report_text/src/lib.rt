@@ -1,5 +1,5 @@
 //! The report of a run: its list, registers, appended rules, journals and replies, in lines of
-//! words parted by one space.
+//! words parted by one space; and the summary of a generated run.
 //!
 //! The definitions stand in `specs/`. That equal reports of two runs of one script tell of equal
 //! events, entries, rules and replies is the law of [`law`].
@@ -14,6 +14,10 @@ mod lists;
 mod print;
 mod push;
 mod tasks;
+#[cfg(test)]
+mod tests;
 mod tolds;
+mod totals;
 
 pub use print::report;
+pub use totals::summary;

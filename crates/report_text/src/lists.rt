@@ -57,7 +57,8 @@ fn push_register(out: &mut Vec<u8>, banks: &Banks, pcr: u8, named: bool) -> Resu
     }
 }
 
-fn push_values(out: &mut Vec<u8>, banks: &Banks, pcr: u8) -> Result<(), OutOfMemory>
+// A register in both banks.
+pub fn push_values(out: &mut Vec<u8>, banks: &Banks, pcr: u8) -> Result<(), OutOfMemory>
     requires { pcr < 24 }
     ensures { OnOk result (out.new.items
         ≡ out.old.items ++ text_of (pcr_lines_at banks.now pcr true)) }

@@ -1,6 +1,6 @@
 // Numbers and words, put behind a text.
 
-ghost use Rattle.std.specs.Prelude.{◌≡◌, ◌∷◌, ◌++◌, decimal, map, OnOk};
+ghost use Rattle.std.specs.Prelude.{◌≡◌, [], ◌∷◌, ◌++◌, decimal, map, OnOk};
 ghost use Rattle.std.specs.List.{join_with_byte};
 
 use inode_meta::OutOfMemory;
@@ -23,4 +23,14 @@ pub fn push_numbers(out: &mut Vec<u8>, words: &[u8], numbers: &[u64]) -> Result<
         push_number(out, *number)?;
     }
     Ok(())
+}
+
+// The words, and a number behind a space.
+pub fn push_sum(out: &mut Vec<u8>, words: &[u8], n: u128) -> Result<(), OutOfMemory>
+    ensures { OnOk result (out.new.items
+        ≡ out.old.items ++ join_with_byte 32 (words.now ∷ decimal n ∷ [])) }
+{
+    out.extend_from_slice(words)?;
+    out.extend_from_slice(b" ")?;
+    out.extend_from_slice(Buffer::new().format(n).as_bytes())
 }

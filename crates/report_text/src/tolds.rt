@@ -12,7 +12,8 @@ use inode_meta::OutOfMemory;
 use label_values::Verdict;
 
 pub fn push_told(out: &mut Vec<u8>, told: &Told) -> Result<(), OutOfMemory>
-    ensures { OnOk result (out.new.items ≡ out.old.items ++ join_with_byte 32 (told_words told.now)) }
+    ensures { OnOk result
+        (out.new.items ≡ out.old.items ++ join_with_byte 32 (told_words told.now)) }
 {
     match told {
         Told::Image(_) => out.extend_from_slice(b"image"),

@@ -1,0 +1,10 @@
+//! Large scripts, made of a number: 64 sealed files, a rule that measures and one that appraises,
+//! and 16 tasks that read and write the files.
+#![tactic(auto)]
+
+mod draws;
+#[cfg(test)]
+mod tests;
+mod text;
+
+pub use text::script;

@@ -1,0 +1,24 @@
+use Rattle.std.proofs.Common.{◌≡◌, length, ap}
+use Rattle.std.specs.Prelude.{decimal}
+use Rattle.std.specs.List.{count_by}
+use Rattle.run_model.specs.EndedValue.{EndedValue}
+use Rattle.report_text.proofs.Summed.{sizes_pushed}
+use Rattle.report_text.proofs.totals.push_sizes.Goals as goal
+
+pub returns : goal.returns
+returns c =
+    let e = c.args.e.now in
+    let list_is : c.e.inside.list.items ≡ e.list = ap (λ (v : EndedValue). v.list) c.e.view_is in
+    rw (
+      c.in_ok-extend_from_slice.ensures.items,
+      c.in_ok-push_numbers-4.ensures,
+      c.in_ok-push_numbers-3.ensures,
+      c.in_ok-push_numbers-2.ensures,
+      c.in_ok-push_numbers.ensures,
+      c.from.ensures,
+      c.violations.ensures,
+      c.as_slice-list.ensures.value,
+      list_is,
+    )
+    (sizes_pushed c.args.out.now.items (decimal c.args.number) (decimal c.args.script)
+    (decimal (length e.list)) (decimal (count_by (λ x. x.violation) e.list)))
