@@ -101,9 +101,17 @@ impl InodeCell {
         Ok((cell, passes))
     }
 
+    /// How many events the journal has.
+    pub fn len(&self) -> u64
+        ensures { result ≡ length self.now.list }
+    {
+        self.kept.len()
+    }
+
     /// A pass of this cell sees the journal. What its own entries tell then holds of the journal:
     /// what may be done by them may be done, the last check of a file is theirs, and a collection
-    /// that is open by them is as the pass has seen it last.
+    /// that is open by them is as the pass has seen it last. The journal is legal, and its events of
+    /// the pass's number are those entries.
     pub fn look(&mut self, pass: &mut Pass<Event>)
         requires { pass.old.name ≡ self.old.journal }
         ensures list { self.new.list ≡ self.old.list }
@@ -114,6 +122,11 @@ impl InodeCell {
         ensures pass { (pass.new.name ≡ pass.old.name) × (pass.new.number ≡ pass.old.number) }
         ensures tells { TellsByMine self.old.inode pass.new.number pass.old.seen self.old.list
             pass.new.mine }
+        ensures own { entries_of pass.new.number (map caller_of self.old.list) self.old.list
+            ≡ pass.new.mine }
+        ensures legal { Legal self.old.inode (past self.old.list) }
+        ensures owned { IsOwned (past self.old.list) }
+        ensures within { All (λ e. caller_of e < self.old.callers) self.old.list }
     {
         self.kept.look(pass);
     }

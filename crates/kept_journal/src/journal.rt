@@ -126,7 +126,7 @@ impl KeptJournal {
         self.journal.push(pass, event);
     }
 
-    /// A pass of this journal sees it.
+    /// A pass of this journal sees it. The journal's events of its number are then its own.
     pub fn look(&mut self, pass: &mut Pass<Event>)
         requires { pass.old.name ≡ self.old.name }
         ensures same { IsSameJournal self.old self.new }
@@ -136,6 +136,11 @@ impl KeptJournal {
         ensures pass { (pass.new.name ≡ pass.old.name) × (pass.new.number ≡ pass.old.number) }
         ensures tells { TellsByMine self.old.inode pass.new.number pass.old.seen self.old.list
             pass.new.mine }
+        ensures own { entries_of pass.new.number (map caller_of self.old.list) self.old.list
+            ≡ pass.new.mine }
+        ensures legal { Legal self.old.inode (past self.old.list) }
+        ensures owned { IsOwned (past self.old.list) }
+        ensures within { All (λ e. caller_of e < self.old.callers) self.old.list }
     {
         self.journal.look(pass);
     }
