@@ -33,11 +33,11 @@ use Rattle.run_model.specs.Rounds.{is_moved, moves}
 use Rattle.run_model.specs.Scene.{Program, Scene, Station, inode_of, mode_of}
 use Rattle.run_model.specs.Turns.{Moment, State, go, go_check, go_step, turn_of}
 use Rattle.inode_events.specs.Semaphores.{semaphore_says}
-use Rattle.ending_laws.specs.Resting.{AtRest, EndsAtRest, MayStep, Resting}
+use Rattle.ending_laws.specs.Resting.{AtRest, EndsAtRest, IsReached, MayStep, PaidWhenReached, Resting}
 use Rattle.ending_laws.proofs.Counted.{Fits, history_fits, posts_agree, signal_of}
 use Rattle.ending_laws.proofs.Free.{does_turn, moves_is, no_collection}
 use Rattle.inode_events.proofs.Paid.{paid}
-use Rattle.ending_laws.proofs.Totals.{count_past, counted}
+use Rattle.ending_laws.proofs.Totals.{count_past, counted, counted_when_reached}
 use Rattle.inode_events.specs.Stage.{Stage, is_collecting, stage}
 
 both_ways : (b : Bool) → b ≡ true → b ≡ false → ⊥
@@ -213,6 +213,14 @@ through : (a w : Bool) → w ≡ true → (a || (not a && w)) ≡ true
 through true w e = refl
 through false w e = e
 
+-- what was taken from a semaphore was there
+pub paid_when : PaidWhenReached
+paid_when scene m r sem =
+    let both = counted_when_reached scene m r sem in
+    let same = count_past sem m.state.signals in
+    let le = paid sem (past m.state.signals) r.legal.are_signals in
+    omega (arith, both.0, both.1, same.0, same.1, le)
+
 pub ends : EndsAtRest
 ends scene m r = (
   paid_at,
@@ -221,11 +229,7 @@ ends scene m r = (
       (all_end (λ sem. left sem scene.programs m.thoughts) scene.programs m.thoughts each),
 ) where
   paid_at : (sem : ℕ) → waited sem scene.programs m.thoughts ≤ posted sem scene.programs m.thoughts
-  paid_at sem =
-      let both = counted scene m r sem in
-      let same = count_past sem m.state.signals in
-      let le = paid sem (past m.state.signals) r.legal.are_signals in
-      omega (arith, both.0, both.1, same.0, same.1, le)
+  paid_at = paid_when scene m (record { legal = r.legal; tasks = r.tasks })
 
   left_is : (sem : ℕ) → left sem scene.programs m.thoughts ≡ count_left sem (past m.state.signals)
   left_is sem =

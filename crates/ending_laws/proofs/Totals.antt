@@ -19,7 +19,7 @@ use Rattle.run_model.specs.History.{Answer, Thought, own_signals, thought}
 use Rattle.run_model.specs.Served.{events_of}
 use Rattle.run_model.specs.Scene.{Program, Scene, mode_of}
 use Rattle.run_model.specs.Turns.{Moment, State}
-use Rattle.ending_laws.specs.Resting.{AreLegal, AtRest, Resting, SignalsCounted}
+use Rattle.ending_laws.specs.Resting.{AreLegal, IsReached, Resting, SignalsCounted, SignalsCountedWhenReached}
 use Rattle.ending_laws.proofs.Counted.{Agree, Fits, bit, history_fits, passing, posts_agree, waits_agree}
 
 -- the events that pass, and those of one caller
@@ -158,7 +158,7 @@ task_tally on_deed on_call agree scene s n p t r =
     ∙ ap (passing on_deed) (sym r.signals) ∙ entries_tally on_deed (n + 1) 0 s.signals
 
 run_tally : (on_deed : Deed → Bool) (on_call : Call → Bool) → Agree on_deed on_call
-    → (scene : Scene) (m : Moment) → AtRest scene m
+    → (scene : Scene) (m : Moment) → IsReached scene m
     → answered_by on_call scene.programs m.thoughts ≡ tally on_deed m.state.signals
 run_tally on_deed on_call agree scene m r =
     answered_total on_call scene.programs m.thoughts
@@ -166,13 +166,18 @@ run_tally on_deed on_call agree scene m r =
     (λ k p t a b. task_tally on_deed on_call agree scene m.state k p t (r.tasks k p t a b))
     ∙ tally_total on_deed (length scene.programs) m.state.signals r.legal.signed
 
-pub counted : SignalsCounted
-counted scene m r sem = (
+pub counted_when_reached : SignalsCountedWhenReached
+counted_when_reached scene m r sem = (
   run_tally (is_post sem) (posts_to sem) (posts_agree sem) scene m r
       ∙ sym (posts_tally sem m.state.signals),
   run_tally (is_wait sem) (waits_for sem) (waits_agree sem) scene m r
       ∙ sym (waits_tally sem m.state.signals),
 )
+
+-- the same where no task moves
+pub counted : SignalsCounted
+counted scene m r sem =
+    counted_when_reached scene m (record { legal = r.legal; tasks = r.tasks }) sem
 
 -- ---- the two orders of a list
 

@@ -56,6 +56,12 @@ pub record AreLegal (scene : Scene) (s : State) (thoughts : List Thought) : Type
   pub are_signals : LegalSemaphores (past s.signals)
   pub signed : All (λ e. (0 < caller_of e) × (caller_of e ≤ length scene.programs)) s.signals
 
+-- a moment of a run: the lists are legal, and each task has made the steps of a history
+pub record IsReached (scene : Scene) (m : Moment) : Type 0 where
+  pub legal : AreLegal scene m.state m.thoughts
+  pub tasks : (n : ℕ) (p : Program) (t : Thought) → slice_get scene.programs n ≡ Some p
+      → slice_get m.thoughts n ≡ Some t → Resting scene m.state n p t
+
 -- a moment at which no task moves is an end
 pub record AtRest (scene : Scene) (m : Moment) : Type 0 where
   pub legal : AreLegal scene m.state m.thoughts
@@ -70,6 +76,17 @@ abbrev pub SignalsCounted : Type 0
 SignalsCounted = (scene : Scene) (m : Moment) → AtRest scene m → (sem : ℕ)
     → (posted sem scene.programs m.thoughts ≡ posts sem m.state.signals)
     × (waited sem scene.programs m.thoughts ≡ waits sem m.state.signals)
+
+-- the same at each moment of a run
+abbrev pub SignalsCountedWhenReached : Type 0
+SignalsCountedWhenReached = (scene : Scene) (m : Moment) → IsReached scene m → (sem : ℕ)
+    → (posted sem scene.programs m.thoughts ≡ posts sem m.state.signals)
+    × (waited sem scene.programs m.thoughts ≡ waits sem m.state.signals)
+
+-- nobody has taken from a semaphore what wasn't there
+abbrev pub PaidWhenReached : Type 0
+PaidWhenReached = (scene : Scene) (m : Moment) → IsReached scene m → (sem : ℕ)
+    → waited sem scene.programs m.thoughts ≤ posted sem scene.programs m.thoughts
 
 abbrev pub EndsAtRest : Type 0
 EndsAtRest = (scene : Scene) (m : Moment) → AtRest scene m

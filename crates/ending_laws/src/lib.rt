@@ -2,11 +2,21 @@
 #![tactic(auto)]
 
 ghost use Rattle.ending_laws.specs.Busy.{BusyOfHistory};
-ghost use Rattle.ending_laws.specs.Resting.{EndsAtRest, SignalsCounted, StillAtRest};
+ghost use Rattle.ending_laws.specs.Resting.{EndsAtRest, PaidWhenReached, SignalsCounted, SignalsCountedWhenReached, StillAtRest};
 
 /// The answered posts and waits are those of the list of posts and waits.
 pub fn signals_counted()
     ensures { SignalsCounted }
+{}
+
+/// The same at each moment of a run.
+pub fn signals_counted_when_reached()
+    ensures { SignalsCountedWhenReached }
+{}
+
+/// At each moment of a run nobody has taken from a semaphore what wasn't there.
+pub fn paid_when_reached()
+    ensures { PaidWhenReached }
 {}
 
 /// Where a round moves no task, none moves.
