@@ -1,6 +1,6 @@
 -- What a take or finish grants.
 use Rattle.std.proofs.Common.{◌≡◌, ℕ, Bool, true, false, cond, List, Option, Some, None, refl, sym, ◌∙◌, ap, subst}
-use Rattle.std.specs.Prelude.{is_some, option_map}
+use Rattle.std.specs.Prelude.{is_none, is_some, option_map}
 use Rattle.std.proofs.lemmas.Option.{same_Some}
 use Rattle.hash_algos.specs.Digest.{digest_of}
 use Rattle.hash_algos.specs.declared.algo.Algo.TheVariants.{Sha1}
@@ -12,10 +12,14 @@ use Rattle.inode_events.specs.Asked.{measured_if}
 use Rattle.inode_events.specs.Checks.{last_check}
 use Rattle.inode_events.specs.Grants.{grant_of}
 use Rattle.inode_events.specs.Inode.{Inode}
-use Rattle.inode_events.specs.Integrity.{Collection, Digests, digest_from, digests_of, label}
+use Rattle.inode_events.specs.Integrity.{Collection, Digests, collecting, digest_from, digests_of, label}
+use Rattle.inode_events.specs.Legal.{EachFollows, May}
 use Rattle.inode_events.specs.Listing.{signature_in, template_for}
 use Rattle.inode_events.specs.Past.{past}
 use Rattle.inode_events.specs.Says.{finish_told, take_told, unless_collecting}
+use Rattle.inode_events.specs.Stage.{is_collecting, stage}
+use Rattle.inode_events.specs.declared.deed.Deed.{Deed}
+use Rattle.inode_events.specs.declared.deed.Deed.TheVariants as deed
 use Rattle.inode_events.specs.declared.told.Event.{Event}
 use Rattle.inode_events.specs.declared.told.Told.{Told}
 use Rattle.inode_events.specs.declared.told.Told.TheVariants as told
@@ -24,8 +28,10 @@ use Rattle.inode_kept.specs.InForce.{sums_of}
 use Rattle.inode_kept.specs.declared.collecting.Asked.{Asked}
 use Rattle.inode_kept.specs.declared.collecting.Collecting.{Collecting}
 use Rattle.inode_kept.specs.declared.in_force.Sums.{Sums}
-use Rattle.journal_laws.proofs.Stages.{Collects}
-use Rattle.inode_cell.specs.Granting.{digests_in, sums_in, sums_in_force}
+use Rattle.journal_laws.specs.Standing.{collecting_stage}
+use Rattle.journal_laws.proofs.Stages.{Collects, StageIs, stage_collects}
+use Rattle.inode_cell.specs.Granting.{asked_in, collected_stage, digests_in, sums_in, sums_in_force}
+use Rattle.inode_cell.specs.Pieces.{IsPieceDeed}
 use Rattle.inode_cell.specs.Value.{CellValue, IsSameCell}
 use Rattle.inode_cell.proofs.Acting.{same_value}
 
@@ -36,6 +42,11 @@ pub moved : (old mid inner : CellValue) → mid.list ≡ old.list → IsSameCell
 moved old mid inner l s e P x =
     subst (λ (v : CellValue). P v.inode (past v.list)) (sym e) (subst (λ (v : CellValue). P v.inode
     (past v.list)) (sym (same_value old mid l s)) x)
+
+-- it isn't both none and one
+none_some : (o : Option Collection) (c : Collection) → o ≡ None → o ≡ Some c → ⊥
+none_some None c a b = cc
+none_some (Some d) c a b = cc
 
 -- ---- a take
 
@@ -128,14 +139,48 @@ finish_sums file sums (Some c) h s =
 -- what was asked of the file whose collection is open
 pub asked_of_open : (file : ℕ) (p : List Event) (o : Option Collecting) (k : Option Collection)
     → shorts_seen o ≡ shortened k → Collects file k → HasAsked p o
-    → (c : Collecting) (a : Asked) → o ≡ Some c → c.asked ≡ Some a → IsAsked (last_check file p) a
-asked_of_open file p None k e h s c a q r = cc
-asked_of_open file p (Some o) None e h s c a q r = absurd h
-asked_of_open file p (Some o) (Some k) e h s c a q r =
-    let same : o ≡ c = same_Some o c q in
+    → (a : Asked) → asked_in o ≡ Some a → IsAsked (last_check file p) a
+asked_of_open file p None k e h s a r = cc
+asked_of_open file p (Some o) None e h s a r = absurd h
+asked_of_open file p (Some o) (Some k) e h s a r =
     let at : o.file ≡ file = ap (λ (x : Short). x.file) (same_Some (short_seen o) (short_of k) e)
     ∙ h in
     let x : IfAsked (last_check file p) o.asked = subst (λ (f : ℕ). IfAsked (last_check f p)
     o.asked) at s in
-    subst (λ (y : Option Asked). IfAsked (last_check file p) y) (ap (λ (z : Collecting). z.asked)
-    same ∙ r) x
+    subst (λ (y : Option Asked). IfAsked (last_check file p) y) r x
+
+-- no close's collection is at the stage of a take's
+no_close : (b : Bool) → collected_stage ≡ collecting_stage true b → ⊥
+no_close true e = cc
+no_close false e = cc
+
+-- where a take's collection has its last piece, a check asked for it
+pub asked_there : (i : Inode) (file : ℕ) (p : List Event) (o : Option Collecting) (k : Option
+    Collection) → shorts_seen o ≡ shortened k → Collects file k → StageIs i p k
+    → stage i file p ≡ collected_stage → asked_in o ≡ None → ⊥
+asked_there i file p o None e h st is none = absurd h
+asked_there i file p None (Some k) e h st is none = cc
+asked_there i file p (Some o) (Some k) e h st is none =
+    let closing : k.closing ≡ true = ap (λ (x : Short). x.closing) (sym (same_Some (short_seen o)
+    (short_of k) e)) ∙ ap is_none none in
+    let at : stage i file p ≡ collecting_stage k.closing k.complete = subst (λ (f : ℕ). stage i f p
+    ≡ collecting_stage k.closing k.complete) h st.0 in
+    no_close k.complete (sym is ∙ at ∙ ap (λ (b : Bool). collecting_stage b k.complete) closing)
+
+-- ---- pieces
+
+-- a deed that takes a piece finds a collection
+pub piece_open : (i : Inode) (p : List Event) (d : Deed) → EachFollows i p → May i p d
+    → IsPieceDeed d → collecting i p ≡ None → ⊥
+piece_open i p (deed.Chunk file) legal may piece none =
+    let there = stage_collects i p file legal (ap is_collecting may) in
+    none_some (collecting i p) there.0 none there.1.0
+piece_open i p (deed.CloseChunk file) legal may piece none =
+    let there = stage_collects i p file legal (ap is_collecting may) in
+    none_some (collecting i p) there.0 none there.1.0
+piece_open i p d legal may piece none = absurd piece
+
+-- where none is kept, none is open
+pub none_open : (k : Option Collection) → shorts_seen None ≡ shortened k → k ≡ None
+none_open None e = refl
+none_open (Some k) e = cc

@@ -1,5 +1,5 @@
 pub mod Steps
 pub mod Acting
-pub mod Absent
 pub mod GrantLemmas
 pub mod CheckLemmas
+pub mod ReadLemmas

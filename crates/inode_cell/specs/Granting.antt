@@ -19,6 +19,7 @@ use Rattle.inode_events.specs.declared.told.Told.TheVariants as told
 use Rattle.inode_kept.specs.Collecting.{IsAsked}
 use Rattle.inode_kept.specs.Known.{IsKnown}
 use Rattle.inode_kept.specs.declared.collecting.Asked.{Asked}
+use Rattle.inode_kept.specs.declared.collecting.Collecting.{Collecting}
 use Rattle.inode_kept.specs.declared.in_force.Sums.{Sums}
 use Rattle.inode_kept.specs.declared.known.Known.{Known}
 
@@ -58,3 +59,8 @@ collected_stage = Collected
 abbrev pub Collects : ℕ → Option Collection → Type 0
 Collects file None = ⊥
 Collects file (Some c) = c.file ≡ file
+
+-- what was asked for the open collection
+abbrev pub asked_in : Option Collecting → Option Asked
+asked_in None = None
+asked_in (Some c) = c.asked

@@ -6,13 +6,12 @@ ghost use Rattle.label_values.specs.Labels.{label_of};
 ghost use Rattle.xattr_store.specs.Attrs.{put, without};
 ghost use Rattle.inode_cell.specs.Changes.{changed_on, fixed_on, labelled_on};
 
-use crate::facts::IMA_NAME;
 use evm_verify::Evm;
 use hash_algos::Digest;
 use inode_meta::{EvmStatus, Meta};
 use label_values::{MAX_LABEL, write_label};
 use std::alloc::AllocError;
-use xattr_store::{Attrs, Bytes, OutOfMemory};
+use xattr_store::{Attrs, Bytes, IMA_NAME, OutOfMemory};
 
 fn with_value(attrs: &Attrs, name: &[u8], value: &[u8]) -> Result<Attrs, OutOfMemory>
     ensures { IfOk result (λ new. new ≡ put name.now value.now attrs.now) }

@@ -9,9 +9,7 @@ use crate::cell::InodeCell;
 use hash_algos::Algo;
 use inode_meta::{EvmStatus, Meta};
 use label_values::collect_algo;
-
-/// The attribute that holds the label.
-pub const IMA_NAME: &[u8] = b"security.ima";
+use xattr_store::IMA_NAME;
 
 impl InodeCell {
     // The value of `security.ima`.

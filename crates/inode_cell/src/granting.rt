@@ -6,8 +6,7 @@ ghost use Rattle.inode_events.specs.Stage.{stage};
 ghost use Rattle.inode_events.specs.declared.told.Told.{Told as AnyTold};
 ghost use Rattle.inode_meta.specs.declared.step.Who.{Who as AnyWho};
 ghost use Rattle.inode_kept.specs.Known.{IsKnown};
-ghost use Rattle.inode_cell.specs.Granting.{Collects};
-ghost use Rattle.inode_kept.specs.declared.collecting.Asked.{Asked as AnyAsked};
+ghost use Rattle.inode_cell.specs.Granting.{Collects, asked_in};
 ghost use Rattle.inode_cell.specs.Acts.{Acts, MayBy, Stays};
 ghost use Rattle.inode_cell.specs.Answers.{BeginsBy, taken_told};
 ghost use Rattle.inode_cell.specs.Granting.{IsGranting, asked_stage, collected_stage, digests_in, sums_in_force};
@@ -31,7 +30,7 @@ use hash_algos::{Algo, AlgoSet, Digest};
 use ima_appraise::{mend_for, verdict};
 use ima_templates::{Entry, Placed, build};
 use inode_events::{Deed, Event, Grant, Told};
-use inode_kept::{Asked, Kind, Known, Sums, copied, counts_as, key_of};
+use inode_kept::{Asked, Collecting, Kind, Known, Sums, copied, counts_as, key_of};
 use inode_meta::{EvmStatus, Mode, Need, Slot, Who};
 use label_values::{Mend, Verdict, read_label};
 use measure_book::Book;
@@ -71,6 +70,16 @@ fn signature_in(label: Option<&[u8]>) -> &[u8]
             _ => &[],
         },
         None => &[],
+    }
+}
+
+// What was asked for the open collection.
+fn asked_in(collecting: &Option<Collecting>) -> Option<Asked>
+    ensures { result ≡ asked_in collecting.now }
+{
+    match collecting {
+        None => None,
+        Some(collecting) => copied(&collecting.asked),
     }
 }
 
@@ -342,9 +351,7 @@ impl InodeCell {
         ensures err { OnErr result (Stays self.old self.new pass.old pass.new) }
         ensures err_book { OnErr result (book.new.list ≡ book.old.list) }
     {
-        let Some(asked) = self.asked_at() else {
-            return Err(AllocError);
-        };
+        let asked = self.asked_for(file);
         let writing = counts_as(Kind::Writer, self.kept.how_at(file));
         let sums = Sums {
             digest: sums.0,
@@ -359,17 +366,15 @@ impl InodeCell {
         self.grant(pass, who, deed, file, &asked, &sums, &known, book)
     }
 
-    // What the check asked for whose take has a collection open.
-    fn asked_at(&self) -> Option<Asked>
-        ensures asked { (file : ℕ) (a : AnyAsked)
-            → stage self.now.inode file (past self.now.list) ≡ collected_stage → result ≡ Some a
-            → IsAsked (last_check file (past self.now.list)) a }
-        ensures collects { (file : ℕ) → stage self.now.inode file (past self.now.list) ≡
-            collected_stage → Collects file (collecting self.now.inode (past self.now.list)) }
+    // What the check asked for whose take has this file's collection open.
+    fn asked_for(&self, file: u64) -> Asked
+        requires stage { stage self.now.inode file (past self.now.list) ≡ collected_stage }
+        ensures asked { IsAsked (last_check file (past self.now.list)) result }
+        ensures collects { Collects file (collecting self.now.inode (past self.now.list)) }
     {
-        match &self.kept.state().collecting {
-            None => None,
-            Some(collecting) => copied(&collecting.asked),
+        match asked_in(&self.kept.state().collecting) {
+            Some(asked) => asked,
+            None => unreachable!(),
         }
     }
 }

@@ -11,7 +11,10 @@ mod ending;
 mod facts;
 mod granting;
 mod listing;
+mod reading;
 mod setting;
+#[cfg(test)]
+mod tests;
 mod writing;
 
 pub use answers::{CloseTaken, Counted, Found, Piece, Set, Taken, Wrote};

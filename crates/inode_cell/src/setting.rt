@@ -12,16 +12,12 @@ ghost use Rattle.inode_cell.specs.Answers.{set_told};
 use crate::answers::Set;
 use crate::attributes::{changed_on, renewed};
 use crate::cell::InodeCell;
-use crate::facts::IMA_NAME;
 use grow_list::{OutOfMemory, Pass};
 use inode_events::{Change, Deed, Event, Told};
 use inode_kept::{Known, changed};
 use inode_meta::{Cred, EvmStatus, Who};
 use std::alloc::Global;
-use xattr_store::{Bytes, MAX_VALUE};
-
-// The attribute that holds the HMAC.
-const EVM_NAME: &[u8] = b"security.evm";
+use xattr_store::{Bytes, EVM_NAME, IMA_NAME, MAX_VALUE};
 
 // The highest type of a label that the kernel knows.
 const LAST_TYPE: u8 = 6;

@@ -3,6 +3,7 @@ ghost use Rattle.std.specs.Prelude.{◌≡◌, ℕ, Option, ◌+◌, ◌*◌, na
 ghost use Rattle.hash_algos.specs.Digest.{digest_of};
 ghost use Rattle.ima_templates.specs.declared.entry.Entry.{Entry as AnyEntry};
 ghost use Rattle.inode_events.specs.Integrity.{Collection as AnyCollection, collecting};
+ghost use Rattle.inode_events.specs.Legal.{May};
 ghost use Rattle.inode_events.specs.Past.{past};
 ghost use Rattle.inode_events.specs.Says.{chunk_told};
 ghost use Rattle.inode_events.specs.State.{content};
@@ -13,8 +14,9 @@ ghost use Rattle.inode_cell.specs.Pieces.{IsPieceDeed};
 
 use crate::answers::{Piece, Wrote};
 use crate::cell::InodeCell;
+use crate::reading::hashed_at;
 use grow_list::{OutOfMemory, Pass};
-use hash_algos::{Algo, Digest, Running};
+use hash_algos::{Algo, Digest};
 use inode_events::{Deed, Event, Told};
 use inode_kept::Known;
 use inode_meta::Who;
@@ -52,15 +54,6 @@ fn told_by_piece(piece: Piece) -> Told
     }
 }
 
-// The digest of bytes.
-fn digest_of(algo: Algo, bytes: &[u8]) -> Digest
-    ensures { result ≡ digest_of algo bytes.now }
-{
-    let mut running = Running::new(algo);
-    running.feed(bytes);
-    running.finish()
-}
-
 /// What a read answers.
 #[derive(Drop)]
 pub struct Got {
@@ -71,8 +64,10 @@ pub struct Got {
 }
 
 impl InodeCell {
-    // The next piece of the open collection.
-    fn next_piece(&self) -> Result<(Piece, Page), OutOfMemory>
+    // The next piece of the open collection, for a deed that takes it.
+    fn next_piece(&self, deed: &Deed) -> Result<(Piece, Page), OutOfMemory>
+        requires may { May self.now.inode (past self.now.list) deed.now }
+        requires piece { IsPieceDeed deed.now }
         ensures told { IfOk result (λ r. chunk_told (content (past self.now.list)) (collecting
             self.now.inode (past self.now.list)) ≡ Some (piece_told r.0)) }
         ensures page { IfOk result (λ r. (c : AnyCollection)
@@ -80,7 +75,7 @@ impl InodeCell {
             → r.1 ≡ piece_at (content (past self.now.list)) c.pieces) }
     {
         let Some(collecting) = &self.kept.state().collecting else {
-            return Err(AllocError);
+            unreachable!()
         };
         let Ok(k) = u32::try_from(collecting.pieces) else {
             return Err(AllocError);
@@ -108,7 +103,7 @@ impl InodeCell {
         ensures err { OnErr result (Stays self.old self.new pass.old pass.new) }
     {
         self.reserve()?;
-        let (piece, page) = self.next_piece()?;
+        let (piece, page) = self.next_piece(&deed)?;
         self.step(pass, who, deed, told_by_piece(piece), &Known::nothing());
         Ok((piece, page))
     }
@@ -156,21 +151,13 @@ impl InodeCell {
     }
 
     // At most `len` bytes from the byte `from` on, hashed.
-    fn hashed(&self, from: u64, len: u64) -> Result<Got, OutOfMemory>
-        ensures n { IfOk result (λ g. g.n ≡ length (bytes_at (content (past self.now.list)) from
-            len)) }
-        ensures digest { IfOk result (λ g. g.digest ≡ digest_of Algo.Sha256 (bytes_at (content
-            (past self.now.list)) from len)) }
+    fn hashed(&self, from: u64, len: u64) -> Got
+        ensures n { result.n ≡ length (bytes_at (content (past self.now.list)) from len) }
+        ensures digest { result.digest ≡ digest_of Algo.Sha256 (bytes_at (content (past
+            self.now.list)) from len) }
     {
-        let most = len.min(self.size());
-        let mut buf = Vec::new(self.alloc);
-        buf.resize(most as usize, 0)?;
-        let n = self.content.read(from, buf.as_mut_slice());
-        let digest = digest_of(Algo::Sha256, &buf.as_slice()[..n]);
-        Ok(Got {
-            n: n as u64,
-            digest,
-        })
+        let (n, digest) = hashed_at(&self.content, from, len);
+        Got { n, digest }
     }
 
     /// Reads at most `len` bytes, from the byte `from` on.
@@ -191,7 +178,7 @@ impl InodeCell {
         ensures err { OnErr result (Stays self.old self.new pass.old pass.new) }
     {
         self.reserve()?;
-        let got = self.hashed(from, len)?;
+        let got = self.hashed(from, len);
         let told = Told::Read {
             n: got.n,
             digest: got.digest,

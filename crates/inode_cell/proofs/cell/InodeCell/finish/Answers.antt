@@ -25,10 +25,8 @@ grant-requires-clause-grants c =
     let i = v.inode in
     let p = past v.list in
     let file = c.args.file in
-    let open_is : Collects file (collecting i p) = c.in-Some.ensures.collects file
-    c.requires.may.may in
-    let check : IsAsked (last_check file p) c.in-Some.asked = c.in-Some.ensures.asked file
-    c.in-Some.asked c.requires.may.may refl in
+    let open_is : Collects file (collecting i p) = c.asked_for-asked.ensures.collects in
+    let check : IsAsked (last_check file p) c.asked_for-asked.result = c.asked_for-asked.ensures.asked in
     let how : is_gone (stage i file p) ≡ false → c.how_at.result ≡ held file p =
     subst (λ (v : CellValue). is_gone (stage v.inode file (past v.list)) ≡ false
     → c.how_at.result ≡ held file (past v.list)) c.self.view_is c.how_at.ensures in
@@ -51,7 +49,7 @@ grant-requires-clause-grants c =
         writing = c.counts_as-writing.ensures ∙ ap (λ (o : Option How). holds is_writer o) (how (ap
             is_gone c.requires.may.may));
         algo = tt;
-        asked = (c.in-Some.asked, (refl, check));
+        asked = (c.asked_for-asked.result, (refl, check));
         sums = finish_sums file c.args.sums (collecting i p) open_is c.requires.sums
             ∙ ap Some (sym c.copy.ensures);
       });

@@ -14,3 +14,8 @@ returns-clause-acts c = λ list.
     c.step.new.pass c.args.who c.args.deed
     c.told_by_piece.result (Some (piece_told c.in_ok-piece.piece)) c.in_ok-reserve.ensures.list
     c.in_ok-reserve.ensures.same (ap Some c.told_by_piece.ensures) (c.step.ensures list)
+
+pub next_piece-requires-clause-may : goal.next_piece-requires-clause-may
+next_piece-requires-clause-may c =
+    (may_from c.args.self.now c.reserve.new.self c.args.pass.now.number c.args.deed
+    c.in_ok-reserve.ensures.list c.in_ok-reserve.ensures.same c.requires.may).may

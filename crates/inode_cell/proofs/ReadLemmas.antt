@@ -1,0 +1,42 @@
+-- How a read is hashed, page by page.
+use Rattle.std.proofs.Common.{◌≡◌, ℕ, ◌+◌, ◌-◌, ◌≤◌, List, [], ◌++◌, length, take, drop, sym, ap, ◌∙◌, arith, append-nil}
+use Rattle.std.specs.Prelude.{min}
+use Rattle.std.proofs.Math.ListN.{drop_of_length-le}
+use Rattle.std.proofs.Math.Seq.{take-add}
+use Rattle.std.proofs.lemmas.List.{drop-drop, length-drop, length-take, take_min}
+use Rattle.inode_pages.specs.Content.{bytes_at}
+
+-- so many bytes from a place on, and then some more
+pub bytes_at-add : (content : List ℕ) (from n m : ℕ) → bytes_at content from (n + m)
+    ≡ bytes_at content from n ++ bytes_at content (from + n) m
+bytes_at-add content from n m = take-add n m (drop from content)
+    ∙ ap (λ l. take n (drop from content) ++ take m l) (drop-drop n from content)
+
+-- how many bytes there are
+pub length-bytes_at : (content : List ℕ) (from n : ℕ)
+    → length (bytes_at content from n) ≡ min n (length content - from)
+length-bytes_at content from n = length-take n (drop from content)
+    ∙ ap (min n) (length-drop from content)
+
+-- a whole part is filled
+pub part_filled : (content old new : List ℕ) (from room count : ℕ) → length old ≡ room
+    → new ≡ bytes_at content from (length old) ++ drop count old
+    → count ≡ length (bytes_at content from (length old)) → from + room ≤ length content
+    → new ≡ bytes_at content from room
+part_filled content old new from room count fits is counts within =
+    let all : drop count old ≡ [] = drop_of_length-le old (omega (
+      arith,
+      counts,
+      fits,
+      within,
+      length-bytes_at content from (length old),
+    )) in
+    is ∙ (λ i. bytes_at content from (fits i) ++ all i) ∙ append-nil (bytes_at content from room)
+
+-- as many bytes as there are, at most so many
+pub bytes_there : (content : List ℕ) (from len count : ℕ)
+    → count ≡ min len (length content - from)
+    → bytes_at content from count ≡ bytes_at content from len
+bytes_there content from len count is =
+    ap (λ (n : ℕ). take n (drop from content)) (is ∙ ap (min len) (sym (length-drop from content)))
+    ∙ take_min len (drop from content)
