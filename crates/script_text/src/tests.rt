@@ -6,7 +6,6 @@ mod limits;
 mod lists;
 mod settings;
 mod tasks;
-mod words;
 
 use crate::{ScriptErr, parse};
 use std::alloc::Global;

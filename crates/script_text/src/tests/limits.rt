@@ -224,7 +224,11 @@ fn bytes_of_all_values(rt: HostRuntime) -> Result<(), Fail> {
             "file /0 fs=0 ino=1 gen=1 uid=0 gid=0 mode=0 content=txt:x\n",
             "twice",
         ),
-        ("attr security.ima fill:4096:00\n", "attr user.x txt:x\n", "too-large"),
+        (
+            "attr security.ima fill:4096:00\n",
+            "attr user.x txt:x\n",
+            "too-large",
+        ),
         (task, "write 0 0 txt:x\n", "too-large"),
         (task, "setxattr /0 user.x txt:\n", ""),
         (task, "setxattr /0 security.ima txt:x\n", "too-large"),
