@@ -202,39 +202,3 @@ fn turns_of_a_schedule(rt: HostRuntime) -> Result<(), Fail> {
     }
     Ok(())
 }
-
-// 128 contents of the greatest length are as many bytes as all values may have.
-#[test]
-fn bytes_of_all_values(rt: HostRuntime) -> Result<(), Fail> {
-    let alloc = rt.alloc();
-    let mut text = String::from_str(alloc, SUPER)?;
-    for number in 0..128 {
-        let after = " fs=0 ino=1 gen=1 uid=0 gid=0 mode=0 content=fill:262144:00\n";
-        push_numbered(&mut text, "file /", number, after)?;
-    }
-    let task = "task uid=0 euid=0 gid=0 egid=0\n";
-    for (before, line, cause) in [
-        (
-            "",
-            "file /a fs=0 ino=1 gen=1 uid=0 gid=0 mode=0 content=txt:x\n",
-            "too-large",
-        ),
-        (
-            "",
-            "file /0 fs=0 ino=1 gen=1 uid=0 gid=0 mode=0 content=txt:x\n",
-            "twice",
-        ),
-        (
-            "attr security.ima fill:4096:00\n",
-            "attr user.x txt:x\n",
-            "too-large",
-        ),
-        (task, "write 0 0 txt:x\n", "too-large"),
-        (task, "setxattr /0 user.x txt:\n", ""),
-        (task, "setxattr /0 security.ima txt:x\n", "too-large"),
-    ] {
-        let text = format!(in alloc; "{text}{before}{line}")?;
-        see(&rt, alloc, text.as_str(), cause)?;
-    }
-    Ok(())
-}
