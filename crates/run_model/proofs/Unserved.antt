@@ -389,16 +389,16 @@ uncounted_unserved served = at (served.tasks 1 adder has_added refl refl) where
                 said = ap (λ (x : ℕ × Event). x.1.told) m.event
 
                 at_check : Makes s.history (held m.next.action m.next.rules ∷ g.next ∷ [])
-                  check_next
+                    check_next
                     (7, checked_by 1) → ⊥
                 at_check c = few (suited_first adding uncounted adder c.later
                     (c.next ∷ held m.next.action m.next.rules ∷ g.next ∷ [])
                     (subst (λ (h : List Answer). AreSuited adding uncounted adder h) c.is
-                      s.suited)).0 where
+                    s.suited)).0 where
                       few : IsDecided adding uncounted adder (max 1 (1 + g.next.place + 1)) c.next 0
                           FileCheck 2 → ⊥
                       few d =
                           let rules : c.next.rules
-                                ≡ 1 = ap (λ (x : ℕ × Event). rules_in x.1.deed) c.event in
+                          ≡ 1 = ap (λ (x : ℕ × Event). rules_in x.1.deed) c.event in
                           let known : max 1 (1 + g.next.place + 1) ≤ c.next.rules = d.known_rules in
                           omega arith

@@ -29,9 +29,9 @@ places : (place_among 2 (codes "1") ≡ Some 1) × (place_among 2 (codes "2") �
 places = (refl, refl, refl, refl)
 
 values : (value_of 0 9 (codes "txt:a~") ≡ Some (97 ∷ 126 ∷ []))
-  × (value_of 0 9 (codes "txt:") ≡ Some [])
+    × (value_of 0 9 (codes "txt:") ≡ Some [])
     × (value_of 1 9 (codes "txt:") ≡ None) × (value_of 0 1 (codes "txt:ab") ≡ None)
-    × (value_of 0 9 (codes "txt:a\x7f") ≡ None)
+    × (value_of 0 9 (codes "txt:a\u{7f}") ≡ None)
     × (value_of 0 3 (codes "fill:3:5A") ≡ Some (90 ∷ 90 ∷ 90 ∷ []))
     × (value_of 0 3 (codes "fill:4:5a") ≡ None) × (value_of 0 3 (codes "fill:0:00") ≡ Some [])
     × (value_of 0 9 (codes "fill:01:00") ≡ None) × (value_of 0 9 (codes "fill:1:0") ≡ None)
