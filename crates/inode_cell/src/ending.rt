@@ -110,8 +110,8 @@ impl InodeCell {
 
     /// A pass of this cell sees the journal. What its own entries tell then holds of the journal:
     /// what may be done by them may be done, the last check of a file is theirs, and a collection
-    /// that is open by them is as the pass has seen it last. The journal is legal, and its events of
-    /// the pass's number are those entries.
+    /// that is open by them is as the pass has seen it last. The journal is legal, and its events
+    /// of the pass's number are those entries.
     pub fn look(&mut self, pass: &mut Pass<Event>)
         requires { pass.old.name ≡ self.old.journal }
         ensures list { self.new.list ≡ self.old.list }

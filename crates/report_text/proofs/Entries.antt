@@ -100,18 +100,22 @@ pcr_back (suc
     (suc (suc (suc (suc (suc (suc (suc (suc (suc (suc (suc (suc (suc (suc zero))))))))))))))) x h =
     refl
 pcr_back (suc
-    (suc (suc (suc (suc (suc (suc (suc (suc (suc (suc (suc (suc (suc (suc (suc zero)))))))))))))))) x
+    (suc (suc (suc
+    (suc (suc (suc (suc (suc (suc (suc (suc (suc (suc (suc (suc zero)))))))))))))))) x
     h = refl
 pcr_back (suc
     (suc (suc (suc
-    (suc (suc (suc (suc (suc (suc (suc (suc (suc (suc (suc (suc (suc zero))))))))))))))))) x h = refl
+    (suc (suc (suc (suc (suc (suc (suc (suc (suc (suc (suc (suc (suc zero))))))))))))))))) x
+    h = refl
 pcr_back (suc
     (suc (suc (suc
-    (suc (suc (suc (suc (suc (suc (suc (suc (suc (suc (suc (suc (suc (suc zero)))))))))))))))))) x h =
+    (suc (suc (suc
+    (suc (suc (suc (suc (suc (suc (suc (suc (suc (suc (suc zero)))))))))))))))))) x h =
     refl
 pcr_back (suc
     (suc (suc (suc
-    (suc (suc (suc (suc (suc (suc (suc (suc (suc (suc (suc (suc (suc (suc (suc zero)))))))))))))))))))
+    (suc (suc (suc
+    (suc (suc (suc (suc (suc (suc (suc (suc (suc (suc (suc (suc zero)))))))))))))))))))
     x h = refl
 pcr_back (suc
     (suc (suc (suc
@@ -121,24 +125,28 @@ pcr_back (suc
 pcr_back (suc
     (suc (suc (suc
     (suc (suc (suc
-    (suc (suc (suc (suc (suc (suc (suc (suc (suc (suc (suc (suc (suc (suc zero))))))))))))))))))))) x
+    (suc (suc (suc
+    (suc (suc (suc (suc (suc (suc (suc (suc (suc (suc (suc zero))))))))))))))))))))) x
     h = refl
 pcr_back (suc
     (suc (suc (suc
     (suc (suc (suc
     (suc (suc (suc
-    (suc (suc (suc (suc (suc (suc (suc (suc (suc (suc (suc (suc zero)))))))))))))))))))))) x h = refl
+    (suc (suc (suc (suc (suc (suc (suc (suc (suc (suc (suc (suc zero)))))))))))))))))))))) x
+    h = refl
 pcr_back (suc
     (suc (suc (suc
     (suc (suc (suc
     (suc (suc (suc
-    (suc (suc (suc (suc (suc (suc (suc (suc (suc (suc (suc (suc (suc zero))))))))))))))))))))))) x h =
+    (suc (suc (suc
+    (suc (suc (suc (suc (suc (suc (suc (suc (suc (suc zero))))))))))))))))))))))) x h =
     refl
 pcr_back (suc
     (suc (suc (suc
     (suc (suc (suc
     (suc (suc (suc
-    (suc (suc (suc (suc (suc (suc (suc (suc (suc (suc (suc (suc (suc (suc n)))))))))))))))))))))))) x
+    (suc (suc (suc
+    (suc (suc (suc (suc (suc (suc (suc (suc (suc (suc (suc n)))))))))))))))))))))))) x
     h = absurd (omega (arith, h))
 
 -- ---- the digest

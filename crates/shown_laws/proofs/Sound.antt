@@ -83,7 +83,8 @@ pub path_there : (scene : Scene) (run : Run) (inode : Inode) (p : List Event)
     → HasForms scene run → Stood scene run inode p → IsMeasuredPath Ima inode.path
 path_there scene run inode p forms s =
     subst (λ (i : Inode). IsMeasuredPath Ima i.path) s.inode_is
-    (All-contains (λ (x : Station). IsMeasuredPath Ima x.path) scene.stations s.station forms.paths (
+    (All-contains (λ (x : Station). IsMeasuredPath Ima x.path) scene.stations s.station
+    forms.paths (
       s.number,
       slice_get_within scene.stations s.number s.station s.at,
       get_or_from_slice_get scene.stations s.number s.station s.station s.at,

@@ -26,7 +26,8 @@ grant-requires-clause-grants c =
     let p = past v.list in
     let file = c.args.file in
     let open_is : Collects file (collecting i p) = c.asked_for-asked.ensures.collects in
-    let check : IsAsked (last_check file p) c.asked_for-asked.result = c.asked_for-asked.ensures.asked in
+    let check : IsAsked (last_check file p) c.asked_for-asked.result =
+    c.asked_for-asked.ensures.asked in
     let how : is_gone (stage i file p) ≡ false → c.how_at.result ≡ held file p =
     subst (λ (v : CellValue). is_gone (stage v.inode file (past v.list)) ≡ false
     → c.how_at.result ≡ held file (past v.list)) c.self.view_is c.how_at.ensures in

@@ -30,9 +30,12 @@ pub returns-in_ok-set-in-Remove-clause-pass : goal.returns-in_ok-set-in-Remove-c
 returns-in_ok-set-in-Remove-clause-pass c =
     let acts = c.in_ok-set-in-Remove.ensures.acts [] in (acts.pass_name, acts.pass_number)
 
-pub returns-in_ok-set_meta-in-SetMeta-clause-cell : goal.returns-in_ok-set_meta-in-SetMeta-clause-cell
-returns-in_ok-set_meta-in-SetMeta-clause-cell c = (c.in_ok-set_meta-in-SetMeta.ensures.acts []).same.journal
+pub returns-in_ok-set_meta-in-SetMeta-clause-cell :
+    goal.returns-in_ok-set_meta-in-SetMeta-clause-cell
+returns-in_ok-set_meta-in-SetMeta-clause-cell c =
+    (c.in_ok-set_meta-in-SetMeta.ensures.acts []).same.journal
 
-pub returns-in_ok-set_meta-in-SetMeta-clause-pass : goal.returns-in_ok-set_meta-in-SetMeta-clause-pass
+pub returns-in_ok-set_meta-in-SetMeta-clause-pass :
+    goal.returns-in_ok-set_meta-in-SetMeta-clause-pass
 returns-in_ok-set_meta-in-SetMeta-clause-pass c =
     let acts = c.in_ok-set_meta-in-SetMeta.ensures.acts [] in (acts.pass_name, acts.pass_number)
