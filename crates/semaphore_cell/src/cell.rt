@@ -6,7 +6,7 @@ ghost use Rattle.grow_list.specs.Shown.{IsSameList, HasItsOwn, fresh};
 ghost use Rattle.inode_events.specs.Asked.{entered, made};
 ghost use Rattle.inode_events.specs.Callers.{caller_of};
 ghost use Rattle.inode_events.specs.Past.{past};
-ghost use Rattle.inode_events.specs.Semaphores.{LegalSemaphores, semaphore_says};
+ghost use Rattle.inode_events.specs.Semaphores.{LegalSemaphores, left, semaphore_says};
 
 use grow_list::{Grow, OutOfMemory, Pass};
 use inode_events::{Deed, Event, Told};
@@ -131,6 +131,13 @@ impl SemaphoreCell {
                 None
             }
         }
+    }
+
+    /// What the semaphore has left: its posts less its waits.
+    pub fn left(&self, sem: u8) -> u64
+        ensures { result ≡ left sem (past self.now.list) }
+    {
+        self.left[sem as usize]
     }
 
     /// A pass of this cell sees the journal.
