@@ -1,9 +1,11 @@
 -- What holds of a shown run, at each place of each of its journals.
-use Rattle.std.specs.Prelude.{◌≡◌, ℕ, ◌+◌, ◌≤◌, true, List, ◌∷◌, Some}
+use Rattle.std.specs.Prelude.{◌≡◌, ℕ, ◌+◌, ◌≤◌, true, false, List, ◌∷◌, Some, slice_get}
 use Rattle.hash_algos.specs.Digest.{digest_of}
 use Rattle.inode_meta.specs.declared.appraisal.Mode.TheVariants.{Enforce}
 use Rattle.inode_meta.specs.declared.step.Who.{Who}
 use Rattle.label_values.specs.Labels.{label_of}
+use Rattle.label_values.specs.declared.verdict.Cause.{Cause}
+use Rattle.label_values.specs.declared.verdict.Verdict.TheVariants.{Deny}
 use Rattle.inode_events.specs.Admission.{granted_file}
 use Rattle.inode_events.specs.Checks.{last_check}
 use Rattle.inode_events.specs.Counts.{takes_begun, times_voided_before_last}
@@ -20,6 +22,9 @@ use Rattle.inode_events.specs.declared.told.Told.{Told}
 use Rattle.inode_events.specs.declared.told.Told.TheVariants as told
 use Rattle.journal_laws.specs.Laws.{AreVerdictsFresh, IsAdmitted, IsDigestFresh, labelled_close}
 use Rattle.call_steps.specs.declared.ending.Ending.{Ending}
+use Rattle.call_steps.specs.declared.reply.Reply.{Reply}
+use Rattle.call_steps.specs.declared.reply.Reply.TheVariants as reply
+use Rattle.run_model.specs.History.{Thought}
 use Rattle.run_model.specs.Scene.{Scene}
 use Rattle.run_model.specs.Served.{Run}
 use Rattle.run_model.specs.Shown.{IsShown}
@@ -47,6 +52,16 @@ AreAdmitted scene run =
     → granted_file d ≡ Some file → scene.settings.mode ≡ Enforce
     → (last_check file p).action.appraise ≡ true → IsAdmitted inode p d grant file
 
+-- the call of a file that was refused, where it is answered, is denied with the verdict's cause
+abbrev pub AreDenied : Scene → Run → Type 0
+AreDenied scene run =
+    (inode : Inode) (p : List Event) (who : Who) (d : Deed) (grant : Grant) (file : ℕ)
+    (cause : Cause) (t : Thought) (r : Reply)
+    → Stood scene run inode (record { who = who; deed = d; told = told.Grant grant } ∷ p)
+    → granted_file d ≡ Some file → grant.admitted ≡ false → grant.verdict ≡ Some (Deny cause)
+    → slice_get run.thoughts who.task ≡ Some t → slice_get t.replies who.call ≡ Some r
+    → r ≡ reply.Denied cause
+
 -- the label that a close writes is that of the digest of the content at that step, by the script's
 -- algorithm; the HMAC is renewed, and no other attribute changes
 abbrev pub AreLabelled : Scene → Run → Type 0
@@ -67,6 +82,7 @@ pub record IsSound (scene : Scene) (run : Run) : Type 0 where
   pub fresh : IsFresh scene run
   pub covered : AreReadsCovered scene run
   pub admitted : AreAdmitted scene run
+  pub denied : AreDenied scene run
   pub labelled : AreLabelled scene run
   pub rarely_hashed : IsRarelyHashed scene run
 
@@ -83,6 +99,10 @@ ShownIsCovered = (scene : Scene) (ending : Ending) (run : Run) → IsShown scene
 abbrev pub ShownIsAdmitted : Type 0
 ShownIsAdmitted = (scene : Scene) (ending : Ending) (run : Run) → IsShown scene ending run
     → AreAdmitted scene run
+
+abbrev pub ShownIsDenied : Type 0
+ShownIsDenied = (scene : Scene) (ending : Ending) (run : Run) → IsShown scene ending run
+    → AreDenied scene run
 
 abbrev pub ShownIsLabelled : Type 0
 ShownIsLabelled = (scene : Scene) (ending : Ending) (run : Run) → IsShown scene ending run

@@ -3,7 +3,7 @@
 //! Each law is the contract of a function that does nothing.
 #![tactic(auto)]
 
-ghost use Rattle.shown_laws.specs.Laws.{ShownIsAdmitted, ShownIsCovered, ShownIsFresh, ShownIsLabelled, ShownIsRarelyHashed, ShownIsSound};
+ghost use Rattle.shown_laws.specs.Laws.{ShownIsAdmitted, ShownIsCovered, ShownIsDenied, ShownIsFresh, ShownIsLabelled, ShownIsRarelyHashed, ShownIsSound};
 
 /// Freshness: whenever no writer holds an inode, its digest and its verdicts in force are those
 /// computed anew.
@@ -20,6 +20,11 @@ pub fn shown_is_covered()
 /// Admission: enforcing appraisal admits an unmodified file exactly where digest and HMAC fit.
 pub fn shown_is_admitted()
     ensures { ShownIsAdmitted }
+{}
+
+/// The call of a file that was refused, where it is answered, is denied with the verdict's cause.
+pub fn shown_is_denied()
+    ensures { ShownIsDenied }
 {}
 
 /// The label that a last writer's close writes is that of the content at that step.
