@@ -1,0 +1,84 @@
+-- What never changes while tasks run: the constants of a world.
+use Rattle.std.specs.Prelude.{ℕ, false, List, [], ◌∷◌, map, get_or}
+use Rattle.grow_list.specs.Shown.{ListName}
+use Rattle.hash_algos.specs.declared.algo.Algo.TheVariants.{Sha1}
+use Rattle.hash_algos.specs.Digest.{digest_of}
+use Rattle.ima_templates.specs.declared.entry.Entry.{Entry}
+use Rattle.inode_meta.specs.declared.appraisal.Mode.{Mode}
+use Rattle.inode_meta.specs.declared.measurement.Template.TheVariants.{Ima}
+use Rattle.inode_events.specs.Inode.{Inode}
+use Rattle.inode_events.specs.declared.image.Image.{Image}
+use Rattle.inode_events.specs.declared.settings.Settings.{Settings}
+use Rattle.policy_text.specs.RuleValue.{RuleValue}
+use Rattle.policy_text.specs.declared.access.Super.{Super}
+use Rattle.run_model.specs.Scene.{Program, Scene, Station}
+
+-- of an inode: its path, the image with which it came into being, the number of its file system,
+-- and the name of its journal
+pub record Site : Type 0 where
+  pub path : List ℕ
+  pub birth : Image
+  pub place : ℕ
+  pub journal : ListName
+
+pub record Frame : Type 0 where
+  pub settings : Settings
+  -- the first entry of the measurement list
+  pub boot : Entry
+  pub sites : List Site
+  -- the file systems
+  pub supers : List Super
+  -- the rules of the script
+  pub base : List RuleValue
+  -- the names of the measurement list, of the journal of the semaphores, and of the appended rules
+  pub book : ListName
+  pub signals : ListName
+  pub rules : ListName
+  -- how many tasks there are
+  pub tasks : ℕ
+
+-- ---- the scene of a run
+
+-- no file system
+abbrev pub no_super : Super
+no_super = record { magic = 0; uuid = 0; name = []; versions = false }
+
+abbrev pub super_at : Frame → ℕ → Super
+super_at frame place = get_or frame.supers place no_super
+
+abbrev pub station_of : Frame → Site → Station
+station_of frame s =
+    record { path = s.path; birth = s.birth; place = super_at frame s.place }
+
+-- what a script sets up that has these constants and these programs
+abbrev pub scene_of : Frame → List Program → Scene
+scene_of frame programs = record {
+  settings = frame.settings;
+  boot = frame.boot;
+  stations = map (station_of frame) frame.sites;
+  rules = frame.base;
+  programs = programs;
+}
+
+abbrev pub mode_in : Frame → Mode
+mode_in frame = frame.settings.mode
+
+abbrev pub inode_in : Frame → Site → Inode
+inode_in frame s = record { path = s.path; settings = frame.settings; birth = s.birth }
+
+-- ---- the first entry of a list
+
+-- the entry of no list
+abbrev pub no_entry : Entry
+no_entry = record {
+  pcr = 0;
+  template = Ima;
+  digest = digest_of Sha1 [];
+  name = [];
+  sig = [];
+  violation = false;
+}
+
+abbrev pub boot_in : List Entry → Entry
+boot_in [] = no_entry
+boot_in (e ∷ es) = e

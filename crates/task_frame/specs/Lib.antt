@@ -1,0 +1,4 @@
+pub mod Frame
+pub mod World
+pub mod Tasks
+pub mod Runs

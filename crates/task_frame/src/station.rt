@@ -1,0 +1,23 @@
+use grow_list::Pass;
+use inode_cell::InodeCell;
+use policy_cell::RuleEntry;
+use std::marker::Model;
+
+/// An inode of a world. Contracts see the record of its fields.
+#[derive(Drop)]
+pub struct Station {
+    /// The inode with its journal.
+    pub cell: InodeCell,
+    /// Its pass of the appended rules, through which it adds nothing.
+    pub rules: Pass<RuleEntry>,
+    /// The number of its file system.
+    pub place: u32,
+}
+
+impl Model for Station {
+    ghost use Rattle.task_frame.specs.World.{StationValue};
+
+    ghost Value = { StationValue };
+
+    ghost view = { λ s. record { cell = s.cell; rules = s.rules; place = s.place } };
+}

@@ -1,0 +1,10 @@
+pub mod Rows
+pub mod Next
+pub mod Takes
+pub mod Mine
+pub mod Readying
+pub mod Playing
+pub mod Eventing
+pub mod Blocking
+pub mod Looking
+pub mod Quieting

@@ -1,0 +1,57 @@
+-- What a look at all lists gives a task.
+use Rattle.std.specs.Prelude.{◌≡◌, ℕ, ◌+◌, List, [], length, Some, slice_get}
+use mathlib.Core.List.{IsPrefix}
+use Rattle.grow_list.specs.Shown.{Passed}
+use Rattle.inode_events.specs.declared.told.Event.{Event}
+use Rattle.run_model.specs.History.{Answer}
+use Rattle.run_model.specs.Served.{events_of, rules_of}
+use Rattle.run_model.specs.Turns.{State}
+use Rattle.task_frame.specs.Frame.{Frame, Site, inode_in}
+use Rattle.task_frame.specs.Runs.{HasMade}
+use Rattle.task_frame.specs.Tasks.{HasPlayed, IsTask, PassesValue, Tasked}
+use Rattle.task_laws.specs.Plays.{task_left}
+use Rattle.task_laws.specs.Ready.{HasLooked}
+use Rattle.task_laws.specs.Steps.{Adds}
+
+-- the pass of the journal i, which has seen the journal
+pub record InodeLooked (frame : Frame) (n i : ℕ) (journals : List (List Event))
+    (old : List (Passed Event)) (new : Passed Event) : Type 0 where
+  pub before : Passed Event
+  pub at : slice_get old i ≡ Some before
+  pub name : new.name ≡ before.name
+  pub number : new.number ≡ before.number
+  pub mine : new.mine ≡ before.mine
+  pub journal : List Event
+  pub journal_at : slice_get journals i ≡ Some journal
+  pub seen : new.seen ≡ journal
+  pub looked : (s : Site) → slice_get frame.sites i ≡ Some s
+      → HasLooked (inode_in frame s) n before.seen journal before.mine
+
+-- the passes of the task have seen all lists
+pub record HasLookedAtAll (frame : Frame) (t : Tasked) (s : State) (passes : PassesValue)
+    : Type 0 where
+  pub even : length passes.inodes ≡ length t.passes.inodes
+  pub journals : length s.journals ≡ length frame.sites
+  pub inodes : (i : ℕ) (q : Passed Event) → slice_get passes.inodes i ≡ Some q
+      → InodeLooked frame (t.number + 1) i s.journals t.passes.inodes q
+  pub sems : Adds t.passes.sems passes.sems []
+  pub signals : events_of t.number s.signals ≡ passes.sems.mine
+  pub book : Adds t.passes.book passes.book []
+  pub book_before : IsPrefix t.passes.book.seen s.list
+  pub book_seen : passes.book.seen ≡ s.list
+  pub rules : Adds t.passes.rules passes.rules []
+  pub rules_before : IsPrefix t.passes.rules.seen s.added
+  pub rules_seen : passes.rules.seen ≡ s.added
+  pub appended : rules_of t.number s.added ≡ passes.rules.mine
+
+-- the task keeps what it has of its history
+abbrev pub LookIsPlayed : Type 0
+LookIsPlayed = (frame : Frame) (t : Tasked) (h : List Answer) (s : State) (passes : PassesValue)
+    → HasPlayed frame t h → HasLookedAtAll frame t s passes
+    → HasPlayed frame (task_left t passes t.gathered) h
+
+-- and in each list the entries of its number are those of the history
+abbrev pub LookIsMade : Type 0
+LookIsMade = (frame : Frame) (t : Tasked) (s : State) (passes : PassesValue)
+    → IsTask frame t → HasLookedAtAll frame t s passes
+    → HasMade frame s (task_left t passes t.gathered)
