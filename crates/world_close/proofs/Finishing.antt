@@ -1,0 +1,326 @@
+-- The run that the closes give.
+use Rattle.std.proofs.Common.{◌≡◌, ℕ, ◌+◌, ◌<◌, ◌≤◌, List, [], ◌∷◌, ◌++◌, length, ap, sym, subst, ◌∙◌, arith, Some, reverse}
+use Rattle.std.specs.Prelude.{All, map, slice_get}
+use Rattle.std.specs.List.{AllZip}
+use Rattle.std.proofs.lemmas.List.{length-map, reverse-append}
+use Rattle.std.proofs.lemmas.List.Elements.{All-head, All-map, All-push, All-same, All-tail, All-weaker}
+use Rattle.std.proofs.lemmas.Option.{same_Some}
+use Rattle.grow_list.specs.Shown.{Passed}
+use Rattle.grow_list.proofs.Prefixes.{prefix_refl}
+use Rattle.ima_templates.specs.declared.entry.Entry.{Entry}
+use Rattle.inode_events.specs.Callers.{caller_of}
+use Rattle.inode_events.specs.Past.{past}
+use Rattle.inode_events.specs.Inode.{Inode}
+use Rattle.inode_events.specs.Legal.{EachFollows}
+use Rattle.inode_events.specs.declared.told.Event.{Event}
+use Rattle.own_laws.specs.Own.{IsOwned}
+use Rattle.ending_laws.specs.Resting.{AreLegal, IsReached, Resting}
+use Rattle.ending_laws.proofs.Ends.{ends, paid_when}
+use Rattle.merged_laws.specs.Logs.{log}
+use Rattle.merged_laws.specs.Steps.{Rises}
+use Rattle.merged_laws.proofs.Joining.{joined}
+use Rattle.policy_cell.specs.declared.cell.RuleEntry.{RuleEntry}
+use Rattle.rule_laws.specs.Checks.{SeesMore, seen_of}
+use Rattle.rule_laws.specs.Moments.{seen_in}
+use Rattle.rule_laws.proofs.Checking.{law_fits_are_suited}
+use Rattle.run_model.specs.History.{Thought, own, own_rules, own_signals, thought}
+use Rattle.run_model.specs.Scene.{Program, Scene, Station, inode_of, mode_of}
+use Rattle.run_model.specs.Served.{IsServed, RulesRise, Run, Served, events_of, rules_of}
+use Rattle.run_model.specs.Turns.{State, run_at}
+use Rattle.step_laws.specs.NextSteps.{IsFit}
+use Rattle.step_laws.specs.Rests.{AreFit}
+use Rattle.step_laws.specs.Stations.{IsWithin}
+use Rattle.step_laws.proofs.Rests.{rests}
+use Rattle.task_frame.specs.Frame.{Frame, mode_in, scene_of, station_of}
+use Rattle.task_frame.specs.Runs.{AreTasks, HasMade, moment_of, program_of, programs_of, thought_of}
+use Rattle.task_frame.specs.Tasks.{PassesValue, Tasked}
+use Rattle.task_frame.specs.World.{StationValue, journal_of}
+use Rattle.world_close.specs.Closed.{AreStations, StationClosed, WorldClosed}
+use Rattle.world_close.specs.Finished.{ClosedIsFinished, FinishedEnds, FinishedIsShown, HaveMade, state_at}
+use Rattle.world_close.proofs.Gets.{all_by_get, get_map}
+use Rattle.world_close.proofs.Scening.{IsAt, all_booked, all_legal, is_at, lists_even, zip_at}
+
+-- ---- a task
+
+-- the task of this number
+record IsTaskAt (tasks : List Tasked) (n : ℕ) (p : Program) (t : Thought) : Type 0 where
+  pub task : Tasked
+  pub at : slice_get tasks n ≡ Some task
+  pub program : program_of task ≡ p
+  pub stands : thought_of task ≡ t
+
+task_at : (tasks : List Tasked) (n : ℕ) (p : Program) (t : Thought)
+    → slice_get (programs_of tasks) n ≡ Some p → slice_get (map thought_of tasks) n ≡ Some t
+    → IsTaskAt tasks n p t
+task_at tasks n p t a b =
+    let x = get_map program_of tasks n p a in
+    let y = get_map thought_of tasks n t b in
+    record {
+      task = x.0;
+      at = x.1.0;
+      program = x.1.1;
+      stands = ap thought_of (same_Some x.0 y.0 (sym x.1.0 ∙ y.1.0)) ∙ y.1.1;
+    }
+
+-- a run has what was seen of its lists
+sees_all : (s : State) (thoughts : List Thought)
+    → SeesMore (seen_in s) (seen_of (run_at (record { state = s; thoughts = thoughts })))
+sees_all s thoughts = record {
+  journals = λ i journal e. record {
+    longer = journal;
+    there = e;
+    before = prefix_refl journal;
+  };
+  added = prefix_refl s.added;
+}
+
+-- it is served, and the places that its steps were told rise
+record IsServedRising (scene : Scene) (run : Run) (n : ℕ) (p : Program) (t : Thought)
+    : Type 0 where
+  pub served : IsServed scene run n p t
+  pub rise : Rises (log (mode_of scene) n p served.history)
+
+-- a task that has looked at all lists is so
+served_task : (frame : Frame) (s : State) (tasks : List Tasked) (n : ℕ) (task : Tasked)
+    → task.number ≡ n → HasMade frame s task
+    → IsServedRising (scene_of frame (programs_of tasks)) (run_at (moment_of s tasks)) n
+    (program_of task) (thought_of task)
+served_task frame s tasks n task number made = record {
+  served = record {
+    history = made.history;
+    stands = made.stands;
+    suited = law_fits_are_suited (scene_of frame (programs_of tasks)) (program_of task)
+        (seen_in s) (run_at (moment_of s tasks)) made.history
+        (sees_all s (map thought_of tasks)) (made.checks (programs_of tasks));
+    events = λ i journal e. subst (λ (k : ℕ). events_of k journal
+        ≡ own (mode_in frame) k (program_of task) i made.history) number
+        (made.events i journal e);
+    rules = subst (λ (k : ℕ). rules_of k s.added
+        ≡ own_rules (mode_in frame) k (program_of task) made.history) number made.rules;
+  };
+  rise = subst (λ (k : ℕ). Rises (log (mode_in frame) k (program_of task) made.history)) number
+      made.rises.rises;
+}
+
+-- the same of what the scene and the run have at its number
+served_at : (frame : Frame) (s : State) (tasks : List Tasked) → AreTasks frame tasks
+    → HaveMade frame s tasks → (n : ℕ) (p : Program) (t : Thought) → IsTaskAt tasks n p t
+    → IsServedRising (scene_of frame (programs_of tasks)) (run_at (moment_of s tasks)) n p t
+served_at frame s tasks are made n p t x =
+    subst (λ (q : Program). IsServedRising (scene_of frame (programs_of tasks))
+    (run_at (moment_of s tasks)) n q t) x.program
+    (subst (λ (u : Thought). IsServedRising (scene_of frame (programs_of tasks))
+    (run_at (moment_of s tasks)) n (program_of x.task) u) x.stands
+    (served_task frame s tasks n x.task (are.each n x.task x.at).number (made n x.task x.at)))
+
+-- ---- all inodes
+
+-- what holds of all events holds of them in the other order
+all_past : (P : Event → Type 0) (list : List Event) → All P list → All P (past list)
+unfolding past
+all_past P [] all = all
+all_past P (e ∷ list) all =
+    All-same P (reverse (e ∷ list)) (reverse list ++ e ∷ []) (reverse-append (e ∷ []) list)
+    (All-push P (reverse list) e (all_past P list (All-tail P e list all))
+    (All-head P e list all))
+
+-- an inode's journal, as its scene has it
+record IsLegalAt (inode : Inode) (journal : List Event) (tasks : ℕ) : Type 0 where
+  pub follows : EachFollows inode (past journal)
+  pub owned : IsOwned (past journal)
+  pub within : All (λ (e : Event). caller_of e ≤ tasks) journal
+
+legal_at : (s : StationValue) (q : Passed Entry) (tasks : ℕ) → s.cell.callers ≡ tasks + 1
+    → StationClosed s q → IsLegalAt s.cell.inode s.cell.list tasks
+legal_at s q tasks callers closed = record {
+  follows = closed.legal.1;
+  owned = closed.owned;
+  within = All-weaker (λ (e : Event). caller_of e < s.cell.callers)
+      (λ (e : Event). caller_of e ≤ tasks) (λ e l. within (caller_of e) l) s.cell.list
+      closed.within;
+} where
+  within : (c : ℕ) → c < s.cell.callers → c ≤ tasks
+  within c l = omega (arith, callers)
+
+-- the journal of the number i
+legal_in : (frame : Frame) (programs : List Program) (stations : List StationValue)
+    (inodes : List (Passed Entry)) → AreStations frame stations
+    → AllZip StationClosed stations inodes → (i : ℕ) (station : Station) (journal : List Event)
+    → slice_get (scene_of frame programs).stations i ≡ Some station
+    → slice_get (map journal_of stations) i ≡ Some journal
+    → IsLegalAt (inode_of (scene_of frame programs) station) journal frame.tasks
+legal_in frame programs stations inodes are closed i station journal a b =
+    at (is_at frame programs stations i station journal are a b) where
+      at : IsAt (scene_of frame programs) stations i station journal
+          → IsLegalAt (inode_of (scene_of frame programs) station) journal frame.tasks
+      at w =
+          let q = zip_at StationClosed stations inodes i w.there closed w.at in
+          subst (λ (x : Inode × List Event). IsLegalAt x.0 x.1 frame.tasks)
+          (λ k. (w.inode_is k, w.journal_is k))
+          (legal_at w.there q.0 frame.tasks (are.each i w.there w.at).callers q.1.1)
+
+-- all events are of the tasks, or births
+all_within : (frame : Frame) (stations : List StationValue) (inodes : List (Passed Entry))
+    (count : ℕ) → frame.tasks ≡ count → AreStations frame stations
+    → AllZip StationClosed stations inodes
+    → All (λ (journal : List Event). All (λ (e : Event). caller_of e ≤ count) journal)
+    (map journal_of stations)
+all_within frame stations inodes count same are closed =
+    all_by_get (λ (journal : List Event). All (λ (e : Event). caller_of e ≤ count) journal)
+    (map journal_of stations)
+    (λ i journal b. at i journal (get_map journal_of stations i journal b)) where
+      at : (i : ℕ) (journal : List Event)
+          → (s : StationValue) × ((slice_get stations i ≡ Some s) × (journal_of s ≡ journal))
+          → All (λ (e : Event). caller_of e ≤ count) journal
+      at i journal x =
+          let q = zip_at StationClosed stations inodes i x.0 closed x.1.0 in
+          subst (λ (l : List Event). All (λ (e : Event). caller_of e ≤ count) l) x.1.1
+          (legal_at x.0 q.0 count ((are.each i x.0 x.1.0).callers
+          ∙ ap (λ (n : ℕ). n + 1) same) q.1.1).within
+
+-- along each the rules rise
+all_rise : (frame : Frame) (stations : List StationValue) → AreStations frame stations
+    → All (λ (journal : List Event). RulesRise (length frame.base) (past journal))
+    (map journal_of stations)
+all_rise frame stations are =
+    all_by_get (λ (journal : List Event). RulesRise (length frame.base) (past journal))
+    (map journal_of stations)
+    (λ i journal b. at i journal (get_map journal_of stations i journal b)) where
+      at : (i : ℕ) (journal : List Event)
+          → (s : StationValue) × ((slice_get stations i ≡ Some s) × (journal_of s ≡ journal))
+          → RulesRise (length frame.base) (past journal)
+      at i journal x =
+          subst (λ (l : List Event). RulesRise (length frame.base) (past l)) x.1.1
+          (are.each i x.0 x.1.0).rise.rise
+
+-- ---- all tasks
+
+-- the calls of each are those of a script
+all_fit : (frame : Frame) (tasks : List Tasked) → AreTasks frame tasks
+    → AreFit (scene_of frame (programs_of tasks))
+all_fit frame tasks are n p a k c e = at (get_map program_of tasks n p a) where
+  at : (t : Tasked) × ((slice_get tasks n ≡ Some t) × (program_of t ≡ p))
+      → IsFit c × IsWithin (length (scene_of frame (programs_of tasks)).stations) c
+  at x =
+      let fit = (are.each n x.0 x.1.0).task.played.calls k c
+      (ap (λ (q : Program). slice_get q.calls k) x.1.1 ∙ e) in (
+        fit.0,
+        subst (λ (m : ℕ). IsWithin m c) (sym (length-map frame.sites (station_of frame))) fit.1,
+      )
+
+-- none has added to the measurement list
+all_unlisted : (frame : Frame) (tasks : List Tasked) → AreTasks frame tasks
+    → All (λ (q : Passed Entry). q.mine ≡ []) (map (λ (p : PassesValue). p.book)
+    (map (λ (t : Tasked). t.passes) tasks))
+all_unlisted frame tasks are =
+    All-map (λ (q : Passed Entry). q.mine ≡ []) (λ (p : PassesValue). p.book)
+    (map (λ (t : Tasked). t.passes) tasks)
+    (All-map (λ (p : PassesValue). p.book.mine ≡ []) (λ (t : Tasked). t.passes) tasks
+    (all_by_get (λ (t : Tasked). t.passes.book.mine ≡ []) tasks
+    (λ n t e. (are.each n t e).task.played.unlisted)))
+
+-- ---- the run
+
+abbrev served_run : (frame : Frame) (stations : List StationValue) (list : List Entry)
+    (signals : List Event) (added : List RuleEntry) (tasks : List Tasked)
+    → AreStations frame stations → AreTasks frame tasks → length tasks ≡ frame.tasks
+    → HaveMade frame (state_at stations list signals added) tasks
+    → WorldClosed frame stations list signals added (map (λ (t : Tasked). t.passes) tasks)
+    → Served (scene_of frame (programs_of tasks))
+    (run_at (moment_of (state_at stations list signals added) tasks))
+served_run frame stations list signals added tasks are each count made closed = record {
+  journals = lists_even frame (programs_of tasks) stations are;
+  thoughts = length-map tasks thought_of ∙ sym (length-map tasks program_of);
+  tasks = λ n p t a b. (served_at frame (state_at stations list signals added) tasks each made
+      n p t (task_at tasks n p t a b)).served;
+  no_other_events = all_within frame stations closed.inodes (length (programs_of tasks))
+      (sym count ∙ sym (length-map tasks program_of)) are closed.closed;
+  no_other_rules = subst (λ (m : ℕ). All (λ (r : RuleEntry). r.who.task < m) added)
+      (sym count ∙ sym (length-map tasks program_of)) closed.ruled;
+  rules_rise = all_rise frame stations are;
+}
+
+reached_moment : (frame : Frame) (stations : List StationValue) (list : List Entry)
+    (signals : List Event) (added : List RuleEntry) (tasks : List Tasked)
+    → AreStations frame stations → AreTasks frame tasks → length tasks ≡ frame.tasks
+    → HaveMade frame (state_at stations list signals added) tasks
+    → WorldClosed frame stations list signals added (map (λ (t : Tasked). t.passes) tasks)
+    → IsReached (scene_of frame (programs_of tasks))
+    (moment_of (state_at stations list signals added) tasks)
+reached_moment frame stations list signals added tasks are each count made closed =
+    record { legal = legal; tasks = λ n p t a b. rest n p t a (task_at tasks n p t a b) } where
+      scene : Scene
+      scene = scene_of frame (programs_of tasks)
+
+      programs : length (programs_of tasks) ≡ frame.tasks
+      programs = length-map tasks program_of ∙ count
+
+      legal : AreLegal (scene_of frame (programs_of tasks))
+          (state_at stations list signals added) (map thought_of tasks)
+      legal = record {
+        thoughts_even = length-map tasks thought_of ∙ sym (length-map tasks program_of);
+        follows = λ i station journal a b.
+            let l = legal_in frame (programs_of tasks) stations closed.inodes are closed.closed i
+            station journal a b in (
+              l.follows,
+              l.owned,
+              all_past (λ (e : Event). caller_of e ≤ length (programs_of tasks)) journal
+                  (subst (λ (m : ℕ). All (λ (e : Event). caller_of e ≤ m) journal) (sym programs)
+                  l.within),
+            );
+        are_signals = closed.are_signals;
+        signed = subst (λ (m : ℕ). All (λ (e : Event). (0 < caller_of e) × (caller_of e ≤ m))
+            signals) (sym programs) closed.signed;
+      }
+
+      rest : (n : ℕ) (p : Program) (t : Thought) → slice_get (programs_of tasks) n ≡ Some p
+          → IsTaskAt tasks n p t
+          → Resting (scene_of frame (programs_of tasks)) (state_at stations list signals added)
+          n p t
+      rest n p t a x =
+          let h = made n x.task x.at in
+          let number = (each.each n x.task x.at).number in
+          rests (scene_of frame (programs_of tasks)) (state_at stations list signals added)
+          (map thought_of tasks) n p t h.history (all_fit frame tasks each)
+          (lists_even frame (programs_of tasks) stations are) legal a
+          (ap (λ (q : Program). thought (mode_in frame) q h.history) (sym x.program)
+          ∙ h.stands ∙ x.stands)
+          (λ i journal e. subst (λ (y : ℕ × Program). events_of y.0 journal
+          ≡ own (mode_in frame) y.0 y.1 i h.history) (λ k. (number k, x.program k))
+          (h.events i journal e))
+          (subst (λ (y : ℕ × Program). events_of y.0 signals
+          ≡ own_signals (mode_in frame) y.0 y.1 h.history) (λ k. (number k, x.program k))
+          h.signals)
+
+-- the law
+pub finished : ClosedIsFinished
+finished frame stations list signals added tasks are each count made closed = record {
+  legal = all_legal frame (programs_of tasks) stations closed.inodes are closed.closed;
+  merged =
+      joined (scene_of frame (programs_of tasks))
+      (run_at (moment_of (state_at stations list signals added) tasks)) closed.inodes
+      (map (λ (p : PassesValue). p.book) (map (λ (t : Tasked). t.passes) tasks)) closed.book
+      (all_booked frame (programs_of tasks) stations closed.inodes are closed.closed)
+      (all_unlisted frame tasks each)
+      (length-map (map (λ (t : Tasked). t.passes) tasks) (λ (p : PassesValue). p.book)
+      ∙ length-map tasks (λ (t : Tasked). t.passes) ∙ sym (length-map tasks program_of))
+      (served_run frame stations list signals added tasks are each count made closed)
+      (λ n p t a b. (served_at frame (state_at stations list signals added) tasks each made
+      n p t (task_at tasks n p t a b)).rise);
+  served = served_run frame stations list signals added tasks are each count made closed;
+  reached = reached_moment frame stations list signals added tasks are each count made closed;
+}
+
+-- where no task could move, each is done or the run is stuck
+pub finished_ends : FinishedEnds
+finished_ends scene m f still =
+    (ends scene m (record { legal = f.reached.legal; tasks = f.reached.tasks; still = still })).1
+
+-- and it may be shown
+pub finished_shown : FinishedIsShown
+finished_shown scene m ending f through = record {
+  legal = f.legal;
+  merged = f.merged;
+  served = f.served;
+  ended = record { paid = paid_when scene m f.reached; through = through };
+}

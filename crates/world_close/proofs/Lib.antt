@@ -1,0 +1,3 @@
+pub mod Gets
+pub mod Scening
+pub mod Finishing

@@ -1,0 +1,68 @@
+-- The run that a world's closes give, where each task has looked at all lists before.
+use Rattle.std.specs.Prelude.{◌≡◌, ℕ, ◌<◌, ◌||◌, true, false, All, List, length, map, Some, slice_get}
+use Rattle.ima_templates.specs.declared.entry.Entry.{Entry}
+use Rattle.inode_events.specs.Legal.{Legal}
+use Rattle.inode_events.specs.Merged.{IsMerged, Journal}
+use Rattle.inode_events.specs.declared.told.Event.{Event}
+use Rattle.call_steps.specs.declared.ending.Ending.{Ending}
+use Rattle.ending_laws.specs.Resting.{IsReached}
+use Rattle.policy_cell.specs.declared.cell.RuleEntry.{RuleEntry}
+use Rattle.run_model.specs.Ended.{IsThrough, all_done, is_stuck}
+use Rattle.run_model.specs.Rounds.{moves}
+use Rattle.run_model.specs.Scene.{Scene}
+use Rattle.run_model.specs.Served.{Served}
+use Rattle.run_model.specs.Shown.{IsShown, journals_of}
+use Rattle.run_model.specs.Turns.{Moment, State, run_at}
+use Rattle.task_frame.specs.Frame.{Frame, scene_of}
+use Rattle.task_frame.specs.Runs.{AreTasks, HasMade, moment_of, programs_of}
+use Rattle.task_frame.specs.Tasks.{Tasked}
+use Rattle.task_frame.specs.World.{StationValue, journal_of}
+use Rattle.world_close.specs.Closed.{AreStations, WorldClosed}
+
+-- the lists of a world
+abbrev pub state_at : List StationValue → List Entry → List Event → List RuleEntry → State
+state_at stations list signals added = record {
+  journals = map journal_of stations;
+  list = list;
+  signals = signals;
+  added = added;
+}
+
+-- each task has looked at all lists
+abbrev pub HaveMade : Frame → State → List Tasked → Type 0
+HaveMade frame s tasks = (k : ℕ) (t : Tasked) → slice_get tasks k ≡ Some t → HasMade frame s t
+
+-- a moment of a run at which it may be shown, however it came there
+pub record IsFinished (scene : Scene) (m : Moment) : Type 0 where
+  pub legal : All (λ (j : Journal). Legal j.inode j.events)
+      (journals_of scene scene.stations m.state.journals)
+  pub merged : IsMerged scene.boot m.state.list
+      (journals_of scene scene.stations m.state.journals)
+  pub served : Served scene (run_at m)
+  pub reached : IsReached scene m
+
+-- ---- the laws
+
+-- the closes give such a moment
+abbrev pub ClosedIsFinished : Type 0
+ClosedIsFinished =
+    (frame : Frame) (stations : List StationValue) (list : List Entry) (signals : List Event)
+    (added : List RuleEntry) (tasks : List Tasked)
+    → AreStations frame stations → AreTasks frame tasks → length tasks ≡ frame.tasks
+    → HaveMade frame (state_at stations list signals added) tasks
+    → WorldClosed frame stations list signals added (map (λ (t : Tasked). t.passes) tasks)
+    → IsFinished (scene_of frame (programs_of tasks))
+    (moment_of (state_at stations list signals added) tasks)
+
+-- where no task could move there, each is done or the run is stuck
+abbrev pub FinishedEnds : Type 0
+FinishedEnds = (scene : Scene) (m : Moment) → IsFinished scene m
+    → ((n : ℕ) → n < length scene.programs → moves scene m n ≡ false)
+    → (all_done scene.programs m.thoughts || is_stuck scene.programs m.thoughts) ≡ true
+
+-- and a run that has gone on as long as its ending asks may be shown
+abbrev pub FinishedIsShown : Type 0
+FinishedIsShown = (scene : Scene) (m : Moment) (ending : Ending) → IsFinished scene m
+    → IsThrough ending
+    (all_done scene.programs m.thoughts || is_stuck scene.programs m.thoughts)
+    → IsShown scene ending (run_at m)
