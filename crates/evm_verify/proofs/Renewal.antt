@@ -1,10 +1,10 @@
 -- What renewal gives, by the key and by what is present.
-use Rattle.std.proofs.Common.{◌≡◌, ◌∙◌, ap, sym, true, false, cond, ℕ, List, [], ◌∷◌, ◌++◌, take, drop, refl}
+use Rattle.std.proofs.Common.{◌≡◌, ◌∙◌, ap, sym, true, false, ℕ, List, ◌++◌, take, drop, refl}
 use Rattle.std.specs.Prelude.{Some, None, Result, Ok, Err, OnOk, OnErr, IsErr}
-use Rattle.std.specs.Str.{bytes_eq}
 use Rattle.std.proofs.lemmas.List.{take-append-drop}
 use Rattle.inode_meta.specs.declared.identity.Meta.{Meta}
 use Rattle.xattr_store.specs.Attrs.{Pair, put, value, without}
+use Rattle.xattr_store.proofs.Changed.{without_absent}
 use Rattle.xattr_store.specs.declared.attrs.NoData.{NoData}
 use Rattle.evm_verify.specs.Input.{any_present, evm_input, evm_name, evm_value, five_names, protected_names}
 use Rattle.evm_verify.specs.Setup.{Setup}
@@ -26,17 +26,6 @@ pub renewed_absent : (evm : Setup) (key : List ℕ) (attrs : List Pair) (meta : 
     any_present (protected_names evm) attrs ≡ false → renewed evm attrs meta
     ≡ without evm_name attrs
 renewed_absent evm key attrs meta k none = rw (k, none) refl
-
--- where the name is absent nothing is taken away
-without_absent : (name : List ℕ) (attrs : List Pair) → value name attrs ≡ None → without name attrs
-    ≡ attrs
-without_absent name [] absent = refl
-without_absent name (a ∷ rest) absent =
-    elim (bytes_eq name a.0) as (λ b. cond b (Some a.1) (value name rest) ≡ None
-    → cond b rest (a ∷ without name rest) ≡ a ∷ rest) [
-      | true ↦ λ h. (cc)
-      | false ↦ λ h. ap (λ (l : List Pair). a ∷ l) (without_absent name rest h)
-    ] absent
 
 -- a removal gives the list without the name, also where it was refused
 pub removed : (name : List ℕ) (old new : List Pair) (r : Result (Unit {0}) NoData)

@@ -1,15 +1,16 @@
 ghost use Rattle.std.specs.Option.{option_copied};
 ghost use Rattle.std.specs.Prelude.{◌≡◌, IfOk, OnErr, OnOk};
+ghost use Rattle.xattr_store.specs.Attrs.{Fits, changed};
 ghost use Rattle.evm_verify.specs.Changes.{allows_attr, allows_meta, may_change, may_set_meta, protects};
 ghost use Rattle.evm_verify.specs.Status.{evm_status, is_blank, renewed};
 ghost use Rattle.evm_verify.specs.Input.{evm_input, evm_value, old_input};
 
 use crate::input::{HMAC_TYPE, VALUE_LEN, value_of};
-use crate::names::{any_present, copy_names, is_among, protected_names};
+use crate::names::{any_present, any_present_after, copy_names, is_among, protected_names};
 use inode_meta::{EvmStatus, Meta};
 use std::alloc::{AllocError, Global};
 use std::marker::Model;
-use xattr_store::{Attrs, Bytes, EVM_NAME, OutOfMemory};
+use xattr_store::{After, Attrs, Bytes, EVM_NAME, NewValue, OutOfMemory};
 
 // How many names are always protected.
 const FIVE: usize = 5;
@@ -112,6 +113,13 @@ impl Evm {
     fn value_now(&self, key: &[u8], attrs: &Attrs, meta: &Meta) -> [u8; VALUE_LEN]
         ensures { result ≡ evm_value key.now (evm_input self.now attrs.now meta.now) }
     {
+        self.value_after(key, &After::none(attrs), meta)
+    }
+
+    // Its value for the attributes as they are, or as a change would leave them.
+    fn value_after(&self, key: &[u8], attrs: &After<'_>, meta: &Meta) -> [u8; VALUE_LEN]
+        ensures { result ≡ evm_value key.now (evm_input self.now attrs.now meta.now) }
+    {
         value_of(key, &self.names, self.format, attrs, meta)
     }
 
@@ -119,7 +127,7 @@ impl Evm {
     fn value_old(&self, key: &[u8], attrs: &Attrs, meta: &Meta) -> [u8; VALUE_LEN]
         ensures { result ≡ evm_value key.now (old_input attrs.now meta.now) }
     {
-        value_of(key, &self.names[..FIVE], 1, attrs, meta)
+        value_of(key, &self.names[..FIVE], 1, &After::none(attrs), meta)
     }
 
     /// What EVM says of an inode: whether `security.evm` is the HMAC of its protected attributes
@@ -166,6 +174,38 @@ impl Evm {
             // A value of 21 bytes is never too long.
             Err(_) => Err(AllocError),
         }
+    }
+
+    /// Makes the change and then renews as [`Evm::renew`] does, or neither: after memory ran out
+    /// the attributes are as before.
+    pub fn change(
+        &self,
+        attrs: &mut Attrs,
+        change: NewValue<'_>,
+        meta: &Meta,
+    ) -> Result<(), OutOfMemory>
+        requires fits { Fits (option_copied change.value) }
+        ensures ok { OnOk result (attrs.new ≡ renewed self.now
+            (changed change.entry.name.now (option_copied change.entry.value) attrs.old) meta.now) }
+        ensures err { OnErr result (attrs.new ≡ attrs.old) }
+    {
+        let Some(key) = &self.key else {
+            return attrs.change(change);
+        };
+        let after = After::change(attrs, change);
+        if !any_present_after(&self.names, &after) {
+            let gone = NewValue {
+                name: EVM_NAME,
+                value: None,
+            };
+            return attrs.change_both(change, gone);
+        }
+        let value = self.value_after(key.as_slice(), &after, meta);
+        let renewed = NewValue {
+            name: EVM_NAME,
+            value: Some(&value),
+        };
+        attrs.change_both(change, renewed)
     }
 
     /// Whether a call may change the attribute: refused, with the status, exactly where the name is

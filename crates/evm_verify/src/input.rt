@@ -7,7 +7,7 @@ ghost use Rattle.evm_verify.specs.Input.{evm_value, meta_bytes, place_bytes, val
 
 use hmac_core::{HmacSha1, MAC_LEN};
 use inode_meta::Meta;
-use xattr_store::{Attrs, Bytes};
+use xattr_store::{After, Bytes};
 
 /// The length of the value of `security.evm`: its type, and an HMAC-SHA1.
 pub const VALUE_LEN: usize = 1 + MAC_LEN;
@@ -26,7 +26,7 @@ fn feed_value(state: &mut HmacSha1, value: Option<&[u8]>)
 }
 
 // Feeds the values of those of the names that are present.
-fn feed_values(state: &mut HmacSha1, names: &[Bytes], attrs: &Attrs)
+fn feed_values(state: &mut HmacSha1, names: &[Bytes], attrs: &After<'_>)
     ensures { (key m : List ℕ) → Holds state.old key m
         → Holds state.new key (m ++ values_under names.now attrs.now) }
 {
@@ -72,7 +72,7 @@ pub fn value_of(
     key: &[u8],
     names: &[Bytes],
     format: u8,
-    attrs: &Attrs,
+    attrs: &After<'_>,
     meta: &Meta,
 ) -> [u8; VALUE_LEN]
     ensures { result ≡ evm_value key.now (values_under names.now attrs.now ++ meta_bytes meta.now

@@ -8,7 +8,7 @@ ghost use Rattle.evm_verify.specs.Changes.{is_protected};
 ghost use Rattle.evm_verify.specs.Input.{any_present, five_names};
 
 use std::alloc::Global;
-use xattr_store::{Attrs, Bytes, IMA_NAME, OutOfMemory};
+use xattr_store::{After, Attrs, Bytes, IMA_NAME, OutOfMemory};
 
 // The attributes that are always protected, in the order of the kernel's list.
 const FIVE_NAMES: [&[u8]; 5] = [
@@ -78,11 +78,18 @@ fn is_one_of(name: &[u8], names: &[&[u8]]) -> bool
     names.iter().any(|other| name == *other)
 }
 
-// Whether some of the names are present.
-pub fn any_present(names: &[Bytes], attrs: &Attrs) -> bool
+// Whether some of the names are present, or would be after a change.
+pub fn any_present_after(names: &[Bytes], attrs: &After<'_>) -> bool
     ensures { result ≡ any_present names.now attrs.now }
 {
     names
         .iter()
         .any(|name| attrs.get(name.as_slice()).is_some())
+}
+
+// Whether some of the names are present.
+pub fn any_present(names: &[Bytes], attrs: &Attrs) -> bool
+    ensures { result ≡ any_present names.now attrs.now }
+{
+    any_present_after(names, &After::none(attrs))
 }

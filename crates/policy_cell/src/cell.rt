@@ -133,6 +133,13 @@ impl PolicyCell {
         self.appended.look(pass);
     }
 
+    /// How many rules were appended.
+    pub fn appended(&self) -> u64
+        ensures { result ≡ length self.now.appended.list }
+    {
+        self.appended.len()
+    }
+
     /// The rules in force.
     pub fn rules(&self) -> &Index
         ensures { result.now ≡ in_force self.now }

@@ -72,7 +72,8 @@ value_found name (a ∷ rest) (suc k) d found =
     rw (eq_as_ordered name a.0 Greater found.0) (value_found name rest k d found.1)
 
 -- a name before the first isn't there
-value_before : (name : List ℕ) (attrs : List Pair) → IsBefore name attrs → value name attrs ≡ None
+pub value_before : (name : List ℕ) (attrs : List Pair) → IsBefore name attrs → value name attrs
+    ≡ None
 value_before name [] before = refl
 value_before name (a ∷ rest) before =
     rw (eq_as_ordered name a.0 Less before.0) (value_before name rest before.1)

@@ -1,6 +1,6 @@
 -- Extended attributes as a list of pairs of name and value. No name stands twice, and the names
 -- stand in byte order.
-use Rattle.std.specs.Prelude.{◌≡◌, ℕ, ◌≤◌, List, [], ◌∷◌, length, Option}
+use Rattle.std.specs.Prelude.{◌≡◌, ℕ, ◌≤◌, List, [], ◌∷◌, length, Option, Some, None}
 use Rattle.std.specs.Cmp.Lexicographic.{slice_cmp}
 use Rattle.std.specs.BTreeMap.{insert_entry}
 use Rattle.std.specs.Map.{lookup, remove_entry}
@@ -28,6 +28,16 @@ put name bytes attrs = insert_entry byte_order attrs name bytes
 -- the attributes without the name
 abbrev pub without : List ℕ → List Pair → List Pair
 without name attrs = remove_entry (bytes_eq name) attrs
+
+-- the attributes where the name has this value, or none
+abbrev pub changed : List ℕ → Option (List ℕ) → List Pair → List Pair
+changed name None attrs = without name attrs
+changed name (Some bytes) attrs = put name bytes attrs
+
+-- there is no value, or one of at most 4,096 bytes
+abbrev pub Fits : Option (List ℕ) → Type 0
+Fits None = Unit {0}
+Fits (Some bytes) = length bytes ≤ 4096
 
 -- the name comes before those of the attributes
 abbrev pub IsBefore : List ℕ → List Pair → Type 0

@@ -1,3 +1,4 @@
 pub mod Attrs
 pub mod Names
 pub mod Places
+pub mod Changes

@@ -1,10 +1,11 @@
 ghost use Rattle.std.specs.Prelude.{◌≡◌, ◌<◌, ◌↔◌, [], IfOk, IsErr, IsErrOf, OnErr, OnOk, length, slice_get};
 ghost use Rattle.std.specs.Option.{option_copied, option_map};
 ghost use Rattle.xattr_store.specs.declared.attrs.SetErr.TheVariants.{OutOfMemory};
-ghost use Rattle.xattr_store.specs.Attrs.{put, value, without};
+ghost use Rattle.xattr_store.specs.Attrs.{Fits, changed, put, value, without};
 
 use crate::bytes::Bytes;
-use crate::places::{find, put_value};
+use crate::changes::NewValue;
+use crate::places::{change_within, find, put_value, value_in};
 use inode_meta::OutOfMemory;
 use std::alloc::{AllocError, Global};
 use std::marker::Model;
@@ -65,10 +66,7 @@ impl Attrs {
     pub fn get(&self, name: &[u8]) -> Option<&[u8]>
         ensures { option_copied result ≡ value name.now self.now }
     {
-        match find(&self.pairs, name) {
-            Ok(place) => Some(self.pairs[place].1.as_slice()),
-            Err(_) => None,
-        }
+        value_in(&self.pairs, name)
     }
 
     /// Puts the value under the name, in place of an older value. After an error the attributes are
@@ -99,6 +97,63 @@ impl Attrs {
             }
             Err(_) => Err(NoData),
         }
+    }
+
+    /// A law: there is no value under the name, or one of at most [`MAX_VALUE`] bytes.
+    pub fn value_fits(&self, name: &[u8])
+        ensures { Fits (value name.now self.now) }
+    {
+        let _ = self.pairs.as_slice();
+    }
+
+    /// The value that would stand under the name after the change; `None` exactly where it wouldn't
+    /// be there.
+    pub fn get_after<'a>(&'a self, change: NewValue<'a>, name: &[u8]) -> Option<&'a [u8]>
+        ensures { option_copied result ≡ value name.now
+            (changed change.entry.name.now (option_copied change.entry.value) self.now) }
+    {
+        let pairs = self.pairs.as_slice();
+        if change.name == name {
+            change.value
+        } else {
+            value_in(pairs, name)
+        }
+    }
+
+    /// Makes the change. After memory ran out the attributes are as before.
+    pub fn change(&mut self, change: NewValue<'_>) -> Result<(), OutOfMemory>
+        requires fits { Fits (option_copied change.value) }
+        ensures ok { OnOk result (self.new
+            ≡ changed change.entry.name.now (option_copied change.entry.value) self.old) }
+        ensures err { OnErr result (self.new ≡ self.old) }
+    {
+        let (name, value) = change.copied(*self.pairs.allocator())?;
+        self.pairs.reserve(1)?;
+        change_within(&mut self.pairs, name, value);
+        Ok(())
+    }
+
+    /// Makes the first change and then the second, or neither: after memory ran out the attributes
+    /// are as before.
+    pub fn change_both(
+        &mut self,
+        first: NewValue<'_>,
+        second: NewValue<'_>,
+    ) -> Result<(), OutOfMemory>
+        requires fits { Fits (option_copied first.value) }
+        requires second_fits { Fits (option_copied second.value) }
+        ensures ok { OnOk result (self.new
+            ≡ changed second.entry.name.now (option_copied second.entry.value)
+            (changed first.entry.name.now (option_copied first.entry.value) self.old)) }
+        ensures err { OnErr result (self.new ≡ self.old) }
+    {
+        let alloc = *self.pairs.allocator();
+        let (name, value) = first.copied(alloc)?;
+        let (second_name, second_value) = second.copied(alloc)?;
+        self.pairs.reserve(2)?;
+        change_within(&mut self.pairs, name, value);
+        change_within(&mut self.pairs, second_name, second_value);
+        Ok(())
     }
 
     /// An equal list.

@@ -3,6 +3,7 @@
 
 mod attrs;
 mod bytes;
+mod changes;
 mod names;
 mod places;
 #[cfg(test)]
@@ -10,5 +11,6 @@ mod tests;
 
 pub use attrs::{Attrs, MAX_VALUE, NoData, SetErr};
 pub use bytes::Bytes;
+pub use changes::{After, NewValue};
 pub use inode_meta::OutOfMemory;
 pub use names::{EVM_NAME, IMA_NAME};

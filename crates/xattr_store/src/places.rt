@@ -1,7 +1,8 @@
 // Where a name stands, or would stand, among pairs whose names ascend.
 
-ghost use Rattle.std.specs.Prelude.{◌≡◌, MatchResult, if◌then◌else◌, is_ok};
-ghost use Rattle.xattr_store.specs.Attrs.{put};
+ghost use Rattle.std.specs.Prelude.{◌≡◌, ◌+◌, ◌<◌, ◌≤◌, MatchResult, if◌then◌else◌, is_ok, vec_capacity, vec_len};
+ghost use Rattle.xattr_store.specs.Attrs.{IsAttrs, changed, put, value};
+ghost use Rattle.std.specs.Option.{option_copied};
 ghost use Rattle.xattr_store.specs.Places.{IsFoundAt, IsGapAt};
 
 use crate::bytes::Bytes;
@@ -20,6 +21,17 @@ pub fn find(pairs: &[(Bytes, Bytes)], name: &[u8]) -> Result<usize, usize>
         }
     }
     Err(pairs.len())
+}
+
+// The value under the name; `None` exactly where the name isn't there.
+pub fn value_in<'a>(pairs: &'a [(Bytes, Bytes)], name: &[u8]) -> Option<&'a [u8]>
+    requires { IsAttrs pairs.now }
+    ensures { option_copied result ≡ value name.now pairs.now }
+{
+    match find(pairs, name) {
+        Ok(place) => Some(pairs[place].1.as_slice()),
+        Err(_) => None,
+    }
 }
 
 // Puts the value under the name. Both copies are made first, so that after memory ran out the pairs
@@ -44,4 +56,43 @@ pub fn put_value(
         }
     }
     Ok(())
+}
+
+// Puts the value under the name, whose place was sought before, in room that was made.
+fn put_at(pairs: &mut Vec<(Bytes, Bytes)>, found: Result<usize, usize>, name: Bytes, value: Bytes)
+    requires room { vec_len pairs.old < vec_capacity pairs.old }
+    requires found { MatchResult found (IsFoundAt name pairs.old.items)
+        (IsGapAt name pairs.old.items) }
+    ensures items { pairs.new.items ≡ put name value pairs.old.items }
+    ensures len { vec_len pairs.new ≤ vec_len pairs.old + 1 }
+    ensures capacity { vec_capacity pairs.old ≤ vec_capacity pairs.new }
+{
+    match found {
+        Ok(place) => {
+            pairs[place].1 = value;
+        }
+        Err(place) => {
+            // There is room.
+            let _ = pairs.insert(place, (name, value));
+        }
+    }
+}
+
+// Gives the name this value, or none, in room that was made.
+pub fn change_within(pairs: &mut Vec<(Bytes, Bytes)>, name: Bytes, value: Option<Bytes>)
+    requires room { vec_len pairs.old < vec_capacity pairs.old }
+    requires attrs { IsAttrs pairs.old.items }
+    ensures items { pairs.new.items ≡ changed name value pairs.old.items }
+    ensures len { vec_len pairs.new ≤ vec_len pairs.old + 1 }
+    ensures capacity { vec_capacity pairs.old ≤ vec_capacity pairs.new }
+{
+    let found = find(pairs, name.as_slice());
+    match value {
+        Some(value) => put_at(pairs, found, name, value),
+        None => {
+            if let Ok(place) = found {
+                let _ = pairs.remove(place);
+            }
+        }
+    }
 }

@@ -34,3 +34,23 @@ fn a_value_has_at_most_4096_bytes(rt: HostRuntime) -> Result<(), Fail> {
     assert!(rt; attrs.get(b"user.x").is_none());
     Ok(())
 }
+
+#[test]
+fn two_changes_are_made_together(rt: HostRuntime) -> Result<(), Fail> {
+    let mut attrs = Attrs::new(rt.alloc());
+    attrs.set(b"user.b", b"2")?;
+    let first = NewValue {
+        name: b"user.a",
+        value: Some(b"1"),
+    };
+    let second = NewValue {
+        name: b"user.b",
+        value: None,
+    };
+    assert!(rt; After::change(&attrs, second).get(b"user.b").is_none());
+    assert!(rt; After::change(&attrs, first).get(b"user.b").is_some());
+    attrs.change_both(first, second)?;
+    assert!(rt; shows(&attrs, 0, b"user.a", b"1"));
+    assert!(rt; attrs.at(1).is_none());
+    Ok(())
+}

@@ -1,0 +1,10 @@
+-- What a change of attributes leaves.
+use Rattle.std.specs.Prelude.{List, Option, Some, None}
+use Rattle.std.specs.Option.{option_copied}
+use Rattle.xattr_store.specs.Attrs.{Pair, changed}
+use Rattle.xattr_store.specs.declared.changes.NewValue.{NewValue}
+
+-- the attributes after the change, if there is one
+abbrev pub after : Option NewValue → List Pair → List Pair
+after None attrs = attrs
+after (Some change) attrs = changed change.name.now (option_copied change.value) attrs

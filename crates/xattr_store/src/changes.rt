@@ -1,0 +1,85 @@
+// Changes of attributes, and what they would leave.
+
+ghost use Rattle.std.specs.Prelude.{◌≡◌, IfOk};
+ghost use Rattle.std.specs.Option.{option_copied};
+ghost use Rattle.xattr_store.specs.Attrs.{changed, value};
+
+use crate::attrs::Attrs;
+use crate::bytes::Bytes;
+use inode_meta::OutOfMemory;
+use std::alloc::Global;
+use std::marker::Model;
+
+/// What a name is to have: a value, or none.
+#[derive(Clone, Copy)]
+pub struct NewValue<'a> {
+    /// The name of the attribute.
+    pub name: &'a [u8],
+    /// Its value, or `None` where the name is to go.
+    pub value: Option<&'a [u8]>,
+}
+
+impl NewValue<'_> {
+    // Copies of the name and of the value: the memory that the change takes.
+    pub(crate) fn copied(self, alloc: Global) -> Result<(Bytes, Option<Bytes>), OutOfMemory>
+        ensures name { IfOk result (λ r. r.0 ≡ self.entry.name.now) }
+        ensures value { IfOk result (λ r. r.1 ≡ option_copied self.entry.value) }
+    {
+        let value = match self.value {
+            Some(bytes) => Some(Bytes::from_slice(alloc, bytes)?),
+            None => None,
+        };
+        Ok((Bytes::from_slice(alloc, self.name)?, value))
+    }
+}
+
+/// Attributes as they are, or as a change would leave them. Contracts see the list of pairs of name
+/// and value.
+#[derive(Drop)]
+pub struct After<'a> {
+    attrs: &'a Attrs,
+    change: Option<NewValue<'a>>,
+}
+
+impl<'a> Model for After<'a> {
+    ghost use Rattle.std.specs.Prelude.{List};
+    ghost use Rattle.xattr_store.specs.Attrs.{Pair};
+    ghost use Rattle.xattr_store.specs.Changes.{after};
+
+    ghost Value = { List Pair };
+
+    ghost view = { λ a. after a.change a.attrs.now };
+}
+
+impl<'a> After<'a> {
+    /// The attributes as they are.
+    pub fn none(attrs: &'a Attrs) -> After<'a>
+        ensures { result ≡ attrs.now }
+    {
+        After {
+            attrs,
+            change: None,
+        }
+    }
+
+    /// The attributes as the change would leave them.
+    pub fn change(attrs: &'a Attrs, change: NewValue<'a>) -> After<'a>
+        ensures { result ≡ changed change.entry.name.now (option_copied change.entry.value)
+            attrs.now }
+    {
+        After {
+            attrs,
+            change: Some(change),
+        }
+    }
+
+    /// The value under the name; `None` exactly where the name isn't there.
+    pub fn get(&self, name: &[u8]) -> Option<&[u8]>
+        ensures { option_copied result ≡ value name.now self.now }
+    {
+        match self.change {
+            Some(change) => self.attrs.get_after(change, name),
+            None => self.attrs.get(name),
+        }
+    }
+}
