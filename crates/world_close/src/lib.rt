@@ -3,7 +3,13 @@
 //! Each law is the contract of a function that does nothing.
 #![tactic(auto)]
 
+mod lists;
+mod rows;
+mod stations;
+
 ghost use Rattle.world_close.specs.Finished.{ClosedIsFinished, FinishedEnds, FinishedIsShown};
+
+pub use lists::{Lists, close_lists};
 
 /// Where each task has looked at all lists, the closes give a run that is legal, merged and served.
 pub fn closed_is_finished()

@@ -1,0 +1,63 @@
+-- The inodes are closed from the last one on.
+use Rattle.std.proofs.Common.{◌≡◌, ℕ, ◌+◌, List, [], ◌∷◌, ◌++◌, length, refl, ap, sym, ◌∙◌, arith, Some, subst}
+use Rattle.std.specs.Prelude.{map, reverse, slice_get}
+use Rattle.std.specs.List.{AllZip}
+use Rattle.std.proofs.lemmas.List.{append_assoc, append-nil, reverse-append}
+use Rattle.grow_list.specs.Shown.{ListName, Passed}
+use Rattle.ima_templates.specs.declared.entry.Entry.{Entry}
+use Rattle.inode_events.specs.EndedInode.{EndedInodeValue}
+use Rattle.policy_cell.specs.declared.cell.RuleEntry.{RuleEntry}
+use Rattle.task_frame.specs.World.{StationValue}
+use Rattle.world_close.specs.Closed.{AreClosed, AreClosedBehind, IsPushed, StationClosed, ended_station}
+use Rattle.world_close.specs.Rows.{AreNamed}
+use Rattle.world_close.proofs.Gets.{get_left, get_last}
+
+-- of the inodes that are left, the last one has the last name
+pub named_front : (names : ℕ → ListName) (n : ℕ) (all front : List StationValue)
+    (s : StationValue) → all ≡ front ++ s ∷ [] → AreNamed names n all
+    → AreNamed names n front
+    × ((s.cell.journal ≡ names (length front)) × (s.cell.callers ≡ n + 1))
+named_front names n all front s is named = (
+  (λ k x at. named k x
+      (ap (λ (l : List StationValue). slice_get l k) is ∙ get_left front (s ∷ []) k x at)),
+  named (length front) s
+      (ap (λ (l : List StationValue). slice_get l (length front)) is ∙ get_last front s),
+)
+
+-- one inode more is closed
+pub closed_more : (all left front : List StationValue) (s : StationValue)
+    (inodes inodes2 : List EndedInodeValue) (book book2 : List (Passed Entry))
+    (rules rules2 : List (Passed RuleEntry)) → left ≡ front ++ s ∷ []
+    → inodes2 ≡ inodes ++ ended_station s ∷ [] → IsPushed s book book2
+    → rules2 ≡ rules ++ s.rules ∷ [] → AreClosedBehind all left inodes book rules
+    → AreClosedBehind all front inodes2 book2 rules2
+closed_more all left front s inodes inodes2 book book2 rules rules2 is i b r old = record {
+  done = s ∷ old.done;
+  split = old.split ∙ ap (λ (l : List StationValue). l ++ old.done) is
+      ∙ append_assoc front (s ∷ []) old.done;
+  are = record {
+    inodes_are = ap reverse i ∙ reverse-append inodes (ended_station s ∷ [])
+        ∙ ap (λ (l : List EndedInodeValue). ended_station s ∷ l) old.are.inodes_are;
+    rules_are = ap reverse r ∙ reverse-append rules (s.rules ∷ [])
+        ∙ ap (λ (l : List (Passed RuleEntry)). s.rules ∷ l) old.are.rules_are;
+    closed = subst (λ (l : List (Passed Entry)). AllZip StationClosed (s ∷ old.done) l)
+        (sym (ap reverse b.is ∙ reverse-append book (b.pass ∷ []))) (b.closed, old.are.closed);
+  };
+}
+
+-- none is closed at first
+pub closed_none : (all : List StationValue) → AreClosedBehind all all [] [] []
+closed_none all = record {
+  done = [];
+  split = sym (append-nil all);
+  are = record { inodes_are = refl; rules_are = refl; closed = tt };
+}
+
+-- all are, where none is left
+pub closed_all : (all left : List StationValue) (inodes : List EndedInodeValue)
+    (book : List (Passed Entry)) (rules : List (Passed RuleEntry)) → left ≡ []
+    → AreClosedBehind all left inodes book rules
+    → AreClosed all (reverse inodes) (reverse book) (reverse rules)
+closed_all all left inodes book rules none old =
+    subst (λ (l : List StationValue). AreClosed l (reverse inodes) (reverse book) (reverse rules))
+    (sym (old.split ∙ ap (λ (l : List StationValue). l ++ old.done) none)) old.are

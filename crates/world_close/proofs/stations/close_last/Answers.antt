@@ -1,0 +1,13 @@
+use Rattle.std.proofs.Common.{sym, subst, ◌∙◌, ap, ◌+◌, ℕ}
+use Rattle.inode_cell.specs.Ending.{HasPasses}
+use Rattle.task_frame.specs.World.{StationValue}
+use Rattle.world_close.proofs.Rowing.{column_others}
+use Rattle.world_close.proofs.stations.close_last.Goals as goal
+
+pub close_cell-ended-requires : goal.close_cell-ended-requires
+close_cell-ended-requires g c =
+    let column = c.in_ok-column.ensures.column in
+    let column_is = c.in_ok-column.column.items in
+    subst (λ (v : StationValue). HasPasses v.cell column_is) (sym c.station.view_is)
+    (column_others c.args.station.cell (g.names c.args.number) column_is column.0
+    (ap (λ (n : ℕ). n + 1) column.1 ∙ sym c.requires.1.1) c.requires.1.0)

@@ -1,0 +1,42 @@
+use Rattle.std.proofs.Common.{◌≡◌, sym, ◌∙◌, ap, arith, length, length-append, ◌+◌, [], ◌∷◌, subst, ℕ}
+use Rattle.world_close.specs.Rows.{RowsFit}
+use Rattle.world_close.proofs.Stationing.{closed_more, named_front}
+use Rattle.world_close.proofs.stations.close_stations.Goals as goal
+
+pub close_last-requires : goal.close_last-requires
+close_last-requires g c =
+    let old = c.loop-station.invariant in
+    let n = named_front g.names (length c.loop-station.rows.items) c.loop-station.left.items
+    c.pop.new.self.items c.in-Some.station c.in-Some.ensures.items old.named in
+    let here : length c.pop.new.self.items ≡ c.len-number.result =
+    omega (arith, c.len-number.ensures, c.pop.new.self.ok) in
+    let more : length c.loop-station.left.items ≡ c.len-number.result + 1 =
+    omega (
+      arith,
+      ap length c.in-Some.ensures.items,
+      length-append c.pop.new.self.items (c.in-Some.station ∷ []),
+      here,
+    ) in (
+      subst (λ (m : ℕ). RowsFit m g.names c.loop-station.rows.items) more old.fit,
+      (n.1.0 ∙ ap g.names here, n.1.1),
+    )
+
+pub loop-station-preserved : goal.loop-station-preserved
+loop-station-preserved g c =
+    let old = c.loop-station.invariant in
+    let done = c.in_ok-close_last.ensures in
+    let here : length c.pop.new.self.items ≡ c.len-number.result =
+    omega (arith, c.len-number.ensures, c.pop.new.self.ok) in
+    let n = named_front g.names (length c.loop-station.rows.items) c.loop-station.left.items
+    c.pop.new.self.items c.in-Some.station c.in-Some.ensures.items old.named in
+    record {
+      count = done.count ∙ old.count;
+      fit = subst (λ (m : ℕ). RowsFit m g.names c.close_last.new.rows.items) (sym here) done.fit;
+      named = λ k s at.
+          let m = n.0 k s at in (m.0, m.1 ∙ ap (λ (x : ℕ). x + 1) (sym done.count));
+      closed = closed_more c.args.stations.items c.loop-station.left.items c.pop.new.self.items
+          c.in-Some.station c.loop-station.inodes.items c.close_last.new.inodes.items
+          c.loop-station.book.items c.close_last.new.book.items c.loop-station.rules.items
+          c.close_last.new.rules.items c.in-Some.ensures.items done.inodes done.book done.rules
+          old.closed;
+    }
