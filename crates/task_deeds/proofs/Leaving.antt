@@ -1,0 +1,77 @@
+-- What a deed leaves, whatever it was told.
+use Rattle.std.proofs.Common.{◌≡◌, List, Option, Some, None, refl, sym, ◌∙◌, ap}
+use Rattle.std.specs.Prelude.{IfOk, OnErr, Result, Ok, Err}
+use Rattle.std.proofs.lemmas.List.{append-nil}
+use Rattle.grow_list.specs.Shown.{Passed}
+use Rattle.ima_templates.specs.declared.entry.Entry.{Entry}
+use Rattle.inode_cell.specs.Acts.{Acts, Stays}
+use Rattle.inode_cell.specs.Value.{CellValue}
+use Rattle.inode_events.specs.Asked.{outcome}
+use Rattle.inode_events.specs.Inode.{Inode}
+use Rattle.inode_events.specs.Past.{past}
+use Rattle.inode_events.specs.declared.deed.Deed.{Deed}
+use Rattle.inode_events.specs.declared.told.Event.{Event}
+use Rattle.inode_events.specs.declared.told.Told.{Told}
+use Rattle.inode_meta.specs.declared.step.Who.{Who}
+use Rattle.task_deeds.specs.Leaving.{Leaves, told_by, told_in}
+
+module _ (old new : CellValue) (list list2 : List Entry) (pass pass2 : Passed Event) (who : Who)
+    (d : Deed) where
+  -- after an event, or where it was blocked
+  pub acts_leave : (o : Option Told) → Acts old new list list2 pass pass2 who d o
+      → Leaves old new list list2 pass pass2 who d o
+  acts_leave o a = record {
+    journal = a.journal;
+    book = a.book;
+    seen = a.seen;
+    mine = a.mine;
+    pass_name = a.pass_name;
+    pass_number = a.pass_number;
+    same = a.same;
+  }
+
+  -- after want of memory
+  pub stays_leave : Stays old new pass pass2 → list2 ≡ list → pass.seen ≡ old.list
+      → Leaves old new list list2 pass pass2 who d None
+  stays_leave s b e = record {
+    journal = s.journal ∙ sym (append-nil old.list);
+    book = b;
+    seen = ap (λ (q : Passed Event). q.seen) s.passed ∙ e ∙ sym s.journal;
+    mine = ap (λ (q : Passed Event). q.mine) s.passed ∙ sym (append-nil pass.mine);
+    pass_name = ap (λ (q : Passed Event). q.name) s.passed;
+    pass_number = ap (λ (q : Passed Event). q.number) s.passed;
+    same = s.same;
+  }
+
+  pub leaves_told : {E : Type 0} (r : Result (Option Told) E)
+      → IfOk r (λ o. Acts old new list list2 pass pass2 who d o)
+      → OnErr r (Stays old new pass pass2) → OnErr r (list2 ≡ list) → pass.seen ≡ old.list
+      → Leaves old new list list2 pass pass2 who d (told_in r)
+  leaves_told (Ok o) a s b e = acts_leave o a
+  leaves_told (Err x) a s b e = stays_leave s b e
+
+  pub leaves_by : {A E : Type 0} (f : A → Told) (r : Result A E)
+      → IfOk r (λ x. Acts old new list list2 pass pass2 who d (Some (f x)))
+      → OnErr r (Stays old new pass pass2) → OnErr r (list2 ≡ list) → pass.seen ≡ old.list
+      → Leaves old new list list2 pass pass2 who d (told_by f r)
+  leaves_by f (Ok x) a s b e = acts_leave (Some (f x)) a
+  leaves_by f (Err x) a s b e = stays_leave s b e
+
+-- a deed that asks nothing of the measurement list leaves every list as it is
+pub leaves_alone : {E : Type 0} (old new : CellValue) (pass pass2 : Passed Event) (who : Who)
+    (d : Deed) (r : Result (Option Told) E)
+    → IfOk r (λ o. (list : List Entry) → Acts old new list list pass pass2 who d o)
+    → OnErr r (Stays old new pass pass2) → pass.seen ≡ old.list → (list : List Entry)
+    → Leaves old new list list pass pass2 who d (told_in r)
+leaves_alone old new pass pass2 who d (Ok o) a s e list =
+    acts_leave old new list list pass pass2 who d o (a list)
+leaves_alone old new pass pass2 who d (Err x) a s e list =
+    stays_leave old new list list pass pass2 who d s refl e
+
+-- what was told whatever the list holds was told by this list
+pub told_at : {E : Type 0} (inode : Inode) (journal : List Event) (d : Deed)
+    (r : Result (Option Told) E)
+    → IfOk r (λ o. (list : List Entry) → o ≡ outcome inode list d (past journal))
+    → (list : List Entry) → IfOk r (λ o. o ≡ outcome inode list d (past journal))
+told_at inode journal d (Ok o) a list = a list
+told_at inode journal d (Err x) a list = tt

@@ -1,0 +1,47 @@
+-- What a deed leaves of what its task has hashed.
+use Rattle.std.specs.Prelude.{Bool, true, false}
+use Rattle.inode_cell.specs.declared.answers.Piece.{Piece}
+use Rattle.inode_cell.specs.declared.answers.Piece.TheVariants as piece
+use Rattle.inode_events.specs.Integrity.{Collection}
+use Rattle.inode_events.specs.declared.deed.Deed.{Deed}
+use Rattle.inode_events.specs.declared.deed.Deed.TheVariants as deed
+use Rattle.task_frame.specs.Tasks.{HasSummed, HasTakenIn}
+use Rattle.task_frame.specs.declared.gathered.Gathered.{Gathered}
+
+-- the piece is taken: after the last one the digests are there
+abbrev pub HasGathered : Piece → Gathered → Collection → Type 0
+HasGathered piece.More g c = HasTakenIn g c
+HasGathered piece.Last g c = HasSummed g c
+
+-- the deed asks nothing of the measurement list, and goes on with no collection
+abbrev pub IsPlainDeed : Deed → Type 0
+IsPlainDeed (deed.Check file func action rules) = ⊥
+IsPlainDeed (deed.Take file) = ⊥
+IsPlainDeed (deed.Finish file) = ⊥
+IsPlainDeed (deed.Chunk file) = ⊥
+IsPlainDeed (deed.CloseTake file) = ⊥
+IsPlainDeed (deed.CloseChunk file) = ⊥
+IsPlainDeed (deed.CloseFinish file) = ⊥
+IsPlainDeed _ = Unit {0}
+
+-- the deed asks nothing of the measurement list, and begins, goes on with or ends a collection
+abbrev pub IsCollectingDeed : Deed → Type 0
+IsCollectingDeed (deed.Chunk file) = Unit {0}
+IsCollectingDeed (deed.CloseTake file) = Unit {0}
+IsCollectingDeed (deed.CloseChunk file) = Unit {0}
+IsCollectingDeed (deed.CloseFinish file) = Unit {0}
+IsCollectingDeed _ = ⊥
+
+abbrev pub goes_on : Deed → Bool
+goes_on (deed.Chunk file) = true
+goes_on (deed.CloseTake file) = true
+goes_on (deed.CloseChunk file) = true
+goes_on (deed.CloseFinish file) = true
+goes_on _ = false
+
+-- the deed asks nothing of the measurement list
+abbrev pub IsAloneDeed : Deed → Type 0
+IsAloneDeed (deed.Check file func action rules) = ⊥
+IsAloneDeed (deed.Take file) = ⊥
+IsAloneDeed (deed.Finish file) = ⊥
+IsAloneDeed _ = Unit {0}

@@ -1,0 +1,32 @@
+-- What a deed leaves, whatever it was told: blocked, and want of memory, leave the lists.
+use Rattle.std.specs.Prelude.{◌≡◌, ◌++◌, List, length, Option, Some, None, Result, Ok, Err}
+use Rattle.grow_list.specs.Shown.{Passed}
+use Rattle.ima_templates.specs.declared.entry.Entry.{Entry}
+use Rattle.inode_cell.specs.Value.{CellValue, IsSameCell}
+use Rattle.inode_events.specs.Asked.{asked, entered, list_after, made}
+use Rattle.inode_events.specs.Past.{past}
+use Rattle.inode_events.specs.declared.deed.Deed.{Deed}
+use Rattle.inode_events.specs.declared.told.Event.{Event}
+use Rattle.inode_events.specs.declared.told.Told.{Told}
+use Rattle.inode_meta.specs.declared.step.Who.{Who}
+
+-- what the task was told, if anything
+abbrev pub told_in : {E : Type 0} → Result (Option Told) E → Option Told
+told_in (Ok o) = o
+told_in (Err e) = None
+
+-- the same of an answer with more in it
+abbrev pub told_by : {A E : Type 0} → (A → Told) → Result A E → Option Told
+told_by f (Ok a) = Some (f a)
+told_by f (Err e) = None
+
+-- journal, pass and list have what this leaves, and nothing else
+pub record Leaves (old new : CellValue) (list list2 : List Entry) (pass pass2 : Passed Event)
+    (who : Who) (d : Deed) (o : Option Told) : Type 0 where
+  pub journal : new.list ≡ old.list ++ made who d o
+  pub book : list2 ≡ list_after list (asked old.inode d (past old.list)) o
+  pub seen : pass2.seen ≡ new.list
+  pub mine : pass2.mine ≡ pass.mine ++ entered (length old.list) who d o
+  pub pass_name : pass2.name ≡ pass.name
+  pub pass_number : pass2.number ≡ pass.number
+  pub same : IsSameCell old new

@@ -1,0 +1,13 @@
+//! One deed of a task on one inode, which is lent with what else the deed needs.
+#![tactic(auto)]
+
+mod collecting;
+mod doing;
+mod gathering;
+mod listed;
+mod plain;
+mod told;
+
+pub use doing::{Actor, checks, does};
+pub use grow_list::OutOfMemory;
+pub use listed::Checks;

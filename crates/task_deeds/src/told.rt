@@ -1,0 +1,77 @@
+//! What the answers of an inode are told as.
+
+ghost use Rattle.std.specs.Prelude.{◌≡◌};
+ghost use Rattle.inode_cell.specs.Answers.{counted_told, finished_told, found_told, piece_told, set_told, wrote_told};
+
+use inode_cell::{Counted, Found, Piece, Set, Wrote};
+use inode_events::Told;
+
+/// Of a count.
+pub fn counted_told(answer: Counted) -> Told
+    ensures { result ≡ counted_told answer }
+{
+    match answer {
+        Counted::Held(_) => Told::Held,
+        Counted::NotFound => Told::NotFound,
+        Counted::TextBusy => Told::TextBusy,
+    }
+}
+
+/// Of a change of attributes or metadata. `None` is blocked.
+pub fn set_told(answer: Set) -> Option<Told>
+    ensures { result ≡ set_told answer }
+{
+    Some(match answer {
+        Set::Blocked => return None,
+        Set::Done => Told::Done,
+        Set::NotFound => Told::NotFound,
+        Set::EvmName => Told::EvmName,
+        Set::NotAdmin => Told::NotAdmin,
+        Set::TooLong => Told::TooLong,
+        Set::Invalid => Told::Invalid,
+        Set::NoData => Told::NoData,
+        Set::Status(status) => Told::Status(status),
+    })
+}
+
+/// Of a write or truncation.
+pub fn wrote_told(answer: Wrote) -> Told
+    ensures { result ≡ wrote_told answer }
+{
+    match answer {
+        Wrote::Done => Told::Done,
+        Wrote::TooBig => Told::TooBig,
+    }
+}
+
+/// Of a piece.
+pub fn piece_told(answer: Piece) -> Told
+    ensures { result ≡ piece_told answer }
+{
+    match answer {
+        Piece::More => Told::More,
+        Piece::Last => Told::Last,
+    }
+}
+
+/// Of what a check found.
+pub fn found_told(answer: Found) -> Told
+    ensures { result ≡ found_told answer }
+{
+    match answer {
+        Found::Quiet => Told::Quiet,
+        Found::OpenWriters(place) => Told::OpenWriters(place),
+        Found::ToMToU(place) => Told::ToMToU(place),
+    }
+}
+
+/// Of the end of a close.
+pub fn finished_told(labelled: bool) -> Told
+    ensures { result ≡ finished_told labelled }
+{
+    if labelled {
+        Told::LabelledDropped
+    } else {
+        Told::Dropped
+    }
+}
