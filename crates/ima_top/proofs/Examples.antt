@@ -1,9 +1,11 @@
 -- Texts and words, each with what it is.
-use Rattle.std.proofs.Common.{◌≡◌, ℕ, true, List, [], ◌∷◌, Option, Some, None, refl}
+use Rattle.std.proofs.Common.{◌≡◌, ℕ, true, List, [], ◌∷◌, Option, Some, None, Ok, refl}
 use Rattle.std.specs.Prelude.{codes}
 use Rattle.ima_top.specs.declared.commands.Command.TheVariants as command
+use Rattle.script_words.specs.declared.fault.LineCause.TheVariants.{NoEnd}
+use Rattle.ima_top.specs.commands.BadLine.{bad_line}
 use Rattle.ima_top.specs.commands.List.{boot_entry, list_refusal, measured}
-use Rattle.ima_top.specs.PlainList.{plain_list_of}
+use Rattle.script_text.specs.ListGrammar.{list_of}
 use Rattle.ima_top.specs.commands.Policy.{policy_refusal}
 use Rattle.ima_top.specs.Served.{Serves}
 use Rattle.ima_top.specs.Words.{command_of}
@@ -12,30 +14,9 @@ use Rattle.ima_top.specs.declared.commands.Command.{Command}
 use Rattle.ima_top.specs.declared.status.TheConstants.{DONE, USAGE, REFUSED, STUCK, READ_FAULT, WRITE_FAULT, TOO_LONG, OUT_OF_MEMORY}
 use Rattle.ima_top.specs.declared.top.TheConstants.{MOST_INPUT}
 
-two_files : plain_list_of (codes "imalist 1\nfile /a txt:abc\nfile /e txt:\nend\n")
-    ≡ Some (record { path = codes "/a"; content = codes "abc" } ∷ record {
-      path = codes "/e";
-      content = [];
-    } ∷ [])
+two_files : list_of (codes "imalist 1\nfile /a txt:abc\nfile /e txt:\nend\n")
+    ≡ Ok ((codes "/a", codes "abc") ∷ (codes "/e", []) ∷ [])
 two_files = refl
-
-no_file : plain_list_of (codes "imalist 1\nend\n") ≡ Some []
-no_file = refl
-
-no_text : plain_list_of [] ≡ None
-no_text = refl
-
-in_hexadecimal : plain_list_of (codes "imalist 1\nfile /a hex:616263\nend\n") ≡ None
-in_hexadecimal = refl
-
-two_spaces : plain_list_of (codes "imalist 1\nfile /a  txt:abc\nend\n") ≡ None
-two_spaces = refl
-
-no_last_newline : plain_list_of (codes "imalist 1\nend") ≡ None
-no_last_newline = refl
-
-more_behind_the_end : plain_list_of (codes "imalist 1\nend\n\n") ≡ None
-more_behind_the_end = refl
 
 commands : (command_of (codes "list" ∷ []) ≡ Some command.List)
     × (command_of (codes "policy" ∷ []) ≡ Some command.Policy) × (command_of [] ≡ None)
@@ -47,7 +28,7 @@ commands = (refl, refl, refl, refl, refl)
 boot_alone : measured [] ≡ boot_entry ∷ []
 boot_alone = refl
 
-no_list : list_refusal [] ≡ Some (codes "not a plain list\n")
+no_list : list_refusal [] ≡ Some (bad_line (record { line = 1; cause = NoEnd }))
 unfolding list_refusal
 no_list = refl
 

@@ -1,6 +1,4 @@
-pub mod Cutting
-pub mod Files
+pub mod Listed
 pub mod Paths
 pub mod Registers
-pub mod SpellingLemmas
 pub mod Examples

@@ -10,12 +10,12 @@ use Rattle.text_forms.specs.Tokens.{is_filled}
 use Rattle.ima_templates.specs.Path.{IsMeasuredPath, IsGraphic}
 
 -- the left one of two tests that hold
-and_left : (a b : Bool) → (a && b) ≡ true → a ≡ true
+pub and_left : (a b : Bool) → (a && b) ≡ true → a ≡ true
 and_left true b h = refl
 and_left false b h = h
 
 -- the right one of two tests that hold
-and_right : (a b : Bool) → (a && b) ≡ true → b ≡ true
+pub and_right : (a b : Bool) → (a && b) ≡ true → b ≡ true
 and_right true b h = h
 and_right false b h = absurd (cc)
 

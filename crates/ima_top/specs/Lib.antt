@@ -1,7 +1,4 @@
 pub mod Line
-pub mod PlainList
-pub mod Spelling
-pub mod FileView
 pub mod commands
 pub mod Words
 pub mod NotDone

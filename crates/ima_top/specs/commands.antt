@@ -1,4 +1,5 @@
 -- The commands: what is said of all of them, and each in its own file.
+pub mod BadLine
 pub mod List
 pub mod Policy
 pub mod Table

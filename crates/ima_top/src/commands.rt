@@ -5,6 +5,7 @@ ghost use Rattle.ima_top.specs.commands.Table.{reads, refusal, IsOutput};
 ghost use Rattle.ima_top.specs.Words.{command_named, command_of};
 ghost use Rattle.ima_top.specs.declared.top.TheConstants.{MOST_INPUT};
 
+mod bad_line;
 mod list;
 mod policy;
 
@@ -14,7 +15,7 @@ use std::alloc::Global;
 /// A command.
 #[derive(Clone, Copy, Debug, PartialEq, Eq)]
 pub enum Command {
-    /// The measurement list of a list text.
+    /// The measurement list of a list text's files.
     List,
     /// The canonical text of a policy.
     Policy,

@@ -9,8 +9,6 @@
 #![tactic(auto)]
 
 mod commands;
-mod file_line;
-mod list_text;
 mod not_done;
 mod status;
 mod top;

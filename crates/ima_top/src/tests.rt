@@ -62,7 +62,6 @@ fn answer(alloc: Global, word: &str, input: &[u8]) -> Result<Outcome, AllocError
 
 #[test]
 fn a_list_is_measured(rt: HostRuntime) -> Result<(), Fail> {
-    let not = "not a plain list\n";
     let texts = [
         ("imalist 1\nend\n", 0, BOOT, ""),
         ("imalist 1\nfile /e txt:\nend\n", 0, EMPTY_FILE, ""),
@@ -73,18 +72,37 @@ fn a_list_is_measured(rt: HostRuntime) -> Result<(), Fail> {
             ONE_FILE,
             "",
         ),
-        ("", 2, "", not),
-        ("imalist 1\nfile /a hex:616263\nend\n", 2, "", not),
-        ("imalist 1\nfile /a txt:a b\nend\n", 2, "", not),
-        ("imalist 1\nfile /a  txt:abc\nend\n", 2, "", not),
-        ("imalist 1\nfile a txt:abc\nend\n", 2, "", not),
-        ("imalist 1\nfile / txt:abc\nend\n", 2, "", not),
-        ("imalist 1\nfile /a/ txt:abc\nend\n", 2, "", not),
-        ("imalist 1\nfile /a//b txt:abc\nend\n", 2, "", not),
-        ("imalist 2\nend\n", 2, "", not),
-        ("imalist 1\nend", 2, "", not),
-        ("imalist 1\nend\nend\n", 2, "", not),
-        ("imalist 1\n", 2, "", not),
+        (
+            "imalist 1\n# by its digits\nfile /a hex:616263\nend\n",
+            0,
+            ONE_FILE,
+            "",
+        ),
+        (
+            "imalist 1\n\nfile /e fill:0:ff\nend\n#\n",
+            0,
+            EMPTY_FILE,
+            "",
+        ),
+        ("", 2, "", "line 1: no-end\n"),
+        ("imalist 1\nfile /a\n", 2, "", "line 2: bad-field\n"),
+        (
+            "imalist 1\nfile /a txt:a b\nend\n",
+            2,
+            "",
+            "line 2: bad-field\n",
+        ),
+        (
+            "imalist 1\nfile /a//b txt:abc\nend\n",
+            2,
+            "",
+            "line 2: bad-field\n",
+        ),
+        ("imalist 2\nend\n", 2, "", "line 1: bad-field\n"),
+        ("imalist 1\nfiles\nend\n", 2, "", "line 2: bad-word\n"),
+        ("imalist 1\nend", 2, "", "line 2: no-end\n"),
+        ("imalist 1\nend\nend\n", 2, "", "line 3: out-of-place\n"),
+        ("imalist 1\n", 2, "", "line 2: no-end\n"),
     ];
     for (text, status, out, note) in texts {
         let got = answer(rt.alloc(), "list", text.as_bytes())?;
@@ -109,7 +127,7 @@ fn a_list_has_at_most_256_files(rt: HostRuntime) -> Result<(), Fail> {
     assert_eq!(rt; most.status, 0);
     assert_eq!(rt; most.out.iter().filter(|b| **b == b'\n').count(), 259);
     let more = answer(rt.alloc(), "list", &many_files(rt.alloc(), 257)?)?;
-    assert!(rt; more.is(2, "", "not a plain list\n"));
+    assert!(rt; more.is(2, "", "line 258: too-many\n"));
     Ok(())
 }
 
@@ -215,7 +233,7 @@ fn other_words_are_usage(rt: HostRuntime) -> Result<(), Fail> {
 #[test]
 fn an_input_has_at_most_4194304_bytes(rt: HostRuntime) -> Result<(), Fail> {
     for (bytes, status, note) in [
-        (4_194_304, 2, "not a plain list\n"),
+        (4_194_304, 2, "line 1: no-end\n"),
         (4_194_305, 6, "input too long\n"),
     ] {
         let input = vec![in rt.alloc(); b'x'; bytes]?;

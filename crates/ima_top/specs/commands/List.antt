@@ -1,5 +1,5 @@
--- The command `list`: the measurement list of a plain list's files, and its registers.
-use Rattle.std.specs.Prelude.{◌≡◌, ℕ, List, [], ◌∷◌, ◌++◌, codes, map, flat_map, Option, Some, None, IsSomeAnd}
+-- The command `list`: the measurement list of a list text's files, and its registers.
+use Rattle.std.specs.Prelude.{◌≡◌, ℕ, List, [], ◌∷◌, ◌++◌, codes, map, flat_map, Option, IsOkAnd}
 use Rattle.std.specs.List.{fold}
 use Rattle.hex.specs.Hex.{encode_lower}
 use Rattle.hash_algos.specs.declared.algo.Algo.TheVariants as algo
@@ -14,8 +14,9 @@ use Rattle.ima_templates.specs.Entries.{entry_of}
 use Rattle.ima_templates.specs.Same.{add}
 use Rattle.ima_templates.specs.Replay.{replay}
 use Rattle.list_format.specs.Line.{ascii_line}
+use Rattle.script_text.specs.ListGrammar.{Listed, list_of}
 use Rattle.ima_top.specs.Line.{with_newline}
-use Rattle.ima_top.specs.PlainList.{File, plain_list_of}
+use Rattle.ima_top.specs.commands.BadLine.{refusal_of}
 
 -- the first entry: nothing was measured before the kernel ran
 abbrev pub boot_entry : Entry
@@ -24,13 +25,12 @@ boot_entry =
     (codes "boot_aggregate") []
 
 -- a file is measured by SHA-256 into the default register
-abbrev pub file_entry : File → Entry
+abbrev pub file_entry : Listed → Entry
 file_entry f =
-    entry_of DEFAULT_PCR ImaNg (digest_of algo.Sha256 f.content) (digest_of algo.Sha1 f.content)
-    f.path []
+    entry_of DEFAULT_PCR ImaNg (digest_of algo.Sha256 f.1) (digest_of algo.Sha1 f.1) f.0 []
 
 -- the entries of the files are added in order; one that is in the list already isn't added
-abbrev pub measured : List File → List Entry
+abbrev pub measured : List Listed → List Entry
 measured files = fold add (boot_entry ∷ []) (map file_entry files)
 
 -- `pcr BANK 10 HEX`
@@ -44,15 +44,10 @@ list_text list =
     (flat_map ascii_line list ++ register_line bank.Sha1 (replay list bank.Sha1 10))
     ++ register_line bank.Sha256 (replay list bank.Sha256 10)
 
-abbrev pub refusal_of_files : Option (List File) → Option (List ℕ)
-refusal_of_files None = Some (with_newline (codes "not a plain list"))
-refusal_of_files (Some files) = None
-
--- the line that is told of an input that isn't a plain list
+-- the line that is told of an input that isn't a list text
 unfoldable pub list_refusal : List ℕ → Option (List ℕ)
-list_refusal input = refusal_of_files (plain_list_of input)
+list_refusal input = refusal_of (list_of input)
 
--- the output for a plain list is the text of its files' measurement list
+-- the output for a list text is the text of its files' measurement list
 unfoldable pub IsListOutput : List ℕ → List ℕ → Type 0
-IsListOutput input output =
-    IsSomeAnd (plain_list_of input) (λ files. output ≡ list_text (measured files))
+IsListOutput input output = IsOkAnd (list_of input) (λ files. output ≡ list_text (measured files))

@@ -1,14 +1,15 @@
-// The command `list`: the measurement list of the files of a plain list, and its registers.
-ghost use Rattle.std.specs.Prelude.{◌≡◌, ◌∷◌, [], ◌++◌, map, flat_map, IfOk, OnOk};
+// The command `list`: the measurement list of the files of a list text, and its registers.
+ghost use Rattle.std.specs.Prelude.{◌≡◌, ◌∷◌, ◌≤◌, [], ◌++◌, flat_map, length, IfOk, IsTrue, OnOk};
+ghost use Rattle.std.specs.List.{All};
+ghost use Rattle.text_forms.specs.Paths.{is_path};
 ghost use Rattle.ima_templates.specs.Replay.{banks_of};
 ghost use Rattle.ima_templates.specs.Same.{add, place_of_same};
 ghost use Rattle.list_format.specs.Line.{ascii_line};
 ghost use Rattle.ima_top.specs.Answered.{Answers};
-ghost use Rattle.ima_top.specs.FileView.{file_view};
+ghost use Rattle.ima_top.specs.declared.top.TheConstants.{MOST_INPUT};
 ghost use Rattle.ima_top.specs.commands.List.{boot_entry, file_entry, list_refusal, IsListOutput, list_text, measured, register_line};
 
-use crate::file_line::FileLine;
-use crate::list_text::plain_list;
+use crate::commands::bad_line::bad_line;
 use crate::not_done::NotDone;
 use hash_algos::{Algo, Digest, digest_of};
 use ima_io::OutOfMemory;
@@ -16,23 +17,31 @@ use ima_templates::{Entry, build};
 use inode_meta::{Bank, DEFAULT_PCR, Template};
 use list_format::ascii;
 use pcr_bank::Banks;
+use script_text::{ScriptErr, parse_list};
 use std::alloc::Global;
+use xattr_store::Bytes;
 
-/// The measurement list of the files, or the line that says that the input isn't a plain list.
+/// The measurement list of the files, or the line that tells the first bad line.
 #[tactic(auto, unfolding(crate::specs::commands::List::list_refusal, crate::specs::commands::List::IsListOutput))]
 pub fn answer(alloc: Global, input: &[u8]) -> Result<Vec<u8>, NotDone>
+    requires { length input.now ≤ MOST_INPUT }
     ensures { Answers result (list_refusal input.now)
         (λ output. IsListOutput input.now output.items) }
 {
-    let Some(files) = plain_list(alloc, input)? else {
-        return Err(NotDone::Refused(Vec::from_slice(alloc, b"not a plain list\n")?));
-    };
-    let list = measured(alloc, &files)?;
-    Ok(list_text(alloc, &list)?)
+    match parse_list(alloc, input) {
+        Ok(text) => {
+            let list = measured(alloc, &text.files)?;
+            Ok(list_text(alloc, &list)?)
+        }
+        Err(ScriptErr::Refused(fault)) => Err(NotDone::Refused(bad_line(alloc, fault)?)),
+        Err(ScriptErr::OutOfMemory) => Err(NotDone::OutOfMemory),
+    }
 }
 
-fn measured(alloc: Global, files: &[FileLine<'_>]) -> Result<Vec<Entry>, OutOfMemory>
-    ensures { IfOk result (λ list. list.items ≡ measured (map file_view files.now)) }
+// Each path can be shown by the template.
+fn measured(alloc: Global, files: &[(Bytes, Bytes)]) -> Result<Vec<Entry>, OutOfMemory>
+    requires { All (λ f. IsTrue (is_path f.0)) files.now }
+    ensures { IfOk result (λ list. list.items ≡ measured files.now) }
 {
     let mut list = Vec::new(alloc);
     list.push(boot_entry(alloc)?)?;
@@ -58,18 +67,20 @@ fn boot_entry(alloc: Global) -> Result<Entry, OutOfMemory>
     )
 }
 
-fn file_entry(alloc: Global, file: &FileLine<'_>) -> Result<Entry, OutOfMemory>
-    ensures { IfOk result (λ e. e ≡ file_entry (file_view file.now)) }
+fn file_entry(alloc: Global, file: &(Bytes, Bytes)) -> Result<Entry, OutOfMemory>
+    requires { IsTrue (is_path file.now.0) }
+    ensures { IfOk result (λ e. e ≡ file_entry file.now) }
 {
-    let sha256 = digest_of(Algo::Sha256, file.content);
-    let sha1 = digest_of(Algo::Sha1, file.content);
+    let content = file.1.as_slice();
+    let sha256 = digest_of(Algo::Sha256, content);
+    let sha1 = digest_of(Algo::Sha1, content);
     build(
         alloc,
         DEFAULT_PCR,
         Template::ImaNg,
         &sha256,
         &sha1,
-        file.path,
+        file.0.as_slice(),
         &[],
     )
 }

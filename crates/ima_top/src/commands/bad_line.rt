@@ -1,0 +1,15 @@
+// The line that tells the first bad line of a script or of a list text.
+ghost use Rattle.std.specs.Prelude.{◌≡◌, IfOk};
+ghost use Rattle.ima_top.specs.commands.BadLine.{bad_line};
+
+use ima_io::OutOfMemory;
+use script_text::Fault;
+use std::alloc::Global;
+
+/// `line L: CAUSE`
+pub fn bad_line(alloc: Global, fault: Fault) -> Result<Vec<u8>, OutOfMemory>
+    ensures { IfOk result (λ line. line.items ≡ bad_line fault) }
+{
+    let line = format!(in alloc; "line {}: {}\n", fault.line, fault.cause)?;
+    Ok(line.into_bytes())
+}
