@@ -1,4 +1,15 @@
+pub mod AttrForms
+pub mod CallForms
+mod Examples
 pub mod Fields
+pub mod FileForms
+pub mod FilesKept
+pub mod HashBytes
+pub mod Holding
+pub mod Kept
 pub mod Labels
+pub mod Lasts
 pub mod PlacesLemmas
 pub mod Schedules
+pub mod ScriptKept
+pub mod ValueForms

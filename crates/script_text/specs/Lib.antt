@@ -11,4 +11,5 @@ pub mod FrontView
 pub mod Calls
 pub mod Tasks
 pub mod Grammar
+pub mod Forms
 pub mod ListGrammar

@@ -1,5 +1,6 @@
 -- How many of each a script may have.
 use Rattle.std.specs.Prelude.{ℕ}
+use Rattle.inode_pages.specs.Content as content
 
 abbrev pub most_supers : ℕ
 most_supers = 16
@@ -37,7 +38,7 @@ abbrev pub most_bytes : ℕ
 most_bytes = 33554432
 
 abbrev pub most_content : ℕ
-most_content = 262144
+most_content = content.most_bytes
 
 abbrev pub most_value : ℕ
 most_value = 4096

@@ -11,6 +11,7 @@ use crate::head::CallWord;
 use crate::paths::Paths;
 use call_steps::Call;
 use inode_events::{Change, How};
+use inode_pages::MOST_BYTES;
 use script_words::{
     LineCause, LineErr, descriptor_of, id_of, mode_of, offset_of, portion_of, rule_of, small_of,
     value_of,
@@ -20,7 +21,7 @@ use text_forms::{is_path, is_word};
 use xattr_store::Bytes;
 
 // The most bytes that are written at once, and that an attribute is set to.
-const WRITE: usize = 262_144;
+const WRITE: usize = MOST_BYTES as usize;
 
 const SET: usize = 8192;
 

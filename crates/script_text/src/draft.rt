@@ -2,6 +2,7 @@
 
 ghost use Rattle.std.specs.Prelude.{◌≡◌};
 ghost use Rattle.script_text.specs.Draft.{start};
+ghost use Rattle.script_text.specs.Forms.{IsScript};
 ghost use Rattle.script_text.specs.Heads.{is_over, stands};
 
 use crate::blocks::{FileBlock, TaskBlock};
@@ -120,6 +121,7 @@ impl Draft {
 
     /// The script.
     pub fn finish(self) -> Script
+        requires { IsScript self.script }
         ensures { result ≡ self.script }
     {
         Script {

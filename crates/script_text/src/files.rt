@@ -20,6 +20,7 @@ use evm_verify::Evm;
 use hash_algos::{Algo, Digest, Running};
 use inode_events::Image;
 use inode_meta::Meta;
+use inode_pages::MOST_BYTES;
 use label_values::{MAX_LABEL, write_label};
 use policy_text::Super;
 use script_words::{LineCause, LineErr, id_of, ino_of, mode_of, place_among, value_of};
@@ -33,7 +34,7 @@ const FILES: usize = 256;
 
 const ATTRS: usize = 16;
 
-const CONTENT: usize = 262_144;
+const CONTENT: usize = MOST_BYTES as usize;
 
 // The most bytes that all values that are counted may have.
 const BYTES: usize = 33_554_432;
@@ -120,7 +121,7 @@ impl Draft {
     }
 
     fn with_pair(&mut self, name: &[u8], value: &[u8]) -> Result<(), LineErr>
-        requires { length value.now ≤ 4096 }
+        requires { length value.now ≤ MAX_VALUE }
         ensures { LineMakes result (with_pair name.now value.now self.old) self.new }
     {
         if self.has_attr(name) {
@@ -250,7 +251,7 @@ pub fn pop_last<T>(items: &mut Vec<T>) -> Option<T>
 // The last file has one attribute more.
 #[tactic(auto, unfolding(crate::specs::Draft::change_last))]
 fn put_on_last(files: &mut Vec<FileBlock>, name: &[u8], value: &[u8]) -> Result<(), LineErr>
-    requires { length value.now ≤ 4096 }
+    requires { length value.now ≤ MAX_VALUE }
     ensures ok { OnOk result (files.new.items
         ≡ change_last (attrs_put name.now value.now) files.old.items) }
     ensures err { IfErr result (λ e. e ≡ LineErr.OutOfMemory) }
@@ -411,7 +412,7 @@ fn is_counted(name: &[u8]) -> bool
 
 // The file with one attribute more.
 fn attrs_put(file: FileBlock, name: &[u8], value: &[u8]) -> Result<FileBlock, LineErr>
-    requires { length value.now ≤ 4096 }
+    requires { length value.now ≤ MAX_VALUE }
     ensures ok { IfOk result (λ b. b ≡ attrs_put name.now value.now file) }
     ensures err { IfErr result (λ e. e ≡ LineErr.OutOfMemory) }
 {

@@ -7,6 +7,7 @@ ghost use Rattle.script_text.specs.ListGrammar.{list_of, listed, placed, stands,
 
 use crate::files::{sum_of, two};
 use crate::list_head::{ListHead, head_of};
+use inode_pages::MOST_BYTES;
 use script_words::{Grammar, LineCause, LineErr, ScriptErr, cut_line, fields, read_text, value_of};
 use std::alloc::Global;
 use std::marker::Model;
@@ -16,7 +17,7 @@ use xattr_store::Bytes;
 // How many files a list may have, and bytes a content.
 const FILES: usize = 256;
 
-const CONTENT: usize = 262_144;
+const CONTENT: usize = MOST_BYTES as usize;
 
 /// The files of a list text, each with its path and its content. Contracts see the list of pairs.
 #[derive(Drop)]

@@ -1,8 +1,9 @@
 //! Reading a script.
 
-ghost use Rattle.std.specs.Prelude.{◌≡◌, ◌-◌, ◌<◌, ◌^◌, length, map};
+ghost use Rattle.std.specs.Prelude.{◌≡◌, ◌-◌, ◌<◌, ◌^◌, IfOk, length, map};
 ghost use Rattle.std.specs.Option.{option_copied};
 ghost use Rattle.script_words.specs.Gives.{Gives, LineMakes};
+ghost use Rattle.script_text.specs.Forms.{IsScript};
 ghost use Rattle.script_text.specs.Grammar.{placed, script_of, with_head};
 
 use crate::draft::Draft;
@@ -17,7 +18,8 @@ use std::alloc::Global;
 /// first of the causes that hold of it.
 pub fn parse(alloc: Global, text: &[u8]) -> Result<Script, ScriptErr>
     requires { length text.now < 2 ^ 32 - 1 }
-    ensures { Gives result (script_of text.now) }
+    ensures text { Gives result (script_of text.now) }
+    ensures kept { IfOk result IsScript }
 {
     let draft = read_text(alloc, Draft::new(alloc), text)?;
     Ok(draft.finish())

@@ -1,3 +1,5 @@
+ghost use Rattle.script_text.specs.Forms.{IsScript};
+
 use crate::blocks::{FileBlock, TaskBlock};
 use call_steps::Ending;
 use hash_algos::{Algo, Digest};
@@ -8,7 +10,8 @@ use xattr_store::Bytes;
 
 /// A script: settings, file systems, files, rules, tasks, and how the tasks are run.
 ///
-/// Contracts see a record of these fields.
+/// Contracts see a record of these fields. Its invariant `IsScript` keeps the form of each part, the
+/// lengths and the limits, and that `place` and `versions` of each image are its file system's.
 #[derive(Drop)]
 pub struct Script {
     /// The default algorithm of labels and entries (`hash`).
@@ -46,6 +49,18 @@ impl Model for Script {
     ghost Value = { ScriptValue };
 
     ghost use Rattle.script_text.specs.ScriptInside.{script_value};
+    ghost use Rattle.script_text.specs.Forms.{IsScript};
 
     ghost view = { script_value };
+
+    ghost invariant = { λ s. IsScript (script_value s) };
+}
+
+impl Script {
+    /// What every script keeps.
+    pub fn keeps(&self)
+        ensures { IsScript self.now }
+    {
+        let _ = &self.format;
+    }
 }

@@ -1,5 +1,6 @@
 -- The forms of words: numbers with their ranges, and the text of a rule.
 use Rattle.std.specs.Prelude.{ℕ, ◌-◌, ◌==◌, List, length, drop, Option, Some, None, Result, Ok, Err, ok_or, if◌then◌else◌}
+use Rattle.inode_pages.specs.Content.{most_bytes}
 use Rattle.policy_text.specs.Key.{starts}
 use Rattle.policy_text.specs.RuleValue.{RuleValue}
 use Rattle.policy_text.specs.declared.fault.RuleCause.{RuleCause}
@@ -45,9 +46,9 @@ abbrev pub if_any : Option ℕ → Option ℕ
 if_any None = None
 if_any (Some n) = if n == 0 then None else Some n
 
--- 1 to 262,144 bytes
+-- one byte or more, and no more than a content has
 abbrev pub portion_of : List ℕ → Option ℕ
-portion_of text = if_any (short_number_of 10 262144 text)
+portion_of text = if_any (short_number_of 10 most_bytes text)
 
 -- octal digits, at most 177777
 abbrev pub mode_of : List ℕ → Option ℕ

@@ -1,6 +1,7 @@
 ghost use Rattle.std.specs.Prelude.{◌≡◌};
 ghost use Rattle.script_words.specs.Forms.{descriptor_of, id_of, ino_of, mode_of, offset_of, place_among, portion_of, small_of};
 
+use inode_pages::MOST_BYTES;
 use text_forms::short_number_of;
 
 /// The number of a descriptor, at most 255.
@@ -41,11 +42,11 @@ pub fn offset_of(text: &[u8]) -> Option<u64>
     short_number_of(text, 10, u64::from(u32::MAX))
 }
 
-/// How many bytes are read at once: 1 to 262,144.
+/// How many bytes are read at once: 1 to [`MOST_BYTES`].
 pub fn portion_of(text: &[u8]) -> Option<u64>
     ensures { result ≡ portion_of text.now }
 {
-    match short_number_of(text, 10, 262_144) {
+    match short_number_of(text, 10, MOST_BYTES) {
         Some(0) => None,
         number => number,
     }

@@ -1,0 +1,60 @@
+-- What holds of each value that a line makes.
+use Rattle.std.proofs.Common.{◌≡◌, ℕ, Bool, true, false, not, ◌&&◌, List, [], ◌∷◌, Option, Some, None, Result, Ok, Err, IfOk, IfSome, ok_or, if◌then◌else◌, refl, sym, subst, inl, inr}
+use Rattle.std.specs.List.{list_all}
+use Rattle.std.specs.Str.{bytes_eq}
+use Rattle.std.proofs.lemmas.Bool.{cases_Bool, false≢true}
+use Rattle.policy_text.specs.Values.{look_up}
+use Rattle.text_forms.specs.Lines.{◌>>=◌}
+use Rattle.script_words.specs.declared.fault.LineCause.{LineCause}
+
+-- ---- one step after the other
+
+pub given : {A B : Type 0} (Q : B → Type 0) (o : Option A) (c : LineCause)
+    (f : A → Result B LineCause) → ((x : A) → o ≡ Some x → IfOk (f x) Q)
+    → IfOk (ok_or o c >>= f) Q
+given Q None c f h = tt
+given Q (Some x) c f h = h x refl
+
+pub bound : {A B : Type 0} (P : A → Type 0) (Q : B → Type 0) (r : Result A LineCause)
+    (f : A → Result B LineCause) → IfOk r P → ((x : A) → P x → IfOk (f x) Q) → IfOk (r >>= f) Q
+bound P Q (Err e) f p h = tt
+bound P Q (Ok x) f p h = h x p
+
+pub tested : {B : Type 0} (Q : B → Type 0) (b : Bool) (x y : Result B LineCause)
+    → (b ≡ true → IfOk x Q) → (b ≡ false → IfOk y Q) → IfOk (if b then x else y) Q
+tested Q true x y t f = t refl
+tested Q false x y t f = f refl
+
+pub at_some : {A : Type 0} (P : A → Type 0) (o : Option A) (x : A) → IfSome o P → o ≡ Some x → P x
+at_some P None x h e = absurd (cc e)
+at_some P (Some y) x h e = let same : y ≡ x = cc e in subst P same h
+
+pub unless_more : {A : Type 0} (P : A → Type 0) (b : Bool) (o : Option A) → IfSome o P
+    → IfSome (if b then None else o) P
+unless_more P true o h = tt
+unless_more P false o h = h
+
+pub left_true : (a b : Bool) → (a && b) ≡ true → a ≡ true
+left_true true b h = refl
+left_true false b h = absurd (false≢true h)
+
+pub right_true : (a b : Bool) → (a && b) ≡ true → b ≡ true
+right_true true b h = h
+right_true false b h = absurd (false≢true h)
+
+pub both_true : (a b : Bool) → a ≡ true → b ≡ true → (a && b) ≡ true
+both_true true b h k = k
+both_true false b h k = absurd (false≢true h)
+
+pub not_false : (a : Bool) → not a ≡ false → a ≡ true
+not_false true h = refl
+not_false false h = absurd (false≢true (sym h))
+
+-- what a table gives is one of its values
+pub looked_up : {A : Type 0} (p : A → Bool) (table : List (List ℕ × A)) (word : List ℕ)
+    → list_all (λ e. p e.1) table ≡ true → IfSome (look_up table word) (λ x. p x ≡ true)
+looked_up p [] word h = tt
+looked_up p (e ∷ es) word h = elim (cases_Bool (bytes_eq word e.0)) [
+  | inl same ↦ rw same (left_true (p e.1) _ h)
+  | inr other ↦ rw other (looked_up p es word (right_true (p e.1) _ h))
+]

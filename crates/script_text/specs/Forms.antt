@@ -1,0 +1,222 @@
+-- What a script keeps: the forms of its parts, their lengths and how many they may be.
+use Rattle.std.specs.Prelude.{◌≡◌, ℕ, ◌+◌, ◌^◌, ◌≤◌, ◌==◌, Bool, true, false, ◌&&◌, ◌||◌, not, nat_le, nat_lt, List, [], ◌∷◌, ◌++◌, length, map, Option, Some, None, is_some, slice_get}
+use Rattle.std.specs.List.{AllByRecursion, list_all, list_any, sum_by}
+use Rattle.std.specs.Str.{bytes_eq}
+use Rattle.call_steps.specs.Forms.{is_call}
+use Rattle.call_steps.specs.declared.call.Call.{Call}
+use Rattle.call_steps.specs.declared.call.Call.TheVariants as call
+use Rattle.call_steps.specs.declared.ending.Ending.{Ending}
+use Rattle.call_steps.specs.declared.ending.Ending.TheVariants as ending
+use Rattle.evm_verify.specs.Input.{five_names}
+use Rattle.hash_algos.specs.Algo.{algo_size}
+use Rattle.hash_algos.specs.DigestValue.{DigestValue}
+use Rattle.hash_algos.specs.declared.algo.Algo.{Algo}
+use Rattle.inode_events.specs.Files.{is_exec}
+use Rattle.inode_events.specs.declared.deed.Change.{Change}
+use Rattle.inode_events.specs.declared.deed.Change.TheVariants as change
+use Rattle.inode_events.specs.declared.image.Image.{Image}
+use Rattle.inode_meta.specs.declared.identity.Cred.{Cred}
+use Rattle.inode_meta.specs.declared.identity.Meta.{Meta}
+use Rattle.policy_text.specs.RuleValue.{if_there, is_named_template}
+use Rattle.policy_text.specs.declared.access.Super.{Super}
+use Rattle.text_forms.specs.Paths.{is_path}
+use Rattle.text_forms.specs.Tokens.{is_filled}
+use Rattle.text_forms.specs.Words.{is_word}
+use Rattle.xattr_store.specs.Attrs.{IsAttrs, Pair}
+use Rattle.script_text.specs.Files.{counted_length, is_counted}
+use Rattle.script_text.specs.Limits.{most_added, most_attrs, most_bytes, most_calls, most_content, most_files, most_key, most_rules, most_supers, most_tasks, most_threads, most_turns}
+use Rattle.script_text.specs.Places.{place_in}
+use Rattle.script_text.specs.ScriptValue.{ScriptValue}
+use Rattle.script_text.specs.Settings.{boot_algo, is_added_name, one_if}
+use Rattle.script_text.specs.Tasks.{appends, call_bytes}
+use Rattle.script_text.specs.declared.blocks.FileBlock.{FileBlock}
+use Rattle.script_text.specs.declared.blocks.TaskBlock.{TaskBlock}
+
+-- ---- numbers and bytes
+
+abbrev pub is_byte : ℕ → Bool
+is_byte b = nat_lt b 256
+
+abbrev pub are_bytes : List ℕ → Bool
+are_bytes bytes = list_all is_byte bytes
+
+-- a user, a group or a generation
+abbrev pub is_id : ℕ → Bool
+is_id n = nat_le n 0xffff_ffff
+
+abbrev pub is_mode : ℕ → Bool
+is_mode n = nat_le n 0xffff
+
+-- an inode number and a magic number
+abbrev pub is_ino : ℕ → Bool
+is_ino n = nat_le n 0xffff_ffff_ffff_ffff
+
+abbrev pub is_uuid : ℕ → Bool
+is_uuid n = nat_lt n (2 ^ 128)
+
+abbrev pub is_descriptor : ℕ → Bool
+is_descriptor n = nat_le n 255
+
+-- each of them is new among those before it
+abbrev pub are_apart : (List (List ℕ) → List ℕ → Bool) → List (List ℕ) → List (List ℕ) → Bool
+are_apart among before [] = true
+are_apart among before (w ∷ ws) = not (among before w) && are_apart among (before ++ w ∷ []) ws
+
+abbrev pub is_among : List (List ℕ) → List ℕ → Bool
+is_among names w = list_any (bytes_eq w) names
+
+abbrev pub has_place : List (List ℕ) → List ℕ → Bool
+has_place paths path = is_some (place_in paths path)
+
+-- ---- settings and file systems
+
+-- the digest is one of the algorithm
+pub record IsDigestOf (algo : Algo) (d : DigestValue) : Type 0 where
+  pub is : d.algo ≡ algo
+  pub size : length d.bytes ≡ algo_size algo
+  pub bytes : are_bytes d.bytes ≡ true
+
+abbrev pub is_key : List ℕ → Bool
+is_key key = nat_le 1 (length key) && nat_le (length key) most_key && are_bytes key
+
+abbrev pub is_format : ℕ → Bool
+is_format f = (f == 1) || (f == 2)
+
+-- the names that are added to EVM's
+pub record AreNames (names : List (List ℕ)) : Type 0 where
+  pub forms : list_all is_added_name names ≡ true
+  pub new : are_apart is_among five_names names ≡ true
+  pub few : length names ≤ most_added
+
+abbrev pub is_super : Super → Bool
+is_super s = is_word 255 s.name && is_ino s.magic && is_uuid s.uuid
+
+pub record AreSupers (supers : List Super) : Type 0 where
+  pub forms : list_all is_super supers ≡ true
+  pub few : length supers ≤ most_supers
+
+-- ---- files
+
+-- the image has the UUID and the versions of its file system
+pub record IsOn (s : Super) (i : Image) : Type 0 where
+  pub place : i.meta.place ≡ s.uuid
+  pub versions : i.versions ≡ s.versions
+
+abbrev pub IsOnSome : Option Super → Image → Type 0
+IsOnSome None i = ⊥
+IsOnSome (Some s) i = IsOn s i
+
+abbrev pub is_meta : Meta → Bool
+is_meta m = is_ino m.ino && is_id m.generation && is_id m.uid && is_id m.gid && is_mode m.mode
+
+abbrev pub is_attr : Pair → Bool
+is_attr a = is_word 255 a.0 && are_bytes a.1
+
+-- one for an attribute that counts
+abbrev pub attr_count : Pair → ℕ
+attr_count a = one_if (is_counted a.0)
+
+abbrev pub attr_bytes : Pair → ℕ
+attr_bytes a = counted_length a.0 a.1
+
+-- the attributes that count are few
+pub record AreAttrs (attrs : List Pair) : Type 0 where
+  pub ordered : IsAttrs attrs
+  pub forms : list_all is_attr attrs ≡ true
+  pub few : sum_by attr_count attrs ≤ most_attrs
+
+-- a file that isn't there has nothing
+abbrev pub is_bare : Image → Bool
+is_bare i = i.present || (not (is_filled i.content) && not (is_filled i.attrs))
+
+pub record IsFile (supers : List Super) (b : FileBlock) : Type 0 where
+  pub path : is_path b.path ≡ true
+  pub on : IsOnSome (slice_get supers b.fs) b.image
+  pub content : length b.image.content ≤ most_content
+  pub bytes : are_bytes b.image.content ≡ true
+  pub meta : is_meta b.image.meta ≡ true
+  pub attrs : AreAttrs b.image.attrs
+  pub bare : is_bare b.image ≡ true
+
+abbrev pub path_of_block : FileBlock → List ℕ
+path_of_block b = b.path
+
+-- no path stands twice
+pub record AreFiles (supers : List Super) (files : List FileBlock) : Type 0 where
+  pub each : AllByRecursion (IsFile supers) files
+  pub apart : are_apart has_place [] (map path_of_block files) ≡ true
+  pub few : length files ≤ most_files
+
+-- ---- tasks
+
+abbrev pub is_cred : Cred → Bool
+is_cred c = is_id c.uid && is_id c.euid && is_id c.gid && is_id c.egid
+
+abbrev pub is_change : Change → Bool
+is_change (change.Mode mode) = is_mode mode
+is_change (change.Owner uid gid) = is_id uid && is_id gid
+
+-- the numbers without another limit, and the bytes; only `exec` executes
+abbrev pub is_spelled : Call → Bool
+is_spelled (call.Open fd inode how trunc) = is_descriptor fd && not (is_exec how)
+is_spelled (call.Read fd from len) = is_descriptor fd
+is_spelled (call.Write fd from bytes) = is_descriptor fd && are_bytes bytes
+is_spelled (call.Ftruncate fd len) = is_descriptor fd
+is_spelled (call.Close fd) = is_descriptor fd
+is_spelled (call.Mmap map fd exec) = is_descriptor fd
+is_spelled (call.SetAttr inode name value) = if_there are_bytes value
+is_spelled (call.SetMeta inode change) = is_change change
+is_spelled _ = true
+
+-- a call of a script with so many files
+abbrev pub is_line_call : ℕ → Call → Bool
+is_line_call files c = is_call files c && is_spelled c
+
+abbrev pub is_task : ℕ → TaskBlock → Bool
+is_task files t = is_cred t.cred && list_all (is_line_call files) t.calls
+
+-- how many rules a task appends
+abbrev pub appended_by : TaskBlock → ℕ
+appended_by t = sum_by (λ c. one_if (appends c)) t.calls
+
+abbrev pub calls_of : TaskBlock → ℕ
+calls_of t = length t.calls
+
+-- the tasks of a script with so many files
+pub record AreTasks (files : ℕ) (tasks : List TaskBlock) : Type 0 where
+  pub forms : list_all (is_task files) tasks ≡ true
+  pub few : length tasks ≤ most_tasks
+
+-- an ending for so many tasks
+abbrev pub is_ending : ℕ → Ending → Bool
+is_ending tasks (ending.Schedule turns) = list_all (λ t. nat_lt t tasks) turns
+    && nat_le (length turns) most_turns
+is_ending tasks ending.Rounds = true
+is_ending tasks (ending.Threads n) = nat_le 1 n && nat_le n most_threads
+
+-- ---- the bytes of all values
+
+abbrev pub file_bytes : FileBlock → ℕ
+file_bytes b = length b.image.content + sum_by attr_bytes b.image.attrs
+
+abbrev pub task_bytes : TaskBlock → ℕ
+task_bytes t = sum_by call_bytes t.calls
+
+abbrev pub bytes_in : List FileBlock → List TaskBlock → ℕ
+bytes_in files tasks = sum_by file_bytes files + sum_by task_bytes tasks
+
+-- what a script is: each part has the form of its line, and the limits hold
+pub record IsScript (s : ScriptValue) : Type 0 where
+  pub template : is_named_template s.template ≡ true
+  pub boot : IsDigestOf (boot_algo s.template s.hash) s.boot
+  pub key : if_there is_key s.key ≡ true
+  pub added : AreNames s.added
+  pub format : is_format s.format ≡ true
+  pub supers : AreSupers s.supers
+  pub files : AreFiles s.supers s.files
+  pub tasks : AreTasks (length s.files) s.tasks
+  -- the rules of the script, and those that its tasks append
+  pub rules_few : length s.rules + sum_by appended_by s.tasks ≤ most_rules
+  pub calls_few : sum_by calls_of s.tasks ≤ most_calls
+  pub bytes_few : bytes_in s.files s.tasks ≤ most_bytes
+  pub ending : is_ending (length s.tasks) s.ending ≡ true
