@@ -1,0 +1,10 @@
+pub mod Acted
+pub mod Worlds
+pub mod Calls
+pub mod Going
+pub mod Keeping
+pub mod Reaching
+pub mod Checked
+pub mod Sharing
+pub mod Looked
+pub mod Looks

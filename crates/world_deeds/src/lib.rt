@@ -1,0 +1,13 @@
+//! One step of a task on the lists of its world, and what it makes of the run.
+#![tactic(auto)]
+
+mod acting;
+mod answers;
+mod checking;
+mod looking;
+
+pub use acting::act_at;
+pub use answers::{Answered, Reached, became};
+pub use checking::check_at;
+pub use grow_list::OutOfMemory;
+pub use looking::look_at_inodes;
