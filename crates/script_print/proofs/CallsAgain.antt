@@ -1,0 +1,492 @@
+-- The line of a call makes it again.
+use Rattle.std.proofs.Common.{◌≡◌, ℕ, zero, suc, ◌+◌, ◌<◌, ◌≤◌, Bool, true, false, ◌&&◌, ◌||◌, not, nat_le, nat_lt, List, [], ◌∷◌, ◌++◌, length, map, take, slice_get, Option, Some, None, Ok, is_some, refl, sym, ap, ◌∙◌, inl, inr, arith, length-append, append_assoc}
+use Rattle.std.specs.Prelude.{codes}
+use Rattle.std.specs.Fmt.{decimal}
+use Rattle.std.specs.Cmp.Lexicographic.{bytes_decides}
+use Rattle.std.specs.List.{list_all}
+use Rattle.std.specs.Str.{bytes_eq}
+use Rattle.std.proofs.lemmas.Bool.{cases_Bool, false≢true}
+use Rattle.std.proofs.lemmas.Bool.Decides.{nat_tests}
+use Rattle.call_steps.specs.Forms.{is_offset, is_portion, is_small}
+use Rattle.call_steps.specs.declared.call.Call.{Call}
+use Rattle.call_steps.specs.declared.call.Call.TheVariants as call
+use Rattle.inode_events.specs.Files.{is_exec, is_writer}
+use Rattle.inode_events.specs.declared.deed.Change.TheVariants as change
+use Rattle.inode_events.specs.declared.deed.How.{How}
+use Rattle.inode_events.specs.declared.deed.How.TheVariants as how
+use Rattle.text_forms.specs.Paths.{is_path}
+use Rattle.text_forms.specs.Words.{is_word}
+use Rattle.script_text.specs.Calls.{call_of, inode_at}
+use Rattle.script_text.specs.Forms.{are_apart, are_bytes, has_place, is_descriptor, is_id, is_line_call, is_mode, path_of_block}
+use Rattle.script_text.specs.Heads.{head_of}
+use Rattle.script_text.specs.Limits.{most_content, most_set}
+use Rattle.script_text.specs.Places.{one_on, place_in}
+use Rattle.script_text.specs.declared.blocks.FileBlock.{FileBlock}
+use Rattle.script_text.specs.declared.head.CallWord.{CallWord}
+use Rattle.script_text.specs.declared.head.CallWord.TheVariants as word
+use Rattle.script_text.specs.declared.head.Head.TheVariants as head
+use Rattle.script_text.proofs.Holding.{left_true, right_true}
+use Rattle.script_text.proofs.ValueForms.{is_value}
+use Rattle.script_print.specs.Lines.{Line, begins_line, is_plain}
+use Rattle.script_print.specs.Rules.{HasReadRule}
+use Rattle.script_print.specs.Spelling.{call_line, mapping_word, path_at, trunc_words, way_words}
+use Rattle.script_print.proofs.Lines.{text_behind}
+use Rattle.script_print.proofs.RulesAgain.{rule_back, rule_plain}
+use Rattle.script_print.proofs.Words.{any_number_back, decimal_plain, descriptor_back, descriptor_plain, hex_plain, id_back, id_plain, mode_back, octal_plain, offset_back, path_plain, small_back, value_back, word_plain}
+
+-- ---- paths
+
+reflexive : (bs : List ℕ) → bytes_eq bs bs ≡ true
+reflexive bs = (bytes_decides bs bs).1 refl
+
+on_none : (o : Option ℕ) → is_some (one_on o) ≡ is_some o
+on_none None = refl
+on_none (Some n) = refl
+
+-- a path behind those that are others
+place_first : (before rest : List (List ℕ)) (w : List ℕ) → has_place before w ≡ false
+    → place_in (before ++ w ∷ rest) w ≡ Some (length before)
+place_first [] rest w h = rw (reflexive w) refl
+place_first (p ∷ ps) rest w h = elim (cases_Bool (bytes_eq w p)) [
+  | inl e ↦
+      let no : true ≡ false = rw e at h in absurd (cc no)
+  | inr e ↦
+      let others : has_place ps w ≡ false = sym (on_none (place_in ps w)) ∙ (rw e at h) in
+      let more : length ps + 1 ≡ length (p ∷ ps) = omega arith in
+      rw (e, place_first ps rest w others) (ap (λ (n : ℕ). Some n) more)
+]
+
+flip : (b : Bool) → not b ≡ true → b ≡ false
+flip true h = absurd (false≢true h)
+flip false h = refl
+
+-- a path is found where it stands
+pub place_again : (before ws : List (List ℕ)) → are_apart has_place before ws ≡ true → (k : ℕ)
+    (w : List ℕ) → slice_get ws k ≡ Some w → place_in (before ++ ws) w ≡ Some (length before + k)
+place_again before [] h k w e = absurd (cc e)
+place_again before (v ∷ vs) h zero w e =
+    let fresh = has_place before v in
+    let rest = are_apart has_place (before ++ v ∷ []) vs in
+    let same : v ≡ w = cc e in
+    let new : fresh ≡ false = flip fresh (left_true (not fresh) rest h) in
+    let none : length before ≡ length before + 0 = omega arith in
+    ap (λ (u : List ℕ). place_in (before ++ v ∷ vs) u) (sym same)
+    ∙ place_first before vs v new ∙ ap (λ (n : ℕ). Some n) none
+place_again before (v ∷ vs) h (suc k) w e =
+    let fresh = has_place before v in
+    let rest = are_apart has_place (before ++ v ∷ []) vs in
+    let more : length (before ++ v ∷ []) + k ≡ length before + suc k =
+    omega (arith, length-append before (v ∷ [])) in
+    ap (λ (ps : List (List ℕ)). place_in ps w) (sym (append_assoc before (v ∷ []) vs))
+    ∙ place_again (before ++ v ∷ []) vs (right_true (not fresh) rest h) k w e
+    ∙ ap (λ (n : ℕ). Some n) more
+
+-- the files of a script, which have paths that are apart
+pub record AreFound (files : List FileBlock) (paths : List (List ℕ)) : Type 0 where
+  pub are : paths ≡ map path_of_block files
+  pub apart : are_apart has_place [] (map path_of_block files) ≡ true
+  pub forms : list_all is_path (map path_of_block files) ≡ true
+
+below : (i n : ℕ) → nat_lt i n ≡ true → i < n
+below i n h = grind (arith, nat_tests)
+
+at_most : (n most : ℕ) → n ≤ most → nat_le n most ≡ true
+at_most n most h = grind (arith, nat_tests)
+
+le_of : (n most : ℕ) → nat_le n most ≡ true → n ≤ most
+le_of n most h = grind (arith, nat_tests)
+
+got : (files : List FileBlock) (k : ℕ) → k < length files
+    → slice_get (map path_of_block files) k ≡ Some (path_at files k)
+got [] k lt = absurd (omega (arith, lt))
+got (b ∷ bs) zero lt = refl
+got (b ∷ bs) (suc k) lt = got bs k (omega (arith, lt))
+
+form_at : (files : List FileBlock) (k : ℕ) → k < length files
+    → list_all is_path (map path_of_block files) ≡ true → is_path (path_at files k) ≡ true
+form_at [] k lt h = absurd (omega (arith, lt))
+form_at (b ∷ bs) zero lt h =
+    left_true (is_path b.path) (list_all is_path (map path_of_block bs)) h
+form_at (b ∷ bs) (suc k) lt h =
+    form_at bs k (omega (arith, lt))
+    (right_true (is_path b.path) (list_all is_path (map path_of_block bs)) h)
+
+-- ---- the words of calls
+
+way_plain : (h : How) (trunc : Bool) → list_all is_plain (way_words h ++ trunc_words trunc) ≡ true
+way_plain (how.Read true) true = refl
+way_plain (how.Read true) false = refl
+way_plain (how.Read false) true = refl
+way_plain (how.Read false) false = refl
+way_plain (how.Write true true) true = refl
+way_plain (how.Write true true) false = refl
+way_plain (how.Write true false) true = refl
+way_plain (how.Write true false) false = refl
+way_plain (how.Write false true) true = refl
+way_plain (how.Write false true) false = refl
+way_plain (how.Write false false) true = refl
+way_plain (how.Write false false) false = refl
+way_plain how.Exec true = refl
+way_plain how.Exec false = refl
+
+mapping_plain : (exec : Bool) → is_plain (mapping_word exec) ≡ true
+mapping_plain true = refl
+mapping_plain false = refl
+
+-- the words behind the first
+abbrev pub rest_of : Line → Line
+rest_of [] = []
+rest_of (w ∷ ws) = ws
+
+-- the first word of a call's line
+abbrev pub word_of : Call → CallWord
+word_of (call.Open fd inode h trunc) = word.Open
+word_of (call.Read fd from len) = word.Read
+word_of (call.Write fd from bytes) = word.Write
+word_of (call.Ftruncate fd len) = word.Ftruncate
+word_of (call.Close fd) = word.Close
+word_of (call.Mmap m fd exec) = word.Mmap
+word_of (call.Mread m from len) = word.Mread
+word_of (call.Munmap m) = word.Munmap
+word_of (call.Exec run inode) = word.Exec
+word_of (call.Endexec run) = word.Endexec
+word_of (call.SetAttr inode name None) = word.RemoveAttr
+word_of (call.SetAttr inode name (Some value)) = word.SetAttr
+word_of (call.SetMeta inode (change.Mode mode)) = word.Chmod
+word_of (call.SetMeta inode (change.Owner uid gid)) = word.Chown
+word_of (call.Post sem) = word.Post
+word_of (call.Wait sem) = word.Wait
+word_of (call.AddRule rule) = word.AddRule
+word_of (call.Module inode) = word.Module
+word_of (call.Firmware inode) = word.Firmware
+
+abbrev pub words_of : List FileBlock → Call → Line
+words_of files c = rest_of (call_line files c)
+
+-- the first word of a call's line, with which a line begins
+pub record IsFirst (files : List FileBlock) (c : Call) (w : List ℕ) : Type 0 where
+  pub line : call_line files c ≡ w ∷ words_of files c
+  pub begins : begins_line w ≡ true
+  pub plain : is_plain w ≡ true
+  pub head : head_of w ≡ Some (head.Call (word_of c))
+
+abbrev pub head_word : Call → List ℕ
+head_word (call.Open fd inode h trunc) = codes "open"
+head_word (call.Read fd from len) = codes "read"
+head_word (call.Write fd from bytes) = codes "write"
+head_word (call.Ftruncate fd len) = codes "ftruncate"
+head_word (call.Close fd) = codes "close"
+head_word (call.Mmap m fd exec) = codes "mmap"
+head_word (call.Mread m from len) = codes "mread"
+head_word (call.Munmap m) = codes "munmap"
+head_word (call.Exec run inode) = codes "exec"
+head_word (call.Endexec run) = codes "endexec"
+head_word (call.SetAttr inode name None) = codes "removexattr"
+head_word (call.SetAttr inode name (Some value)) = codes "setxattr"
+head_word (call.SetMeta inode (change.Mode mode)) = codes "chmod"
+head_word (call.SetMeta inode (change.Owner uid gid)) = codes "chown"
+head_word (call.Post sem) = codes "post"
+head_word (call.Wait sem) = codes "wait"
+head_word (call.AddRule rule) = codes "addrule"
+head_word (call.Module inode) = codes "module"
+head_word (call.Firmware inode) = codes "firmware"
+
+pub first_word : (files : List FileBlock) (c : Call) → IsFirst files c (head_word c)
+first_word files (call.Open fd inode h trunc) =
+    record { line = refl; begins = refl; plain = refl; head = refl }
+first_word files (call.Read fd from len) =
+    record { line = refl; begins = refl; plain = refl; head = refl }
+first_word files (call.Write fd from bytes) =
+    record { line = refl; begins = refl; plain = refl; head = refl }
+first_word files (call.Ftruncate fd len) =
+    record { line = refl; begins = refl; plain = refl; head = refl }
+first_word files (call.Close fd) =
+    record { line = refl; begins = refl; plain = refl; head = refl }
+first_word files (call.Mmap m fd exec) =
+    record { line = refl; begins = refl; plain = refl; head = refl }
+first_word files (call.Mread m from len) =
+    record { line = refl; begins = refl; plain = refl; head = refl }
+first_word files (call.Munmap m) =
+    record { line = refl; begins = refl; plain = refl; head = refl }
+first_word files (call.Exec run inode) =
+    record { line = refl; begins = refl; plain = refl; head = refl }
+first_word files (call.Endexec run) =
+    record { line = refl; begins = refl; plain = refl; head = refl }
+first_word files (call.SetAttr inode name None) =
+    record { line = refl; begins = refl; plain = refl; head = refl }
+first_word files (call.SetAttr inode name (Some value)) =
+    record { line = refl; begins = refl; plain = refl; head = refl }
+first_word files (call.SetMeta inode (change.Mode mode)) =
+    record { line = refl; begins = refl; plain = refl; head = refl }
+first_word files (call.SetMeta inode (change.Owner uid gid)) =
+    record { line = refl; begins = refl; plain = refl; head = refl }
+first_word files (call.Post sem) =
+    record { line = refl; begins = refl; plain = refl; head = refl }
+first_word files (call.Wait sem) =
+    record { line = refl; begins = refl; plain = refl; head = refl }
+first_word files (call.AddRule rule) =
+    record { line = refl; begins = refl; plain = refl; head = refl }
+first_word files (call.Module inode) =
+    record { line = refl; begins = refl; plain = refl; head = refl }
+first_word files (call.Firmware inode) =
+    record { line = refl; begins = refl; plain = refl; head = refl }
+
+module _ (files : List FileBlock) (paths : List (List ℕ)) (found : AreFound files paths) where
+  abbrev n : ℕ
+  n = length files
+
+  place : (i : ℕ) → i < n → place_in paths (path_at files i) ≡ Some i
+  place i lt =
+      let zero_on : 0 + i ≡ i = omega arith in
+      ap (λ (ps : List (List ℕ)). place_in ps (path_at files i)) found.are
+      ∙ place_again [] (map path_of_block files) found.apart i (path_at files i) (got files i lt)
+      ∙ ap (λ (k : ℕ). Some k) zero_on
+
+  path : (i : ℕ) → i < n → is_path (path_at files i) ≡ true
+  path i lt = form_at files i lt found.forms
+
+  plain_at : (i : ℕ) → i < n → is_plain (path_at files i) ≡ true
+  plain_at i lt = path_plain (path_at files i) (path i lt)
+
+  inode_back : (i : ℕ) → i < n → inode_at paths (path_at files i) ≡ Ok i
+  inode_back i lt = rw (path i lt, place i lt) refl
+
+  -- the words behind the first of a call's line are plain, and make the call
+  pub record IsRead (c : Call) (ws : Line) : Type 0 where
+    pub plain : list_all is_plain ws ≡ true
+    pub back : call_of (word_of c) (text_behind ws) (take 9 ws) paths ≡ Ok c
+
+  small_fits : (m : ℕ) → is_small m ≡ true → m < 64
+  small_fits m h = below m 64 h
+
+  small_plain : (m : ℕ) → is_small m ≡ true → is_plain (decimal m) ≡ true
+  small_plain m h = let lt = small_fits m h in decimal_plain m (omega (arith, lt))
+
+  offset_plain : (m : ℕ) → is_offset m ≡ true → is_plain (decimal m) ≡ true
+  offset_plain m h = id_plain m h
+
+  portion_fits : (k : ℕ) → is_portion k ≡ true → k ≤ most_content
+  portion_fits k h = le_of k most_content (right_true (nat_le 1 k) (nat_le k most_content) h)
+
+  portion_some : (k : ℕ) → is_portion k ≡ true → 1 ≤ k
+  portion_some k h = le_of 1 k (left_true (nat_le 1 k) (nat_le k most_content) h)
+
+  portion_plain : (k : ℕ) → is_portion k ≡ true → is_plain (decimal k) ≡ true
+  portion_plain k h = let le = portion_fits k h in decimal_plain k (omega (arith, le))
+
+  open_back : (fd i : ℕ) (h : How) (trunc : Bool) → is_descriptor fd ≡ true → i < n
+      → (is_writer h || not trunc) ≡ true → is_exec h ≡ false
+      → call_of word.Open
+      (text_behind (decimal fd ∷ path_at files i ∷ way_words h ++ trunc_words trunc))
+      (take 9 (decimal fd ∷ path_at files i ∷ way_words h ++ trunc_words trunc)) paths
+      ≡ Ok (call.Open fd i h trunc)
+  unfolding call_of
+  open_back fd i (how.Read true) false d lt w e = rw (descriptor_back fd d, inode_back i lt) refl
+  open_back fd i (how.Read false) false d lt w e = rw (descriptor_back fd d, inode_back i lt) refl
+  open_back fd i (how.Read true) true d lt w e = absurd (false≢true w)
+  open_back fd i (how.Read false) true d lt w e = absurd (false≢true w)
+  open_back fd i (how.Write true true) true d lt w e =
+      rw (descriptor_back fd d, inode_back i lt) refl
+  open_back fd i (how.Write true true) false d lt w e =
+      rw (descriptor_back fd d, inode_back i lt) refl
+  open_back fd i (how.Write true false) true d lt w e =
+      rw (descriptor_back fd d, inode_back i lt) refl
+  open_back fd i (how.Write true false) false d lt w e =
+      rw (descriptor_back fd d, inode_back i lt) refl
+  open_back fd i (how.Write false true) true d lt w e =
+      rw (descriptor_back fd d, inode_back i lt) refl
+  open_back fd i (how.Write false true) false d lt w e =
+      rw (descriptor_back fd d, inode_back i lt) refl
+  open_back fd i (how.Write false false) true d lt w e =
+      rw (descriptor_back fd d, inode_back i lt) refl
+  open_back fd i (how.Write false false) false d lt w e =
+      rw (descriptor_back fd d, inode_back i lt) refl
+  open_back fd i how.Exec trunc d lt w e = absurd (false≢true (sym e))
+
+  -- a value of this length
+  valued : (least most : ℕ) (v : List ℕ) → least ≤ length v → length v ≤ most
+      → are_bytes v ≡ true → is_value least most v ≡ true
+  valued least most v low high bytes =
+      rw (at_most least (length v) low, at_most (length v) most high) bytes
+
+  mmap_back : (m fd : ℕ) (exec : Bool) → is_small m ≡ true → is_descriptor fd ≡ true
+      → call_of word.Mmap (text_behind (decimal m ∷ decimal fd ∷ mapping_word exec ∷ []))
+      (decimal m ∷ decimal fd ∷ mapping_word exec ∷ []) paths ≡ Ok (call.Mmap m fd exec)
+  unfolding call_of
+  mmap_back m fd true s d = rw (small_back m (small_fits m s), descriptor_back fd d) refl
+  mmap_back m fd false s d = rw (small_back m (small_fits m s), descriptor_back fd d) refl
+
+  -- the words of a call's line make the call
+  pub call_back : (c : Call) → is_line_call n c ≡ true → HasReadRule c
+      → IsRead c (words_of files c)
+  unfolding call_of
+  call_back (call.Open fd i h trunc) k r =
+      let form = nat_lt i n && (is_writer h || not trunc) in
+      let spelled = is_descriptor fd && not (is_exec h) in
+      let f : form ≡ true = left_true form spelled k in
+      let p : spelled ≡ true = right_true form spelled k in
+      let lt = below i n (left_true (nat_lt i n) (is_writer h || not trunc) f) in
+      let d : is_descriptor fd ≡ true = left_true (is_descriptor fd) (not (is_exec h)) p in
+      record {
+        plain = rw (descriptor_plain fd d, plain_at i lt) (way_plain h trunc);
+        back = open_back fd i h trunc d lt
+            (right_true (nat_lt i n) (is_writer h || not trunc) f)
+            (flip (is_exec h) (right_true (is_descriptor fd) (not (is_exec h)) p));
+      }
+  call_back (call.Read fd from len) k r =
+      let form = is_offset from && is_portion len in
+      let f : form ≡ true = left_true form (is_descriptor fd) k in
+      let d : is_descriptor fd ≡ true = right_true form (is_descriptor fd) k in
+      let o : is_offset from ≡ true = left_true (is_offset from) (is_portion len) f in
+      let p : is_portion len ≡ true = right_true (is_offset from) (is_portion len) f in
+      let le = portion_fits len p in
+      record {
+        plain = rw (descriptor_plain fd d, offset_plain from o, portion_plain len p) refl;
+        back = rw (
+          descriptor_back fd d,
+          offset_back from o,
+          any_number_back most_content len (omega (arith, le)) (portion_some len p) le,
+        ) refl;
+      }
+  call_back (call.Write fd from bytes) k r =
+      let form = is_offset from && is_portion (length bytes) in
+      let spelled = is_descriptor fd && are_bytes bytes in
+      let f : form ≡ true = left_true form spelled k in
+      let s : spelled ≡ true = right_true form spelled k in
+      let d : is_descriptor fd ≡ true = left_true (is_descriptor fd) (are_bytes bytes) s in
+      let b : are_bytes bytes ≡ true = right_true (is_descriptor fd) (are_bytes bytes) s in
+      let o : is_offset from ≡ true = left_true (is_offset from) (is_portion (length bytes)) f in
+      let p : is_portion (length bytes) ≡ true =
+      right_true (is_offset from) (is_portion (length bytes)) f in
+      record {
+        plain = rw (descriptor_plain fd d, offset_plain from o, hex_plain bytes b) refl;
+        back = rw (
+          descriptor_back fd d,
+          offset_back from o,
+          value_back 1 most_content bytes (valued 1 most_content bytes
+              (portion_some (length bytes) p) (portion_fits (length bytes) p) b),
+        ) refl;
+      }
+  call_back (call.Ftruncate fd len) k r =
+      let o : is_offset len ≡ true = left_true (is_offset len) (is_descriptor fd) k in
+      let d : is_descriptor fd ≡ true = right_true (is_offset len) (is_descriptor fd) k in
+      record {
+        plain = rw (descriptor_plain fd d, offset_plain len o) refl;
+        back = rw (descriptor_back fd d, offset_back len o) refl;
+      }
+  call_back (call.Close fd) k r = record {
+    plain = rw (descriptor_plain fd k) refl;
+    back = rw (descriptor_back fd k) refl;
+  }
+  call_back (call.Mmap m fd exec) k r =
+      let s : is_small m ≡ true = left_true (is_small m) (is_descriptor fd) k in
+      let d : is_descriptor fd ≡ true = right_true (is_small m) (is_descriptor fd) k in
+      record {
+        plain = rw (small_plain m s, descriptor_plain fd d, mapping_plain exec) refl;
+        back = mmap_back m fd exec s d;
+      }
+  call_back (call.Mread m from len) k r =
+      let front = is_small m && is_offset from in
+      let form = front && is_portion len in
+      let f : form ≡ true = left_true form true k in
+      let fr : front ≡ true = left_true front (is_portion len) f in
+      let p : is_portion len ≡ true = right_true front (is_portion len) f in
+      let s : is_small m ≡ true = left_true (is_small m) (is_offset from) fr in
+      let o : is_offset from ≡ true = right_true (is_small m) (is_offset from) fr in
+      let le = portion_fits len p in
+      record {
+        plain = rw (small_plain m s, offset_plain from o, portion_plain len p) refl;
+        back = rw (
+          small_back m (small_fits m s),
+          offset_back from o,
+          any_number_back most_content len (omega (arith, le)) (portion_some len p) le,
+        ) refl;
+      }
+  call_back (call.Munmap m) k r =
+      let s : is_small m ≡ true = left_true (is_small m) true k in record {
+        plain = rw (small_plain m s) refl;
+        back = rw (small_back m (small_fits m s)) refl;
+      }
+  call_back (call.Exec run i) k r =
+      let form = is_small run && nat_lt i n in
+      let f : form ≡ true = left_true form true k in
+      let s : is_small run ≡ true = left_true (is_small run) (nat_lt i n) f in
+      let lt = below i n (right_true (is_small run) (nat_lt i n) f) in
+      record {
+        plain = rw (small_plain run s, plain_at i lt) refl;
+        back = rw (small_back run (small_fits run s), inode_back i lt) refl;
+      }
+  call_back (call.Endexec run) k r =
+      let s : is_small run ≡ true = left_true (is_small run) true k in record {
+        plain = rw (small_plain run s) refl;
+        back = rw (small_back run (small_fits run s)) refl;
+      }
+  call_back (call.SetAttr i name None) k r =
+      let form = nat_lt i n && is_word 255 name && true in
+      let f : form ≡ true = left_true form true k in
+      let both : (nat_lt i n && is_word 255 name) ≡ true =
+      left_true (nat_lt i n && is_word 255 name) true f in
+      let lt = below i n (left_true (nat_lt i n) (is_word 255 name) both) in
+      let w : is_word 255 name ≡ true = right_true (nat_lt i n) (is_word 255 name) both in
+      record {
+        plain = rw (plain_at i lt, word_plain name w) refl;
+        back = rw (w, inode_back i lt) refl;
+      }
+  call_back (call.SetAttr i name (Some value)) k r =
+      let few = nat_le (length value) most_set in
+      let front = nat_lt i n && is_word 255 name in
+      let f : (front && few) ≡ true = left_true (front && few) (are_bytes value) k in
+      let b : are_bytes value ≡ true = right_true (front && few) (are_bytes value) k in
+      let both : front ≡ true = left_true front few f in
+      let lt = below i n (left_true (nat_lt i n) (is_word 255 name) both) in
+      let w : is_word 255 name ≡ true = right_true (nat_lt i n) (is_word 255 name) both in
+      let le = le_of (length value) most_set (right_true front few f) in
+      record {
+        plain = rw (plain_at i lt, word_plain name w, hex_plain value b) refl;
+        back = rw (
+          w,
+          value_back 0 most_set value (valued 0 most_set value (omega arith) le b),
+          inode_back i lt,
+        ) refl;
+      }
+  call_back (call.SetMeta i (change.Mode mode)) k r =
+      let lt = below i n (left_true (nat_lt i n) (is_mode mode) k) in
+      let m : is_mode mode ≡ true = right_true (nat_lt i n) (is_mode mode) k in
+      record {
+        plain = rw (plain_at i lt, octal_plain mode m) refl;
+        back = rw (mode_back mode m, inode_back i lt) refl;
+      }
+  call_back (call.SetMeta i (change.Owner uid gid)) k r =
+      let ids = is_id uid && is_id gid in
+      let lt = below i n (left_true (nat_lt i n) ids k) in
+      let both : ids ≡ true = right_true (nat_lt i n) ids k in
+      let u : is_id uid ≡ true = left_true (is_id uid) (is_id gid) both in
+      let g : is_id gid ≡ true = right_true (is_id uid) (is_id gid) both in
+      record {
+        plain = rw (plain_at i lt, id_plain uid u, id_plain gid g) refl;
+        back = rw (id_back uid u, id_back gid g, inode_back i lt) refl;
+      }
+  call_back (call.Post sem) k r =
+      let s : is_small sem ≡ true = left_true (is_small sem) true k in record {
+        plain = rw (small_plain sem s) refl;
+        back = rw (small_back sem (small_fits sem s)) refl;
+      }
+  call_back (call.Wait sem) k r =
+      let s : is_small sem ≡ true = left_true (is_small sem) true k in record {
+        plain = rw (small_plain sem s) refl;
+        back = rw (small_back sem (small_fits sem s)) refl;
+      }
+  call_back (call.AddRule rule) k r = record {
+    plain = rule_plain rule r;
+    back = rw (rule_back rule r) refl;
+  }
+  call_back (call.Module i) k r =
+      let lt = below i n (left_true (nat_lt i n) true k) in record {
+        plain = rw (plain_at i lt) refl;
+        back = rw (inode_back i lt) refl;
+      }
+  call_back (call.Firmware i) k r =
+      let lt = below i n (left_true (nat_lt i n) true k) in record {
+        plain = rw (plain_at i lt) refl;
+        back = rw (inode_back i lt) refl;
+      }

@@ -1,0 +1,14 @@
+pub mod AttrsAgain
+pub mod CallsAgain
+pub mod EvmAgain
+pub mod FilesAgain
+pub mod Lines
+pub mod Many
+pub mod Pieces
+pub mod RulesAgain
+pub mod ScriptAgain
+pub mod SettingsAgain
+pub mod Steps
+pub mod SupersAgain
+pub mod TasksAgain
+pub mod Words

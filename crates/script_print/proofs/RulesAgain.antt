@@ -1,0 +1,104 @@
+-- The lines of rules make them again.
+use Rattle.std.proofs.Common.{◌≡◌, ℕ, ◌+◌, ◌<◌, ◌≤◌, true, nat_lt, List, [], ◌∷◌, ◌++◌, length, map, Ok, refl, sym, ap, ◌∙◌, subst, arith, length-append, append_assoc}
+use Rattle.std.specs.Prelude.{codes}
+use Rattle.std.specs.List.{AllByRecursion, list_all}
+use Rattle.std.proofs.lemmas.Bool.Decides.{nat_tests}
+use Rattle.std.proofs.lemmas.List.{append-nil}
+use Rattle.policy_text.specs.Grammar as policy
+use Rattle.policy_text.specs.Key.{keys}
+use Rattle.policy_text.specs.RuleValue.{RuleValue}
+use Rattle.policy_text.specs.Spelling.{act_word, is_visible_word, key_words, rule_text, rule_words}
+use Rattle.text_forms.specs.Tokens.{is_filled}
+use Rattle.text_forms.proofs.Visible.{all_weaker}
+use Rattle.script_words.specs.Forms.{bad_rule, rule_of}
+use Rattle.script_text.specs.Draft.{Draft}
+use Rattle.script_text.specs.Grammar.{with_head}
+use Rattle.script_text.specs.Limits.{most_rules}
+use Rattle.script_text.specs.Tasks.{with_rule}
+use Rattle.script_text.specs.declared.head.Head.TheVariants as head
+use Rattle.script_text.proofs.Holding.{right_true}
+use Rattle.script_print.specs.Lines.{is_plain, words_text}
+use Rattle.script_print.specs.Rules.{IsReadRule}
+use Rattle.script_print.specs.Spelling.{rule_line}
+use Rattle.script_print.proofs.Lines.{joined_is, text_behind}
+use Rattle.script_print.proofs.Many.{IsAt, Leads, again_at, by_map, many}
+use Rattle.script_print.proofs.Steps.{Reads, one_line}
+
+visible_plain : (w : List ℕ) → is_visible_word w ≡ true → is_plain w ≡ true
+visible_plain w h = right_true (is_filled w) (is_plain w) h
+
+pub rule_plain : (r : RuleValue) → IsReadRule r → list_all is_plain (rule_words r) ≡ true
+rule_plain r h = all_weaker is_visible_word is_plain visible_plain (rule_words r) h.visible
+
+-- the words of a rule are its text
+pub rule_joined : (r : RuleValue) → words_text (rule_words r) ≡ rule_text r
+unfolding rule_text
+rule_joined r = joined_is (act_word r.act) (key_words keys r)
+
+pub rule_back : (r : RuleValue) → IsReadRule r → rule_of (text_behind (rule_words r)) ≡ Ok r
+rule_back r h =
+    ap (λ (t : List ℕ). bad_rule (policy.rule_of t)) (rule_joined r) ∙ ap bad_rule h.again
+
+room : (n m : ℕ) → n < m → nat_lt n m ≡ true
+room n m h = grind (arith, nat_tests)
+
+-- the rules so far, and the rank
+pub record Ruled : Type 0 where
+  pub done : List RuleValue
+  pub at : ℕ
+
+module _ (base : Draft) (rules : List RuleValue)
+    (few : length rules + base.appended ≤ most_rules) where
+  abbrev pub ruling : Ruled → Draft
+  ruling x = record base { script = record base.script { rules = x.done }; at = x.at }
+
+  pub record AreLeft (x : Ruled) (rs : List RuleValue) : Type 0 where
+    pub at : IsAt x.at 11
+    pub read : AllByRecursion IsReadRule rs
+    pub whole : x.done ++ rs ≡ rules
+
+  one_rule : (r : RuleValue) (rs : List RuleValue) (x : Ruled) → AreLeft x (r ∷ rs)
+      → Leads Ruled ruling (ruling x) (rule_line r ∷ []) (λ y. AreLeft y rs)
+  unfolding with_head with_rule
+  one_rule r rs x h =
+      let y : Ruled = record { done = x.done ++ r ∷ []; at = 11 } in
+      let whole = ap (λ (l : List RuleValue). length l) h.whole in
+      let free : nat_lt (length x.done + base.appended) most_rules ≡ true =
+      room (length x.done + base.appended) most_rules
+      (omega (arith, few, whole, length-append x.done (r ∷ rs))) in
+      record {
+        to = y;
+        reads = one_line (codes "rule") (rule_words r) head.Rule (ruling x) (ruling y) refl refl
+            (rule_plain r h.read.0) refl (again_at 11 x.at h.at)
+            (rw (rule_back r h.read.0, free) refl);
+        is = record {
+          at = record { some = omega arith; few = omega arith };
+          read = h.read.1;
+          whole = append_assoc x.done (r ∷ []) rs ∙ h.whole;
+        };
+      }
+
+  -- the lines of all rules make them
+  pub rules_again : AllByRecursion IsReadRule rules → base.script.rules ≡ [] → IsAt base.at 10
+      → Leads ℕ (λ m. ruling (record { done = rules; at = m })) base (map rule_line rules)
+      (λ m. IsAt m 11)
+  rules_again read none at =
+      let x : Ruled = record { done = []; at = base.at } in
+      let r = many ruling (λ r. rule_line r ∷ []) AreLeft one_rule rules x (record {
+        at = record { some = at.some; few = omega (arith, at.few) };
+        read = read;
+        whole = refl;
+      }) in
+      let same : r.to.done ≡ rules = sym (append-nil r.to.done) ∙ r.is.whole in
+      let from : List RuleValue → Draft =
+      λ l. record base { script = record base.script { rules = l } } in
+      let P : List RuleValue → Type 0 =
+      λ l. Reads (ruling x) (map rule_line rules) (ruling (record { done = l; at = r.to.at })) in
+      let Q : List RuleValue → Type 0 =
+      λ l. Reads (from l) (map rule_line rules) (ruling (record { done = rules; at = r.to.at })) in
+      record {
+        to = r.to.at;
+        reads = subst Q (sym none)
+            (subst P same (by_map rule_line rules (ruling x) (ruling r.to) r.reads));
+        is = r.is.at;
+      }

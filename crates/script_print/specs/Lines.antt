@@ -1,0 +1,39 @@
+-- Lines of words, and their text: one space between the words, and a newline at the end.
+use Rattle.std.specs.Prelude.{ℕ, ◌==◌, Bool, false, ◌&&◌, not, List, [], ◌∷◌, ◌++◌}
+use Rattle.std.specs.List.{flat_map, list_all}
+use Rattle.text_forms.specs.Words.{is_visible}
+
+-- the words of a line
+abbrev pub Line : Type 0
+Line = List (List ℕ)
+
+abbrev pub behind_space : List ℕ → List ℕ
+behind_space w = 32 ∷ w
+
+-- words behind a space each
+abbrev pub spaced : Line → List ℕ
+spaced ws = flat_map behind_space ws
+
+-- the line without its newline
+abbrev pub words_text : Line → List ℕ
+words_text [] = []
+words_text (w ∷ ws) = w ++ spaced ws
+
+abbrev pub line_text : Line → List ℕ
+line_text l = words_text l ++ 10 ∷ []
+
+abbrev pub lines_text : List Line → List ℕ
+lines_text ls = flat_map line_text ls
+
+abbrev pub is_plain : List ℕ → Bool
+is_plain w = list_all is_visible w
+
+-- a word with which a line begins that is neither empty nor a comment
+abbrev pub begins_line : List ℕ → Bool
+begins_line [] = false
+begins_line (c ∷ cs) = not (c == 35)
+
+-- a line that is read as the words that it is made of
+abbrev pub is_read_line : Line → Bool
+is_read_line [] = false
+is_read_line (w ∷ ws) = begins_line w && list_all is_plain (w ∷ ws)
