@@ -12,7 +12,10 @@ use Rattle.inode_events.specs.Asked.{measured_if}
 use Rattle.inode_events.specs.Checks.{last_check}
 use Rattle.inode_events.specs.Grants.{grant_of}
 use Rattle.inode_events.specs.Inode.{Inode}
-use Rattle.inode_events.specs.Integrity.{Collection, Digests, collecting, digest_from, digests_of, label}
+use Rattle.inode_meta.specs.declared.identity.Meta.{Meta}
+use Rattle.xattr_store.specs.Attrs.{Pair}
+use Rattle.inode_cell.specs.Changes.{mended_on}
+use Rattle.inode_events.specs.Integrity.{Collection, Digests, collecting, digest_from, digests_of, fixed_by, label}
 use Rattle.inode_events.specs.Legal.{EachFollows, May}
 use Rattle.inode_events.specs.Listing.{signature_in, template_for}
 use Rattle.inode_events.specs.Past.{past}
@@ -42,6 +45,13 @@ pub moved : (old mid inner : CellValue) → mid.list ≡ old.list → IsSameCell
 moved old mid inner l s e P x =
     subst (λ (v : CellValue). P v.inode (past v.list)) (sym e) (subst (λ (v : CellValue). P v.inode
     (past v.list)) (sym (same_value old mid l s)) x)
+
+-- what mode fix leaves
+pub mended_is : (i : Inode) (mends : Bool) (digest : Digest) (meta : Meta) (attrs : List Pair)
+    → mended_on i.settings.evm mends digest meta attrs
+    ≡ fixed_by i mends (Some digest) meta attrs
+mended_is i true digest meta attrs = refl
+mended_is i false digest meta attrs = refl
 
 -- it isn't both none and one
 none_some : (o : Option Collection) (c : Collection) → o ≡ None → o ≡ Some c → ⊥

@@ -1,6 +1,7 @@
 -- What one step does to a cell, to the task's pass and to the measurement list.
 use Rattle.std.specs.Prelude.{◌≡◌, ℕ, List, ◌++◌, length, Option, Some, None}
 use Rattle.grow_list.specs.Shown.{Passed}
+use Rattle.hash_algos.specs.declared.digest.Digest.{Digest}
 use Rattle.ima_templates.specs.declared.entry.Entry.{Entry}
 use Rattle.ima_templates.specs.declared.entry.Placed.TheVariants.{Added}
 use Rattle.inode_meta.specs.declared.step.Who.{Who}
@@ -11,14 +12,14 @@ use Rattle.inode_events.specs.Integrity.{attributes, attributes_after, integrity
 use Rattle.inode_events.specs.Legal.{May}
 use Rattle.inode_events.specs.Past.{past}
 use Rattle.inode_events.specs.Says.{says}
-use Rattle.inode_events.specs.State.{content, content_after}
+use Rattle.inode_events.specs.State.{content, content_after, metadata}
 use Rattle.inode_events.specs.declared.deed.Deed.{Deed}
 use Rattle.inode_events.specs.declared.told.Event.{Event}
 use Rattle.inode_events.specs.declared.told.Told.{Told}
 use Rattle.inode_kept.specs.Known.{IsKnown}
 use Rattle.inode_kept.specs.declared.known.Known.{Known}
 use Rattle.own_laws.specs.Own.{IsBy}
-use Rattle.xattr_store.specs.Attrs.{Pair}
+use Rattle.inode_cell.specs.Changes.{rewritten}
 use Rattle.inode_cell.specs.Value.{CellValue, IsSameCell}
 
 -- the step that does this deed, by the measurement list before it: it is told what the journal
@@ -56,14 +57,16 @@ pub record IsPlain (inode : Inode) (p : List Event) (who : Who) (d : Deed) (t : 
   pub attributes : attributes_after inode d t p (integrity inode p) ≡ attributes inode p
   pub known : IsKnown inode p (record { who = who; deed = d; told = t }) k
 
--- a step that asks nothing of the measurement list, leaves the content and has these attributes
--- behind it
+-- a step that asks nothing of the measurement list, leaves the content and rewrites attributes: at
+-- a
+-- close with the label of this digest
 pub record IsChange (inode : Inode) (p : List Event) (who : Who) (d : Deed) (t : Told) (k : Known)
-    (attrs : List Pair) : Type 0 where
+    (digest : Option Digest) : Type 0 where
   pub may : May inode p d
   pub by : IsBy (caller_in who.task d) d p
   pub quiet : asked inode d p ≡ None
   pub told : says inode p (Added 0) d ≡ Some t
   pub content : content_after d t (content p) ≡ content p
-  pub attributes : attributes_after inode d t p (integrity inode p) ≡ attrs
+  pub attributes : attributes_after inode d t p (integrity inode p)
+      ≡ rewritten inode.settings.evm d digest (metadata p) (attributes inode p)
   pub known : IsKnown inode p (record { who = who; deed = d; told = t }) k

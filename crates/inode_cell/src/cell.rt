@@ -1,14 +1,18 @@
-ghost use Rattle.std.specs.Prelude.{◌≡◌, ℕ, ◌<◌, ◌≤◌, ◌^◌, List, length, None, Some, OnOk};
+ghost use Rattle.std.specs.Prelude.{◌≡◌, ℕ, ◌<◌, ◌≤◌, ◌^◌, List, length, None, Some, OnErr, OnOk};
+ghost use Rattle.std.specs.Option.{option_copied};
 ghost use Rattle.ima_templates.specs.declared.entry.Entry.{Entry as AnyEntry};
 ghost use Rattle.inode_events.specs.Callers.{caller_in};
 ghost use Rattle.inode_events.specs.Asked.{outcome};
 ghost use Rattle.inode_events.specs.Past.{past};
 ghost use Rattle.inode_events.specs.declared.deed.Deed.{Deed as AnyDeed};
 ghost use Rattle.inode_meta.specs.declared.step.Who.{Who as AnyWho};
-ghost use Rattle.inode_cell.specs.Acts.{Acts, IsChange, IsPlain};
+ghost use Rattle.inode_cell.specs.Acts.{Acts, IsChange, IsPlain, Stays};
+ghost use Rattle.inode_cell.specs.Changes.{IsRewriting};
 ghost use Rattle.inode_cell.specs.Value.{IsSameCell};
 
+use crate::attributes::rewrite;
 use grow_list::{OutOfMemory, Pass};
+use hash_algos::Digest;
 use ima_templates::Entry;
 use inode_events::{Deed, Event, Told};
 use inode_kept::Known;
@@ -62,8 +66,8 @@ impl InodeCell {
         self.kept.enter(pass, Event { who, deed, told }, known);
     }
 
-    // A step that asks nothing of the measurement list, leaves the content and has these attributes
-    // behind it.
+    // A step that asks nothing of the measurement list, leaves the content and rewrites attributes:
+    // at a close with the label of this digest.
     pub(crate) fn step_with(
         &mut self,
         pass: &mut Pass<Event>,
@@ -71,19 +75,24 @@ impl InodeCell {
         deed: Deed,
         told: Told,
         known: &Known,
-        attrs: Attrs,
-    )
+        digest: Option<&Digest>,
+    ) -> Result<(), OutOfMemory>
         requires name { pass.old.name ≡ self.old.journal }
         requires number { pass.old.number ≡ caller_in who.task deed }
         requires room { 1 ≤ self.old.spare }
         requires small { length self.old.list < 2 ^ 62 }
+        requires rewriting { IsRewriting deed (option_copied digest) }
         requires changes { IsChange self.old.inode (past self.old.list) who deed told known.now
-            attrs }
-        ensures { (list : List AnyEntry) → Acts self.old self.new list list pass.old pass.new who
-            deed (Some told) }
+            (option_copied digest) }
+        ensures acts { OnOk result ((list : List AnyEntry) → Acts self.old self.new list list
+            pass.old pass.new who deed (Some told)) }
+        ensures err { OnErr result (Stays self.old self.new pass.old pass.new) }
     {
-        self.attrs = attrs;
+        let meta = self.kept.state().meta;
+        let evm = &self.kept.settings().evm;
+        rewrite(evm, &mut self.attrs, &meta, &deed, digest)?;
         self.kept.enter(pass, Event { who, deed, told }, known);
+        Ok(())
     }
 
     // Makes room for the next event.

@@ -9,7 +9,6 @@ ghost use Rattle.ima_templates.specs.declared.entry.Entry.{Entry as AnyEntry};
 ghost use Rattle.inode_cell.specs.Acts.{Acts, MayBy, Stays};
 
 use crate::answers::CloseTaken;
-use crate::attributes::labelled_on;
 use crate::cell::InodeCell;
 use grow_list::{OutOfMemory, Pass};
 use hash_algos::Digest;
@@ -111,10 +110,9 @@ impl InodeCell {
         self.reserve()?;
         let known = Known::dropping(self.kept.how_at(file));
         if self.kept.state().counts.writers == 1 {
-            let evm = &self.kept.settings().evm;
-            let attrs = labelled_on(evm, &self.attrs, &self.meta(), &sums.0)?;
             let deed = Deed::CloseFinish { file };
-            self.step_with(pass, who, deed, Told::LabelledDropped, &known, attrs);
+            let told = Told::LabelledDropped;
+            self.step_with(pass, who, deed, told, &known, Some(&sums.0))?;
             Ok(true)
         } else {
             self.step(pass, who, Deed::CloseFinish { file }, Told::Dropped, &known);

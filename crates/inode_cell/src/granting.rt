@@ -1,5 +1,5 @@
 // Grants.
-ghost use Rattle.std.specs.Prelude.{◌≡◌, ℕ, ◌+◌, Some, IfOk, OnErr, unwrap_or};
+ghost use Rattle.std.specs.Prelude.{◌≡◌, ℕ, ◌+◌, Some, IfOk, OnErr};
 ghost use Rattle.inode_events.specs.Asked.{measured_if};
 ghost use Rattle.inode_events.specs.Callers.{caller_in};
 ghost use Rattle.inode_events.specs.Stage.{stage};
@@ -13,16 +13,15 @@ ghost use Rattle.inode_cell.specs.Granting.{IsGranting, asked_stage, collected_s
 ghost use Rattle.inode_cell.specs.Sums.{HasSums};
 ghost use Rattle.inode_events.specs.Checks.{Check, appraises, last_check, slot_of};
 ghost use Rattle.inode_events.specs.Grants.{admits, is_mend, mend_of, mends, placed_if_measured, verdict_for};
-ghost use Rattle.inode_events.specs.Integrity.{attributes, chosen_algo, collecting, fixed_by, in_force};
+ghost use Rattle.inode_events.specs.Integrity.{chosen_algo, collecting, in_force};
 ghost use Rattle.inode_events.specs.Listing.{signature_in};
 ghost use Rattle.inode_events.specs.Past.{past};
-ghost use Rattle.inode_events.specs.State.{metadata};
 ghost use Rattle.inode_events.specs.Verdicts.{judged};
 ghost use Rattle.std.specs.Option.{option_copied};
 ghost use Rattle.inode_kept.specs.Collecting.{IsAsked};
 
 use crate::answers::Taken;
-use crate::attributes::fixed_on;
+use crate::attributes::mend_on;
 use crate::cell::InodeCell;
 use crate::listing::list_asked;
 use grow_list::Pass;
@@ -36,7 +35,7 @@ use label_values::{Mend, Verdict, read_label};
 use measure_book::Book;
 use policy_text::Action;
 use std::alloc::AllocError;
-use xattr_store::{Attrs, MAX_VALUE, OutOfMemory};
+use xattr_store::{MAX_VALUE, OutOfMemory};
 
 // The mode admits the file.
 fn admits(mode: Mode, verdict: Option<Verdict>) -> bool
@@ -80,15 +79,6 @@ fn asked_in(collecting: &Option<Collecting>) -> Option<Asked>
     match collecting {
         None => None,
         Some(collecting) => copied(&collecting.asked),
-    }
-}
-
-// New attributes, or the old ones where there are none.
-fn put_in(attrs: &mut Attrs, new: Option<Attrs>)
-    ensures { attrs.new ≡ unwrap_or new attrs.old }
-{
-    if let Some(new) = new {
-        *attrs = new;
     }
 }
 
@@ -163,19 +153,6 @@ impl InodeCell {
         }
     }
 
-    // What mode fix leaves of the attributes, where it mends them.
-    fn fixed(&self, mends: bool, digest: &Digest) -> Result<Option<Attrs>, OutOfMemory>
-        ensures { IfOk result (λ o. unwrap_or o (attributes self.now.inode (past self.now.list)) ≡
-            fixed_by self.now.inode mends (Some digest.now) (metadata (past self.now.list))
-            (attributes self.now.inode (past self.now.list))) }
-    {
-        if !mends {
-            return Ok(None);
-        }
-        let evm = &self.kept.settings().evm;
-        Ok(Some(fixed_on(evm, &self.attrs, &self.meta(), digest)?))
-    }
-
     // The entry of a measurement with these digests, where the action measures.
     fn measured(&self, action: &Action, sums: &Sums) -> Result<Option<Entry>, OutOfMemory>
         ensures { IfOk result (λ e. (file : ℕ)
@@ -241,11 +218,13 @@ impl InodeCell {
     {
         let verdict = self.verdict_for(asked, &sums.digest);
         let mends = self.mends(&asked.action, &sums.digest, verdict);
-        let attrs = self.fixed(mends, &sums.digest)?;
         let entry = self.measured(&asked.action, sums)?;
         let admitted = admits(self.kept.settings().mode, verdict);
+        let meta = self.meta();
         self.reserve()?;
         book.reserve()?;
+        let evm = &self.kept.settings().evm;
+        mend_on(evm, &mut self.attrs, &meta, mends, &sums.digest)?;
         let placed = list_asked(book, &mut self.book, entry);
         let grant = Grant {
             placed: placed_if_measured(&asked.action, placed),
@@ -253,7 +232,6 @@ impl InodeCell {
             admitted,
             labelled: mends,
         };
-        put_in(&mut self.attrs, attrs);
         let told = Told::Grant(grant);
         self.kept.enter(pass, Event { who, deed, told }, known);
         Ok(grant)

@@ -10,11 +10,10 @@ ghost use Rattle.inode_cell.specs.Acts.{Acts, Stays};
 ghost use Rattle.inode_cell.specs.Answers.{set_told};
 
 use crate::answers::Set;
-use crate::attributes::{changed_on, renewed};
 use crate::cell::InodeCell;
 use grow_list::{OutOfMemory, Pass};
 use inode_events::{Change, Deed, Event, Told};
-use inode_kept::{Known, changed};
+use inode_kept::Known;
 use inode_meta::{Cred, EvmStatus, Who};
 use std::alloc::Global;
 use xattr_store::{Bytes, EVM_NAME, IMA_NAME, MAX_VALUE};
@@ -143,17 +142,8 @@ impl InodeCell {
         self.reserve()?;
         match self.meta_answer() {
             Set::Done => {
-                let evm = &self.kept.settings().evm;
-                let attrs = renewed(evm, &self.attrs, &changed(change, self.meta()))?;
-                let known = Known::nothing();
-                self.step_with(
-                    pass,
-                    who,
-                    Deed::SetMeta { change },
-                    Told::Done,
-                    &known,
-                    attrs,
-                );
+                let deed = Deed::SetMeta { change };
+                self.step_with(pass, who, deed, Told::Done, &Known::nothing(), None)?;
                 Ok(Set::Done)
             }
             refusal => {
@@ -216,10 +206,8 @@ impl InodeCell {
         self.reserve()?;
         match self.attr_answer(name.as_slice(), &value, admin) {
             Set::Done => {
-                let evm = &self.kept.settings().evm;
-                let attrs = changed_on(evm, &self.attrs, &self.meta(), name.as_slice(), &value)?;
                 let deed = Deed::SetAttr { name, value, admin };
-                self.step_with(pass, who, deed, Told::Done, &Known::nothing(), attrs);
+                self.step_with(pass, who, deed, Told::Done, &Known::nothing(), None)?;
                 Ok(Set::Done)
             }
             refusal => {

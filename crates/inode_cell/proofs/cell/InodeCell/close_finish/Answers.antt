@@ -7,7 +7,6 @@ use Rattle.inode_events.specs.Integrity.{collecting}
 use Rattle.inode_cell.specs.Answers.{set_told}
 use Rattle.inode_cell.proofs.Acting.{acts_from, acts_ok, acts_refused, blocked, may_from, label_of_close}
 use Rattle.inode_cell.specs.Acts.{IsChange, MayBy}
-use Rattle.inode_cell.specs.Changes.{labelled_on}
 use Rattle.inode_cell.specs.Fields.{value_of}
 use Rattle.inode_cell.specs.Sums.{HasSums}
 use Rattle.inode_cell.specs.Value.{CellValue}
@@ -23,11 +22,11 @@ use Rattle.inode_cell.proofs.Acting.{sums_from}
 use Rattle.journal_laws.proofs.Stages.{stages}
 use Rattle.inode_cell.proofs.cell.InodeCell.close_finish.Goals as goal
 
-pub returns-in_ok-attrs-clause-acts : goal.returns-in_ok-attrs-clause-acts
-returns-in_ok-attrs-clause-acts c = λ list.
+pub returns-in_ok-step_with-clause-acts : goal.returns-in_ok-step_with-clause-acts
+returns-in_ok-step_with-clause-acts c = λ list.
     acts_from c.args.self.now c.reserve.new.self c.step_with.new.self list list c.args.pass.now
     c.step_with.new.pass c.args.who (deed.CloseFinish c.args.file) (Some told.LabelledDropped)
-    c.in_ok-reserve.ensures.list c.in_ok-reserve.ensures.same (c.step_with.ensures list)
+    c.in_ok-reserve.ensures.list c.in_ok-reserve.ensures.same (c.in_ok-step_with.ensures.acts list)
 
 pub returns-else-state-eq1-clause-acts : goal.returns-else-state-eq1-clause-acts
 returns-else-state-eq1-clause-acts c = λ list.
@@ -55,16 +54,8 @@ step_with-requires-clause-changes c =
     (sums_from c.args.self.now c.reserve.new.self c.args.sums c.in_ok-reserve.ensures.list
     c.in_ok-reserve.ensures.same c.requires.sums) in
     let st = c.state.ensures.kept in
-    let a = c.settings.ensures in
-    let b : c.meta.result ≡ metadata p = c.meta.ensures
-    ∙ ap (λ (v : CellValue). metadata (past v.list)) (sym c.self.view_is) in
-    let d = c.self.invariant.attributes in
-    let same : labelled_on c.settings.result.now.evm c.args.sums.0 c.meta.result
-    c.self.inside.attrs ≡ labelled_on k.inode.settings.evm c.args.sums.0 (metadata p)
-    (attributes k.inode p) =
-    λ i. labelled_on (a i).evm c.args.sums.0 (b i) (d i) in
     subst (λ (v : CellValue). IsChange v.inode (past v.list) c.args.who (deed.CloseFinish
-    c.args.file) told.LabelledDropped c.dropping-known.result c.in_ok-attrs.attrs)
+    c.args.file) told.LabelledDropped c.dropping-known.result (Some c.args.sums.0))
     c.self.view_is
     (record {
       may = m.may;
@@ -76,8 +67,7 @@ step_with-requires-clause-changes c =
       attributes =
           label_of_close k.inode p c.args.file c.args.sums (collecting k.inode p) (metadata p)
           (attributes k.inode p)
-          ((stages k.inode p c.state.ensures.legal.1).0 c.args.file (ap is_collecting m.may)) sums
-          ∙ sym (c.in_ok-attrs.ensures ∙ same);
+          ((stages k.inode p c.state.ensures.legal.1).0 c.args.file (ap is_collecting m.may)) sums;
       known = subst (λ (kn : Known). IsKnown k.inode p e kn) (sym c.dropping-known.ensures)
           (record {
             gone = c.how_at.ensures (ap is_gone m.may);

@@ -1,5 +1,4 @@
 use Rattle.std.proofs.Common.{◌≡◌, ℕ, List, Option, Some, sym, ◌∙◌, ap, subst}
-use Rattle.std.specs.Prelude.{unwrap_or}
 use Rattle.hash_algos.specs.declared.digest.Digest.{Digest}
 use Rattle.ima_templates.specs.declared.entry.Entry.{Entry}
 use Rattle.ima_templates.specs.declared.entry.Placed.{Placed}
@@ -16,12 +15,12 @@ use Rattle.inode_events.specs.declared.told.Grant.{Grant}
 use Rattle.inode_events.specs.declared.told.Told.TheVariants as told
 use Rattle.label_values.specs.declared.verdict.Verdict.{Verdict}
 use Rattle.policy_text.specs.declared.access.Action.{Action}
-use Rattle.xattr_store.specs.Attrs.{Pair}
 use Rattle.book_laws.specs.Booked.{Books}
+use Rattle.inode_cell.specs.Changes.{mended_on}
 use Rattle.inode_cell.specs.Fields.{value_of}
 use Rattle.inode_cell.specs.Granting.{IsGranting, digests_in}
 use Rattle.inode_cell.specs.Value.{CellValue}
-use Rattle.inode_cell.proofs.GrantLemmas.{moved}
+use Rattle.inode_cell.proofs.GrantLemmas.{mended_is, moved}
 use Rattle.inode_cell.proofs.Steps.{holds_on}
 use Rattle.inode_cell.proofs.cell.InodeCell.grant.Goals as goal
 
@@ -40,8 +39,12 @@ enter-requires-clause-known c =
       labelled = c.mends-mends.result;
     })
 
+-- memory ran out
 pub invariant_of-self : goal.invariant_of-self
-invariant_of-self c =
+invariant_of-self c = rw c.in_err-mend_on.ensures.err c.self-2.invariant
+
+pub invariant_of-self-2 : goal.invariant_of-self-2
+invariant_of-self-2 c =
     let k = c.self-2.inside.kept in
     let i0 = k.inode in
     let p = past k.list in
@@ -85,10 +88,14 @@ invariant_of-self c =
     let placed : Placed = placed_for l (asked i0 c.args.deed p) in
     let placed_is : c.list_asked-placed.result ≡ placed = c.list_asked-placed.ensures.placed
     ∙ ap (placed_for l) entry_is in
-    let fixed_is : unwrap_or c.in_ok-attrs.attrs (attributes i0 p) ≡ fixed_by i0
-    c.mends-mends.result (Some digest) (metadata p) (attributes i0 p) =
-    move (λ (i : Inode) (q : List Event). unwrap_or c.in_ok-attrs.attrs (attributes i q) ≡ fixed_by
-    i c.mends-mends.result (Some digest) (metadata q) (attributes i q)) c.in_ok-attrs.ensures in
+    let evm_is : c.settings-2.result.now ≡ i0.settings = c.settings-2.ensures in
+    let meta_is : c.meta-meta.result ≡ metadata p =
+    move (λ (i : Inode) (q : List Event). c.meta-meta.result ≡ metadata q) c.meta-meta.ensures in
+    let attrs_is = h.attributes in
+    let fixed_is : c.mend_on.new.attrs ≡ fixed_by i0 c.mends-mends.result (Some digest) (metadata p)
+    (attributes i0 p) = c.in_ok-mend_on.ensures.ok
+    ∙ (λ j. mended_on (evm_is j).evm c.mends-mends.result digest (meta_is j) (attrs_is j))
+    ∙ mended_is i0 c.mends-mends.result digest (metadata p) (attributes i0 p) in
     let e1 : g.placed ≡ placed_if_measured check.action placed =
     c.placed_if_measured.ensures ∙ (λ j. placed_if_measured (act j) (placed_is j)) in
     let e3 : g.admitted ≡ admits i0.settings.mode (verdict_for i0 check digest p) =
@@ -106,11 +113,10 @@ invariant_of-self c =
     ∙ ap (λ (x : Grant). Some (told.Grant x)) grant_is in
     rw c.enter.ensures.inode
     (holds_on i0 k.list c.enter.new.self.list c.args.who c.args.deed (told.Grant g)
-    c.self-2.inside.content c.self-2.inside.content c.self-2.inside.attrs c.put_in.new.attrs l
+    c.self-2.inside.content c.self-2.inside.content c.self-2.inside.attrs c.mend_on.new.attrs l
     b.seen c.list_asked-placed.new.pass.seen b.mine c.list_asked-placed.new.pass.mine h
     c.enter.ensures.list (h.content ∙ sym (gr.keeps g))
-    (c.put_in.ensures ∙ ap (λ (x : List Pair). unwrap_or c.in_ok-attrs.attrs x) h.attributes
-    ∙ fixed_is ∙ sym (gr.leaves g))
+    (fixed_is ∙ sym (gr.leaves g))
     (subst (λ (o : Option Entry). Books l o b.seen c.list_asked-placed.new.pass.seen b.mine
     c.list_asked-placed.new.pass.mine) entry_is c.list_asked-placed.ensures.books)
     told_is)

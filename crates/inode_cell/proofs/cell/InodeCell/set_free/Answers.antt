@@ -9,12 +9,13 @@ use Rattle.inode_cell.proofs.Acting.{acts_from, acts_ok, acts_refused, blocked, 
 use Rattle.inode_events.specs.Says.{set_attr_told}
 use Rattle.inode_cell.proofs.cell.InodeCell.set_free.Goals as goal
 
-pub returns-in_ok-attrs-in-Done-clause-acts : goal.returns-in_ok-attrs-in-Done-clause-acts
-returns-in_ok-attrs-in-Done-clause-acts c = λ list.
+pub returns-in_ok-step_with-in-Done-clause-acts : goal.returns-in_ok-step_with-in-Done-clause-acts
+returns-in_ok-step_with-in-Done-clause-acts c = λ list.
     acts_from c.args.self.now c.reserve.new.self c.step_with.new.self list list c.args.pass.now
     c.step_with.new.pass c.args.who (deed.SetAttr c.args.name c.args.value c.args.admin) (Some
     told.Done)
-    c.in_ok-reserve.ensures.list c.in_ok-reserve.ensures.same (c.step_with.ensures list)
+    c.in_ok-reserve.ensures.list c.in_ok-reserve.ensures.same
+    (c.in_ok-step_with-in-Done.ensures.acts list)
 
 pub returns-in_default : goal.returns-in_default
 returns-in_default c = record {

@@ -16,11 +16,12 @@ returns-then-is_collecting-clause-acts c = λ list.
     v.list)) (set_meta_told v.inode (past v.list)) (sym c.is_collecting.ensures
     ∙ c.if-is_collecting.true))
 
-pub returns-in_ok-attrs-in-Done-clause-acts : goal.returns-in_ok-attrs-in-Done-clause-acts
-returns-in_ok-attrs-in-Done-clause-acts c = λ list.
+pub returns-in_ok-step_with-in-Done-clause-acts : goal.returns-in_ok-step_with-in-Done-clause-acts
+returns-in_ok-step_with-in-Done-clause-acts c = λ list.
     acts_from c.args.self.now c.reserve.new.self c.step_with.new.self list list c.args.pass.now
     c.step_with.new.pass c.args.who (deed.SetMeta c.args.change) (Some told.Done)
-    c.in_ok-reserve.ensures.list c.in_ok-reserve.ensures.same (c.step_with.ensures list)
+    c.in_ok-reserve.ensures.list c.in_ok-reserve.ensures.same
+    (c.in_ok-step_with-in-Done.ensures.acts list)
 
 pub returns-in_default : goal.returns-in_default
 returns-in_default c = record {

@@ -1,36 +1,48 @@
-use Rattle.std.proofs.Common.{◌≡◌, [], ◌∷◌, Some, None, List, sym, ap, subst, ◌∙◌, refl}
-use Rattle.ima_templates.specs.declared.entry.Entry.{Entry}
+-- The attributes are rewritten, and the event is entered.
+use Rattle.std.proofs.Common.{◌≡◌, [], sym, subst, ◌∙◌}
+use Rattle.std.specs.Option.{option_copied}
 use Rattle.ima_templates.specs.declared.entry.Placed.TheVariants.{Added}
 use Rattle.inode_events.specs.Past.{past}
-use Rattle.inode_cell.specs.Acts.{Acts, IsChange}
-use Rattle.inode_cell.specs.Fields.{Holds}
+use Rattle.inode_cell.specs.Acts.{IsChange}
+use Rattle.inode_cell.specs.Changes.{rewritten}
 use Rattle.inode_cell.specs.Value.{CellValue}
 use Rattle.inode_cell.proofs.Steps.{books_quiet, holds_on, outcome_quiet, placed_back}
 use Rattle.inode_cell.proofs.cell.InodeCell.step_with.Goals as goal
 
-plain : (c : goal.After-enter-arg-2-1)
+change : (c : goal.After-enter-arg-2-1)
     → IsChange c.self.inside.kept.inode (past c.self.inside.kept.list) c.args.who c.args.deed
-    c.args.told c.args.known.now c.args.attrs
-plain c = subst (λ (v : CellValue). IsChange v.inode (past v.list) c.args.who c.args.deed
-    c.args.told c.args.known.now c.args.attrs) (sym c.self.view_is) c.requires.changes
+    c.args.told c.args.known.now (option_copied c.args.digest)
+change c = subst (λ (v : CellValue). IsChange v.inode (past v.list) c.args.who c.args.deed
+    c.args.told c.args.known.now (option_copied c.args.digest)) (sym c.self.view_is)
+    c.requires.changes
 
 pub enter-requires-clause-told : goal.enter-requires-clause-told
 enter-requires-clause-told c = placed_back c.self.inside.kept.inode (past c.self.inside.kept.list)
-    (Added 0) c.args.deed c.args.told (plain c).told
+    (Added 0) c.args.deed c.args.told (change c).told
 
+-- memory ran out
 pub invariant_of-self : goal.invariant_of-self
-invariant_of-self c =
+invariant_of-self c = rw c.in_err-rewrite.ensures.err c.self.invariant
+
+pub invariant_of-self-2 : goal.invariant_of-self-2
+invariant_of-self-2 c =
     let k = c.self.inside.kept in
     let p = past k.list in
     let h = c.self.invariant in
-    let x : IsChange k.inode p c.args.who c.args.deed c.args.told c.args.known.now c.args.attrs =
+    let b = c.self.inside.book in
+    let digest = option_copied c.args.digest in
+    let x : IsChange k.inode p c.args.who c.args.deed c.args.told c.args.known.now digest =
     subst (λ (v : CellValue). IsChange v.inode (past v.list) c.args.who c.args.deed c.args.told
-    c.args.known.now c.args.attrs) (sym c.self.view_is) c.requires.changes in
+    c.args.known.now (option_copied c.args.digest)) (sym c.self.view_is) c.requires.changes in
+    let settings = c.settings.ensures in
+    let meta = c.state.ensures.kept.meta in
+    let attrs = h.attributes in
+    let rewritten_is = c.in_ok-rewrite.ensures.ok
+    ∙ (λ i. rewritten (settings i).evm c.args.deed digest (meta i) (attrs i)) in
     rw c.enter.ensures.inode
     (holds_on k.inode k.list c.enter.new.self.list c.args.who c.args.deed c.args.told
-    c.self.inside.content c.self.inside.content c.self.inside.attrs c.args.attrs []
-    c.self.inside.book.seen c.self.inside.book.seen c.self.inside.book.mine
-    c.self.inside.book.mine
-    h c.enter.ensures.list (h.content ∙ sym x.content) (sym x.attributes) (books_quiet k.inode []
-    c.self.inside.book.seen c.self.inside.book.mine c.args.deed p x.quiet) (outcome_quiet
-    k.inode [] c.args.deed p c.args.told x.quiet x.told))
+    c.self.inside.content c.self.inside.content c.self.inside.attrs c.rewrite.new.attrs []
+    b.seen b.seen b.mine b.mine
+    h c.enter.ensures.list (h.content ∙ sym x.content) (rewritten_is ∙ sym x.attributes)
+    (books_quiet k.inode [] b.seen b.mine c.args.deed p x.quiet)
+    (outcome_quiet k.inode [] c.args.deed p c.args.told x.quiet x.told))

@@ -6,7 +6,8 @@ use Rattle.inode_events.specs.declared.told.Event.{Event}
 use Rattle.kept_journal.specs.Fields.{inode_in}
 use Rattle.kept_journal.specs.Value.{birth_in, birth_of}
 use Rattle.kept_journal.proofs.Keeping.{keeps_born}
-use Rattle.kept_journal.proofs.Own.{HasOthers-rest, first_is, rest_fresh, split_first}
+use Rattle.grow_list.proofs.Others.{first_is, rest_fresh, split_first}
+use Rattle.kept_journal.proofs.Own.{HasOthers-rest}
 use Rattle.kept_journal.proofs.journal.KeptJournal.start.Goals as goal
 
 own_is : (c : goal.After-push) → c.remove-own.result ≡ fresh c.in_ok-journal.journal.name 0
