@@ -1,0 +1,5 @@
+pub mod Sharing
+pub mod Starting
+pub mod GatherLemmas
+pub mod Fresh
+pub mod Framing

@@ -1,0 +1,121 @@
+-- Each task gets its pass of a journal.
+use Rattle.std.proofs.Common.{◌≡◌, ℕ, ◌+◌, ◌<◌, ◌≤◌, List, [], ◌∷◌, ◌++◌, length, refl, ap, sym, ◌∙◌, arith, Some, ◌⊎◌, inl, inr, suc, zero, get_or, subst}
+use Rattle.std.specs.Prelude.{map, slice_get, slice_set}
+use Rattle.std.proofs.lemmas.Bool.{cases_eq}
+use Rattle.std.proofs.lemmas.List.{length-set}
+use Rattle.std.proofs.lemmas.Option.{get_or_from_slice_get, same_Some, slice_get_within}
+use Rattle.grow_list.specs.Shown.{ListName, Passed, fresh}
+use Rattle.inode_events.specs.declared.told.Event.{Event}
+
+module _ {A : Type 0} where
+  -- what was written stands there
+  pub get_set_same : (xs : List A) (k : ℕ) (v : A) → k < length xs
+      → slice_get (slice_set xs k v) k ≡ Some v
+  get_set_same [] k v b = absurd (omega arith)
+  get_set_same (x ∷ xs) zero v b = refl
+  get_set_same (x ∷ xs) (suc k) v b = get_set_same xs k v (omega arith)
+
+  -- elsewhere all is as before
+  pub get_set_other : (xs : List A) (k j : ℕ) (v : A) → (j ≡ k → ⊥)
+      → slice_get (slice_set xs k v) j ≡ slice_get xs j
+  get_set_other [] k j v ne = refl
+  get_set_other (x ∷ xs) zero zero v ne = absurd (ne refl)
+  get_set_other (x ∷ xs) zero (suc j) v ne = refl
+  get_set_other (x ∷ xs) (suc k) zero v ne = refl
+  get_set_other (x ∷ xs) (suc k) (suc j) v ne = get_set_other xs k j v (λ e. ne (ap suc e))
+
+-- the rows up to this one have their passes, and the others are as before
+pub record IsShared {A : Type 0} (of : ℕ → A) (k : ℕ) (old new : List (List A)) : Type 0 where
+  pub given : (j : ℕ) (row : List A) → j < k → slice_get old j ≡ Some row
+      → slice_get new j ≡ Some (row ++ of j ∷ [])
+  pub left : (j : ℕ) → k ≤ j → slice_get new j ≡ slice_get old j
+
+-- one row more has
+pub shared_more : {A : Type 0} (of : ℕ → A) (k : ℕ) (old new new2 : List (List A)) (x : A)
+    → k < length new → x ≡ of k → new2 ≡ slice_set new k (get_or new k [] ++ x ∷ [])
+    → IsShared of k old new → IsShared of (k + 1) old new2
+shared_more {A} of k old new new2 x within is set s = record {
+  given = λ j row below at. given j row below at (cases_eq j k);
+  left = λ j above.
+      ap (λ (l : List (List A)). slice_get l j) set
+      ∙ get_set_other new k j (get_or new k [] ++ x ∷ []) (λ e. absurd (omega arith))
+      ∙ s.left j (omega arith);
+} where
+  given : (j : ℕ) (row : List A) → j < k + 1 → slice_get old j ≡ Some row
+      → (j ≡ k) ⊎ (j ≡ k → ⊥) → slice_get new2 j ≡ Some (row ++ of j ∷ [])
+  given j row below at (inl e) =
+      subst (λ (i : ℕ). slice_get new2 i ≡ Some (row ++ of i ∷ [])) (sym e)
+      (ap (λ (l : List (List A)). slice_get l k) set
+      ∙ get_set_same new k (get_or new k [] ++ x ∷ []) within
+      ∙ (λ i. Some (was i ++ is i ∷ []))) where
+        was : get_or new k [] ≡ row
+        was = get_or_from_slice_get new k row []
+            (s.left k (omega arith) ∙ ap (slice_get old) (sym e) ∙ at)
+  given j row below at (inr ne) =
+      ap (λ (l : List (List A)). slice_get l j) set
+      ∙ get_set_other new k j (get_or new k [] ++ x ∷ []) ne
+      ∙ s.given j row (before_it j k below ne) at where
+        before_it : (j k : ℕ) → j < k + 1 → (j ≡ k → ⊥) → j < k
+        before_it j k b n = grind arith
+
+-- none has at first
+pub shared_none : {A : Type 0} (of : ℕ → A) (old : List (List A)) → IsShared of 0 old old
+shared_none of old = record {
+  given = λ j row below at. absurd (omega arith);
+  left = λ j above. refl;
+}
+
+-- the first k rows have their passes of the journal of this name, and the column has those of the
+-- others
+pub record Shares (name : ListName) (k : ℕ) (old rows : List (List (Passed Event)))
+    (left : List (Passed Event)) : Type 0 where
+  pub count : length rows ≡ length old
+  pub rest : length left + k ≡ length rows
+  pub column : (j : ℕ) → j < length left → slice_get left j ≡ Some (fresh name (k + j + 1))
+  pub shared : IsShared (λ j. fresh {E = Event} name (j + 1)) k old rows
+
+pub shares_none : (name : ListName) (rows : List (List (Passed Event)))
+    (column : List (Passed Event)) → length column ≡ length rows
+    → ((j : ℕ) → j < length column → slice_get column j ≡ Some (fresh name (j + 1)))
+    → Shares name 0 rows rows column
+shares_none name rows column even each = record {
+  count = refl;
+  rest = omega arith;
+  column = λ j below.
+      each j below
+      ∙ ap (λ (n : ℕ). Some (fresh {E = Event} name (n + 1)))
+      (let e : j ≡ 0 + j = omega arith in e);
+  shared = shared_none (λ j. fresh {E = Event} name (j + 1)) rows;
+}
+
+-- one row more has its pass
+pub shares_more : (name : ListName) (k : ℕ) (old rows rows2 : List (List (Passed Event)))
+    (column column2 : List (Passed Event)) (pass : Passed Event) → column ≡ pass ∷ column2
+    → rows2 ≡ slice_set rows k (get_or rows k [] ++ pass ∷ [])
+    → Shares name k old rows column → Shares name (k + 1) old rows2 column2
+shares_more name k old rows rows2 column column2 pass first set s = record {
+  count = even ∙ s.count;
+  rest = let e = ap length first in let r = s.rest in let n = even in omega arith;
+  column = λ j below.
+      ap (λ (l : List (Passed Event)). slice_get l (suc j)) (sym first)
+      ∙ s.column (suc j) (let e = ap length first in omega arith)
+      ∙ ap (λ (n : ℕ). Some (fresh {E = Event} name (n + 1)))
+      (let e : k + suc j ≡ k + 1 + j = omega arith in e);
+  shared = shared_more (λ j. fresh {E = Event} name (j + 1)) k old rows rows2 pass
+      (let e = ap length first in let r = s.rest in omega arith)
+      (same_Some pass (fresh name (k + 1))
+      (ap (λ (l : List (Passed Event)). slice_get l 0) (sym first)
+      ∙ s.column 0 (let e = ap length first in omega arith)
+      ∙ ap (λ (n : ℕ). Some (fresh {E = Event} name (n + 1)))
+      (let e : k + 0 ≡ k = omega arith in e))) set s.shared;
+} where
+  even : length rows2 ≡ length rows
+  even = ap length set ∙ length-set rows k (get_or rows k [] ++ pass ∷ [])
+
+-- where each row was gone through, each has its pass
+pub shares_all : (name : ListName) (k : ℕ) (old rows : List (List (Passed Event)))
+    (column : List (Passed Event)) → length old ≤ k → Shares name k old rows column → (j : ℕ)
+    → (row : List (Passed Event)) → slice_get old j ≡ Some row
+    → slice_get rows j ≡ Some (row ++ fresh name (j + 1) ∷ [])
+shares_all name k old rows column all s j row at =
+    s.shared.given j row (let b = slice_get_within old j row at in omega arith) at

@@ -1,0 +1,147 @@
+use Rattle.std.proofs.Common.{◌≡◌, ℕ, ◌+◌, ◌-◌, ◌<◌, [], List, length, arith, sym, subst, ◌∙◌, ap}
+use Rattle.std.specs.Prelude.{All, max}
+use Rattle.grow_list.specs.Shown.{Passed}
+use Rattle.ima_templates.specs.declared.entry.Entry.{Entry}
+use Rattle.policy_cell.specs.declared.cell.RuleEntry.{RuleEntry}
+use Rattle.policy_text.specs.RuleValue.{RuleValue}
+use Rattle.world_start.specs.Parts.{frame_by}
+use Rattle.world_start.specs.Start.{IsFrameOf}
+use Rattle.world_start.specs.Started.{AreFresh}
+use Rattle.world_start.proofs.Fresh.{unused}
+use Rattle.world_start.proofs.Framing.{are_idle, are_rules, are_signals, are_stations, begins, first_passes, is_book, is_frame}
+use Rattle.world_start.proofs.lists.start_lists.Goals as goal
+
+pub returns-clause-frame : goal.returns-clause-frame
+returns-clause-frame c =
+    let e = c.in_ok-cells.ensures in
+    let stations = c.in_ok-stations.stations.items in
+    let k = c.in_ok-cells.cells in
+    subst (λ (x : List ℕ × List RuleValue). IsFrameOf c.args.settings c.args.boot
+    c.args.inodes.items c.args.supers.items x.0 x.1 c.args.tasks
+    (frame_by c.args.settings stations c.args.supers.items k.book k.sems k.rules c.args.tasks))
+    (λ i. (c.new-seats.ensures.places i, e.base i))
+    (is_frame c.args.settings c.args.boot c.args.inodes.items c.args.supers.items c.args.tasks
+    c.new-seats.result stations k.book k.sems k.rules c.in_ok-stations.ensures.stations e.book)
+
+pub returns-clause-begins : goal.returns-clause-begins
+returns-clause-begins c =
+    let e = c.in_ok-cells.ensures in
+    let k = c.in_ok-cells.cells in
+    begins c.args.settings c.args.boot c.args.inodes.items c.args.supers.items c.args.tasks
+    c.new-seats.result c.in_ok-stations.stations.items k.book k.sems k.rules
+    c.in_ok-stations.ensures.stations e.book e.sems e.added
+
+pub returns-clause-stations : goal.returns-clause-stations
+returns-clause-stations c =
+    let e = c.in_ok-cells.ensures in
+    let k = c.in_ok-cells.cells in
+    let n : c.len-count.result ≡ length c.args.inodes.items =
+    omega (arith, c.len-count.ensures, c.args.inodes.ok) in
+    are_stations c.args.settings c.args.boot c.args.inodes.items c.args.supers.items c.args.tasks
+    c.new-seats.result c.in_ok-stations.stations.items k.book k.sems k.rules
+    c.in_ok-stations.ensures.stations
+    (subst (λ (x : ℕ × List (Passed Entry)). AreFresh k.book.name (λ j. j + 1) x.0 x.1)
+    (λ i. (n i, sym c.new-seats.ensures.listers i)) e.listers)
+    (subst (λ (x : ℕ × List (Passed RuleEntry)). AreFresh k.rules.appended.name
+    (λ j. c.args.tasks + j) x.0 x.1)
+    (λ i. (n i, sym c.new-seats.ensures.counters i)) e.counters)
+    (subst (λ (l : List ℕ). All (λ (p : ℕ). p < length c.args.supers.items) l)
+    (sym c.new-seats.ensures.places) c.requires.places)
+
+pub returns-clause-book : goal.returns-clause-book
+returns-clause-book c =
+    let e = c.in_ok-cells.ensures in
+    let k = c.in_ok-cells.cells in
+    let n : c.len-count.result ≡ length c.args.inodes.items =
+    omega (arith, c.len-count.ensures, c.args.inodes.ok) in
+    is_book c.args.settings c.args.boot c.args.inodes.items c.args.supers.items c.args.tasks
+    c.new-seats.result c.in_ok-stations.stations.items k.book k.sems k.rules
+    c.in_ok-stations.ensures.stations e.book
+    (subst (λ (m : ℕ). k.book.callers ≡ 1 + m + c.args.tasks) n e.listed)
+
+pub returns-clause-sems : goal.returns-clause-sems
+returns-clause-sems c =
+    let e = c.in_ok-cells.ensures in
+    let k = c.in_ok-cells.cells in
+    are_signals c.args.settings c.args.boot c.args.inodes.items c.args.supers.items c.args.tasks
+    c.new-seats.result c.in_ok-stations.stations.items k.book k.sems k.rules
+    c.in_ok-stations.ensures.stations e.signalled
+
+pub returns-clause-rules : goal.returns-clause-rules
+returns-clause-rules c =
+    let e = c.in_ok-cells.ensures in
+    let k = c.in_ok-cells.cells in
+    let n : c.len-count.result ≡ length c.args.inodes.items =
+    omega (arith, c.len-count.ensures, c.args.inodes.ok) in
+    are_rules c.args.settings c.args.boot c.args.inodes.items c.args.supers.items c.args.tasks
+    c.new-seats.result c.in_ok-stations.stations.items k.book k.sems k.rules
+    c.in_ok-stations.ensures.stations e.added e.numbers
+    (subst (λ (m : ℕ). k.rules.appended.callers ≡ max 1 (c.args.tasks + m)) n e.appended)
+
+pub returns-clause-idle : goal.returns-clause-idle
+returns-clause-idle c =
+    let e = c.in_ok-cells.ensures in
+    let k = c.in_ok-cells.cells in
+    let n : c.len-count.result ≡ length c.args.inodes.items =
+    omega (arith, c.len-count.ensures, c.args.inodes.ok) in
+    are_idle c.args.settings c.args.boot c.args.inodes.items c.args.supers.items c.args.tasks
+    c.new-seats.result c.in_ok-stations.stations.items k.book k.sems k.rules
+    c.in_ok-stations.ensures.stations k.idle.items
+    (subst (λ (m : ℕ). AreFresh k.rules.appended.name (λ j. c.args.tasks + m + j)
+    (max 1 (c.args.tasks + m) - (c.args.tasks + m)) k.idle.items) n e.idle)
+
+pub returns-clause-passes : goal.returns-clause-passes
+returns-clause-passes c =
+    let e = c.in_ok-cells.ensures in
+    let k = c.in_ok-cells.cells in
+    let n : c.len-count.result ≡ length c.args.inodes.items =
+    omega (arith, c.len-count.ensures, c.args.inodes.ok) in
+    let p = c.in_ok-passes.ensures in
+    let w = c.new-columns.ensures in
+    first_passes c.args.settings c.args.boot c.args.inodes.items c.args.supers.items c.args.tasks
+    c.new-seats.result c.in_ok-stations.stations.items k.book k.sems k.rules
+    c.in_ok-stations.ensures.stations c.in_ok-passes.passes.items
+    c.in_ok-stations.rows.items k.task_signallers.items k.task_listers.items
+    k.task_appenders.items (p.rows ∙ w.rows) (p.sems ∙ w.sems) (p.book ∙ w.book)
+    (p.rules ∙ w.rules) c.in_ok-stations.ensures.rows e.task_signallers
+    (subst (λ (m : ℕ). AreFresh k.book.name (λ j. m + j + 1) c.args.tasks k.task_listers.items)
+    n e.task_listers) e.task_appenders
+
+pub start_stations-requires-clause-places : goal.start_stations-requires-clause-places
+start_stations-requires-clause-places c =
+    ap length c.new-seats.ensures.places ∙ c.requires.even
+
+pub start_stations-requires-clause-listers : goal.start_stations-requires-clause-listers
+start_stations-requires-clause-listers c =
+    let e = c.in_ok-cells.ensures in
+    let k = c.in_ok-cells.cells in
+    let n : c.len-count.result ≡ length c.args.inodes.items =
+    omega (arith, c.len-count.ensures, c.args.inodes.ok) in
+    ap length c.new-seats.ensures.listers ∙ e.listers.even ∙ n
+
+pub start_stations-requires-clause-counters : goal.start_stations-requires-clause-counters
+start_stations-requires-clause-counters c =
+    let e = c.in_ok-cells.ensures in
+    let k = c.in_ok-cells.cells in
+    let n : c.len-count.result ≡ length c.args.inodes.items =
+    omega (arith, c.len-count.ensures, c.args.inodes.ok) in
+    ap length c.new-seats.ensures.counters ∙ e.counters.even ∙ n
+
+pub start_stations-requires-clause-unused : goal.start_stations-requires-clause-unused
+start_stations-requires-clause-unused c =
+    let e = c.in_ok-cells.ensures in
+    let k = c.in_ok-cells.cells in
+    subst (λ (l : List (Passed Entry)). All (λ (q : Passed Entry). q.mine ≡ []) l)
+    (sym c.new-seats.ensures.listers)
+    (unused k.book.name (λ j. j + 1) c.len-count.result k.listers.items e.listers)
+
+pub gather-requires : goal.gather-requires
+gather-requires c =
+    let e = c.in_ok-cells.ensures in
+    let w = c.new-columns.ensures in
+    let rows = ap length w.rows ∙ c.in_ok-stations.ensures.rows.0 in
+    record {
+      sems = ap length w.sems ∙ e.task_signallers.even ∙ sym rows;
+      book = ap length w.book ∙ e.task_listers.even ∙ sym rows;
+      rules = ap length w.rules ∙ e.task_appenders.even ∙ sym rows;
+    }

@@ -1,0 +1,9 @@
+use Rattle.std.proofs.Common.{◌≡◌, length}
+use Rattle.world_start.proofs.Sharing.{Shares}
+use Rattle.world_start.proofs.rows.share_out.Given as goal
+
+abbrev pub invariant-loop-k : goal.invariant-loop-k
+invariant-loop-k l = record {
+  end : l.k-end ≡ length l.rows.items;
+  shares : Shares l.station.cell.journal l.k l.fn.rows.items l.rows.items l.column.items;
+}

@@ -1,0 +1,44 @@
+-- What a world starts with.
+use Rattle.std.specs.Prelude.{◌≡◌, ℕ, ◌+◌, ◌<◌, All, List, length, map, Some, slice_get}
+use Rattle.ima_templates.specs.declared.entry.Entry.{Entry}
+use Rattle.inode_events.specs.declared.image.Image.{Image}
+use Rattle.inode_events.specs.declared.settings.Settings.{Settings}
+use Rattle.policy_text.specs.RuleValue.{RuleValue}
+use Rattle.policy_text.specs.declared.access.Super.{Super}
+use Rattle.run_model.specs.Scene.{Program}
+use Rattle.run_model.specs.Turns.{State, start_of}
+use Rattle.task_frame.specs.Frame.{Frame, Site, scene_of}
+use Rattle.task_frame.specs.Tasks.{ArePassesOf, AreUnused, PassesValue}
+use Rattle.world_start.specs.Parts.{frame_by, state_by}
+use Rattle.world_start.specs.declared.lists.Start.{Start}
+
+abbrev pub frame_of_start : Start → Frame
+frame_of_start w =
+    frame_by w.settings w.stations.items w.supers.items w.book w.sems w.rules w.tasks
+
+abbrev pub state_of_start : Start → State
+state_of_start w = state_by w.stations.items w.book w.sems w.rules
+
+-- the constants are those of a script with these settings, this first entry of the list, these
+-- files on these file systems, these rules, and so many tasks
+pub record IsFrameOf (config : Settings) (first : Entry) (inodes : List (List ℕ × Image))
+    (systems : List Super) (numbers : List ℕ) (policy : List RuleValue) (count : ℕ)
+    (frame : Frame) : Type 0 where
+  pub settings : frame.settings ≡ config
+  pub boot : frame.boot ≡ first
+  pub files : map (λ (s : Site). (s.path, s.birth)) frame.sites ≡ inodes
+  pub supers : frame.supers ≡ systems
+  pub places : map (λ (s : Site). s.place) frame.sites ≡ numbers
+  pub base : frame.base ≡ policy
+  pub tasks : frame.tasks ≡ count
+
+-- the lists are those with which a run begins, whatever its programs
+abbrev pub Begins : Frame → State → Type 0
+Begins frame state =
+    (programs : List Program) → state ≡ (start_of (scene_of frame programs)).state
+
+-- there are passes for each task, in order, and none of them was used
+pub record AreFirstPasses (frame : Frame) (passes : List PassesValue) : Type 0 where
+  pub count : length passes ≡ frame.tasks
+  pub each : (k : ℕ) (p : PassesValue) → slice_get passes k ≡ Some p
+      → ArePassesOf frame k p × AreUnused p

@@ -1,0 +1,96 @@
+// The inodes of a world.
+ghost use Rattle.std.specs.Prelude.{◌≡◌, ℕ, ◌+◌, ◌<◌, ◌^◌, [], All, IfOk, List, length, Some, slice_get};
+ghost use Rattle.grow_list.specs.Shown.{Passed, fresh};
+ghost use Rattle.ima_templates.specs.declared.entry.Entry.{Entry as AnyEntry};
+ghost use Rattle.inode_events.specs.declared.told.Event.{Event as AnyEvent};
+ghost use Rattle.world_start.specs.Started.{AreRows, AreStarted, IsFile, IsStarted, file_of, lister_of, named_by};
+
+use crate::rows::{Row, share_out};
+use crate::seats::{Seat, Seats};
+use grow_list::{OutOfMemory, Pass};
+use inode_cell::InodeCell;
+use inode_events::{Event, Image, Settings};
+use std::alloc::Global;
+use std::collections::VecDeque;
+use task_frame::Station;
+use xattr_store::Bytes;
+
+// One inode, and the passes of its journal.
+fn start_station(
+    alloc: Global,
+    file: (Bytes, Image),
+    settings: Settings,
+    tasks: u32,
+    seat: Seat,
+) -> Result<(Station, Vec<Pass<Event>>), OutOfMemory>
+    requires file { IsFile file }
+    requires tasks { tasks + 1 < 2 ^ 32 }
+    requires listed { seat.listed.mine ≡ [] }
+    ensures station { IfOk result (λ r. IsStarted settings tasks r.0) }
+    ensures file { IfOk result (λ r. file_of r.0 ≡ file) }
+    ensures place { IfOk result (λ r. r.0.place ≡ seat.place) }
+    ensures listed { IfOk result (λ r. lister_of r.0 ≡ named_by seat.listed) }
+    ensures counted { IfOk result (λ r. r.0.rules ≡ seat.counted) }
+    ensures count { IfOk result (λ r. length r.1.items ≡ tasks) }
+    ensures passes { IfOk result (λ r. (k : ℕ) → k < tasks
+        → slice_get r.1.items k ≡ Some (fresh r.0.cell.journal (k + 1))) }
+{
+    let (path, image) = file;
+    let Seat {
+        place,
+        listed,
+        counted,
+    } = seat;
+    let (cell, passes) = InodeCell::start(alloc, path.as_slice(), image, settings, tasks, listed)?;
+    let station = Station {
+        cell,
+        rules: counted,
+        place,
+    };
+    Ok((station, passes))
+}
+
+// All inodes, in order, and a row of passes for each task.
+pub(crate) fn start_stations(
+    alloc: Global,
+    settings: &Settings,
+    tasks: u32,
+    inodes: Vec<(Bytes, Image)>,
+    seats: Seats,
+) -> Result<(Vec<Station>, Vec<Row>), OutOfMemory>
+    requires tasks { tasks + 1 < 2 ^ 32 }
+    requires files { All IsFile inodes.items }
+    requires places { length seats.places ≡ length inodes.items }
+    requires listers { length seats.listers ≡ length inodes.items }
+    requires counters { length seats.counters ≡ length inodes.items }
+    requires unused { All (λ (q : Passed AnyEntry). q.mine ≡ []) seats.listers }
+    ensures stations { IfOk result (λ r. AreStarted settings.now tasks inodes.items seats
+        r.0.items) }
+    ensures rows { IfOk result (λ r. AreRows r.0.items tasks r.1.items) }
+{
+    let mut seats = seats;
+    let mut left = VecDeque::from(inodes);
+    let mut stations = Vec::new(alloc);
+    let mut rows = empty_rows(alloc, tasks)?;
+    while let Some(file) = left.pop_front() {
+        let seat = seats.next();
+        let copy = settings.copy()?;
+        let (station, column) = start_station(alloc, file, copy, tasks, seat)?;
+        share_out(&mut rows, &station, VecDeque::from(column))?;
+        stations.push(station)?;
+    }
+    Ok((stations, rows))
+}
+
+// A row without passes for each task.
+fn empty_rows(alloc: Global, tasks: u32) -> Result<Vec<Row>, OutOfMemory>
+    ensures count { IfOk result (λ rows. length rows.items ≡ tasks) }
+    ensures empty { IfOk result (λ rows. All (λ (row : List (Passed AnyEvent)). row ≡ [])
+        rows.items) }
+{
+    let mut rows = Vec::new(alloc);
+    for _ in 0..tasks {
+        rows.push(Row::new(Vec::new(alloc)))?;
+    }
+    Ok(rows)
+}
