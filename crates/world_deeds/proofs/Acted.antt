@@ -1,5 +1,5 @@
 -- A deed between two looks at the measurement list.
-use Rattle.std.proofs.Common.{◌≡◌, ℕ, ◌+◌, List, [], ◌++◌, length, Option, Some, None, refl, sym, ◌∙◌, ap, subst}
+use Rattle.std.proofs.Common.{◌≡◌, ℕ, List, length, Option, Some, None, refl, sym, ◌∙◌, ap}
 use Rattle.std.specs.Prelude.{IfOk, Result, Ok, Err}
 use Rattle.std.proofs.lemmas.List.{append-nil}
 use mathlib.Core.List.{IsPrefix}
@@ -15,7 +15,6 @@ use Rattle.inode_events.specs.declared.told.Event.{Event}
 use Rattle.inode_events.specs.declared.told.Told.{Told}
 use Rattle.inode_meta.specs.declared.identity.Cred.{Cred}
 use Rattle.inode_meta.specs.declared.step.Who.{Who}
-use Rattle.policy_cell.specs.declared.cell.RuleEntry.{RuleEntry}
 use Rattle.policy_text.specs.ActionValue.{ActionValue}
 use Rattle.policy_text.specs.RuleValue.{RuleValue}
 use Rattle.policy_text.specs.declared.access.Super.{Super}
@@ -27,7 +26,6 @@ use Rattle.task_frame.specs.World.{StationValue}
 use Rattle.task_frame.specs.declared.gathered.Gathered.{Gathered}
 use Rattle.task_laws.specs.Due.{HashesTold}
 use Rattle.task_laws.specs.Ready.{HasLooked}
-use Rattle.task_laws.specs.Steps.{Adds}
 use Rattle.world_deeds.specs.Acting.{IsPlacedAt, StationDid, answered_in, told_in, told_of}
 use Rattle.world_deeds.specs.Checking.{IsChecked, check_by, checked_in}
 
@@ -78,7 +76,8 @@ checked_is cell list list1 rules cred place asked (Ok x) e action told = record 
 checked_is cell list list1 rules cred place asked (Err x) e action told = tt
 
 -- with the two looks around it
-pub did_by : (s s2 : StationValue) (book book1 book2 book3 : Grown Entry) (pass pass2 : Passed Event)
+pub did_by : (s s2 : StationValue) (book book1 book2 book3 : Grown Entry)
+    (pass pass2 : Passed Event)
     (listed listed1 listed2 : Passed Entry) (who : Who) (d : Deed) (g g2 : Gathered)
     (o : Option Told)
     → HasLooked s.cell.inode pass.number pass.seen s.cell.list pass.mine
@@ -94,28 +93,28 @@ pub did_by : (s s2 : StationValue) (book book1 book2 book3 : Grown Entry) (pass 
     → StationDid s s2 book book3 pass pass2 listed listed2 who d g g2 o
 did_by s s2 book book1 book2 book3 pass pass2 listed listed1 listed2 who d g g2 o looked leaves
     rules place kept hashes first last before mine same seen mine2 same2 = record {
-  looked = looked;
-  leaves = record {
-    journal = leaves.journal;
-    book = last.list ∙ leaves.book
-        ∙ ap (λ (xs : List Entry). list_after xs (asked s.cell.inode d (past s.cell.list)) o)
-        first.list;
-    seen = leaves.seen;
-    mine = leaves.mine;
-    pass_name = leaves.pass_name;
-    pass_number = leaves.pass_number;
-    same = leaves.same;
-  };
-  rules = rules;
-  place = place;
-  book_name = last.name ∙ kept.0 ∙ first.name;
-  book_callers = last.callers ∙ kept.1 ∙ first.callers;
-  book_pass = record {
-    name = same2.0 ∙ same.0;
-    number = same2.1 ∙ same.1;
-    mine = mine2 ∙ mine ∙ sym (append-nil listed.mine);
-  };
-  before = before;
-  seen = seen;
-  hashes = hashes;
-}
+      looked = looked;
+      leaves = record {
+        journal = leaves.journal;
+        book = last.list ∙ leaves.book
+            ∙ ap (λ (xs : List Entry). list_after xs (asked s.cell.inode d (past s.cell.list)) o)
+            first.list;
+        seen = leaves.seen;
+        mine = leaves.mine;
+        pass_name = leaves.pass_name;
+        pass_number = leaves.pass_number;
+        same = leaves.same;
+      };
+      rules = rules;
+      place = place;
+      book_name = last.name ∙ kept.0 ∙ first.name;
+      book_callers = last.callers ∙ kept.1 ∙ first.callers;
+      book_pass = record {
+        name = same2.0 ∙ same.0;
+        number = same2.1 ∙ same.1;
+        mine = mine2 ∙ mine ∙ sym (append-nil listed.mine);
+      };
+      before = before;
+      seen = seen;
+      hashes = hashes;
+    }

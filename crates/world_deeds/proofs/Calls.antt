@@ -1,7 +1,6 @@
 -- What a step of a task finds at the inode of its number.
-use Rattle.std.proofs.Common.{◌≡◌, ℕ, ◌+◌, ◌<◌, List, [], ◌∷◌, length, map, Option, Some, None, refl, sym, ◌∙◌, ap, subst}
+use Rattle.std.proofs.Common.{◌≡◌, ℕ, ◌+◌, ◌<◌, List, length, Option, Some, sym, ◌∙◌, ap, subst}
 use Rattle.std.specs.Prelude.{IfOk, Result, Ok, Err, slice_get}
-use Rattle.std.proofs.lemmas.List.{length-map}
 use Rattle.std.proofs.lemmas.Option.{same_Some}
 use Rattle.grow_list.specs.Shown.{Grown, Passed}
 use Rattle.ima_templates.specs.declared.entry.Entry.{Entry}
@@ -13,13 +12,12 @@ use Rattle.inode_events.specs.Past.{past}
 use Rattle.inode_events.specs.declared.deed.Deed.{Deed}
 use Rattle.inode_events.specs.declared.settings.Settings.{Settings}
 use Rattle.inode_events.specs.declared.told.Event.{Event}
-use Rattle.inode_events.specs.declared.told.Told.{Told}
 use Rattle.policy_cell.specs.Policy.{PolicyValue}
 use Rattle.policy_text.specs.ActionValue.{ActionValue}
 use Rattle.policy_text.specs.declared.access.Super.{Super}
 use Rattle.rule_laws.specs.Stations.{CountsAll}
 use Rattle.run_model.specs.Turns.{State}
-use Rattle.task_frame.specs.Frame.{Frame, Site, inode_in}
+use Rattle.task_frame.specs.Frame.{Frame, inode_in}
 use Rattle.task_frame.specs.Tasks.{ArePassesOf, PassesValue}
 use Rattle.task_frame.specs.World.{StationValue, journal_of, site_of}
 use Rattle.task_frame.specs.declared.gathered.Gathered.{Gathered}
@@ -118,8 +116,7 @@ module _ (settings : Settings) (stations : List StationValue) (supers : List Sup
       let site : site_of st ≡ s = same_Some (site_of st) s (sym site_there ∙ here) in
       let list : st.cell.list ≡ journal =
       same_Some st.cell.list journal
-      (sym (get_map journal_of stations i st there) ∙ journal_here) in
-      (
+      (sym (get_map journal_of stations i st there) ∙ journal_here) in (
         told
             ∙ ap (λ (x : Inode). outcome x book.list d (past st.cell.list))
             (inode_same ∙ ap (inode_in F) site)

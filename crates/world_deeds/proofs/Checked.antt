@@ -1,14 +1,13 @@
 -- What became of a turn with a check.
-use Rattle.std.proofs.Common.{◌≡◌, ℕ, List, [], ◌∷◌, ◌++◌, length, Option, Some, None, refl, sym, ◌∙◌, ap, subst}
+use Rattle.std.proofs.Common.{◌≡◌, ℕ, List, [], ◌∷◌, length, Option, Some, None, refl, sym, ◌∙◌, ap, subst}
 use Rattle.std.specs.Prelude.{Result, Ok, Err, slice_get, unwrap_or}
-use Rattle.std.proofs.lemmas.Option.{get_or_from_slice_get}
+use Rattle.std.proofs.lemmas.Option.{get_or_from_slice_get, same_Some}
 use Rattle.inode_events.specs.Asked.{outcome}
 use Rattle.inode_events.specs.Past.{past}
 use Rattle.inode_events.specs.State.{metadata}
 use Rattle.inode_events.specs.declared.deed.Deed.{Deed}
 use Rattle.inode_events.specs.declared.deed.Deed.TheVariants as deed
 use Rattle.inode_events.specs.declared.told.Event.{Event}
-use Rattle.inode_events.specs.declared.told.Told.{Told}
 use Rattle.inode_meta.specs.declared.step.Who.{Who}
 use Rattle.call_steps.specs.Mind.{Step}
 use Rattle.call_steps.specs.Mind.{Checks}
@@ -18,22 +17,19 @@ use Rattle.policy_text.specs.declared.access.Action.{Action}
 use Rattle.policy_text.specs.declared.rule.Func.{Func}
 use Rattle.run_model.specs.History.{Answer, hear, step_at, who_at}
 use Rattle.run_model.specs.Scene.{Program, Station, decided, rules_with}
-use Rattle.run_model.specs.Turns.{State, Turned, go, go_check, go_event, go_step, turn_of}
+use Rattle.run_model.specs.Turns.{State, go_check, go_event, go_step}
 use Rattle.run_model.specs.declared.turn.Turn.TheVariants as turns
 use Rattle.task_deeds.specs.declared.listed.Checks.{Checks as Asked}
 use Rattle.task_frame.specs.Frame.{Frame, Site, inode_in, mode_in, scene_of, station_of, super_at}
 use Rattle.task_frame.specs.Tasks.{HasPlayed, PassesValue, Tasked, action_by}
-use Rattle.task_frame.specs.declared.gathered.Gathered.{Gathered}
 use Rattle.task_laws.proofs.Blocking.{none_is_played}
 use Rattle.task_laws.proofs.Eventing.{check_is_played, get_map}
 use Rattle.task_laws.specs.Events.{EventOn}
-use Rattle.task_laws.specs.Plays.{HasHeard, IsStepFor, check_answer, task_after, task_left}
-use Rattle.task_mind.specs.Value.{TaskValue}
+use Rattle.task_laws.specs.Plays.{HasHeard, IsStepFor, check_answer, task_after}
 use Rattle.world_deeds.proofs.Going.{goes_event}
 use Rattle.world_deeds.proofs.Reaching.{get_map_none, same_left, unmoved}
-use Rattle.world_deeds.specs.Acting.{NoEvent}
-use Rattle.world_deeds.specs.Checking.{CheckIn, CheckOn, IsCheckedBy, check_by}
-use Rattle.world_deeds.specs.Turning.{Fails, Goes, Reaches, Stops, Tells, answer_of, reached_by, turned_to}
+use Rattle.world_deeds.specs.Checking.{CheckIn, IsCheckedBy}
+use Rattle.world_deeds.specs.Turning.{Goes, Reaches, Stops, Tells, answer_of, reached_by, turned_to}
 use Rattle.world_deeds.specs.declared.answers.Answered.{Answered}
 
 module _ (frame : Frame) (t : Tasked) (i file : ℕ) (func : Func) (mask : ℕ) (old new : State)
@@ -143,7 +139,8 @@ module _ (frame : Frame) (t : Tasked) (i file : ℕ) (func : Func) (mask : ℕ) 
   by_site (Err y) None there c =
       record { plays = same_left frame t passes t.gathered c.left refl; state = c.state }
   by_site (Ok (Some a)) (Some s) there c =
-      check_tells s there a c.journal c.event c.journal_is c.told c.seen
+      check_tells s there a c.journal c.event
+      (same_Some c.event.journal c.journal (sym c.event.journal_at ∙ c.journal_at)) c.told c.seen
   by_site (Ok None) (Some s) there c = absurd c.told
   by_site (Err y) (Some s) there c = record {
     plays = λ h x. none_is_played frame t h i s (check_on s c.journal) old new passes t.gathered x

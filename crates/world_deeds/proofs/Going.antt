@@ -1,7 +1,7 @@
 -- A deed on one inode is a turn of its task.
-use Rattle.std.proofs.Common.{◌≡◌, ℕ, ◌+◌, List, [], ◌∷◌, ◌++◌, length, map, get_or, Option, Some, None, refl, sym, ◌∙◌, ap, subst}
+use Rattle.std.proofs.Common.{◌≡◌, ℕ, List, [], ◌∷◌, length, Option, Some, None, refl, sym, ◌∙◌, ap, subst}
 use Rattle.std.specs.Prelude.{slice_get, unwrap_or}
-use Rattle.std.proofs.lemmas.Option.{get_or_from_slice_get, same_Some}
+use Rattle.std.proofs.lemmas.Option.{get_or_from_slice_get}
 use Rattle.inode_events.specs.Asked.{outcome}
 use Rattle.inode_events.specs.Checks.{no_action}
 use Rattle.inode_events.specs.Past.{past}
@@ -13,11 +13,11 @@ use Rattle.call_steps.specs.Mind.{Does}
 use Rattle.call_steps.specs.Steps.{given}
 use Rattle.policy_text.specs.declared.access.Action.{Action}
 use Rattle.run_model.specs.History.{Answer, Thought, hear, plain_answer, step_at, who_at}
-use Rattle.run_model.specs.Scene.{Program, Scene, Station, inode_of}
-use Rattle.run_model.specs.Turns.{State, Turned, go, go_does, go_event, go_step, hear_told, journal_at, state_on, turn_of}
+use Rattle.run_model.specs.Scene.{Program, Station}
+use Rattle.run_model.specs.Turns.{State, go, go_does, go_event, go_step, hear_told, journal_at, state_on, turn_of}
 use Rattle.run_model.specs.declared.turn.Turn.TheVariants as turns
-use Rattle.world_deeds.specs.Acting.{IsPlacedAt, told_of}
-use Rattle.world_deeds.specs.Turning.{Fails, Goes, StillPlays, Stops, Tells, answer_of, turned_to}
+use Rattle.world_deeds.specs.Acting.{IsPlacedAt}
+use Rattle.world_deeds.specs.Turning.{Fails, Stops, Tells, answer_of, turned_to}
 use Rattle.world_deeds.specs.declared.answers.Answered.{Answered}
 use Rattle.task_frame.specs.Frame.{Frame, Site, inode_in, mode_in, scene_of, station_of}
 use Rattle.task_frame.specs.Tasks.{HasPlayed, PassesValue, Tasked, action_by}
@@ -25,9 +25,7 @@ use Rattle.task_frame.specs.declared.gathered.Gathered.{Gathered}
 use Rattle.task_laws.proofs.Blocking.{none_is_played}
 use Rattle.task_laws.proofs.Eventing.{event_is_played, get_map}
 use Rattle.task_laws.specs.Events.{EventOn}
-use Rattle.world_deeds.specs.Acting.{EventIn, NoEvent}
-use Rattle.task_laws.specs.Plays.{HasHeard, IsStepFor, task_after, task_left}
-use Rattle.task_mind.specs.Value.{TaskValue}
+use Rattle.task_laws.specs.Plays.{HasHeard, IsStepFor, task_after}
 
 module _ (frame : Frame) (t : Tasked) (i : ℕ) (s : Site) (d : Deed) (old new : State)
     (passes : PassesValue) (g : Gathered) (o : Option Told)

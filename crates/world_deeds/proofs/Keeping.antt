@@ -1,5 +1,5 @@
 -- A look at all lists leaves a world as it was.
-use Rattle.std.proofs.Common.{◌≡◌, ℕ, zero, suc, ◌+◌, ◌<◌, List, [], ◌∷◌, length, map, Option, Some, None, refl, sym, ◌∙◌, ap, subst, arith}
+use Rattle.std.proofs.Common.{◌≡◌, ℕ, zero, suc, ◌<◌, List, [], ◌∷◌, length, map, Some, refl, sym, ◌∙◌, ap, subst, arith}
 use Rattle.std.specs.Prelude.{slice_get}
 use Rattle.std.proofs.lemmas.List.{length-map}
 use Rattle.std.proofs.lemmas.Option.{same_Some}
@@ -12,8 +12,6 @@ use Rattle.rule_laws.specs.Stations.{StationRules}
 use Rattle.world_deeds.specs.Looking.{AreKept, IsKept, KeptAt}
 use Rattle.task_frame.specs.Frame.{Frame, Site}
 use Rattle.task_frame.specs.World.{IsStation, StationValue, journal_of, site_of}
-use Rattle.task_laws.proofs.Eventing.{get_map}
-use Rattle.task_laws.proofs.Looking.{get_within}
 
 -- two lists of one length with the same elements at each place are the same
 same_lists : {A : Type 0} (xs ys : List A) → length xs ≡ length ys

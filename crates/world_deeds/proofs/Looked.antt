@@ -1,5 +1,5 @@
 -- Before a check the inode's pass and the task's pass see the appended rules.
-use Rattle.std.proofs.Common.{◌≡◌, ◌≢◌, ℕ, ◌+◌, ◌<◌, List, [], ◌∷◌, ◌++◌, length, map, Option, Some, None, refl, sym, ◌∙◌, ap, subst, arith, inl, inr, length-append}
+use Rattle.std.proofs.Common.{◌≡◌, ◌≢◌, ℕ, ◌+◌, List, length, map, Some, refl, sym, ◌∙◌, ap, subst, inl, inr, length-append}
 use Rattle.std.specs.Prelude.{◌⊎◌, slice_get, slice_set}
 use Rattle.std.proofs.lemmas.List.{length-map}
 use Rattle.std.proofs.lemmas.Option.{slice_get_within}
@@ -14,7 +14,6 @@ use Rattle.policy_text.specs.RuleValue.{RuleValue}
 use Rattle.policy_text.specs.declared.access.Super.{Super}
 use Rattle.rule_laws.proofs.Owned.{set_parts}
 use Rattle.rule_laws.proofs.Risen.{law_rise_by_look}
-use Rattle.rule_laws.specs.Stations.{StationRules}
 use Rattle.world_deeds.proofs.Worlds.{map_same}
 use Rattle.world_deeds.specs.Parts.{AreParts, frame_by}
 use Rattle.task_frame.specs.Frame.{Frame, Site}

@@ -1,14 +1,13 @@
 -- A look at one journal after another.
-use Rattle.std.proofs.Common.{◌≡◌, ◌≢◌, ℕ, zero, suc, ◌+◌, ◌<◌, ◌≤◌, List, [], ◌∷◌, length, get_or, Option, Some, None, refl, sym, ◌∙◌, ap, subst, arith, inl, inr}
+use Rattle.std.proofs.Common.{◌≡◌, ◌≢◌, ℕ, zero, suc, ◌+◌, ◌<◌, ◌≤◌, List, [], ◌∷◌, length, get_or, Some, refl, sym, ◌∙◌, ap, subst, arith, inl, inr}
 use Rattle.std.specs.Prelude.{◌⊎◌, slice_get, slice_set}
 use Rattle.std.proofs.lemmas.List.{length-set}
-use Rattle.std.proofs.lemmas.Option.{same_Some, slice_get_within}
+use Rattle.std.proofs.lemmas.Option.{slice_get_within}
 use Rattle.grow_list.specs.Shown.{Passed}
-use Rattle.inode_cell.specs.Value.{IsSameCell}
 use Rattle.inode_events.specs.declared.told.Event.{Event}
 use Rattle.rule_laws.proofs.Owned.{set_parts}
 use Rattle.task_frame.specs.World.{StationValue}
-use Rattle.world_deeds.specs.Looking.{AreKept, HaveLooked, HaveLookedTo, IsKept, IsLooked, KeptAt, LookedAt}
+use Rattle.world_deeds.specs.Looking.{HaveLooked, HaveLookedTo, IsKept, IsLooked, KeptAt, LookedAt}
 
 same_kept : (s : StationValue) → IsKept s s
 same_kept s = record {

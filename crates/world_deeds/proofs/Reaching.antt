@@ -1,28 +1,23 @@
 -- What became of a turn with a deed on an inode.
-use Rattle.std.proofs.Common.{◌≡◌, ℕ, zero, suc, List, [], ◌∷◌, ◌++◌, length, map, get_or, Option, Some, None, refl, sym, ◌∙◌, ap, subst}
+use Rattle.std.proofs.Common.{◌≡◌, ℕ, zero, suc, List, [], ◌∷◌, map, get_or, Option, Some, None, refl, sym, ◌∙◌, ap, subst}
 use Rattle.std.specs.Prelude.{IfOk, Result, Ok, Err, slice_get, slice_set}
 use Rattle.std.proofs.lemmas.List.{append-nil, set-get_or}
-use Rattle.inode_events.specs.Asked.{outcome}
-use Rattle.inode_events.specs.Past.{past}
 use Rattle.inode_events.specs.declared.deed.Deed.{Deed}
 use Rattle.inode_events.specs.declared.told.Event.{Event}
-use Rattle.inode_events.specs.declared.told.Told.{Told}
 use Rattle.inode_meta.specs.declared.step.Who.{Who}
-use Rattle.call_steps.specs.Mind.{Step}
 use Rattle.call_steps.specs.Mind.{Does}
 use Rattle.run_model.specs.History.{Answer, step_at, who_at}
-use Rattle.run_model.specs.Scene.{Program, Station}
+use Rattle.run_model.specs.Scene.{Station}
 use Rattle.run_model.specs.Turns.{State, go_does, go_step, state_on}
 use Rattle.run_model.specs.declared.turn.Turn.TheVariants as turns
 use Rattle.world_deeds.proofs.Going.{does_blocks, does_fails, does_tells}
-use Rattle.world_deeds.specs.Acting.{IsPlacedAt, told_in, told_of}
+use Rattle.world_deeds.specs.Acting.{told_in}
 use Rattle.world_deeds.specs.Turning.{Reaches, Stops, reached_by}
 use Rattle.world_deeds.specs.declared.answers.Answered.{Answered}
 use Rattle.task_frame.specs.Frame.{Frame, Site, inode_in, scene_of, station_of}
 use Rattle.task_frame.specs.Tasks.{HasPlayed, PassesValue, Tasked}
 use Rattle.task_frame.specs.declared.gathered.Gathered.{Gathered}
-use Rattle.task_laws.specs.Events.{EventOn}
-use Rattle.world_deeds.specs.Acting.{EventIn, IsSaid, NoEvent}
+use Rattle.world_deeds.specs.Acting.{EventIn, IsSaid}
 use Rattle.task_laws.specs.Plays.{task_left}
 
 pub get_map_none : {A B : Type 0} (f : A → B) (xs : List A) (k : ℕ) → slice_get xs k ≡ None

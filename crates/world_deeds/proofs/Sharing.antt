@@ -30,13 +30,12 @@ use Rattle.run_model.specs.declared.turn.Turn.TheVariants as turns
 use Rattle.world_deeds.proofs.Going.{answer_same}
 use Rattle.world_deeds.specs.Acting.{IsPlacedAt, told_in, told_of}
 use Rattle.world_deeds.specs.Sharing.{AppendsTo, SignalsOn}
-use Rattle.world_deeds.specs.Turning.{Fails, Reaches, Stops, Tells, answer_of, reached_by, turned_to}
+use Rattle.world_deeds.specs.Turning.{Reaches, Tells, answer_of, reached_by, turned_to}
 use Rattle.world_deeds.specs.declared.answers.Answered.{Answered}
 use Rattle.task_frame.specs.Frame.{Frame, mode_in, scene_of}
-use Rattle.task_frame.specs.Tasks.{HasPlayed, PassesValue, Tasked, action_by}
+use Rattle.task_frame.specs.Tasks.{PassesValue, Tasked, action_by}
 use Rattle.task_laws.proofs.Eventing.{adds_none}
 use Rattle.task_laws.proofs.Quieting.{quiet_is_left, quiet_is_played}
-use Rattle.task_laws.specs.Plays.{HasHeard, task_after, task_left}
 use Rattle.task_laws.specs.Quiet.{IsQuiet, QuietLeft, QuietPasses}
 use Rattle.task_laws.specs.Steps.{Adds}
 

@@ -1,7 +1,6 @@
 -- A deed on one inode leaves the constants of its world, and the lists as a turn has them.
-use Rattle.std.proofs.Common.{◌≡◌, ◌≢◌, ℕ, zero, suc, ◌+◌, ◌<◌, List, [], ◌∷◌, ◌++◌, length, map, get_or, Option, Some, None, refl, sym, ◌∙◌, ap, subst, arith, inl, inr}
+use Rattle.std.proofs.Common.{◌≡◌, ◌≢◌, ℕ, zero, suc, ◌+◌, ◌<◌, List, [], ◌∷◌, ◌++◌, length, map, get_or, Option, Some, None, refl, sym, ◌∙◌, ap, subst, inl, inr}
 use Rattle.std.specs.Prelude.{◌⊎◌, slice_get, slice_set}
-use Rattle.std.proofs.lemmas.List.{length-map, length-set}
 use Rattle.std.proofs.lemmas.Option.{get_or_from_slice_get, same_Some, slice_get_within}
 use mathlib.Core.List.{IsPrefix}
 use Rattle.grow_list.proofs.Prefixes.{prefix_refl}
@@ -9,8 +8,7 @@ use Rattle.grow_list.specs.Shown.{Grown, ListName, Passed}
 use Rattle.ima_templates.specs.Same.{add, add_by, place_of_same}
 use Rattle.ima_templates.specs.declared.entry.Entry.{Entry}
 use Rattle.inode_meta.specs.declared.step.Who.{Who}
-use Rattle.inode_cell.specs.Value.{CellValue}
-use Rattle.inode_events.specs.Asked.{asked, entered, list_after, made}
+use Rattle.inode_events.specs.Asked.{asked, list_after, made}
 use Rattle.inode_events.specs.Inode.{Inode}
 use Rattle.inode_events.specs.Past.{past}
 use Rattle.inode_events.specs.declared.deed.Deed.{Deed}
@@ -28,9 +26,9 @@ use Rattle.world_deeds.specs.Acting.{EventIn, StationDid}
 use Rattle.world_deeds.specs.Parts.{AreParts, frame_by, state_by}
 use Rattle.task_frame.specs.Frame.{Frame, Site, boot_in, inode_in}
 use Rattle.task_frame.specs.Tasks.{PassesValue}
-use Rattle.task_frame.specs.World.{IsBookOf, IsStation, StationValue, journal_of, site_of}
+use Rattle.task_frame.specs.World.{IsStation, StationValue, journal_of, site_of}
 use Rattle.task_frame.specs.declared.gathered.Gathered.{Gathered}
-use Rattle.task_laws.proofs.Eventing.{adds_none, get_map, get_set}
+use Rattle.task_laws.proofs.Eventing.{get_map}
 use Rattle.task_laws.specs.Events.{EventOn}
 use Rattle.task_laws.specs.Due.{HashesTold}
 use Rattle.task_laws.specs.Ready.{HasLooked}
@@ -247,4 +245,3 @@ module _ (settings : Settings) (stations : List StationValue) (supers : List Sup
       subst (λ (x : Option Site). EventIn F i x who d S (state_by stations2 book2 sems rules) passes
       passes2 g g2 o) (sym (get_map site_of stations i st there))
       (event_on passes passes2 at inodes semaphores appended more before after number)
-

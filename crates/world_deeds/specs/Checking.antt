@@ -1,5 +1,5 @@
 -- What a check leaves of one inode of a world.
-use Rattle.std.specs.Prelude.{◌≡◌, ℕ, [], length, List, Option, Some, None, Result, Ok, Err}
+use Rattle.std.specs.Prelude.{◌≡◌, ℕ, [], length, List, Option, Some, None, Result, Ok, Err, slice_get}
 use Rattle.ima_templates.specs.declared.entry.Entry.{Entry}
 use Rattle.inode_events.specs.Asked.{outcome}
 use Rattle.inode_events.specs.Inode.{Inode}
@@ -61,10 +61,10 @@ pub record CheckOn {E : Type 0} (frame : Frame) (i : ℕ) (s : Site) (who : Who)
     (asked : Checks) (old new : State) (passes passes2 : PassesValue) (g : Gathered)
     (r : Result (Option Answered) E) : Type 0 where
   pub journal : List Event
+  pub journal_at : slice_get old.journals i ≡ Some journal
   pub event : EventOn frame i s who (check_by (rules_with (scene_of frame []) old.added) cred
       (super_at frame s.place) (metadata (past journal)) asked) old new passes passes2 g g
       (told_in r)
-  pub journal_is : event.journal ≡ journal
   pub seen : passes2.rules.seen ≡ old.added
   pub told : IsChecked (inode_in frame s) journal old.list
       (rules_with (scene_of frame []) old.added) cred (super_at frame s.place) asked r

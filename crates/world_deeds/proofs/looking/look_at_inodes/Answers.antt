@@ -1,6 +1,5 @@
 -- One pass after another looks at its journal.
-use Rattle.std.proofs.Common.{◌≡◌, ◌<◌, ◌≤◌, length, Some, sym, ◌∙◌, arith}
-use Rattle.std.specs.Prelude.{slice_get}
+use Rattle.std.proofs.Common.{◌<◌, length, sym, ◌∙◌, arith}
 use Rattle.world_deeds.proofs.Looks.{at_index, looks_end, looks_init, looks_more}
 use Rattle.world_deeds.proofs.looking.look_at_inodes.Goals as goal
 
