@@ -10,8 +10,8 @@ use xattr_store::Bytes;
 
 /// A script: settings, file systems, files, rules, tasks, and how the tasks are run.
 ///
-/// Contracts see a record of these fields. Its invariant `IsScript` keeps the form of each part, the
-/// lengths and the limits, and that `place` and `versions` of each image are its file system's.
+/// Contracts see a record of these fields. Its invariant `IsScript` keeps the form of each part,
+/// the lengths and the limits, and that `place` and `versions` of each image are its file system's.
 #[derive(Drop)]
 pub struct Script {
     /// The default algorithm of labels and entries (`hash`).

@@ -462,8 +462,8 @@ denied_there scene ending run shown inode p who d grant file cause t r s grants 
           let below : who.task < length scene.programs = within caller one in
           let program = get_within scene.programs who.task below in
           denied_by scene run who.task program.0 t s.number k.0 s.journal who d grant file cause r
-          (shown.served.tasks who.task program.0 t program.1 at) s.journal_at k.1 caller grants barred
-          verdict replied
+          (shown.served.tasks who.task program.0 t program.1 at) s.journal_at k.1 caller grants
+          barred verdict replied
         where
           within : caller_in who.task d ≡ who.task + 1
               → caller_in who.task d ≤ length scene.programs → who.task < length scene.programs

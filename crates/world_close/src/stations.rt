@@ -80,7 +80,8 @@ fn close_last(
     requires callers { station.cell.callers ≡ length rows.old.items + 1 }
     ensures fit { OnOk result (RowsFit number names rows.new.items) }
     ensures count { OnOk result (length rows.new.items ≡ length rows.old.items) }
-    ensures inodes { OnOk result (inodes.new.items ≡ inodes.old.items ++ ended_station station ∷ []) }
+    ensures inodes { OnOk result
+        (inodes.new.items ≡ inodes.old.items ++ ended_station station ∷ []) }
     ensures book { OnOk result (IsPushed station book.old.items book.new.items) }
     ensures rules { OnOk result (rules.new.items ≡ rules.old.items ++ station.rules ∷ []) }
 {

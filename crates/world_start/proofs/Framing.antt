@@ -200,7 +200,8 @@ module _ (settings : Settings) (boot : Entry) (inodes : List (List ℕ × Image)
 
     -- the pass of one list is the one at its number
     its : {E : Type 0} (f : PassesValue → Passed E) (all : List (Passed E)) (name : ListName)
-        (number : ℕ → ℕ) → map f passes ≡ all → AreFresh name number tasks all → (k : ℕ) (p : PassesValue) → slice_get passes k ≡ Some p
+        (number : ℕ → ℕ) → map f passes ≡ all → AreFresh name number tasks all
+        → (k : ℕ) (p : PassesValue) → slice_get passes k ≡ Some p
         → f p ≡ fresh name (number k)
     its {E} f all name number is each k p at =
         let there : slice_get all k ≡ Some (f p) =
