@@ -1,0 +1,11 @@
+//! The end of a world: what its closed lists and its tasks leave is what its run leaves.
+//!
+//! The law is the contract of a function that does nothing.
+#![tactic(auto)]
+
+ghost use Rattle.world_ended.specs.Leaves.{ClosedIsLeft};
+
+/// What the closed lists and the tasks leave is what the run leaves.
+pub fn closed_is_left()
+    ensures { ClosedIsLeft }
+{}
