@@ -4,6 +4,7 @@ use Rattle.std.specs.Prelude.{codes}
 use Rattle.ima_top.specs.declared.commands.Command.TheVariants as command
 use Rattle.script_words.specs.declared.fault.LineCause.TheVariants.{NoEnd}
 use Rattle.ima_top.specs.commands.BadLine.{bad_line}
+use Rattle.ima_top.specs.commands.Label.{label_refusal}
 use Rattle.ima_top.specs.commands.List.{boot_entry, list_refusal, measured}
 use Rattle.script_text.specs.ListGrammar.{list_of}
 use Rattle.ima_top.specs.commands.Policy.{policy_refusal}
@@ -22,7 +23,8 @@ commands : (command_of (codes "list" ∷ []) ≡ Some command.List)
     × (command_of (codes "policy" ∷ []) ≡ Some command.Policy) × (command_of [] ≡ None)
     × (command_of (codes "list" ∷ codes "list" ∷ []) ≡ None)
     × (command_of (codes "lists" ∷ []) ≡ None)
-commands = (refl, refl, refl, refl, refl)
+    × (command_of (codes "label" ∷ []) ≡ Some command.Label)
+commands = (refl, refl, refl, refl, refl, refl)
 
 -- no file is measured: the list is the boot aggregate alone
 boot_alone : measured [] ≡ boot_entry ∷ []
@@ -32,13 +34,18 @@ no_list : list_refusal [] ≡ Some (bad_line (record { line = 1; cause = NoEnd }
 unfolding list_refusal
 no_list = refl
 
+no_script : label_refusal [] ≡ Some (bad_line (record { line = 1; cause = NoEnd }))
+unfolding label_refusal
+no_script = refl
+
 no_rule : policy_refusal [] ≡ None
 unfolding policy_refusal
 no_rule = refl
 
-both_read : (reads command.List ≡ true) × (reads command.Policy ≡ true)
+all_read : (reads command.List ≡ true) × (reads command.Policy ≡ true)
+    × (reads command.Label ≡ true)
 unfolding reads
-both_read = (refl, refl)
+all_read = (refl, refl, refl)
 
 -- ---- the limit and the statuses, which the contracts cite by name
 
@@ -49,7 +56,7 @@ statuses : (DONE ≡ 0) × (USAGE ≡ 1) × (REFUSED ≡ 2) × (STUCK ≡ 3) × 
     × (WRITE_FAULT ≡ 5) × (TOO_LONG ≡ 6) × (OUT_OF_MEMORY ≡ 7)
 statuses = (refl, refl, refl, refl, refl, refl, refl, refl)
 
--- ---- neither `list` nor `policy` has a stuck run
+-- ---- no command has a stuck run
 
 abbrev IsNeverStuck : Command → Type 0
 IsNeverStuck command = (input output : List ℕ) → IsOutput command input true output → ⊥
@@ -61,6 +68,10 @@ list_is_never_stuck input output h = absurd (cc (h.0))
 policy_is_never_stuck : IsNeverStuck command.Policy
 unfolding IsOutput
 policy_is_never_stuck input output h = absurd (cc (h.0))
+
+label_is_never_stuck : IsNeverStuck command.Label
+unfolding IsOutput
+label_is_never_stuck input output h = absurd (cc (h.0))
 
 -- so its status doesn't come by such a command
 no_stuck_status : (command : Command) → IsNeverStuck command → (input : List ℕ) (status : ℕ)

@@ -8,13 +8,14 @@ use Rattle.ima_top.specs.Line.{with_newline}
 
 -- the line that is told where the words are no command
 abbrev pub usage_line : List ℕ
-usage_line = with_newline (codes "usage: imakern list | policy")
+usage_line = with_newline (codes "usage: imakern list | policy | label")
 
 -- the command that a lone word names
 abbrev pub command_named : List ℕ → Option Command
 command_named word =
     if bytes_eq word (codes "list") then Some command.List
     else if bytes_eq word (codes "policy") then Some command.Policy
+    else if bytes_eq word (codes "label") then Some command.Label
     else None
 
 -- the command that the words are

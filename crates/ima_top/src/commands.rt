@@ -6,6 +6,7 @@ ghost use Rattle.ima_top.specs.Words.{command_named, command_of};
 ghost use Rattle.ima_top.specs.declared.top.TheConstants.{MOST_INPUT};
 
 mod bad_line;
+mod label;
 mod list;
 mod policy;
 
@@ -19,10 +20,12 @@ pub enum Command {
     List,
     /// The canonical text of a policy.
     Policy,
+    /// The values that a seal would write on the files of a script.
+    Label,
 }
 
 /// The line that is told where the words are no command.
-pub const USAGE_LINE: &[u8] = b"usage: imakern list | policy\n";
+pub const USAGE_LINE: &[u8] = b"usage: imakern list | policy | label\n";
 
 /// The command that the words are.
 pub fn command_of(words: &[String]) -> Option<Command>
@@ -40,6 +43,7 @@ fn command_named(word: &str) -> Option<Command>
     match word {
         "list" => Some(Command::List),
         "policy" => Some(Command::Policy),
+        "label" => Some(Command::Label),
         _ => None,
     }
 }
@@ -51,7 +55,7 @@ impl Command {
         ensures { result ≡ reads self }
     {
         match self {
-            Command::List | Command::Policy => true,
+            Command::List | Command::Policy | Command::Label => true,
         }
     }
 
@@ -70,6 +74,10 @@ impl Command {
             }),
             Command::Policy => Ok(Answer {
                 output: policy::answer(alloc, input)?,
+                stuck: false,
+            }),
+            Command::Label => Ok(Answer {
+                output: label::answer(alloc, input)?,
                 stuck: false,
             }),
         }

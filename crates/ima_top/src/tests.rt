@@ -220,6 +220,29 @@ fn a_policy_has_at_most_1024_rules(rt: HostRuntime) -> Result<(), Fail> {
 }
 
 #[test]
+fn the_labels_of_a_script_are_printed(rt: HostRuntime) -> Result<(), Fail> {
+    let fs =
+        "imakern 1\nfs magic=0xef53 uuid=00000000-0000-0000-0000-000000000001 name=ext4 versions\n";
+    let texts = [
+        (
+            "file /a fs=0 ino=12 gen=1 uid=0 gid=0 mode=100644 content=txt:abc\nrounds\n",
+            0,
+            "/a security.ima=0404ba7816bf8f01cfea414140de5dae2223b00361a396177a9cb410ff61f20015ad\n",
+            "",
+        ),
+        ("rounds\n", 0, "", ""),
+        ("", 2, "", "line 3: no-end\n"),
+        ("rule mesure\n", 2, "", "line 3: bad-rule bad-action\n"),
+    ];
+    for (text, status, out, note) in texts {
+        let input = format!(in rt.alloc(); "{fs}{text}")?;
+        let got = answer(rt.alloc(), "label", input.as_bytes())?;
+        assert!(rt; got.is(status, out, note), "at {text}");
+    }
+    Ok(())
+}
+
+#[test]
 fn other_words_are_usage(rt: HostRuntime) -> Result<(), Fail> {
     for word in ["", "lists", "-list", "help", "run"] {
         let got = answer(rt.alloc(), word, b"imalist 1\nend\n")?;

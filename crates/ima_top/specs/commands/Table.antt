@@ -3,6 +3,7 @@
 use Rattle.std.specs.Prelude.{◌≡◌, ℕ, Bool, true, false, List, Option}
 use Rattle.ima_top.specs.declared.commands.Command.{Command}
 use Rattle.ima_top.specs.declared.commands.Command.TheVariants as command
+use Rattle.ima_top.specs.commands.Label.{label_refusal, IsLabelOutput}
 use Rattle.ima_top.specs.commands.List.{list_refusal, IsListOutput}
 use Rattle.ima_top.specs.commands.Policy.{policy_refusal, IsPolicyOutput}
 
@@ -10,11 +11,13 @@ use Rattle.ima_top.specs.commands.Policy.{policy_refusal, IsPolicyOutput}
 unfoldable pub reads : Command → Bool
 reads command.List = true
 reads command.Policy = true
+reads command.Label = true
 
 -- the line that is told of an input outside the command's grammar
 unfoldable pub refusal : Command → List ℕ → Option (List ℕ)
 refusal command.List input = list_refusal input
 refusal command.Policy input = policy_refusal input
+refusal command.Label input = label_refusal input
 
 -- The bytes are an output for the input, of a run that is stuck or isn't. This is a relation, not a
 -- function, since an input whose tasks run on threads has several outputs. A command without tasks
@@ -22,3 +25,4 @@ refusal command.Policy input = policy_refusal input
 unfoldable pub IsOutput : Command → List ℕ → Bool → List ℕ → Type 0
 IsOutput command.List input stuck output = (stuck ≡ false) × IsListOutput input output
 IsOutput command.Policy input stuck output = (stuck ≡ false) × IsPolicyOutput input output
+IsOutput command.Label input stuck output = (stuck ≡ false) × IsLabelOutput input output

@@ -1,0 +1,37 @@
+// What a seal would leave of a file.
+ghost use Rattle.std.specs.Prelude.{◌≡◌, IfOk};
+ghost use Rattle.script_text.specs.Files.{sealed, setup_of};
+
+use evm_verify::Evm;
+use hash_algos::{Algo, digest_of};
+use inode_meta::OutOfMemory;
+use label_values::{MAX_LABEL, write_label};
+use script_text::{FileBlock, Script};
+use std::alloc::Global;
+use xattr_store::{Attrs, IMA_NAME, NewValue};
+
+/// EVM as the settings of the script have it.
+pub fn evm_of(alloc: Global, script: &Script) -> Result<Evm, OutOfMemory>
+    ensures { IfOk result (λ evm. evm ≡ setup_of script.now) }
+{
+    match &script.key {
+        Some(key) => Evm::new(alloc, Some(key.as_slice()), &script.added, script.format),
+        None => Evm::new(alloc, None, &script.added, script.format),
+    }
+}
+
+/// The attributes of the file as a seal would leave them.
+pub fn sealed_attrs(evm: &Evm, hash: Algo, file: &FileBlock) -> Result<Attrs, OutOfMemory>
+    ensures { IfOk result (λ attrs. attrs ≡ (sealed evm.now hash file.now).image.attrs) }
+{
+    let mut out = [0; MAX_LABEL];
+    let digest = digest_of(hash, file.image.content.as_slice());
+    let len = write_label(&digest, &mut out);
+    let mut attrs = file.image.attrs.copy()?;
+    let label = NewValue {
+        name: IMA_NAME,
+        value: Some(&out[..len]),
+    };
+    evm.change(&mut attrs, label, &file.image.meta)?;
+    Ok(attrs)
+}
