@@ -1,0 +1,34 @@
+-- A task that has made no step.
+use Rattle.std.proofs.Common.{◌≡◌, ℕ, List, [], length, sym, subst}
+use Rattle.call_steps.specs.declared.call.Call.{Call}
+use Rattle.inode_events.specs.Checks.{no_action}
+use Rattle.inode_meta.specs.declared.identity.Cred.{Cred}
+use Rattle.run_model.specs.History.{start}
+use Rattle.run_model.specs.Scene.{Program}
+use Rattle.task_frame.specs.Frame.{Frame}
+use Rattle.task_frame.specs.Tasks.{AreCallsOf, ArePassesOf, AreUnused, IsTask, PassesValue}
+use Rattle.task_frame.specs.declared.gathered.Gathered.TheVariants as gathered
+use Rattle.task_laws.proofs.Playing.{fresh_is_task}
+use Rattle.task_mind.specs.Value.{TaskValue}
+
+-- it is a task of each world whose passes it has
+pub new_task : (number : ℕ) (mind : TaskValue) (passes : PassesValue) (cred : Cred)
+    (calls : List Call) → mind.program ≡ record { cred = cred; calls = calls }
+    → mind.thought ≡ start → mind.checked ≡ no_action → (frame : Frame)
+    → ArePassesOf frame number passes → AreUnused passes → AreCallsOf (length frame.sites) calls
+    → IsTask frame (record {
+      number = number;
+      mind = mind;
+      gathered = gathered.Nothing;
+      passes = passes;
+    })
+new_task number mind passes cred calls program thought checked frame own unused are = record {
+  history = [];
+  played = fresh_is_task frame (record {
+    number = number;
+    mind = mind;
+    gathered = gathered.Nothing;
+    passes = passes;
+  }) (subst (λ (p : Program). AreCallsOf (length frame.sites) p.calls) (sym program) are) thought
+      checked own unused;
+}

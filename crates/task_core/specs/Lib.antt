@@ -1,0 +1,2 @@
+pub mod WorldFields
+pub mod TaskFields

@@ -1,0 +1,75 @@
+ghost use Rattle.std.specs.Prelude.{◌≡◌, length, IfOk};
+ghost use Rattle.run_model.specs.History.{start};
+ghost use Rattle.task_core.specs.TaskFields.{who_of};
+ghost use Rattle.task_frame.specs.Frame.{Frame};
+ghost use Rattle.task_frame.specs.Tasks.{AreCallsOf, ArePassesOf, AreUnused, IsTask};
+
+use call_steps::Call;
+use grow_list::OutOfMemory;
+use inode_meta::{Cred, Who};
+use std::alloc::Global;
+use std::marker::Model;
+use task_frame::{Gathered, Passes};
+use task_mind::TaskMind;
+
+/// A task. Contracts see its number, what it knows of its own calls, what it has hashed, and its
+/// passes.
+#[derive(Drop)]
+pub struct Task {
+    pub(crate) number: u32,
+    pub(crate) mind: TaskMind,
+    pub(crate) gathered: Gathered,
+    pub(crate) passes: Passes,
+}
+
+impl Model for Task {
+    ghost use Rattle.task_frame.specs.Tasks.{Tasked};
+
+    ghost Value = { Tasked };
+
+    ghost use Rattle.task_core.specs.TaskFields.{tasked_of};
+
+    ghost view = { tasked_of };
+}
+
+impl Task {
+    /// A task before its first call. It is a task of each world that gave it these passes, none of
+    /// which has an entry of its own, if each call has the form of a script's. A program of more
+    /// than 4,294,967,295 calls counts as want of memory.
+    pub fn new(
+        alloc: Global,
+        number: u32,
+        cred: Cred,
+        program: Vec<Call>,
+        passes: Passes,
+    ) -> Result<Task, OutOfMemory>
+        ensures number { IfOk result (λ t. t.number ≡ number) }
+        ensures program { IfOk result (λ t. t.mind.program ≡ record {
+          cred = cred;
+          calls = program.items;
+        }) }
+        ensures thought { IfOk result (λ t. t.mind.thought ≡ start) }
+        ensures passes { IfOk result (λ t. t.passes ≡ passes) }
+        ensures task { IfOk result (λ t. (frame : Frame) → ArePassesOf frame number passes
+            → AreUnused passes → AreCallsOf (length frame.sites) program.items
+            → IsTask frame t) }
+    {
+        let mind = TaskMind::new(alloc, cred, program)?;
+        Ok(Task {
+            number,
+            mind,
+            gathered: Gathered::Nothing,
+            passes,
+        })
+    }
+
+    /// The Who of the step that the next turn is to make. `None` exactly where the program is over.
+    pub fn who(&self) -> Option<Who>
+        ensures { result ≡ who_of self.now }
+    {
+        match self.mind.due() {
+            Some(_) => Some(self.mind.who(self.number)),
+            None => None,
+        }
+    }
+}
