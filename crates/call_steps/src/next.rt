@@ -12,11 +12,9 @@ use crate::first::close;
 use crate::reply::Reply;
 use inode_events::{Grant, Told};
 use inode_meta::Mode;
+use inode_pages::MOST_BYTES;
 use label_values::{Cause, Verdict};
 use policy_text::Action;
-
-/// The most bytes that a file may have, and so that a read may give.
-const SIZE_LIMIT: u64 = 262_144;
 
 /// What comes after a step, by what it was told, and after a check by its action.
 pub fn next_by(
@@ -121,7 +119,7 @@ fn admitted(course: Course) -> Next
         Course::Exec | Course::Module | Course::Firmware => goes(
             Ask::Read {
                 from: 0,
-                len: SIZE_LIMIT,
+                len: MOST_BYTES,
             },
             Reply::Done,
         ),

@@ -9,6 +9,7 @@ use Rattle.inode_meta.specs.declared.measurement.Template.{Template}
 use Rattle.inode_meta.specs.declared.measurement.Field.{Field}
 use Rattle.inode_meta.specs.declared.measurement.Field.TheVariants as field
 use Rattle.inode_meta.specs.Fields.{template_fields}
+use Rattle.xattr_store.specs.Attrs.{most_value}
 use Rattle.ima_templates.specs.declared.entry.Entry.{Entry}
 
 -- the field `d-ng`: the algorithm's name, a colon, a zero byte and the digest
@@ -63,4 +64,4 @@ template_data e = data_by e.template e.digest e.name e.sig
 pub record HasLengths (digest : Digest) (name sig : List ℕ) : Type 0 where
   pub digest_size : HasDigestSize digest
   pub name_at_most : length name ≤ 1024
-  pub sig_at_most : length sig ≤ 4096
+  pub sig_at_most : length sig ≤ most_value

@@ -5,6 +5,7 @@ use Rattle.hash_algos.specs.declared.algo.Algo.TheVariants.{Sha1}
 use Rattle.hash_algos.specs.Digest.{HasDigestSize, zero_digest}
 use Rattle.inode_meta.specs.declared.measurement.TheConstants.{DEFAULT_PCR}
 use Rattle.inode_meta.specs.declared.measurement.Template.TheVariants.{Ima, ImaNg, ImaBuf}
+use Rattle.xattr_store.specs.Attrs.{most_value}
 use Rattle.ima_templates.specs.declared.entry.Entry.TheInside.{Inside}
 use Rattle.ima_templates.specs.EntryValue.{EntryValue}
 use Rattle.ima_templates.specs.Path.{IsGraphic}
@@ -34,7 +35,7 @@ pub record IsEntry (e : EntryValue) : Type 0 where
   pub name_at_most : length e.name ≤ 1024
   pub name_graphic : All IsGraphic e.name
   pub name_of_ima : e.template ≡ Ima → length e.name ≤ 255
-  pub sig_at_most : length e.sig ≤ 4096
+  pub sig_at_most : length e.sig ≤ most_value
   pub sig_of_ima : e.template ≡ Ima → e.sig ≡ []
   pub sig_of_ima_ng : e.template ≡ ImaNg → e.sig ≡ []
   pub violation : e.violation ≡ true → IsViolation e

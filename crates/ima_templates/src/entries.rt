@@ -3,6 +3,7 @@
 ghost use Rattle.std.specs.Prelude.{◌≡◌, ◌≢◌, ◌<◌, ◌≤◌, IfOk, length};
 ghost use Rattle.ima_templates.specs.Entries.{entry_of, violation_of};
 ghost use Rattle.ima_templates.specs.Path.{IsMeasuredPath};
+ghost use Rattle.xattr_store.specs.Attrs.{most_value};
 
 use crate::entry::Entry;
 use crate::shown::{shown_digest, shown_name, shown_sig};
@@ -26,7 +27,7 @@ pub fn build(
     requires pcr { pcr < 24 }
     requires sha1 { sha1.now.algo ≡ Algo.Sha1 }
     requires path { IsMeasuredPath template path.now }
-    requires sig { length sig.now ≤ 4096 }
+    requires sig { length sig.now ≤ most_value }
     ensures { IfOk result (λ e. e ≡ entry_of pcr template file.now sha1.now path.now sig.now) }
 {
     let digest = shown_digest(template, file, sha1);

@@ -3,14 +3,13 @@ ghost use Rattle.std.specs.Prelude.{◌≡◌, ℕ, ◌+◌, ◌<◌, ◌≤◌,
 ghost use mathlib.Core.List.{IsPrefix};
 ghost use Rattle.book_laws.specs.Booked.{IsBooked};
 ghost use Rattle.grow_list.specs.Entries.{entries_of, has_place};
-ghost use Rattle.grow_list.specs.Shown.{fresh};
 ghost use Rattle.ima_templates.specs.Path.{IsMeasuredPath};
 ghost use Rattle.inode_events.specs.Callers.{caller_of};
 ghost use Rattle.inode_events.specs.Legal.{Legal};
 ghost use Rattle.inode_events.specs.Past.{past};
 ghost use Rattle.inode_pages.specs.Content.{most_bytes};
 ghost use Rattle.inode_meta.specs.declared.measurement.Template.TheVariants.{Ima};
-ghost use Rattle.kept_journal.specs.Value.{beside_own, birth_of};
+ghost use Rattle.kept_journal.specs.Value.{beside_own, birth_of, new_pass};
 ghost use Rattle.own_laws.specs.Laws.{TellsByMine};
 ghost use Rattle.own_laws.specs.Own.{IsOwned};
 ghost use Rattle.inode_cell.specs.Ending.{HasPasses, IsEnded, digest_in};
@@ -57,8 +56,8 @@ fn digest_of(in_force: Option<InForce>) -> Option<Digest>
 
 impl InodeCell {
     /// The inode of this image under a path, with a pass for each task: that of the task t has the
-    /// number t + 1, and has seen nothing yet. `book` is the cell's pass of the measurement list,
-    /// and has no entry of its own.
+    /// number t + 1, has seen the birth and has no event of its own. `book` is the cell's pass of
+    /// the measurement list, and has no entry of its own.
     pub fn start(
         alloc: Global,
         path: &[u8],
@@ -82,7 +81,7 @@ impl InodeCell {
         ensures book { IfOk result (λ r. (r.0.book ≡ book.name) × (r.0.booked ≡ book.number)) }
         ensures count { IfOk result (λ r. length r.1.items ≡ tasks) }
         ensures passes { IfOk result (λ r. (k : ℕ) → k < tasks
-            → slice_get r.1.items k ≡ Some (fresh r.0.journal (k + 1))) }
+            → slice_get r.1.items k ≡ Some (new_pass r.0.journal r.0.list (k + 1))) }
         ensures others { IfOk result (λ r. HasPasses r.0 r.1.items) }
     {
         let Ok(content) = Content::from_slice(alloc, image.content.as_slice()) else {

@@ -5,12 +5,10 @@ ghost use Rattle.hash_algos.specs.Running.{HasTaken, running_algo};
 ghost use Rattle.inode_pages.specs.Content.{bytes_at};
 
 use hash_algos::{Algo, Digest, Running};
-use inode_pages::Content;
+use inode_pages::{Content, PAGE_SIZE};
 
-// How many bytes are hashed at a time.
-const PAGE: usize = 4096;
-
-// Feeds at most `len` bytes from the byte `from` on, and answers how many they were.
+// Feeds at most `len` bytes from the byte `from` on, a page at a time, and answers how many they
+// were.
 fn feed_from(running: &mut Running, content: &Content, from: u64, len: u64) -> u64
     ensures count { result ≡ length (bytes_at content.now from len) }
     ensures algo { running_algo running.new ≡ running_algo running.old }
@@ -18,10 +16,10 @@ fn feed_from(running: &mut Running, content: &Content, from: u64, len: u64) -> u
         → HasTaken running.new (m ++ bytes_at content.now from len) }
 {
     let count = content.len().saturating_sub(from).min(len);
-    let mut page = [0; PAGE];
+    let mut page = [0; PAGE_SIZE];
     let mut done = 0;
     while done < count {
-        let room = (count - done).min(PAGE as u64) as usize;
+        let room = (count - done).min(PAGE_SIZE as u64) as usize;
         let part = &mut page[..room];
         let _read = content.read(from + done, part);
         running.feed(part);

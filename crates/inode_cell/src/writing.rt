@@ -7,7 +7,7 @@ ghost use Rattle.inode_events.specs.Legal.{May};
 ghost use Rattle.inode_events.specs.Past.{past};
 ghost use Rattle.inode_events.specs.Says.{chunk_told};
 ghost use Rattle.inode_events.specs.State.{content};
-ghost use Rattle.inode_pages.specs.Content.{bytes_at, piece_at};
+ghost use Rattle.inode_pages.specs.Content.{bytes_at, piece_at, piece_bytes};
 ghost use Rattle.inode_cell.specs.Acts.{Acts, MayBy, Stays};
 ghost use Rattle.inode_cell.specs.Answers.{piece_told, wrote_told};
 ghost use Rattle.inode_cell.specs.Pieces.{IsPieceDeed};
@@ -20,18 +20,15 @@ use hash_algos::{Algo, Digest};
 use inode_events::{Deed, Event, Told};
 use inode_kept::Known;
 use inode_meta::Who;
-use inode_pages::{Page, PageErr};
+use inode_pages::{PAGE_SIZE, Page, PageErr};
 use std::alloc::AllocError;
 use xattr_store::Bytes;
 
-// How many bytes a collection hashes at a time.
-const PIECE: u64 = 4096;
-
 // Nothing is left behind the piece with this number, counted from 0, of a content of this size.
 fn is_last(size: u64, piece: u64) -> bool
-    ensures { result ≡ nat_le size (4096 * (piece + 1)) }
+    ensures { result ≡ nat_le size (piece_bytes * (piece + 1)) }
 {
-    size.saturating_sub(1) / PIECE <= piece
+    size.saturating_sub(1) / PAGE_SIZE as u64 <= piece
 }
 
 fn piece_of(size: u64, piece: u64) -> Piece

@@ -8,7 +8,7 @@ use Rattle.hash_algos.specs.declared.algo.Algo.TheVariants.{Sha256}
 use Rattle.ima_templates.specs.declared.entry.Placed.{Placed}
 use Rattle.ima_templates.specs.declared.entry.Placed.TheVariants.{Added, Already}
 use Rattle.inode_meta.specs.declared.appraisal.EvmStatus.{EvmStatus}
-use Rattle.xattr_store.specs.Attrs.{value}
+use Rattle.xattr_store.specs.Attrs.{most_value, value}
 use Rattle.inode_pages.specs.Content.{bytes_at, is_last_piece, most_bytes}
 use Rattle.inode_events.specs.Files.{creates, execs, is_exec, is_writer, is_writing, readers, writers}
 use Rattle.inode_events.specs.Grants.{grant_of}
@@ -83,13 +83,9 @@ abbrev pub status_told : Result (Unit {0}) EvmStatus → Told
 status_told (Ok _) = told.Done
 status_told (Err status) = told.Status status
 
--- the most bytes that the value of an attribute may have
-abbrev pub most_value_bytes : ℕ
-most_value_bytes = 4096
-
 abbrev pub is_too_long : Option (List ℕ) → Bool
 is_too_long None = false
-is_too_long (Some bytes) = nat_lt most_value_bytes (length bytes)
+is_too_long (Some bytes) = nat_lt most_value (length bytes)
 
 -- the kernel refuses an empty `security.ima`, and one of a type that it doesn't know
 abbrev pub is_no_label : Option (List ℕ) → Bool

@@ -61,3 +61,11 @@ beside_own n = if n == 0 then 0 else 1
 pub record HasOthers (j : KeptValue) (passes : List (Passed Event)) : Type 0 where
   pub of_journal : All (λ p. p.name ≡ j.name) passes
   pub one_each : (n : ℕ) → n < j.callers → count_by (λ p. p.number == n) passes ≡ beside_own n
+
+-- the pass when it has seen the list
+abbrev pub having_seen : List Event → Passed Event → Passed Event
+having_seen list p = record p { seen = list }
+
+-- a pass that has seen the list, and has added nothing
+abbrev pub new_pass : ListName → List Event → ℕ → Passed Event
+new_pass name list number = record { name = name; number = number; seen = list; mine = [] }

@@ -1,7 +1,6 @@
 ghost use Rattle.std.specs.Prelude.{◌≡◌, ℕ, ◌+◌, ◌<◌, ◌≤◌, ◌^◌, All, [], ◌∷◌, ◌++◌, count_by, false, length, map, slice_get, IfOk, OnOk, Some};
 ghost use mathlib.Core.List.{IsPrefix};
 ghost use Rattle.grow_list.specs.Entries.{entries_of, has_place};
-ghost use Rattle.grow_list.specs.Shown.{fresh};
 ghost use Rattle.inode_events.specs.Callers.{caller_of};
 ghost use Rattle.inode_events.specs.Files.{held};
 ghost use Rattle.inode_events.specs.Legal.{Legal, May};
@@ -12,8 +11,9 @@ ghost use Rattle.inode_kept.specs.Known.{IsKnown};
 ghost use Rattle.inode_kept.specs.State.{IsState};
 ghost use Rattle.own_laws.specs.Laws.{TellsByMine};
 ghost use Rattle.own_laws.specs.Own.{IsBy, IsOwned};
-ghost use Rattle.kept_journal.specs.Value.{HasOthers, IsSameJournal, beside_own, birth_of};
+ghost use Rattle.kept_journal.specs.Value.{HasOthers, IsSameJournal, beside_own, birth_of, new_pass};
 
+use crate::showing::show;
 use grow_list::{Grow, OutOfMemory, Pass};
 use inode_events::{Deed, Event, How, Image, Settings, Told};
 use inode_kept::{Known, State, counted};
@@ -146,8 +146,8 @@ impl KeptJournal {
     }
 
     /// The journal of an inode that comes into being, with a pass for each task: that of the task t
-    /// has the number t + 1, and has seen nothing yet. The birth is by the journal's own pass,
-    /// which has the number 0.
+    /// has the number t + 1, has seen the birth and has no event of its own. The birth is by the
+    /// journal's own pass, which has the number 0.
     pub fn start(
         alloc: Global,
         path: Bytes,
@@ -165,7 +165,7 @@ impl KeptJournal {
         ensures callers { IfOk result (λ r. r.0.callers ≡ tasks + 1) }
         ensures count { IfOk result (λ r. length r.1.items ≡ tasks) }
         ensures passes { IfOk result (λ r. (k : ℕ) → k < tasks
-            → slice_get r.1.items k ≡ Some (fresh r.0.name (k + 1))) }
+            → slice_get r.1.items k ≡ Some (new_pass r.0.name r.0.list (k + 1))) }
         ensures others { IfOk result (λ r. HasOthers r.0 r.1.items) }
     {
         let (mut journal, mut passes) = Grow::start(alloc, tasks + 1)?;
@@ -173,6 +173,7 @@ impl KeptJournal {
         journal.reserve(1)?;
         let state = State::born(alloc, &image);
         journal.push(&mut own, born(image));
+        show(&mut journal, &mut passes);
         let kept = KeptJournal {
             path,
             settings,

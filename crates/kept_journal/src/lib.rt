@@ -6,5 +6,6 @@
 #![tactic(auto)]
 
 mod journal;
+mod showing;
 
 pub use journal::KeptJournal;

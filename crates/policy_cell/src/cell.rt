@@ -71,7 +71,7 @@ impl PolicyCell {
     }
 
     /// Appends a copy of the rule by a pass of this policy, and answers its place among all rules
-    /// in force, from 0 on. After want of memory policy and pass are as before.
+    /// in force, from 0 on. Out of memory, policy and pass are as before.
     pub fn append(
         &mut self,
         alloc: Global,

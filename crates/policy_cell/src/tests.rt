@@ -33,8 +33,8 @@ fn is_measured(alloc: Global, cell: &PolicyCell) -> Result<bool, OutOfMemory> {
     Ok(cell.rules().decide(&asked).measure)
 }
 
-// Appends the rule of the line, as the first step of a task's call. A line that is no rule counts
-// as want of memory.
+// Appends the rule of the line, as the first step of a task's call. A line that isn't a rule is
+// answered like memory that is out.
 fn append(
     alloc: Global,
     cell: &mut PolicyCell,

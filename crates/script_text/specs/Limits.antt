@@ -1,6 +1,7 @@
 -- How many of each a script may have.
 use Rattle.std.specs.Prelude.{ℕ}
 use Rattle.inode_pages.specs.Content as content
+use Rattle.xattr_store.specs.Attrs as attrs
 
 abbrev pub most_supers : ℕ
 most_supers = 16
@@ -41,7 +42,7 @@ abbrev pub most_content : ℕ
 most_content = content.most_bytes
 
 abbrev pub most_value : ℕ
-most_value = 4096
+most_value = attrs.most_value
 
 -- an attribute may be set to more bytes than it can have
 abbrev pub most_set : ℕ

@@ -35,7 +35,7 @@ impl Model for Task {
 impl Task {
     /// A task before its first call. It is a task of each world that gave it these passes, none of
     /// which has an entry of its own, if each call has the form of a script's. A program of more
-    /// than 4,294,967,295 calls counts as want of memory.
+    /// than 4,294,967,295 calls is refused like one for which memory is out.
     pub fn new(
         alloc: Global,
         number: u32,

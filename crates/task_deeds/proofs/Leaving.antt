@@ -30,7 +30,7 @@ module _ (old new : CellValue) (list list2 : List Entry) (pass pass2 : Passed Ev
     same = a.same;
   }
 
-  -- after want of memory
+  -- out of memory
   pub stays_leave : Stays old new pass pass2 → list2 ≡ list → pass.seen ≡ old.list
       → Leaves old new list list2 pass pass2 who d None
   stays_leave s b e = record {

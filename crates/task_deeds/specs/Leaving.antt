@@ -1,4 +1,4 @@
--- What a deed leaves, whatever it was told: blocked, and want of memory, leave the lists.
+-- What a deed leaves, whatever it was told: blocked or out of memory, it leaves the lists.
 use Rattle.std.specs.Prelude.{◌≡◌, ◌++◌, List, length, Option, Some, None, Result, Ok, Err}
 use Rattle.grow_list.specs.Shown.{Passed}
 use Rattle.ima_templates.specs.declared.entry.Entry.{Entry}

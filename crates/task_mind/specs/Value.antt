@@ -5,6 +5,7 @@ use Rattle.call_steps.specs.Mind as minds
 use Rattle.call_steps.specs.Mind.{Mind, progress_of}
 use Rattle.call_steps.specs.declared.ask.Ask.{Ask}
 use Rattle.call_steps.specs.declared.call.Call.{Call}
+use Rattle.call_steps.specs.declared.call.Call.TheVariants as call
 use Rattle.run_model.specs.History.{Thought, call_at}
 use Rattle.run_model.specs.Scene.{Program}
 use Rattle.task_mind.specs.declared.progress.Progress.{Progress}
@@ -34,3 +35,8 @@ due_at p m = option_map (λ (c : Call). (progress_of p.cred.admin c m).due.ask) 
 abbrev pub step_of : Option minds.Progress → ℕ
 step_of None = 0
 step_of (Some g) = g.step
+
+-- the semaphore for which the call waits
+abbrev pub awaited_by : Option Call → Option ℕ
+awaited_by (Some (call.Wait sem)) = Some sem
+awaited_by _ = None

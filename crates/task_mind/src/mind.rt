@@ -1,4 +1,4 @@
-ghost use Rattle.std.specs.Prelude.{◌≡◌, ℕ, ◌+◌, ◌≤◌, ◌<◌, ◌^◌, ◌++◌, if◌then◌else◌, option_map, unwrap_or, vec_capacity, vec_len, length, IfOk, OnOk, OnSome};
+ghost use Rattle.std.specs.Prelude.{◌≡◌, ℕ, ◌+◌, ◌≤◌, ◌<◌, ◌^◌, ◌++◌, if◌then◌else◌, option_map, slice_get, unwrap_or, vec_capacity, vec_len, length, IfOk, OnOk, OnSome};
 ghost use Rattle.std.specs.Option.{option_copied};
 ghost use Rattle.call_steps.specs.Handles.{handle_of};
 ghost use Rattle.call_steps.specs.Mind.{progress_of};
@@ -8,7 +8,9 @@ ghost use Rattle.run_model.specs.Ended.{is_done};
 ghost use Rattle.run_model.specs.History.{call_at, hear, start, step_at, who_at};
 ghost use Rattle.task_mind.specs.Hearing.{thought_after};
 ghost use Rattle.task_mind.specs.Steps.{step_in};
-ghost use Rattle.task_mind.specs.Value.{IsSameTask, due_at, progress_in, step_of};
+ghost use Rattle.run_model.specs.EndedValue.{appends};
+ghost use Rattle.std.specs.List.{list_any};
+ghost use Rattle.task_mind.specs.Value.{IsSameTask, awaited_by, due_at, progress_in, step_of};
 
 use crate::handles::handle_of;
 use crate::heard::{Heard, heard_of, settle};
@@ -48,8 +50,8 @@ impl Model for TaskMind {
 }
 
 impl TaskMind {
-    /// A task before its first call. A program of more than 4,294,967,295 calls counts as want of
-    /// memory.
+    /// A task before its first call. A program of more than 4,294,967,295 calls is refused like
+    /// one for which memory is out.
     pub fn new(alloc: Global, cred: Cred, calls: Vec<Call>) -> Result<TaskMind, OutOfMemory>
         ensures program { IfOk result (λ t. t.program ≡ record {
           cred = cred;
@@ -91,6 +93,27 @@ impl TaskMind {
         ensures { result ≡ self.now.checked }
     {
         self.checked
+    }
+
+    /// The semaphore for which its first unanswered call waits. `None` where that is no wait, or all
+    /// calls are answered.
+    pub fn awaited(&self) -> Option<u8>
+        ensures { result ≡ awaited_by
+            (slice_get self.now.program.calls (length self.now.thought.replies)) }
+    {
+        match self.calls.get(self.replies.len()) {
+            Some(Call::Wait { sem }) => Some(*sem),
+            _ => None,
+        }
+    }
+
+    /// Whether some call of its program appends a rule.
+    pub fn appends(&self) -> bool
+        ensures { result ≡ list_any appends self.now.program.calls }
+    {
+        self.calls
+            .iter()
+            .any(|call| matches!(call, Call::AddRule { .. }))
     }
 
     // How far the call is.
@@ -147,7 +170,7 @@ impl TaskMind {
         handle_of(name, self.handles.as_slice())
     }
 
-    /// Makes room for the next step. A call of more than 4,294,967,295 steps counts as want of
+    /// Makes room for the next step. A call of more than 4,294,967,295 steps is refused like
     /// memory. The task stays, also where there is no memory.
     pub fn reserve(&mut self) -> Result<(), OutOfMemory>
         ensures room { OnOk result (1 ≤ self.new.spare) }

@@ -34,17 +34,21 @@ abbrev pub changed : List ℕ → Option (List ℕ) → List Pair → List Pair
 changed name None attrs = without name attrs
 changed name (Some bytes) attrs = put name bytes attrs
 
--- there is no value, or one of at most 4,096 bytes
+-- the most bytes that a value may have
+abbrev pub most_value : ℕ
+most_value = 4096
+
+-- there is no value, or one of at most so many bytes
 abbrev pub Fits : Option (List ℕ) → Type 0
 Fits None = Unit {0}
-Fits (Some bytes) = length bytes ≤ 4096
+Fits (Some bytes) = length bytes ≤ most_value
 
 -- the name comes before those of the attributes
 abbrev pub IsBefore : List ℕ → List Pair → Type 0
 IsBefore name [] = Unit {0}
 IsBefore name (a ∷ rest) = (byte_order name a.0 ≡ Less) × IsBefore name rest
 
--- each name once, in byte order, and no value above 4,096 bytes
+-- each name once, in byte order, and no value of more bytes than it may have
 abbrev pub IsAttrs : List Pair → Type 0
 IsAttrs [] = Unit {0}
-IsAttrs (a ∷ rest) = IsBefore a.0 rest × (length a.1 ≤ 4096) × IsAttrs rest
+IsAttrs (a ∷ rest) = IsBefore a.0 rest × (length a.1 ≤ most_value) × IsAttrs rest
