@@ -24,7 +24,8 @@ use Rattle.text_forms.specs.Words.{is_word}
 use Rattle.xattr_store.specs.Attrs.{IsAttrs, Pair, byte_order, put, without}
 use Rattle.xattr_store.proofs.Kept.{attrs-put, attrs-without}
 use Rattle.xattr_store.proofs.Search.{eq_as_ordered}
-use Rattle.script_text.specs.Files.{counted_length, ima_name, is_counted}
+use Rattle.xattr_store.specs.Names.{ima_name}
+use Rattle.script_text.specs.Files.{counted_length, is_counted}
 use Rattle.script_text.specs.Forms.{AreAttrs, are_bytes, attr_bytes, attr_count, is_attr}
 use Rattle.script_text.specs.Limits.{most_attrs}
 use Rattle.script_text.specs.Settings.{one_if}

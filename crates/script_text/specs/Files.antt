@@ -1,7 +1,6 @@
 -- The blocks of files.
 use Rattle.std.specs.Prelude.{ℕ, ◌+◌, Bool, true, false, ◌&&◌, ◌||◌, not, nat_lt, List, [], ◌∷◌, ◌++◌, length, codes, Option, Some, None, is_some, option_map, slice_get, Result, Ok, Err, ok_or, if◌then◌else◌}
 use Rattle.std.specs.Str.{bytes_eq}
-use Rattle.evm_verify.specs.Input.{evm_name}
 use Rattle.evm_verify.specs.Setup.{Setup}
 use Rattle.evm_verify.specs.Status.{renewed}
 use Rattle.hash_algos.specs.Digest.{digest_of}
@@ -15,6 +14,7 @@ use Rattle.text_forms.specs.Paths.{is_path}
 use Rattle.text_forms.specs.Tokens.{is_filled}
 use Rattle.text_forms.specs.Words.{is_word}
 use Rattle.xattr_store.specs.Attrs.{Pair, put, value}
+use Rattle.xattr_store.specs.Names.{evm_name, ima_name}
 use Rattle.script_words.specs.declared.fault.LineCause.{LineCause}
 use Rattle.script_words.specs.declared.fault.LineCause.TheVariants as cause
 use Rattle.script_words.specs.Forms.{behind_by, field, id_of, ino_of, mode_of, place_among}
@@ -132,10 +132,6 @@ unfoldable pub with_absent : List (List ℕ) → Draft → Made
 with_absent words d = field (front_in words) λ front. with_front front false [] d
 
 -- ---- attributes
-
--- the attribute that holds the label
-abbrev pub ima_name : List ℕ
-ima_name = codes "security.ima"
 
 -- the label and the HMAC count neither among a file's attributes nor in the sum
 abbrev pub is_counted : List ℕ → Bool

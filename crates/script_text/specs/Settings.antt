@@ -1,8 +1,8 @@
 -- The settings of a script, and its file systems.
 use Rattle.std.specs.Prelude.{ℕ, Bool, true, false, ◌&&◌, ◌==◌, not, nat_le, nat_lt, List, [], ◌∷◌, ◌++◌, length, codes, Option, Some, None, Result, Ok, Err, ok_or, if◌then◌else◌}
-use Rattle.std.specs.List.{list_any}
 use Rattle.std.specs.Str.{bytes_eq}
-use Rattle.evm_verify.specs.Input.{evm_name, five_names}
+use Rattle.evm_verify.specs.Changes as evm
+use Rattle.evm_verify.specs.Input.{evm_name}
 use Rattle.hash_algos.specs.Algo.{algo_by_name, algo_size}
 use Rattle.hash_algos.specs.Digest.{zero_digest}
 use Rattle.hash_algos.specs.DigestValue.{DigestValue}
@@ -107,7 +107,7 @@ is_added_name w = is_word 255 w && nat_le 10 (length w) && starts w (codes "secu
     && not (bytes_eq w evm_name)
 
 abbrev pub is_protected : List ℕ → Draft → Bool
-is_protected w d = list_any (bytes_eq w) (five_names ++ d.script.added)
+is_protected w d = evm.is_protected d.script.added w
 
 -- `.` locks the list
 unfoldable pub locked : Draft → Made

@@ -5,19 +5,20 @@ ghost use Rattle.std.specs.Option.{option_copied};
 ghost use Rattle.hash_algos.specs.Digest.{digest_of};
 ghost use Rattle.label_values.specs.Labels.{label_of};
 ghost use Rattle.text_forms.specs.Tokens.{is_filled};
+ghost use Rattle.xattr_store.specs.Names.{ima_name};
 ghost use Rattle.script_words.specs.declared.fault.LineCause.TheVariants as cause;
 ghost use Rattle.script_words.specs.Forms.{behind_by, id_of, ino_of, mode_of};
 ghost use Rattle.script_words.specs.Gives.{LineGives, LineMakes};
 ghost use Rattle.script_text.specs.Draft.{change_last, last_of};
 ghost use Rattle.script_text.specs.Settings.{name_of};
-ghost use Rattle.script_text.specs.Files.{attrs_put, block_of, content_of, counted_length, file_in, front_in, front_of, has_attr, ima_name, is_counted, numeral_of, path_of, sealed, setup_of, two, with_absent, with_attr, with_block, with_file, with_front, with_pair, with_seal, within_sum};
+ghost use Rattle.script_text.specs.Files.{attrs_put, block_of, content_of, counted_length, file_in, front_in, front_of, has_attr, is_counted, numeral_of, path_of, sealed, setup_of, two, with_absent, with_attr, with_block, with_file, with_front, with_pair, with_seal, within_sum};
 ghost use Rattle.script_text.specs.FrontView.{front_view};
 
 use crate::blocks::FileBlock;
 use crate::draft::Draft;
 use crate::paths::Paths;
 use evm_verify::Evm;
-use hash_algos::{Algo, Digest, Running};
+use hash_algos::{Algo, digest_of};
 use inode_events::Image;
 use inode_meta::Meta;
 use inode_pages::MOST_BYTES;
@@ -27,7 +28,7 @@ use script_words::{LineCause, LineErr, id_of, ino_of, mode_of, place_among, valu
 use std::alloc::{AllocError, Global};
 use std::mem;
 use text_forms::{is_path, is_short_numeral, is_word};
-use xattr_store::{Attrs, Bytes, MAX_VALUE};
+use xattr_store::{Attrs, Bytes, EVM_NAME, IMA_NAME, MAX_VALUE};
 
 // How many files a script may have, attributes a file, and bytes a content and all values in sum.
 const FILES: usize = 256;
@@ -407,7 +408,7 @@ fn counted_length(name: &[u8], value: &[u8]) -> usize
 fn is_counted(name: &[u8]) -> bool
     ensures { result ≡ is_counted name.now }
 {
-    !(name == b"security.ima".as_slice() || name == b"security.evm".as_slice())
+    !(name == IMA_NAME || name == EVM_NAME)
 }
 
 // The file with one attribute more.
@@ -423,15 +424,6 @@ fn attrs_put(file: FileBlock, name: &[u8], value: &[u8]) -> Result<FileBlock, Li
     }
 }
 
-// The digest of the content.
-fn digest_of(algo: Algo, content: &[u8]) -> Digest
-    ensures { result ≡ digest_of algo content.now }
-{
-    let mut running = Running::new(algo);
-    running.feed(content);
-    running.finish()
-}
-
 // The file with the label of its content.
 fn label_put(algo: Algo, file: FileBlock) -> Result<FileBlock, LineErr>
     ensures ok { IfOk result
@@ -441,7 +433,7 @@ fn label_put(algo: Algo, file: FileBlock) -> Result<FileBlock, LineErr>
     let mut out = [0; MAX_LABEL];
     let digest = digest_of(algo, file.image.content.as_slice());
     let len = write_label(&digest, &mut out);
-    attrs_put(file, b"security.ima", &out[..len])
+    attrs_put(file, IMA_NAME, &out[..len])
 }
 
 fn sealed(evm: &Evm, algo: Algo, file: FileBlock) -> Result<FileBlock, LineErr>

@@ -1,10 +1,7 @@
 //! The settings of a script, and its file systems.
 
 ghost use Rattle.std.specs.Prelude.{◌≡◌, ◌++◌, ok_or, map, codes};
-ghost use Rattle.std.specs.List.{list_any};
 ghost use Rattle.std.specs.Option.{option_copied};
-ghost use Rattle.std.specs.Str.{bytes_eq};
-ghost use Rattle.evm_verify.specs.Input.{five_names};
 ghost use Rattle.policy_text.specs.Key.{starts};
 ghost use Rattle.text_forms.specs.FileSystems.{magic_of, uuid_of};
 ghost use Rattle.script_words.specs.declared.fault.LineCause.TheVariants as cause;
@@ -14,13 +11,14 @@ ghost use Rattle.script_text.specs.Settings.{boot_algo, digest_in, digest_sized,
 
 use crate::draft::Draft;
 use crate::files::is_filled;
+use evm_verify::is_protected;
 use hash_algos::{Algo, Digest, by_name};
 use inode_meta::{Mode, Template};
 use policy_text::{Super, template_of};
 use script_words::{LineCause, LineErr, value_of};
 use std::alloc::Global;
 use text_forms::{is_word, magic_of, uuid_of};
-use xattr_store::Bytes;
+use xattr_store::{Bytes, EVM_NAME};
 
 // The most bytes of a key, names that are added, and file systems.
 const KEY: usize = 128;
@@ -157,7 +155,7 @@ impl Draft {
     fn is_protected(&self, name: &[u8]) -> bool
         ensures { result ≡ is_protected name.now self.now }
     {
-        is_one_of_five(name) || is_among(name, &self.added)
+        is_protected(name, self.added.as_slice())
     }
 
     /// `evm_format 1` or `evm_format 2`
@@ -241,10 +239,7 @@ fn mode_named(word: &[u8]) -> Option<Mode>
 fn is_added_name(name: &[u8]) -> bool
     ensures { result ≡ is_added_name name.now }
 {
-    is_word(name, 255)
-        && 10 <= name.len()
-        && starts(name, b"security.")
-        && name != b"security.evm".as_slice()
+    is_word(name, 255) && 10 <= name.len() && starts(name, b"security.") && name != EVM_NAME
 }
 
 // As `starts_with`, whose clause says it case by case.
@@ -252,22 +247,6 @@ fn starts(name: &[u8], front: &[u8]) -> bool
     ensures { result ≡ starts name.now front.now }
 {
     name.starts_with(front)
-}
-
-fn is_one_of_five(name: &[u8]) -> bool
-    ensures { result ≡ list_any (bytes_eq name.now) five_names }
-{
-    name == b"security.selinux".as_slice()
-        || name == b"security.SMACK64".as_slice()
-        || name == b"security.apparmor".as_slice()
-        || name == b"security.ima".as_slice()
-        || name == b"security.capability".as_slice()
-}
-
-fn is_among(name: &[u8], names: &[Bytes]) -> bool
-    ensures { result ≡ list_any (bytes_eq name.now) names.now }
-{
-    names.iter().any(|other| name == other.as_slice())
 }
 
 fn format_of(word: &[u8]) -> Option<u8>
