@@ -96,7 +96,7 @@ deed_of admin (call.SetAttr inode name value) file = deed.SetAttr name value adm
 deed_of admin (call.SetMeta inode change) file = deed.SetMeta change
 deed_of admin _ file = deed.Birth
 
--- what a step does that is no event on an inode
+-- what a step does that isn't an event on an inode
 abbrev pub plain_step : Bool → Call → Step
 plain_step admin (call.Post sem) = Signals (deed.Post sem)
 plain_step admin (call.Wait sem) = Signals (deed.Wait sem)

@@ -26,7 +26,7 @@ pub enum Reply {
     TooLong,
     /// There is no such attribute to remove (`ENODATA`).
     NoData,
-    /// A value of `security.ima` that is no label (`EINVAL`).
+    /// A value of `security.ima` that isn't a label (`EINVAL`).
     Invalid,
     /// The attribute is `security.evm` (`EPERM`).
     EvmName,

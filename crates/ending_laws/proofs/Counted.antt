@@ -121,7 +121,7 @@ answered_fits on_deed on_call p t xs ys c r hs f at e =
       counted = ap (λ (n : ℕ). how_many on_call (take n p.calls)) next ∙ whole;
     }
 
--- a call that is no post and no wait
+-- a call that is neither a post nor a wait
 quiet_fits : (on_deed : Deed → Bool) (on_call : Call → Bool) → Agree on_deed on_call
     → (p : Program) (t : Thought) (xs : List (ℕ × Event)) (c : Call) (g : Progress) (place : ℕ)
     (x : Next)

@@ -43,7 +43,7 @@ module _ {X : Type 0} where
       let h : x ≡ y = cc in
       (r.0, (λ i. h i ∷ t i))
 
-  -- a prefix that is no shorter is the whole
+  -- a prefix that isn't shorter is the whole
   pub prefix_whole : (xs ys : List X) → IsPrefix xs ys → length ys ≤ length xs → xs ≡ ys
   prefix_whole xs ys a long =
       let none : length a.0 ≡ 0 = omega (arith, length-append xs a.0, ap length a.1) in

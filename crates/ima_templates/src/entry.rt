@@ -65,7 +65,7 @@ impl Entry {
     ghost use Rattle.ima_templates.specs.Replay.{extended_by};
     ghost use Rattle.ima_templates.specs.Same.{same, same_data, SameFields};
 
-    /// The entry of these fields that is no violation, with its template digests.
+    /// The entry of these fields that isn't a violation, with its template digests.
     pub(crate) fn of_fields(
         pcr: u8,
         template: Template,

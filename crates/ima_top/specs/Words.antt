@@ -6,7 +6,7 @@ use Rattle.ima_top.specs.declared.commands.Command.TheVariants as command
 use Rattle.ima_top.specs.commands.Table.{reads}
 use Rattle.ima_top.specs.Line.{with_newline}
 
--- the line that is told where the words are no command
+-- the line that is told where the words aren't a command
 abbrev pub usage_line : List ℕ
 usage_line = with_newline (codes "usage: imakern list | policy | label")
 

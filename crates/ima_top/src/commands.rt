@@ -24,7 +24,7 @@ pub enum Command {
     Label,
 }
 
-/// The line that is told where the words are no command.
+/// The line that is told where the words aren't a command.
 pub const USAGE_LINE: &[u8] = b"usage: imakern list | policy | label\n";
 
 /// The command that the words are.

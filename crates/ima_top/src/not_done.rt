@@ -13,7 +13,7 @@ use std::alloc::{AllocError, AllocFailed};
 /// `ReadErr` and `Failed`, which say no more than that reading or writing failed.
 #[derive(Debug, Drop)]
 pub enum NotDone {
-    /// The words are no command.
+    /// The words aren't a command.
     Usage,
     /// The input isn't in the command's grammar: the line that says why.
     Refused(Vec<u8>),

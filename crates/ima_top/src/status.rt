@@ -3,7 +3,7 @@
 /// The command's input was read to its end and the output was written whole.
 pub const DONE: u8 = 0;
 
-/// The words are no command. Nothing was read.
+/// The words aren't a command. Nothing was read.
 pub const USAGE: u8 = 1;
 
 /// The input isn't in the command's grammar. Nothing was written.

@@ -97,7 +97,7 @@ pub fn serve<S: Source, K: Sink, N: Sink, G: Gate + Sync>(
 ) -> u8
     ensures statuses { IsStatus result }
 
-    // The words: `USAGE` comes exactly where they are no command. Then, and by a command that
+    // The words: `USAGE` comes exactly where they aren't a command. Then, and by a command that
     // doesn't read, nothing is read.
     ensures usage { (result ≡ USAGE) ↔ IsNone (command_of (map string_bytes words.now)) }
     ensures unread { reads_input (command_of (map string_bytes words.now)) ≡ false

@@ -29,7 +29,7 @@ pub enum Set {
     NotAdmin,
     /// The value has more than 4,096 bytes.
     TooLong,
-    /// The value is no label.
+    /// The value isn't a label.
     Invalid,
     /// The attribute that is to be removed is absent.
     NoData,

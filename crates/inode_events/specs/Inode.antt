@@ -10,6 +10,6 @@ pub record Inode : Type 0 where
   pub settings : Settings
   pub birth : Image
 
--- the maker of a birth, which is no task's step
+-- the maker of a birth, which isn't a task's step
 abbrev pub nobody : Who
 nobody = record { task = 0; call = 0; step = 0 }

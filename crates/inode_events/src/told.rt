@@ -58,7 +58,7 @@ pub enum Told {
     NotAdmin,
     /// A value above 4,096 bytes.
     TooLong,
-    /// A value of `security.ima` that is no label.
+    /// A value of `security.ima` that isn't a label.
     Invalid,
     /// A removal of an attribute that is absent.
     NoData,

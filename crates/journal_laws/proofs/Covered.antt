@@ -243,7 +243,7 @@ walk_guarded i list f check before bytes (e ∷ later) h l v alive reads listed 
 
 -- ---- at the check
 
--- a reader is no writer
+-- a reader isn't a writer
 reader_no_writer : (o : Option How) → holds is_reader o ≡ true → holds is_writer o ≡ false
 reader_no_writer None h = refl
 reader_no_writer (Some (how.Read create)) h = refl

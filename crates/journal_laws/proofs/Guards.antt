@@ -167,7 +167,7 @@ unchecked_closed i p g u x a w = at (g == x) refl a where
   at true e h = cc
   at false e h = u x h (sym (ap (holds is_writer) (find-less g x (files p) e)) ∙ w)
 
--- a check that meets no violation is no writer's
+-- a check that meets no violation isn't a writer's
 no_violation : (readers writers place : ℕ) (must writing measure : Bool) (func : Func)
     (action : Action) (g rules : ℕ) (t : Told) → 0 < readers → must ≡ true
     → Some (check_told writing measure readers writers must place) ≡ Some t

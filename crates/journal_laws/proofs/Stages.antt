@@ -135,7 +135,7 @@ calm_all i p q l w = record {
   writing = λ f h. w f;
 }
 
--- a new file is no other one
+-- a new file is none of the others
 new_writing : (i : Inode) (p : List Event) (how : How) → Lives i p → (f : ℕ)
     → is_collecting (stage i f p) ≡ true
     → holds is_writer (find_file f ((length p, how) ∷ files p)) ≡ is_writing f p
@@ -145,7 +145,7 @@ new_writing i p how v f b =
       apart : (f : ℕ) → f < length p → (length p == f) ≡ false
       apart f h = ne_eqb (length p) f (λ e. omega arith)
 
--- a dropped file is no busy one
+-- a dropped file isn't a busy one
 less_writing : (i : Inode) (p : List Event) (g : ℕ) → is_collecting (stage i g p) ≡ false → (f : ℕ)
     → is_collecting (stage i f p) ≡ true
     → holds is_writer (find_file f (less_file g (files p))) ≡ is_writing f p

@@ -27,7 +27,7 @@ pub record IsSameJournal (old new : KeptValue) : Type 0 where
   pub callers : new.callers ≡ old.callers
   pub list : new.list ≡ old.list
 
--- ---- the birth, which is no copy: it is what the first event was told
+-- ---- the birth, which isn't a copy: it is what the first event was told
 
 -- no file
 abbrev pub nothing : Image

@@ -222,7 +222,7 @@ earlier_trans a b c h k =
 abbrev EarlierThan : Who → Made → Type 0
 EarlierThan due b = is_earlier b.event.who due ≡ true
 
--- a step that is no event changes what is due alone
+-- a step that isn't an event changes what is due alone
 pub ordered_plain : (steps : List Made) (due next : Who) → OrderedBefore steps due
     → is_earlier due next ≡ true → OrderedBefore steps next
 ordered_plain steps due next w e = record {

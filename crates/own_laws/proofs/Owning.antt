@@ -121,7 +121,7 @@ stage_own i n f p o h = stage_alone i n f p (alone f n p o h)
 
 -- ---- checks
 
--- an event that doesn't touch the file is no check of it
+-- an event that doesn't touch the file isn't a check of it
 check_apart : (f place : ℕ) (d : Deed) (old : Check) → touches f place d ≡ false
     → check_after f d old ≡ old
 check_apart f place (deed.Check g func action rules) old t =

@@ -51,7 +51,7 @@ pub fn collection_stays()
     ensures { CollectionStays }
 {}
 
-/// What stands beyond all own entries of a caller is no entry of it.
+/// What stands beyond all own entries of a caller isn't its entry.
 pub fn none_beyond()
     ensures { NoneBeyond }
 {}

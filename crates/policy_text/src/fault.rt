@@ -5,7 +5,7 @@ ghost use Rattle.policy_text.specs.Gives.{err_at};
 
 use std::alloc::{AllocError, AllocFailed};
 
-/// Why a line is no rule. A line's tokens are tested from left to right, and the first bad token
+/// Why a line isn't a rule. A line's tokens are tested from left to right, and the first bad token
 /// decides.
 #[derive(Clone, Copy, Debug, PartialEq, Eq)]
 pub enum RuleCause {

@@ -22,7 +22,7 @@ use std::alloc::Global;
 use text_forms::{Tokens, is_word, magic_of, number_of, uuid_of};
 use xattr_store::Bytes;
 
-/// The rule of a line; a blank line and a comment are no rule.
+/// The rule of a line; a blank line and a comment aren't rules.
 pub fn rule_of(alloc: Global, line: &[u8]) -> Result<Rule, LineErr>
     ensures { LineGives result (rule_of line.now) }
 {
@@ -219,7 +219,7 @@ impl Rule {
         Ok(rule)
     }
 
-    // The other keys are no id keys.
+    // The other keys aren't id keys.
     fn with_id(self, key: Key, test: IdTest) -> Rule
         requires { IsTrue (is_id test) }
         ensures { result ≡ with_id key test self }

@@ -32,8 +32,8 @@ pub fn parse(alloc: Global, text: &[u8]) -> Result<Policy, PolicyErr>
 
 /// The one rule of a line. A newline in it is a byte like any other.
 ///
-/// `Refused`, with line 1, comes exactly where the line is no rule, with the cause of its first bad
-/// token; a blank line and a comment are `BadAction`.
+/// `Refused`, with line 1, comes exactly where the line isn't a rule, with the cause of its first
+/// bad token; a blank line and a comment are `BadAction`.
 pub fn parse_rule(alloc: Global, line: &[u8]) -> Result<Rule, PolicyErr>
     ensures { Gives result (at_line fault_at 1 (rule_of line.now)) }
 {

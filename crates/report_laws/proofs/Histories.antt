@@ -166,7 +166,7 @@ pr_entries scene n k (m ∷ ms) (x ∷ xs) = elim (cases_Bool (n == m)) [
   | inr e ↦ rw (e, pr_entries scene n (k + 1) ms xs) refl
 ]
 
--- an event of a task is no birth
+-- an event of a task isn't a birth
 no_birth_by : (n t : ℕ) (d : Deed) → (n + 1 == caller_in t d) ≡ true → is_no_birth d ≡ true
 no_birth_by n t deed.Birth h =
     absurd (let no : (n + 1 == 0) ≡ false = grind (arith, nat_tests) in false≢true (sym no ∙ h))

@@ -32,7 +32,7 @@ none_at test (y ∷ xs) zero x h e =
 none_at test (y ∷ xs) (suc i) x h e = none_at test xs i x (neither (test y) (list_any test xs) h).1
     e
 
--- a step of a call that is no `addrule` appends nothing
+-- a step of a call that isn't an `addrule` appends nothing
 none_by : (admin : Bool) (c : Call) (g : Progress) (a : Ask) (w : Who) (x : Answer) → appends c
     ≡ false → rule_in w (Some (step_by admin c g a)) x ≡ []
 none_by admin c g ask.Count w x h = refl

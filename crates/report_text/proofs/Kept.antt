@@ -71,7 +71,7 @@ picked p [] i h z = z
 picked p (x ∷ xs) zero h z = left _ _ h
 picked p (x ∷ xs) (suc i) h z = picked p xs i (right _ _ h) z
 
--- whatever the list is: a number that is no byte has a zero for its digits
+-- whatever the list is: a number that isn't a byte has a zero for its digits
 pub hex_kept : (bs : List ℕ) → is_clean (encode_lower bs) ≡ true
 unfolding encode_with
 hex_kept [] = refl

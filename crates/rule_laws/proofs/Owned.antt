@@ -185,7 +185,7 @@ own_checks scene n p h i j file func mask place action rules (Some t) at =
     ++ event_in j (who_at n p (thought (mode_of scene) p h).mind) o
     (record { place = place; told = t; action = action; rules = rules })) (sym at)
 
--- a step that is no event
+-- a step that isn't an event
 abbrev IsQuiet : Step → Type 0
 IsQuiet (Does i d) = ⊥
 IsQuiet (Checks i file func mask) = ⊥

@@ -344,7 +344,7 @@ event_rises scene s i inode who d o l c r k journal h =
           (prefix_refl s.added) (r i (journal_at s i) (slice_get-get_or s.journals i [] l)) c)
       at (inr g) = r k journal g
 
--- a step that is no check
+-- a step that isn't a check
 abbrev NoCheck : Step → Type 0
 NoCheck (Does i d) = (count : ℕ) → CountsAll count d
 NoCheck _ = Unit {0}

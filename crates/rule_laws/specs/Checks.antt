@@ -85,7 +85,7 @@ FitsWithMore =
     (scene : Scene) (p : Program) (old new : Seen) (h : List Answer) → SeesMore old new
     → ChecksFit scene p old h → ChecksFit scene p new h
 
--- the answer to a step that is no check
+-- the answer to a step that isn't a check
 abbrev pub IsPlainStep : Scene → Seen → Option Step → Answer → Type 0
 IsPlainStep scene s None a = ⊥
 IsPlainStep scene s (Some Nothing) a = a ≡ plain_answer 0 told.Nothing

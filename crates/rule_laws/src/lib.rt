@@ -16,7 +16,7 @@ pub fn fits_with_more()
     ensures { FitsWithMore }
 {}
 
-/// A step that is no check keeps what the task has of its checks.
+/// A step that isn't a check keeps what the task has of its checks.
 pub fn fits_by_step()
     ensures { FitsByStep }
 {}

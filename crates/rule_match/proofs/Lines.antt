@@ -62,7 +62,7 @@ module _ (g : Group) where
       choose false has all (suc j) at same rest =
           rest j at (λ l head. let less : k + i < l = all l head in omega arith)
 
-  -- the lines of the group once the walk has passed a line that is no later than the first of them
+  -- the lines of the group once the walk has passed a line that isn't later than the first of them
   pub lines_passed : (k : ℕ) (rules : List RuleValue) (line : ℕ) → k ≤ line
       → line < k + length rules
       → ((l : ℕ) → head_of (lines_from g k rules) ≡ Some l → line ≤ l)
@@ -142,7 +142,7 @@ earlier_all P (Some m) (Some n) l p q is = choose (nat_lt n m) is where
   choose true at = q l at
   choose false at = p l at
 
--- a line that is no later than the earlier of two is no later than either
+-- a line that isn't later than the earlier of two isn't later than either
 pub earlier_min : (m n : Option ℕ) (line : ℕ) → ((l : ℕ) → earlier_of m n ≡ Some l → line ≤ l)
     → ((l : ℕ) → m ≡ Some l → line ≤ l) × ((l : ℕ) → n ≡ Some l → line ≤ l)
 earlier_min None n line least = ((λ l e. absurd (none-some l e)), least)

@@ -24,7 +24,7 @@ pub record Answer : Type 0 where
   pub action : Action
   pub rules : ℕ
 
--- the answer to a step that is no check
+-- the answer to a step that isn't a check
 abbrev pub plain_answer : ℕ → Told → Answer
 plain_answer place t = record { place = place; told = t; action = no_action; rules = 0 }
 

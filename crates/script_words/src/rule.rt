@@ -7,7 +7,7 @@ use policy_text::{PolicyErr, Rule, parse_rule};
 use std::alloc::Global;
 
 /// The rule of the text behind the first space, by the grammar of policies. Without a space there
-/// is no text.
+/// is none.
 pub fn rule_of(alloc: Global, text: Option<&[u8]>) -> Result<Rule, LineErr>
     ensures { LineGives result (rule_of (option_copied text.entry)) }
 {

@@ -30,7 +30,7 @@ use Rattle.call_steps.specs.declared.reply.Reply.TheVariants as reply
 
 -- ---- what is said of an ask
 
--- it is no take, and goes on with no collection
+-- it isn't a take, and goes on with no collection
 abbrev pub IsIdle : Ask → Type 0
 IsIdle (ask.Take slot) = ⊥
 IsIdle ask.Chunk = ⊥

@@ -1,4 +1,4 @@
--- A step that is no event on an inode: a post or a wait, a rule that is appended, or nothing.
+-- A step that isn't an event on an inode: a post or a wait, a rule that is appended, or nothing.
 use Rattle.std.specs.Prelude.{◌≡◌, List, [], ◌∷◌, Option, Some}
 use mathlib.Core.List.{IsPrefix}
 use Rattle.call_steps.specs.Mind.{Step}

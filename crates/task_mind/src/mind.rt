@@ -95,8 +95,8 @@ impl TaskMind {
         self.checked
     }
 
-    /// The semaphore for which its first unanswered call waits. `None` where that is no wait, or all
-    /// calls are answered.
+    /// The semaphore for which its first unanswered call waits. `None` where that isn't a
+    /// wait, or all calls are answered.
     pub fn awaited(&self) -> Option<u8>
         ensures { result ≡ awaited_by
             (slice_get self.now.program.calls (length self.now.thought.replies)) }

@@ -14,7 +14,7 @@ use xattr_store::Bytes;
 /// An event on an inode, before it has happened. Bytes are the call's, and none is copied.
 #[derive(Clone, Copy, Drop)]
 pub enum Doing<'a> {
-    /// The inode comes into being. It is no step of a call.
+    /// The inode comes into being. It isn't a step of a call.
     Birth,
     /// A file is counted.
     Count(How),
@@ -100,7 +100,7 @@ fn doing_of<'a>(admin: bool, call: &'a Call, file: u64) -> Doing<'a>
     }
 }
 
-// What a step does that is no event on an inode.
+// What a step does that isn't an event on an inode.
 fn plain_step<'a>(admin: bool, call: &'a Call) -> Step<'a>
     ensures { step_in result ≡ plain_step admin call.now }
 {

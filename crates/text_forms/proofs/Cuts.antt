@@ -42,7 +42,7 @@ module _ {X : Type 0} (p : X → Bool) where
     | inr e ↦ rw (e, part w rest (rw e at h) b) refl
   ]
 
--- blanks in front are no part of a token
+-- blanks in front aren't part of a token
 pub blanks_off : (line : List ℕ) → tokens (drop (position_or_len is_inked line) line) ≡ tokens line
 blanks_off [] = refl
 blanks_off (b ∷ bs) = elim (cases_Bool (is_blank b)) [

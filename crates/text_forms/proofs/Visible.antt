@@ -1,4 +1,4 @@
--- Visible bytes are no blanks and no newlines, and digits are visible.
+-- Visible bytes are neither blanks nor newlines, and digits are visible.
 use Rattle.std.proofs.Common.{◌≡◌, ℕ, ◌<◌, ◌≤◌, ◌^◌, Bool, true, false, not, ◌==◌, List, [], ◌∷◌, length, Some, nat_le, refl, inl, inr, arith}
 use Rattle.std.specs.Char.{is_digit, digit_value}
 use Rattle.std.specs.Fmt.{digits}

@@ -30,7 +30,7 @@ use Rattle.world_deeds.specs.Acting.{IsPlacedAt, IsSaid, ReadyAt, told_of}
 use Rattle.world_deeds.specs.Parts.{AreParts, frame_by, state_by}
 use Rattle.world_deeds.specs.declared.answers.Answered.{Answered}
 
--- what a task does is no check
+-- what a task does isn't a check
 pub does_count : (n : ℕ) (x : Doing) → CountsAll n (deed_in x)
 does_count n doing.Birth = tt
 does_count n (doing.Count how) = tt

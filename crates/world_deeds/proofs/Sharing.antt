@@ -39,7 +39,7 @@ use Rattle.task_laws.proofs.Quieting.{quiet_is_left, quiet_is_played}
 use Rattle.task_laws.specs.Quiet.{IsQuiet, QuietLeft, QuietPasses}
 use Rattle.task_laws.specs.Steps.{Adds}
 
--- an answer without an action leaves the action of the last check, at a step that is no check
+-- an answer without an action leaves the action of the last check, at a step that isn't a check
 checked_quiet : (t : ActionValue) (a : Answered) (o : Option Step) → IsQuiet o → a.action ≡ None
     → unwrap_or a.action t ≡ action_by o (answer_of a 0) t
 checked_quiet t a (Some Nothing) q e = ap (λ (x : Option Action). unwrap_or x t) e
