@@ -6,7 +6,8 @@ use Rattle.label_text.proofs.seal.sealed_attrs.Goals as goal
 
 pub returns : goal.returns
 returns c =
-    let digest_is : c.digest_of-digest.result ≡ digest_of c.args.hash c.args.file.now.image.content =
+    let digest_is : c.digest_of-digest.result
+    ≡ digest_of c.args.hash c.args.file.now.image.content =
     rw c.as_slice.ensures.bytes at c.digest_of-digest.ensures in
     let label_is = ap label_of digest_is in
     let front = shown c.write_label-len.new.out _ _ c.write_label-len.result
