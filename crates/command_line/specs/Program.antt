@@ -1,0 +1,19 @@
+-- The program as `clap` has it: a subcommand for each command.
+use Rattle.std.specs.Prelude.{true, codes}
+use Rattle.clap.specs.Simple.{App, new_app, new_shape, on_top, with_subcommand}
+
+-- without options, help and version; the words begin with the command's
+abbrev pub bare : App
+bare = on_top (λ s. record s {
+  no_binary_name = true;
+  disable_help_flag = true;
+  disable_help_subcommand = true;
+  disable_version_flag = true;
+  subcommand_required = true;
+}) (new_app (codes "imakern"))
+
+abbrev pub program : App
+program =
+    with_subcommand
+    (with_subcommand (with_subcommand bare (new_shape (codes "list"))) (new_shape (codes "policy")))
+    (new_shape (codes "label"))

@@ -1,0 +1,81 @@
+// The parser: one program with a subcommand for each command, without options, help and version.
+ghost use Rattle.std.specs.Prelude.{◌≡◌, map, string_bytes, IfOk};
+ghost use Rattle.std.specs.List.{list_any};
+ghost use Rattle.clap.specs.Words.{app_of};
+ghost use Rattle.clap.specs.Simple.{new_shape, with_subcommand};
+ghost use Rattle.command_line.specs.Words.{command_of, is_option};
+ghost use Rattle.command_line.specs.Program.{bare, program};
+
+use crate::command::Command;
+use clap::error::ErrorKind;
+use std::alloc::{AllocError, Global};
+
+/// The command that the words are. They don't hold the program's name.
+///
+/// Words of which one begins with a hyphen aren't parsed: the program has no options, so they aren't
+/// a command.
+pub fn command_of(alloc: Global, words: &[String]) -> Result<Option<Command>, AllocError>
+    ensures { IfOk result (λ command. command ≡ command_of (map string_bytes words.now)) }
+{
+    if has_option(words) {
+        return Ok(None);
+    }
+    let program = program(alloc)?;
+    match program.try_get_matches_from(words) {
+        Ok(matches) => match matches.subcommand_name() {
+            Some(name) => Ok(Command::named(name)),
+            None => Ok(None),
+        },
+        Err(error) => match error.kind() {
+            ErrorKind::OutOfMemory => Err(AllocError),
+            _ => Ok(None),
+        },
+    }
+}
+
+fn has_option(words: &[String]) -> bool
+    ensures { result ≡ list_any (λ word. is_option (string_bytes word)) words.now }
+{
+    words.iter().any(|word| is_option(word.as_str()))
+}
+
+fn is_option(word: &str) -> bool
+    ensures { result ≡ is_option word.now }
+{
+    match word.as_bytes() {
+        [first, ..] => *first == b'-',
+        [] => false,
+    }
+}
+
+fn program<'a>(alloc: Global) -> Result<clap::Command<'a>, AllocError>
+    ensures { IfOk result (λ p. app_of p ≡ program) }
+{
+    let program = bare(alloc);
+    let program = with_command(alloc, program, "list")?;
+    let program = with_command(alloc, program, "policy")?;
+    with_command(alloc, program, "label")
+}
+
+fn bare<'a>(alloc: Global) -> clap::Command<'a>
+    ensures { app_of result ≡ bare }
+{
+    clap::Command::new(alloc, "imakern")
+        .no_binary_name(true)
+        .disable_help_flag(true)
+        .disable_help_subcommand(true)
+        .disable_version_flag(true)
+        .subcommand_required(true)
+}
+
+fn with_command<'a>(
+    alloc: Global,
+    program: clap::Command<'a>,
+    name: &'a str,
+) -> Result<clap::Command<'a>, AllocError>
+    ensures { IfOk result (λ p. app_of p
+        ≡ with_subcommand (app_of program.entry) (new_shape name.entry.now)) }
+{
+    let command = clap::Command::new(alloc, name);
+    program.subcommand(command)
+}
