@@ -1,101 +1,35 @@
 -- Each line of files keeps what a script keeps.
-use Rattle.std.proofs.Common.{◌≡◌, ℕ, suc, ◌+◌, ◌≤◌, Bool, true, false, not, ◌&&◌, ◌||◌, nat_le, nat_lt, List, [], ◌∷◌, ◌++◌, length, map, Option, Some, None, Result, Ok, Err, IfOk, IfSome, ok_or, is_some, slice_get, if◌then◌else◌, refl, inl, inr, sym, ap, ◌∙◌, subst, lit≤, arith, length-append}
+use Rattle.std.proofs.Common.{◌≡◌, ℕ, ◌+◌, ◌≤◌, Bool, true, false, not, ◌&&◌, ◌||◌, nat_le, nat_lt, List, [], ◌∷◌, ◌++◌, length, map, Option, Some, None, Ok, Err, IfSome, is_some, slice_get, if◌then◌else◌, refl, inl, inr, sym, ap, ◌∙◌, subst, lit≤, arith, length-append}
 use Rattle.std.specs.Prelude.{codes}
-use Rattle.std.specs.List.{AllByRecursion, list_all, list_any, sum_by}
-use Rattle.std.specs.Str.{bytes_eq}
+use Rattle.std.specs.List.{sum_by}
 use Rattle.std.proofs.lemmas.Bool.{cases_Bool, false≢true}
 use Rattle.std.proofs.lemmas.Bool.Decides.{nat_tests}
 use Rattle.std.proofs.lemmas.List.{map-append}
-use Rattle.std.proofs.lemmas.List.Folds.{list_all-append}
 use Rattle.std.proofs.lemmas.List.Sums.{sum_by_push}
-use Rattle.call_steps.specs.Forms.{is_call, is_set_value}
-use Rattle.call_steps.specs.declared.call.Call.{Call}
-use Rattle.call_steps.specs.declared.call.Call.TheVariants as call
-use Rattle.evm_verify.specs.Input.{five_names}
-use Rattle.hash_algos.specs.Algo.{algo_by_name}
 use Rattle.hash_algos.specs.Digest.{digest_of}
 use Rattle.inode_events.specs.declared.image.Image.{Image}
 use Rattle.label_values.specs.Labels.{label_of}
-use Rattle.policy_text.specs.RuleValue.{RuleValue, if_there, is_named_template}
-use Rattle.policy_text.specs.Values.{template_of}
 use Rattle.policy_text.specs.declared.access.Super.{Super}
-use Rattle.text_forms.specs.Lines.{◌>>=◌}
 use Rattle.text_forms.specs.Tokens.{is_filled}
 use Rattle.text_forms.specs.Words.{is_word}
-use Rattle.text_forms.proofs.Visible.{all_weaker}
 use Rattle.xattr_store.specs.Attrs.{Pair, put}
 use Rattle.script_words.specs.declared.fault.LineCause.TheVariants as cause
 use Rattle.script_words.specs.Forms.{behind_by, field, place_among}
 use Rattle.script_words.specs.Value.{value_of}
-use Rattle.script_text.specs.Draft.{Draft, change_last, last_of}
+use Rattle.script_text.specs.Draft.{Draft, change_last}
 use Rattle.script_text.specs.Files.{Front, attr_put, attrs_put, block_of, content_of, counted_length, file_in, filed, front_in, has_attr, is_counted, on_super, sealed, setup_of, two, with_absent, with_attr, with_block, with_file, with_front, with_pair, with_seal}
-use Rattle.script_text.specs.Forms.{AreAttrs, AreFiles, AreNames, AreSupers, AreTasks, IsDigestOf, IsFile, IsOnSome, IsScript, appended_by, are_bytes, attr_bytes, attr_count, bytes_in, calls_of, file_bytes, has_place, is_among, is_attr, is_bare, is_cred, is_ending, is_format, is_id, is_ino, is_key, is_line_call, is_mode, is_spelled, is_super, is_task, path_of_block, task_bytes}
-use Rattle.script_text.specs.Limits.{most_added, most_attrs, most_bytes, most_calls, most_content, most_files, most_key, most_rules, most_supers, most_value}
+use Rattle.script_text.specs.Forms.{AreFiles, AreTasks, IsFile, IsOnSome, are_bytes, attr_bytes, attr_count, file_bytes, has_place, is_attr, path_of_block}
+use Rattle.script_text.specs.Limits.{most_attrs, most_bytes, most_content, most_files, most_value}
 use Rattle.script_text.specs.Places.{place_in}
-use Rattle.script_text.specs.Settings.{Made, boot_algo, digest_in, format_of, hashed_by, is_added_name, is_protected, locked, mode_named, name_of, one, one_if, shown_by, super_in, with_added, with_boot, with_format, with_hash, with_key, with_mode, with_name, with_super, with_template, with_version, with_word}
+use Rattle.script_text.specs.Settings.{Made, name_of, one_if}
 use Rattle.script_text.specs.declared.blocks.FileBlock.{FileBlock}
-use Rattle.script_text.specs.declared.blocks.TaskBlock.{TaskBlock}
 use Rattle.script_text.proofs.AttrForms.{attrs_more, attrs_sealed, sum_put, sum_sealed}
-use Rattle.script_text.proofs.FileForms.{IsFront, content_formed, digest_formed, file_in_formed, format_formed, front_in_formed, is_content, key_formed, on_more, super_formed, template_named, zeros_are}
-use Rattle.script_text.proofs.Holding.{at_some, both_true, bound, given, left_true, not_false, right_true, tested}
-use Rattle.script_text.proofs.Lasts.{apart_behind, each_behind, each_changed, each_weaker, last_behind, last_changed, length_changed, map_changed, sum_changed}
+use Rattle.script_text.proofs.FileForms.{IsFront, content_formed, file_in_formed, front_in_formed, is_content}
+use Rattle.script_text.proofs.Holding.{at_some, both_true, given, left_true, not_false, right_true, tested}
+use Rattle.script_text.proofs.Lasts.{apart_behind, each_behind, each_changed, last_behind, last_changed, length_changed, map_changed, sum_changed}
 use Rattle.script_text.proofs.ValueForms.{is_value, value_within}
-use Rattle.script_text.proofs.Kept.{AreListed, AreWithin, IsDraft, IsLast, IsOpen, Keeps, below}
-
--- a call of a script is one of a script with more files
-more_below : (i n m : ℕ) → n ≤ m → nat_lt i n ≡ true → nat_lt i m ≡ true
-more_below i n m le h = grind (arith, nat_tests)
-
-more_and : (i n m : ℕ) (b : Bool) → n ≤ m → (nat_lt i n && b) ≡ true → (nat_lt i m && b) ≡ true
-more_and i n m b le h =
-    both_true (nat_lt i m) b (more_below i n m le (left_true (nat_lt i n) b h))
-    (right_true (nat_lt i n) b h)
-
-pub call_of_more : (n m : ℕ) → n ≤ m → (c : Call) → is_call n c ≡ true → is_call m c ≡ true
-call_of_more n m le (call.Open fd inode h trunc) k = more_and inode n m _ le k
-call_of_more n m le (call.Read fd from len) k = k
-call_of_more n m le (call.Write fd from bytes) k = k
-call_of_more n m le (call.Ftruncate fd len) k = k
-call_of_more n m le (call.Close fd) k = k
-call_of_more n m le (call.Mmap map fd exec) k = k
-call_of_more n m le (call.Mread map from len) k = k
-call_of_more n m le (call.Munmap map) k = k
-call_of_more n m le (call.Exec run inode) k =
-    both_true _ (nat_lt inode m) (left_true _ (nat_lt inode n) k)
-    (more_below inode n m le (right_true _ (nat_lt inode n) k))
-call_of_more n m le (call.Endexec run) k = k
-call_of_more n m le (call.SetAttr inode name value) k =
-    let word = is_word 255 name in
-    both_true (nat_lt inode m && word) (is_set_value value)
-    (more_and inode n m word le (left_true (nat_lt inode n && word) (is_set_value value) k))
-    (right_true (nat_lt inode n && word) (is_set_value value) k)
-call_of_more n m le (call.SetMeta inode change) k = more_below inode n m le k
-call_of_more n m le (call.Post sem) k = k
-call_of_more n m le (call.Wait sem) k = k
-call_of_more n m le (call.AddRule rule) k = k
-call_of_more n m le (call.Module inode) k = more_below inode n m le k
-call_of_more n m le (call.Firmware inode) k = more_below inode n m le k
-
-line_call_of_more : (n m : ℕ) → n ≤ m → (c : Call) → is_line_call n c ≡ true
-    → is_line_call m c ≡ true
-line_call_of_more n m le c h =
-    both_true (is_call m c) (is_spelled c)
-    (call_of_more n m le c (left_true (is_call n c) (is_spelled c) h))
-    (right_true (is_call n c) (is_spelled c) h)
-
-task_of_more : (n m : ℕ) → n ≤ m → (t : TaskBlock) → is_task n t ≡ true → is_task m t ≡ true
-task_of_more n m le t h =
-    both_true (is_cred t.cred) (list_all (is_line_call m) t.calls)
-    (left_true (is_cred t.cred) (list_all (is_line_call n) t.calls) h)
-    (all_weaker (is_line_call n) (is_line_call m) (line_call_of_more n m le) t.calls
-    (right_true (is_cred t.cred) (list_all (is_line_call n) t.calls) h))
-
-pub tasks_of_more : (n m : ℕ) → n ≤ m → (tasks : List TaskBlock) → AreTasks n tasks
-    → AreTasks m tasks
-tasks_of_more n m le tasks h = record {
-  forms = all_weaker (is_task n) (is_task m) (task_of_more n m le) tasks h.forms;
-  few = h.few;
-}
+use Rattle.script_text.proofs.Kept.{AreListed, IsDraft, IsOpen, Keeps, below}
+use Rattle.script_text.proofs.MoreFiles.{tasks_of_more}
 
 files_behind : (b : FileBlock) (d : Draft) → IsDraft d → IsFile d.script.supers b
     → has_place d.paths b.path ≡ false → length d.paths + 1 ≤ most_files

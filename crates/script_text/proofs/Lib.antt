@@ -9,7 +9,9 @@ pub mod Holding
 pub mod Kept
 pub mod Labels
 pub mod Lasts
+pub mod MoreFiles
 pub mod PlacesLemmas
 pub mod Schedules
 pub mod ScriptKept
+pub mod TasksKept
 pub mod ValueForms

@@ -1,4 +1,4 @@
-//! Scripts as text: read, printed canonically, and read again as the same script; and list texts.
+//! Scripts as text, and list texts: what is read of them.
 //!
 //! A script has settings, file systems, files, rules and tasks, and says how its tasks are run. The
 //! grammar stands in `specs/`, apart from the reader: what each line makes of the script so far, or
