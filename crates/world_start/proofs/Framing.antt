@@ -25,9 +25,9 @@ use Rattle.world_close.specs.Closed.{AreIdle, AreStations}
 use Rattle.world_close.proofs.Gets.{all_by_get, get_map, map_get}
 use Rattle.world_close.proofs.Listing.{all_at}
 use Rattle.world_start.proofs.Fresh.{below_max}
-use Rattle.world_start.specs.Parts.{frame_by, state_by}
+use Rattle.world_deeds.specs.Parts.{frame_by, state_by}
 use Rattle.world_start.specs.Start.{AreFirstPasses, Begins, IsFrameOf}
-use Rattle.world_start.specs.Started.{AreFresh, AreRows, AreStarted, IsStarted, SeatsValue, counter_of, file_of, lister_of, named_by, place_of, row_of}
+use Rattle.world_start.specs.Started.{AreFresh, AreRows, AreStarted, IsStarted, SeatsValue, counter_of, file_of, lister_of, named_by, pass_of, place_of, row_of}
 
 -- the journals are those of inodes that were just born
 born : (settings : Settings) (tasks : ℕ) (frame : Frame) (stations : List StationValue)
@@ -231,10 +231,10 @@ module _ (settings : Settings) (boot : Entry) (inodes : List (List ℕ × Image)
       by : (t : StationValue) × ((slice_get stations i ≡ Some t) × (site_of t ≡ s))
           → (q.name ≡ s.journal) × (q.number ≡ k + 1)
       by t =
-          let is : q ≡ fresh t.0.cell.journal (k + 1) =
-          same_Some q (fresh t.0.cell.journal (k + 1))
+          let is : q ≡ pass_of t.0 k =
+          same_Some q (pass_of t.0 k)
           (sym there ∙ ap (λ (l : List (Passed Event)). slice_get l i) (row k p at)
-          ∙ map_get (λ (x : StationValue). fresh x.cell.journal (k + 1)) stations i t.0 t.1.0) in (
+          ∙ map_get (λ (x : StationValue). pass_of x k) stations i t.0 t.1.0) in (
             ap (λ (x : Passed Event). x.name) is ∙ ap (λ (x : Site). x.journal) t.1.1,
             ap (λ (x : Passed Event). x.number) is,
           )
@@ -243,7 +243,7 @@ module _ (settings : Settings) (boot : Entry) (inodes : List (List ℕ × Image)
         → ArePassesOf frame k p
     are_passes k p at = record {
       even = ap length (row k p at)
-          ∙ length-map stations (λ (s : StationValue). fresh s.cell.journal (k + 1))
+          ∙ length-map stations (λ (s : StationValue). pass_of s k)
           ∙ sym (length-map stations site_of);
       inodes = of_inode k p at;
       sems = (
@@ -267,7 +267,7 @@ module _ (settings : Settings) (boot : Entry) (inodes : List (List ℕ × Image)
       inodes = subst (λ (r : List (Passed Event)). All (λ (q : Passed Event). q.mine ≡ []) r)
           (sym (row k p at))
           (All-map (λ (q : Passed Event). q.mine ≡ [])
-          (λ (s : StationValue). fresh s.cell.journal (k + 1)) stations
+          (λ (s : StationValue). pass_of s k) stations
           (all_by_get (λ (s : StationValue). ◌≡◌ {A = List (ℕ × Event)} [] []) stations
           (λ j s here. refl)));
       sems = ap (λ (q : Passed Event). q.mine) (sem k p at);

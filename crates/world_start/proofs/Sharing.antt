@@ -4,7 +4,7 @@ use Rattle.std.specs.Prelude.{map, slice_get, slice_set}
 use Rattle.std.proofs.lemmas.Bool.{cases_eq}
 use Rattle.std.proofs.lemmas.List.{length-set}
 use Rattle.std.proofs.lemmas.Option.{get_or_from_slice_get, same_Some, slice_get_within}
-use Rattle.grow_list.specs.Shown.{ListName, Passed, fresh}
+use Rattle.grow_list.specs.Shown.{Passed}
 use Rattle.inode_events.specs.declared.told.Event.{Event}
 
 module _ {A : Type 0} where
@@ -65,57 +65,56 @@ shared_none of old = record {
   left = λ j above. refl;
 }
 
--- the first k rows have their passes of the journal of this name, and the column has those of the
--- others
-pub record Shares (name : ListName) (k : ℕ) (old rows : List (List (Passed Event)))
+-- the first k rows have their passes of one journal, and the column has those of the others
+pub record Shares (of : ℕ → Passed Event) (k : ℕ) (old rows : List (List (Passed Event)))
     (left : List (Passed Event)) : Type 0 where
   pub count : length rows ≡ length old
   pub rest : length left + k ≡ length rows
-  pub column : (j : ℕ) → j < length left → slice_get left j ≡ Some (fresh name (k + j + 1))
-  pub shared : IsShared (λ j. fresh {E = Event} name (j + 1)) k old rows
+  pub column : (j : ℕ) → j < length left → slice_get left j ≡ Some (of (k + j))
+  pub shared : IsShared of k old rows
 
-pub shares_none : (name : ListName) (rows : List (List (Passed Event)))
+pub shares_none : (of : ℕ → Passed Event) (rows : List (List (Passed Event)))
     (column : List (Passed Event)) → length column ≡ length rows
-    → ((j : ℕ) → j < length column → slice_get column j ≡ Some (fresh name (j + 1)))
-    → Shares name 0 rows rows column
-shares_none name rows column even each = record {
+    → ((j : ℕ) → j < length column → slice_get column j ≡ Some (of j))
+    → Shares of 0 rows rows column
+shares_none of rows column even each = record {
   count = refl;
   rest = omega arith;
   column = λ j below.
       each j below
-      ∙ ap (λ (n : ℕ). Some (fresh {E = Event} name (n + 1)))
+      ∙ ap (λ (n : ℕ). Some (of n))
       (let e : j ≡ 0 + j = omega arith in e);
-  shared = shared_none (λ j. fresh {E = Event} name (j + 1)) rows;
+  shared = shared_none of rows;
 }
 
 -- one row more has its pass
-pub shares_more : (name : ListName) (k : ℕ) (old rows rows2 : List (List (Passed Event)))
+pub shares_more : (of : ℕ → Passed Event) (k : ℕ) (old rows rows2 : List (List (Passed Event)))
     (column column2 : List (Passed Event)) (pass : Passed Event) → column ≡ pass ∷ column2
     → rows2 ≡ slice_set rows k (get_or rows k [] ++ pass ∷ [])
-    → Shares name k old rows column → Shares name (k + 1) old rows2 column2
-shares_more name k old rows rows2 column column2 pass first set s = record {
+    → Shares of k old rows column → Shares of (k + 1) old rows2 column2
+shares_more of k old rows rows2 column column2 pass first set s = record {
   count = even ∙ s.count;
   rest = let e = ap length first in let r = s.rest in let n = even in omega arith;
   column = λ j below.
       ap (λ (l : List (Passed Event)). slice_get l (suc j)) (sym first)
       ∙ s.column (suc j) (let e = ap length first in omega arith)
-      ∙ ap (λ (n : ℕ). Some (fresh {E = Event} name (n + 1)))
+      ∙ ap (λ (n : ℕ). Some (of n))
       (let e : k + suc j ≡ k + 1 + j = omega arith in e);
-  shared = shared_more (λ j. fresh {E = Event} name (j + 1)) k old rows rows2 pass
+  shared = shared_more of k old rows rows2 pass
       (let e = ap length first in let r = s.rest in omega arith)
-      (same_Some pass (fresh name (k + 1))
+      (same_Some pass (of k)
       (ap (λ (l : List (Passed Event)). slice_get l 0) (sym first)
       ∙ s.column 0 (let e = ap length first in omega arith)
-      ∙ ap (λ (n : ℕ). Some (fresh {E = Event} name (n + 1)))
+      ∙ ap (λ (n : ℕ). Some (of n))
       (let e : k + 0 ≡ k = omega arith in e))) set s.shared;
 } where
   even : length rows2 ≡ length rows
   even = ap length set ∙ length-set rows k (get_or rows k [] ++ pass ∷ [])
 
 -- where each row was gone through, each has its pass
-pub shares_all : (name : ListName) (k : ℕ) (old rows : List (List (Passed Event)))
-    (column : List (Passed Event)) → length old ≤ k → Shares name k old rows column → (j : ℕ)
+pub shares_all : (of : ℕ → Passed Event) (k : ℕ) (old rows : List (List (Passed Event)))
+    (column : List (Passed Event)) → length old ≤ k → Shares of k old rows column → (j : ℕ)
     → (row : List (Passed Event)) → slice_get old j ≡ Some row
-    → slice_get rows j ≡ Some (row ++ fresh name (j + 1) ∷ [])
-shares_all name k old rows column all s j row at =
+    → slice_get rows j ≡ Some (row ++ of j ∷ [])
+shares_all of k old rows column all s j row at =
     s.shared.given j row (let b = slice_get_within old j row at in omega arith) at

@@ -4,7 +4,7 @@ use Rattle.std.specs.Prelude.{All, map, slice_get}
 use Rattle.std.proofs.lemmas.List.{append-nil, append_assoc, map-append}
 use Rattle.std.proofs.lemmas.List.Elements.{All-append, All-cons, All-nil, All-tail}
 use Rattle.std.proofs.lemmas.Option.{same_Some, slice_get_within}
-use Rattle.grow_list.specs.Shown.{ListName, Passed, fresh}
+use Rattle.grow_list.specs.Shown.{ListName, Passed}
 use Rattle.ima_templates.specs.declared.entry.Entry.{Entry}
 use Rattle.inode_events.specs.declared.image.Image.{Image}
 use Rattle.inode_events.specs.declared.settings.Settings.{Settings}
@@ -12,7 +12,7 @@ use Rattle.inode_events.specs.declared.told.Event.{Event}
 use Rattle.policy_cell.specs.declared.cell.RuleEntry.{RuleEntry}
 use Rattle.task_frame.specs.World.{StationValue}
 use Rattle.world_close.proofs.Gets.{got}
-use Rattle.world_start.specs.Started.{AreRows, AreStarted, IsFile, IsStarted, SeatsValue, StartsBefore, counter_of, file_of, lister_of, named_by, place_of, row_of}
+use Rattle.world_start.specs.Started.{AreRows, AreStarted, IsFile, IsStarted, SeatsValue, StartsBefore, counter_of, file_of, lister_of, named_by, pass_of, place_of, row_of}
 
 -- what was made of the first ones and what is left, with one more made
 pub moved : {S A : Type 0} (f : S → A) (all left rest : List A) (done : List S) (s : S) (x : A)
@@ -112,7 +112,7 @@ pub rows_more : (stations : List StationValue) (s : StationValue) (tasks : ℕ)
     (rows rows2 : List (List (Passed Event))) → AreRows stations tasks rows
     → length rows2 ≡ length rows
     → ((k : ℕ) (row : List (Passed Event)) → slice_get rows k ≡ Some row
-    → slice_get rows2 k ≡ Some (row ++ fresh s.cell.journal (k + 1) ∷ []))
+    → slice_get rows2 k ≡ Some (row ++ pass_of s k ∷ []))
     → AreRows (stations ++ s ∷ []) tasks rows2
 rows_more stations s tasks rows rows2 old even given = (even ∙ old.0, row_is) where
   row_is : (k : ℕ) (row : List (Passed Event)) → slice_get rows2 k ≡ Some row
@@ -122,7 +122,7 @@ rows_more stations s tasks rows rows2 old even given = (even ∙ old.0, row_is) 
       subst (λ (n : ℕ). k < n) even (slice_get_within rows2 k row at) in
       let was = got rows k [] within in
       let is : get_or rows k [] ≡ row_of stations k = old.1 k (get_or rows k []) was in
-      same_Some row (get_or rows k [] ++ fresh s.cell.journal (k + 1) ∷ [])
+      same_Some row (get_or rows k [] ++ pass_of s k ∷ [])
       (sym at ∙ given k (get_or rows k []) was)
-      ∙ ap (λ (r : List (Passed Event)). r ++ fresh s.cell.journal (k + 1) ∷ []) is
-      ∙ sym (map-append (λ (t : StationValue). fresh t.cell.journal (k + 1)) stations (s ∷ []))
+      ∙ ap (λ (r : List (Passed Event)). r ++ pass_of s k ∷ []) is
+      ∙ sym (map-append (λ (t : StationValue). pass_of t k) stations (s ∷ []))

@@ -9,7 +9,7 @@ use Rattle.run_model.specs.Scene.{Program}
 use Rattle.run_model.specs.Turns.{State, start_of}
 use Rattle.task_frame.specs.Frame.{Frame, Site, scene_of}
 use Rattle.task_frame.specs.Tasks.{ArePassesOf, AreUnused, PassesValue}
-use Rattle.world_start.specs.Parts.{frame_by, state_by}
+use Rattle.world_deeds.specs.Parts.{frame_by, state_by}
 use Rattle.world_start.specs.declared.lists.Start.{Start}
 
 abbrev pub frame_of_start : Start → Frame

@@ -8,7 +8,7 @@ use Rattle.inode_events.specs.declared.image.Image.{Image}
 use Rattle.inode_events.specs.declared.settings.Settings.{Settings}
 use Rattle.inode_events.specs.declared.told.Event.{Event}
 use Rattle.inode_pages.specs.Content.{most_bytes}
-use Rattle.kept_journal.specs.Value.{birth_of}
+use Rattle.kept_journal.specs.Value.{birth_of, new_pass}
 use Rattle.policy_cell.specs.declared.cell.RuleEntry.{RuleEntry}
 use Rattle.task_frame.specs.World.{StationValue}
 use Rattle.task_frame.specs.Tasks.{PassesValue}
@@ -86,9 +86,13 @@ pub record StartsBefore (settings : Settings) (tasks : ℕ) (inodes : List (List
 
 -- ---- the passes of the tasks
 
--- the passes of the task k of these inodes' journals, none of which it has used
+-- the pass that the task k has of the inode's journal: it has seen it, and added nothing to it
+abbrev pub pass_of : StationValue → ℕ → Passed Event
+pass_of s k = new_pass s.cell.journal s.cell.list (k + 1)
+
+-- those that it has of these inodes' journals
 abbrev pub row_of : List StationValue → ℕ → List (Passed Event)
-row_of stations k = map (λ (s : StationValue). fresh s.cell.journal (k + 1)) stations
+row_of stations k = map (λ (s : StationValue). pass_of s k) stations
 
 abbrev pub AreRows : List StationValue → ℕ → List (List (Passed Event)) → Type 0
 AreRows stations tasks rows = (length rows ≡ tasks)

@@ -1,7 +1,8 @@
 // The passes of the journals, of which each task gets one.
-ghost use Rattle.std.specs.Prelude.{◌≡◌, ℕ, ◌+◌, ◌<◌, [], ◌∷◌, ◌++◌, Some, List, length, OnOk, get_or, slice_get, slice_set};
-ghost use Rattle.grow_list.specs.Shown.{Passed, fresh};
+ghost use Rattle.std.specs.Prelude.{◌≡◌, ℕ, ◌<◌, [], ◌∷◌, ◌++◌, Some, List, length, OnOk, get_or, slice_get, slice_set};
+ghost use Rattle.grow_list.specs.Shown.{Passed};
 ghost use Rattle.inode_events.specs.declared.told.Event.{Event as AnyEvent};
+ghost use Rattle.world_start.specs.Started.{pass_of};
 
 use grow_list::{OutOfMemory, Pass};
 use inode_events::Event;
@@ -65,11 +66,11 @@ pub(crate) fn share_out(
 ) -> Result<(), OutOfMemory>
     requires even { length column.items ≡ length rows.old.items }
     requires column { (k : ℕ) → k < length column.items
-        → slice_get column.items k ≡ Some (fresh station.now.cell.journal (k + 1)) }
+        → slice_get column.items k ≡ Some (pass_of station.now k) }
     ensures count { OnOk result (length rows.new.items ≡ length rows.old.items) }
     ensures given { OnOk result ((k : ℕ) (row : List (Passed AnyEvent))
         → slice_get rows.old.items k ≡ Some row
-        → slice_get rows.new.items k ≡ Some (row ++ fresh station.now.cell.journal (k + 1) ∷ [])) }
+        → slice_get rows.new.items k ≡ Some (row ++ pass_of station.now k ∷ [])) }
 {
     let mut column = column;
     for k in 0..rows.len() {

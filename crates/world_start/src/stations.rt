@@ -1,9 +1,9 @@
 // The inodes of a world.
 ghost use Rattle.std.specs.Prelude.{◌≡◌, ℕ, ◌+◌, ◌<◌, ◌^◌, [], All, IfOk, List, length, Some, slice_get};
-ghost use Rattle.grow_list.specs.Shown.{Passed, fresh};
+ghost use Rattle.grow_list.specs.Shown.{Passed};
 ghost use Rattle.ima_templates.specs.declared.entry.Entry.{Entry as AnyEntry};
 ghost use Rattle.inode_events.specs.declared.told.Event.{Event as AnyEvent};
-ghost use Rattle.world_start.specs.Started.{AreRows, AreStarted, IsFile, IsStarted, file_of, lister_of, named_by};
+ghost use Rattle.world_start.specs.Started.{AreRows, AreStarted, IsFile, IsStarted, file_of, lister_of, named_by, pass_of};
 
 use crate::rows::{Row, share_out};
 use crate::seats::{Seat, Seats};
@@ -33,7 +33,7 @@ fn start_station(
     ensures counted { IfOk result (λ r. r.0.rules ≡ seat.counted) }
     ensures count { IfOk result (λ r. length r.1.items ≡ tasks) }
     ensures passes { IfOk result (λ r. (k : ℕ) → k < tasks
-        → slice_get r.1.items k ≡ Some (fresh r.0.cell.journal (k + 1))) }
+        → slice_get r.1.items k ≡ Some (pass_of r.0 k)) }
 {
     let (path, image) = file;
     let Seat {
