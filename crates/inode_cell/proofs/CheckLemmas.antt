@@ -1,5 +1,5 @@
 -- What a check finds.
-use Rattle.std.proofs.Common.{◌≡◌, ℕ, Bool, List, Option, Some, None, refl, sym, ◌∙◌, ap, subst}
+use Rattle.std.proofs.Common.{◌≡◌, ℕ, Bool, List, Option, Some, None, refl, sym, ◌∙◌, ap}
 use Rattle.ima_templates.specs.declared.entry.Entry.{Entry}
 use Rattle.ima_templates.specs.declared.entry.Placed.{Placed}
 use Rattle.inode_events.specs.Asked.{asked, list_after, outcome, placed_for, violation_in}
@@ -7,7 +7,6 @@ use Rattle.inode_events.specs.Files.{is_writing, readers, writers}
 use Rattle.inode_events.specs.Inode.{Inode}
 use Rattle.inode_events.specs.Marks.{must_measure}
 use Rattle.inode_events.specs.Says.{check_told, place_of}
-use Rattle.inode_events.specs.declared.deed.Deed.{Deed}
 use Rattle.inode_events.specs.declared.deed.Deed.TheVariants as deed
 use Rattle.inode_events.specs.declared.told.Event.{Event}
 use Rattle.inode_events.specs.declared.told.Told.{Told}

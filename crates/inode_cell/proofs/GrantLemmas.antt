@@ -6,7 +6,6 @@ use Rattle.hash_algos.specs.Digest.{digest_of}
 use Rattle.hash_algos.specs.declared.algo.Algo.TheVariants.{Sha1}
 use Rattle.hash_algos.specs.declared.digest.Digest.{Digest}
 use Rattle.ima_templates.specs.Entries.{entry_of}
-use Rattle.ima_templates.specs.declared.entry.Entry.{Entry}
 use Rattle.ima_templates.specs.declared.entry.Placed.{Placed}
 use Rattle.inode_events.specs.Asked.{measured_if}
 use Rattle.inode_events.specs.Checks.{last_check}
@@ -24,7 +23,6 @@ use Rattle.inode_events.specs.Stage.{is_collecting, stage}
 use Rattle.inode_events.specs.declared.deed.Deed.{Deed}
 use Rattle.inode_events.specs.declared.deed.Deed.TheVariants as deed
 use Rattle.inode_events.specs.declared.told.Event.{Event}
-use Rattle.inode_events.specs.declared.told.Told.{Told}
 use Rattle.inode_events.specs.declared.told.Told.TheVariants as told
 use Rattle.inode_kept.specs.Collecting.{HasAsked, IfAsked, IsAsked, Short, short_of, short_seen, shortened, shorts_seen}
 use Rattle.inode_kept.specs.InForce.{sums_of}

@@ -1,6 +1,6 @@
 -- One step of a cell.
 use Rattle.std.proofs.Common.{◌≡◌, ℕ, Bool, true, false, cond, List, [], ◌∷◌, ◌++◌, length, Option, Some, None, refl, sym, ◌∙◌, ap, subst}
-use Rattle.std.specs.Prelude.{nat_le, nat_lt, ◌<◌, ◌&&◌}
+use Rattle.std.specs.Prelude.{nat_le, nat_lt, ◌<◌, ◌≤◌, ◌&&◌}
 use Rattle.std.proofs.lemmas.Bool.{leb-false}
 use Rattle.inode_pages.specs.Content.{most_bytes}
 use Rattle.inode_pages.specs.declared.content.PageErr.TheVariants.{TooBig}
@@ -10,17 +10,15 @@ use Rattle.ima_templates.specs.declared.entry.Entry.{Entry}
 use Rattle.ima_templates.specs.declared.entry.Placed.{Placed}
 use Rattle.ima_templates.specs.declared.entry.Placed.TheVariants.{Added}
 use Rattle.ima_templates.specs.Path.{IsMeasuredPath}
-use Rattle.inode_meta.specs.declared.measurement.Template.{Template}
 use Rattle.inode_meta.specs.declared.measurement.Template.TheVariants.{Ima}
 use Rattle.inode_meta.specs.declared.step.Who.{Who}
 use Rattle.inode_events.specs.Asked.{asked, outcome, placed_for}
-use Rattle.inode_events.specs.Checks.{Check, last_check}
+use Rattle.inode_events.specs.Checks.{last_check}
 use Rattle.inode_events.specs.Files.{is_writing, readers, writers}
 use Rattle.inode_events.specs.Marks.{must_measure}
-use Rattle.inode_events.specs.Grants.{grant_of, placed_if_measured}
+use Rattle.inode_events.specs.Grants.{grant_of}
 use Rattle.inode_events.specs.Inode.{Inode, nobody}
-use Rattle.inode_events.specs.Integrity.{Collection, Digests, attributes, attributes_after, collecting, digest_from, in_force, integrity}
-use Rattle.inode_events.specs.Legal.{May}
+use Rattle.inode_events.specs.Integrity.{Collection, Digests, attributes_after, collecting, digest_from, in_force, integrity}
 use Rattle.inode_events.specs.Listing.{Listed}
 use Rattle.inode_events.specs.Past.{past, past_more}
 use Rattle.inode_events.specs.Says.{check_told, finish_told, write_told, place_of, placed_in, placed_in_grant, says, take_told, unless_collecting}
@@ -138,29 +136,23 @@ holds_on i list list' who d t bytes bytes' attrs attrs' book seen seen' mine min
     ∙ past_more list (record { who = who; deed = d; told = t }) in
     subst (λ (q : List Event). Holds i q bytes' attrs' seen' mine') (sym p) (record {
       path = h.path;
+      small = h.small;
       content = b;
       attributes = a;
       booked = kept_outcome i (past list) who d t book seen seen' mine mine' h.booked s o;
     })
 
--- a path that the template ima can show, every template can
-pub path_for : (t : Template) (path : List ℕ) → IsMeasuredPath Ima path → IsMeasuredPath t path
-path_for t path h = record {
-  not_empty = h.not_empty;
-  at_most = h.at_most;
-  graphic = h.graphic;
-  component = λ e. h.component refl;
-}
-
 -- what a cell keeps of a birth
 pub born_holds : (i : Inode) (list : List Event) (image : Image) (bytes : List ℕ) (attrs : List
     Pair) (seen : List Entry) (mine : List Listed)
-    → IsMeasuredPath Ima i.path → list ≡ birth_of image ∷ [] → bytes ≡ image.content
-    → attrs ≡ image.attrs → mine ≡ [] → Holds i (past list) bytes attrs seen mine
-born_holds i list image bytes attrs seen mine path l b a m =
+    → IsMeasuredPath Ima i.path → length i.birth.content ≤ most_bytes → list ≡ birth_of image ∷ []
+    → bytes ≡ image.content → attrs ≡ image.attrs → mine ≡ []
+    → Holds i (past list) bytes attrs seen mine
+born_holds i list image bytes attrs seen mine path small l b a m =
     let p : past list ≡ birth_of image ∷ [] = ap past l ∙ past_one (birth_of image) in
     subst (λ (q : List Event). Holds i q bytes attrs seen mine) (sym p) (record {
       path = path;
+      small = small;
       content = b;
       attributes = a;
       booked = subst (λ (x : List Listed). IsBooked i (birth_of image ∷ []) seen x) (sym m)

@@ -58,8 +58,7 @@ pub record IsPlain (inode : Inode) (p : List Event) (who : Who) (d : Deed) (t : 
   pub known : IsKnown inode p (record { who = who; deed = d; told = t }) k
 
 -- a step that asks nothing of the measurement list, leaves the content and rewrites attributes: at
--- a
--- close with the label of this digest
+-- a close with the label of this digest
 pub record IsChange (inode : Inode) (p : List Event) (who : Who) (d : Deed) (t : Told) (k : Known)
     (digest : Option Digest) : Type 0 where
   pub may : May inode p d

@@ -1,5 +1,5 @@
 -- Changes of attributes, by what EVM is set up with.
-use Rattle.std.specs.Prelude.{◌≡◌, ℕ, Bool, false, List, Option, Some, None, if◌then◌else◌}
+use Rattle.std.specs.Prelude.{◌≡◌, ℕ, Bool, false, List, Option, Some, if◌then◌else◌}
 use Rattle.evm_verify.specs.Changes.{protects}
 use Rattle.evm_verify.specs.Setup.{Setup}
 use Rattle.evm_verify.specs.Status.{evm_status, renewed}

@@ -1,5 +1,5 @@
 -- What the fields of a cell keep.
-use Rattle.std.specs.Prelude.{◌≡◌, ℕ, List}
+use Rattle.std.specs.Prelude.{◌≡◌, ◌≤◌, ℕ, List, length}
 use Rattle.inode_events.specs.Inode.{Inode}
 use Rattle.inode_events.specs.Integrity.{attributes}
 use Rattle.inode_events.specs.Listing.{Listed}
@@ -8,6 +8,7 @@ use Rattle.inode_events.specs.State.{content}
 use Rattle.inode_events.specs.declared.told.Event.{Event}
 use Rattle.ima_templates.specs.Path.{IsMeasuredPath}
 use Rattle.ima_templates.specs.declared.entry.Entry.{Entry}
+use Rattle.inode_pages.specs.Content.{most_bytes}
 use Rattle.inode_meta.specs.declared.measurement.Template.TheVariants.{Ima}
 use Rattle.xattr_store.specs.Attrs.{Pair}
 use Rattle.book_laws.specs.Booked.{IsBooked}
@@ -29,6 +30,8 @@ pub record Holds (inode : Inode) (events : List Event) (bytes : List ℕ) (attrs
     List Entry) (mine : List Listed) : Type 0 where
   -- the path is one that each template can show
   pub path : IsMeasuredPath Ima inode.path
+  -- the image has no more bytes than a file may have
+  pub small : length inode.birth.content ≤ most_bytes
   -- content and attributes are what the journal says
   pub content : bytes ≡ content events
   pub attributes : attrs ≡ attributes inode events

@@ -1,6 +1,6 @@
 -- What a take or finish grants.
 use Rattle.std.specs.Prelude.{◌≡◌, ℕ, List, Option, Some, None}
-use Rattle.hash_algos.specs.declared.digest.Digest.{Digest}
+use Rattle.hash_algos.specs.declared.algo.Algo.TheVariants.{Sha1}
 use Rattle.ima_templates.specs.declared.entry.Placed.{Placed}
 use Rattle.inode_meta.specs.declared.step.Who.{Who}
 use Rattle.inode_events.specs.Asked.{asked, measured_if}
@@ -14,7 +14,6 @@ use Rattle.inode_events.specs.State.{content, content_after, metadata}
 use Rattle.inode_events.specs.declared.deed.Deed.{Deed}
 use Rattle.inode_events.specs.declared.told.Event.{Event}
 use Rattle.inode_events.specs.declared.told.Grant.{Grant}
-use Rattle.inode_events.specs.declared.told.Told.{Told}
 use Rattle.inode_events.specs.declared.told.Told.TheVariants as told
 use Rattle.inode_kept.specs.Collecting.{IsAsked}
 use Rattle.inode_kept.specs.Known.{IsKnown}
@@ -31,6 +30,7 @@ digests_in sums = record { digest = sums.digest; sha1 = sums.sha1; begin = 0 }
 pub record IsGranting (inode : Inode) (p : List Event) (who : Who) (d : Deed) (file : ℕ) (a :
     Asked) (sums : Sums) (k : Known) : Type 0 where
   pub check : IsAsked (last_check file p) a
+  pub sha1 : sums.sha1.algo ≡ Sha1
   pub tells : (placed : Placed) → says inode p placed d ≡ Some (told.Grant (grant_of inode file
       placed sums.digest p))
   pub asks : asked inode d p ≡ measured_if (last_check file p).action.measure inode file (Some

@@ -1,4 +1,4 @@
-ghost use Rattle.std.specs.Prelude.{◌≡◌, ℕ, ◌<◌, ◌≤◌, ◌^◌, List, length, None, Some, OnErr, OnOk};
+ghost use Rattle.std.specs.Prelude.{◌≡◌, ◌≤◌, List, None, Some, OnErr, OnOk};
 ghost use Rattle.std.specs.Option.{option_copied};
 ghost use Rattle.ima_templates.specs.declared.entry.Entry.{Entry as AnyEntry};
 ghost use Rattle.inode_events.specs.Callers.{caller_in};
@@ -58,7 +58,6 @@ impl InodeCell {
         requires name { pass.old.name ≡ self.old.journal }
         requires number { pass.old.number ≡ caller_in who.task deed }
         requires room { 1 ≤ self.old.spare }
-        requires small { length self.old.list < 2 ^ 62 }
         requires plain { IsPlain self.old.inode (past self.old.list) who deed told known.now }
         ensures { (list : List AnyEntry) → Acts self.old self.new list list pass.old pass.new who
             deed (Some told) }
@@ -80,7 +79,6 @@ impl InodeCell {
         requires name { pass.old.name ≡ self.old.journal }
         requires number { pass.old.number ≡ caller_in who.task deed }
         requires room { 1 ≤ self.old.spare }
-        requires small { length self.old.list < 2 ^ 62 }
         requires rewriting { IsRewriting deed (option_copied digest) }
         requires changes { IsChange self.old.inode (past self.old.list) who deed told known.now
             (option_copied digest) }
@@ -98,7 +96,6 @@ impl InodeCell {
     // Makes room for the next event.
     pub(crate) fn reserve(&mut self) -> Result<(), OutOfMemory>
         ensures room { OnOk result (1 ≤ self.new.spare) }
-        ensures small { OnOk result (length self.new.list < 2 ^ 62) }
         ensures list { self.new.list ≡ self.old.list }
         ensures same { IsSameCell self.old self.new }
     {

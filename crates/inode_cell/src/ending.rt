@@ -1,5 +1,5 @@
 // The start and the end of a cell.
-ghost use Rattle.std.specs.Prelude.{◌≡◌, ℕ, ◌+◌, ◌<◌, ◌≤◌, ◌^◌, All, [], ◌∷◌, count_by, length, map, slice_get, IfOk, Some};
+ghost use Rattle.std.specs.Prelude.{◌≡◌, ℕ, ◌+◌, ◌<◌, ◌≤◌, ◌^◌, All, [], ◌∷◌, count_by, length, map, option_copied, slice_get, IfOk, Some};
 ghost use mathlib.Core.List.{IsPrefix};
 ghost use Rattle.book_laws.specs.Booked.{IsBooked};
 ghost use Rattle.grow_list.specs.Entries.{entries_of, has_place};
@@ -45,7 +45,7 @@ pub struct EndedInode {
     pub execs: u64,
 }
 
-fn digest_of(in_force: Option<InForce>) -> Option<Digest>
+fn digest_in(in_force: Option<InForce>) -> Option<Digest>
     ensures { result ≡ digest_in in_force }
 {
     match in_force {
@@ -105,6 +105,13 @@ impl InodeCell {
         ensures { result ≡ length self.now.list }
     {
         self.kept.len()
+    }
+
+    /// The event at a place of the journal, from 0 on. None from `len` on.
+    pub fn at(&self, place: u64) -> Option<&Event>
+        ensures { option_copied result ≡ slice_get self.now.list place }
+    {
+        self.kept.at(place)
     }
 
     /// A pass of this cell sees the journal. What its own entries tell then holds of the journal:
@@ -168,7 +175,7 @@ impl InodeCell {
         let ended = EndedInode {
             path,
             journal,
-            digest: digest_of(in_force),
+            digest: digest_in(in_force),
             attrs,
             writers: counts.writers,
             readers: counts.readers,

@@ -1,5 +1,5 @@
 // Grants.
-ghost use Rattle.std.specs.Prelude.{◌≡◌, ℕ, ◌+◌, Some, IfOk, OnErr};
+ghost use Rattle.std.specs.Prelude.{◌≡◌, ◌≤◌, ℕ, ◌+◌, length, Some, IfOk, OnErr};
 ghost use Rattle.inode_events.specs.Asked.{measured_if};
 ghost use Rattle.inode_events.specs.Callers.{caller_in};
 ghost use Rattle.inode_events.specs.Stage.{stage};
@@ -13,12 +13,13 @@ ghost use Rattle.inode_cell.specs.Granting.{IsGranting, asked_stage, collected_s
 ghost use Rattle.inode_cell.specs.Sums.{HasSums};
 ghost use Rattle.inode_events.specs.Checks.{Check, appraises, last_check, slot_of};
 ghost use Rattle.inode_events.specs.Grants.{admits, is_mend, mend_of, mends, placed_if_measured, verdict_for};
-ghost use Rattle.inode_events.specs.Integrity.{chosen_algo, collecting, in_force};
+ghost use Rattle.inode_events.specs.Integrity.{chosen_algo, collecting, in_force, label};
 ghost use Rattle.inode_events.specs.Listing.{signature_in};
 ghost use Rattle.inode_events.specs.Past.{past};
 ghost use Rattle.inode_events.specs.Verdicts.{judged};
 ghost use Rattle.std.specs.Option.{option_copied};
 ghost use Rattle.inode_kept.specs.Collecting.{IsAsked};
+ghost use Rattle.xattr_store.specs.Attrs.{most_value};
 
 use crate::answers::Taken;
 use crate::attributes::mend_on;
@@ -34,8 +35,7 @@ use inode_meta::{EvmStatus, Mode, Need, Slot, Who};
 use label_values::{Mend, Verdict, read_label};
 use measure_book::Book;
 use policy_text::Action;
-use std::alloc::AllocError;
-use xattr_store::{MAX_VALUE, OutOfMemory};
+use xattr_store::{IMA_NAME, OutOfMemory};
 
 // The mode admits the file.
 fn admits(mode: Mode, verdict: Option<Verdict>) -> bool
@@ -153,8 +153,18 @@ impl InodeCell {
         }
     }
 
+    // The signature in the label.
+    fn signature(&self) -> &[u8]
+        ensures is { result.now ≡ signature_in (label self.now.inode (past self.now.list)) }
+        ensures fits { length result.now ≤ most_value }
+    {
+        self.attrs.value_fits(IMA_NAME);
+        signature_in(self.label())
+    }
+
     // The entry of a measurement with these digests, where the action measures.
     fn measured(&self, action: &Action, sums: &Sums) -> Result<Option<Entry>, OutOfMemory>
+        requires { sums.now.sha1.algo ≡ Algo.Sha1 }
         ensures { IfOk result (λ e. (file : ℕ)
             → action.now ≡ (last_check file (past self.now.list)).action
             → e ≡ measured_if (last_check file (past self.now.list)).action.measure self.now.inode
@@ -163,21 +173,14 @@ impl InodeCell {
         if !action.measure {
             return Ok(None);
         }
-        let template = action.template.unwrap_or(self.kept.settings().template);
-        let sig = signature_in(self.label());
-        // An attribute has no more bytes, and the second digest is always by SHA-1.
-        if sig.len() > MAX_VALUE || sums.sha1.algo() != Algo::Sha1 {
-            return Err(AllocError);
-        }
-        let path = self.kept.path();
         let entry = build(
             self.alloc,
             action.pcr,
-            template,
+            action.template.unwrap_or(self.kept.settings().template),
             &sums.digest,
             &sums.sha1,
-            path,
-            sig,
+            self.kept.path(),
+            self.signature(),
         )?;
         Ok(Some(entry))
     }

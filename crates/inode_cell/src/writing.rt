@@ -74,10 +74,7 @@ impl InodeCell {
         let Some(collecting) = &self.kept.state().collecting else {
             unreachable!()
         };
-        let Ok(k) = u32::try_from(collecting.pieces) else {
-            return Err(AllocError);
-        };
-        let page = self.content.page(self.alloc, k)?;
+        let page = self.content.page(self.alloc, collecting.pieces as u32)?;
         Ok((piece_of(self.size(), collecting.pieces), page))
     }
 

@@ -1,13 +1,11 @@
 // Under what a verdict is kept.
 ghost use Rattle.std.specs.Prelude.{◌≡◌};
-ghost use Rattle.inode_events.specs.Checks.{slot_of};
 ghost use Rattle.inode_events.specs.Verdicts.{same_algos, same_bool, same_key, same_need, same_set, same_slot};
 ghost use Rattle.inode_kept.specs.Verdicts.{key_for, key_seen};
 
 use crate::collecting::Asked;
 use hash_algos::{Algo, AlgoSet};
 use inode_meta::{Need, Slot};
-use policy_text::Func;
 
 /// Under what a verdict is kept. "No algorithms given" is another key than any set.
 #[derive(Clone, Copy, Debug, PartialEq, Eq)]
@@ -18,17 +16,6 @@ pub struct Key {
     pub need: Need,
     /// The algorithms that the digest may have.
     pub algos: Option<AlgoSet>,
-}
-
-/// The slot of a hook in the kernel's inode cache.
-pub fn slot_of(func: Func) -> Slot
-    ensures { result ≡ slot_of func }
-{
-    match func {
-        Func::BprmCheck => Slot::Bprm,
-        Func::MmapCheck => Slot::Mmap,
-        _ => Slot::File,
-    }
 }
 
 /// The key of what was asked.

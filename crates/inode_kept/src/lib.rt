@@ -22,7 +22,7 @@ pub use collecting::{Asked, Collecting, copied};
 pub use counts::{Counts, Kind, counts_as};
 pub use events::counted;
 pub use in_force::{InForce, Sums};
-pub use keys::{Key, key_of, slot_of};
+pub use keys::{Key, key_of};
 pub use known::Known;
 pub use marks::{Marks, is_last_drop};
 pub use metadata::{changed, metadata_after};

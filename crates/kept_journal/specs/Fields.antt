@@ -1,5 +1,5 @@
 -- What the fields of a journal keep.
-use Rattle.std.specs.Prelude.{◌≡◌, ℕ, ◌-◌, ◌<◌, min, map, All, List, [], ◌∷◌, vec_len, vec_capacity}
+use Rattle.std.specs.Prelude.{◌≡◌, ℕ, ◌-◌, ◌<◌, min, map, All, [], ◌∷◌, vec_len, vec_capacity}
 use Rattle.grow_list.specs.Shown.{Grown, Passed}
 use Rattle.inode_events.specs.Callers.{caller_of}
 use Rattle.inode_events.specs.Inode.{Inode}

@@ -1,10 +1,8 @@
 -- What contracts see of a journal with what is kept beside it.
-use Rattle.std.specs.Prelude.{◌≡◌, ℕ, ◌+◌, ◌<◌, ◌==◌, Bool, true, false, All, List, [], ◌∷◌, count_by, if◌then◌else◌}
+use Rattle.std.specs.Prelude.{◌≡◌, ℕ, ◌<◌, ◌==◌, false, All, List, [], ◌∷◌, count_by}
+pub use Rattle.grow_list.specs.Others.{beside_own}
 use Rattle.grow_list.specs.Shown.{ListName, Passed}
-use Rattle.inode_events.specs.Callers.{caller_in}
 use Rattle.inode_events.specs.Inode.{Inode, nobody}
-use Rattle.inode_events.specs.Legal.{Follows}
-use Rattle.inode_events.specs.Past.{past}
 use Rattle.inode_events.specs.declared.deed.Deed.TheVariants as deed
 use Rattle.inode_events.specs.declared.image.Image.{Image}
 use Rattle.inode_events.specs.declared.told.Event.{Event}
@@ -52,10 +50,6 @@ abbrev pub birth_of : Image → Event
 birth_of image = record { who = nobody; deed = deed.Birth; told = told.Image image }
 
 -- ---- passes
-
--- how many of the other passes have the number: the journal's own pass has the number 0
-abbrev pub beside_own : ℕ → ℕ
-beside_own n = if n == 0 then 0 else 1
 
 -- the passes are those of the journal but its own, each once
 pub record HasOthers (j : KeptValue) (passes : List (Passed Event)) : Type 0 where

@@ -1,4 +1,4 @@
-ghost use Rattle.std.specs.Prelude.{◌≡◌, ℕ, ◌+◌, ◌<◌, ◌≤◌, ◌^◌, All, [], ◌∷◌, ◌++◌, count_by, false, length, map, slice_get, IfOk, OnOk, Some};
+ghost use Rattle.std.specs.Prelude.{◌≡◌, ℕ, ◌+◌, ◌<◌, ◌≤◌, ◌^◌, All, [], ◌∷◌, ◌++◌, count_by, false, length, map, option_copied, slice_get, IfOk, OnOk, Some};
 ghost use mathlib.Core.List.{IsPrefix};
 ghost use Rattle.grow_list.specs.Entries.{entries_of, has_place};
 ghost use Rattle.inode_events.specs.Callers.{caller_of};
@@ -18,12 +18,9 @@ use grow_list::{Grow, OutOfMemory, Pass};
 use inode_events::{Deed, Event, How, Image, Settings, Told};
 use inode_kept::{Known, State, counted};
 use inode_meta::Who;
-use std::alloc::{AllocError, Global};
+use std::alloc::Global;
 use std::marker::Model;
 use xattr_store::Bytes;
-
-// More events than any memory holds.
-const MOST_EVENTS: u64 = 1 << 62;
 
 /// The journal of one inode.
 #[derive(Drop)]
@@ -77,6 +74,13 @@ impl KeptJournal {
         self.journal.len()
     }
 
+    /// The event at a place, from 0 on. None from `len` on.
+    pub fn at(&self, place: u64) -> Option<&Event>
+        ensures { option_copied result ≡ slice_get self.now.list place }
+    {
+        self.journal.at(place)
+    }
+
     /// How the file was opened. It is found by its place in the journal.
     pub fn how_at(&self, file: u64) -> Option<How>
         ensures { is_gone (stage self.now.inode file (past self.now.list)) ≡ false
@@ -91,12 +95,8 @@ impl KeptJournal {
     /// Makes room for the next event. The journal stays, also where there is no memory.
     pub fn reserve(&mut self) -> Result<(), OutOfMemory>
         ensures room { OnOk result (1 ≤ self.new.spare) }
-        ensures small { OnOk result (length self.new.list < 2 ^ 62) }
         ensures same { IsSameJournal self.old self.new }
     {
-        if self.journal.len() >= MOST_EVENTS {
-            return Err(AllocError);
-        }
         self.journal.reserve(1)?;
         self.state.verdicts.reserve()
     }
@@ -107,7 +107,6 @@ impl KeptJournal {
         requires name { pass.old.name ≡ self.old.name }
         requires number { pass.old.number ≡ caller_of event }
         requires room { 1 ≤ self.old.spare }
-        requires small { length self.old.list < 2 ^ 62 }
         requires may { May self.old.inode (past self.old.list) event.deed }
         requires told { says self.old.inode (past self.old.list) (placed_in event.told) event.deed
             ≡ Some event.told }
@@ -121,9 +120,12 @@ impl KeptJournal {
         ensures mine { pass.new.mine ≡ pass.old.mine ++ (length self.old.list, event) ∷ [] }
         ensures pass { (pass.new.name ≡ pass.old.name) × (pass.new.number ≡ pass.old.number) }
     {
-        let place = self.journal.len();
-        self.state.advance(&event, place, known);
         self.journal.push(pass, event);
+        let place = self.journal.len() - 1;
+        match self.journal.at(place) {
+            Some(event) => self.state.advance(event, place, known),
+            None => unreachable!(),
+        }
     }
 
     /// A pass of this journal sees it. The journal's events of its number are then its own.

@@ -1,5 +1,5 @@
 -- One pass more has seen the list.
-use Rattle.std.proofs.Common.{◌≡◌, suc, ◌+◌, ◌<◌, List, length, get_or, refl, sym, ap, subst, ◌∙◌, add-one, arith}
+use Rattle.std.proofs.Common.{◌≡◌, ◌<◌, List, length, get_or, sym, ap, ◌∙◌, add-one, arith}
 use Rattle.std.specs.Prelude.{slice_set}
 use Rattle.grow_list.specs.Shown.{Passed}
 use Rattle.inode_events.specs.declared.told.Event.{Event}

@@ -1,4 +1,4 @@
-use Rattle.std.proofs.Common.{◌≡◌, ap, ◌∙◌}
+use Rattle.std.proofs.Common.{ap, ◌∙◌}
 use Rattle.inode_meta.specs.declared.identity.Meta.{Meta}
 use Rattle.rule_match.specs.Decision.{decide_of}
 use Rattle.inode_cell.specs.Checking.{access_of}

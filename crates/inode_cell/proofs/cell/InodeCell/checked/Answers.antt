@@ -1,4 +1,4 @@
-use Rattle.std.proofs.Common.{◌≡◌, ℕ, List, Option, Some, false, refl, sym, ◌∙◌, ap, subst}
+use Rattle.std.proofs.Common.{◌≡◌, List, Option, Some, false, sym, ◌∙◌, ap, subst}
 use Rattle.ima_templates.specs.declared.entry.Entry.{Entry}
 use Rattle.inode_events.specs.Asked.{asked, list_after, outcome, placed_for}
 use Rattle.inode_events.specs.Files.{held, holds, is_writer}

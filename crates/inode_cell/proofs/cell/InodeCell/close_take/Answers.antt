@@ -1,11 +1,9 @@
-use Rattle.std.proofs.Common.{◌≡◌, Some, None, ℕ, List, refl, sym, ap, subst, ◌∙◌}
+use Rattle.std.proofs.Common.{Some, sym, ◌∙◌}
 use Rattle.inode_events.specs.declared.deed.Deed.TheVariants as deed
-use Rattle.inode_events.specs.declared.told.Told.{Told}
 use Rattle.inode_events.specs.declared.told.Told.TheVariants as told
 use Rattle.inode_events.specs.Past.{past}
 use Rattle.inode_events.specs.Integrity.{collecting}
-use Rattle.inode_cell.specs.Answers.{set_told}
-use Rattle.inode_cell.proofs.Acting.{acts_from, acts_ok, acts_refused, blocked, may_from, label_of_close}
+use Rattle.inode_cell.proofs.Acting.{acts_from, blocked}
 use Rattle.inode_events.specs.Files.{writers}
 use Rattle.inode_events.specs.Marks.{is_label_due}
 use Rattle.inode_events.specs.Says.{close_take_told}

@@ -1,6 +1,5 @@
 use Rattle.std.proofs.Common.{Some, ap}
 use Rattle.inode_events.specs.declared.deed.Deed.TheVariants as deed
-use Rattle.inode_events.specs.declared.told.Told.{Told}
 use Rattle.inode_cell.specs.Answers.{counted_told}
 use Rattle.inode_cell.proofs.Acting.{acts_ok}
 use Rattle.inode_cell.proofs.cell.InodeCell.count.Goals as goal

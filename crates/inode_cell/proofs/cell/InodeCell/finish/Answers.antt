@@ -1,15 +1,13 @@
-use Rattle.std.proofs.Common.{◌≡◌, ℕ, List, Option, Some, false, refl, sym, ◌∙◌, ap, subst}
+use Rattle.std.proofs.Common.{◌≡◌, Option, Some, false, refl, sym, ◌∙◌, ap, subst}
 use Rattle.hash_algos.specs.declared.digest.Digest.{Digest}
 use Rattle.inode_events.specs.Checks.{last_check}
 use Rattle.inode_events.specs.Files.{held, holds, is_writer}
 use Rattle.inode_events.specs.Integrity.{attributes, collecting, fixed_by}
-use Rattle.inode_events.specs.Legal.{EachFollows}
 use Rattle.inode_events.specs.Past.{past}
 use Rattle.inode_events.specs.Stage.{is_gone, stage}
 use Rattle.inode_events.specs.State.{metadata}
 use Rattle.inode_events.specs.declared.deed.Deed.TheVariants as deed
 use Rattle.inode_events.specs.declared.deed.How.{How}
-use Rattle.inode_events.specs.declared.told.Event.{Event}
 use Rattle.inode_events.specs.declared.told.Told.TheVariants as told
 use Rattle.inode_kept.specs.Collecting.{IsAsked}
 use Rattle.inode_kept.specs.Known.{IsKnown}
@@ -17,6 +15,7 @@ use Rattle.inode_kept.specs.declared.known.Known.{Known}
 use Rattle.inode_cell.specs.Granting.{Collects}
 use Rattle.inode_cell.specs.Value.{CellValue}
 use Rattle.inode_cell.proofs.GrantLemmas.{finish_asks, finish_digest, finish_sums, finish_tells}
+use Rattle.inode_cell.proofs.Guarding.{finish_sha1}
 use Rattle.inode_cell.proofs.cell.InodeCell.finish.Goals as goal
 
 pub grant-requires-clause-grants : goal.grant-requires-clause-grants
@@ -33,6 +32,7 @@ grant-requires-clause-grants c =
     → c.how_at.result ≡ held file (past v.list)) c.self.view_is c.how_at.ensures in
     record {
       check = check;
+      sha1 = finish_sha1 file c.args.sums (collecting i p) open_is c.requires.sums;
       tells = λ placed. finish_tells i file placed p c.args.sums (collecting i p) open_is
           c.requires.sums;
       asks = finish_asks i file p (last_check file p).action.measure c.args.sums (collecting i p)

@@ -1,5 +1,4 @@
-use Rattle.std.proofs.Common.{◌≡◌, ℕ, List, Option, Some, sym, ◌∙◌, ap, subst}
-use Rattle.hash_algos.specs.declared.digest.Digest.{Digest}
+use Rattle.std.proofs.Common.{◌≡◌, List, Option, Some, sym, ◌∙◌, ap, subst}
 use Rattle.ima_templates.specs.declared.entry.Entry.{Entry}
 use Rattle.ima_templates.specs.declared.entry.Placed.{Placed}
 use Rattle.inode_events.specs.Asked.{asked, measured_if, outcome, placed_for}
@@ -9,12 +8,9 @@ use Rattle.inode_events.specs.Inode.{Inode}
 use Rattle.inode_events.specs.Integrity.{attributes, fixed_by}
 use Rattle.inode_events.specs.Past.{past}
 use Rattle.inode_events.specs.State.{metadata}
-use Rattle.inode_events.specs.declared.settings.Settings.{Settings}
 use Rattle.inode_events.specs.declared.told.Event.{Event}
 use Rattle.inode_events.specs.declared.told.Grant.{Grant}
 use Rattle.inode_events.specs.declared.told.Told.TheVariants as told
-use Rattle.label_values.specs.declared.verdict.Verdict.{Verdict}
-use Rattle.policy_text.specs.declared.access.Action.{Action}
 use Rattle.book_laws.specs.Booked.{Books}
 use Rattle.inode_cell.specs.Changes.{mended_on}
 use Rattle.inode_cell.specs.Fields.{value_of}

@@ -1,7 +1,8 @@
-use Rattle.std.proofs.Common.{◌≡◌, List, ℕ, sym, ◌∙◌, ap, subst}
+use Rattle.std.proofs.Common.{◌≡◌, ◌≤◌, List, ℕ, length, sym, ◌∙◌, ap, subst}
 use Rattle.ima_templates.specs.Path.{IsMeasuredPath}
 use Rattle.inode_meta.specs.declared.measurement.Template.TheVariants.{Ima}
 use Rattle.inode_events.specs.Inode.{Inode}
+use Rattle.inode_pages.specs.Content.{most_bytes}
 use Rattle.inode_cell.proofs.Steps.{born_holds}
 use Rattle.inode_cell.proofs.cell.InodeCell.start.Goals as goal
 
@@ -13,5 +14,7 @@ invariant_of-cell c =
     born_holds k.inode k.list c.args.image c.in-Ok.content c.in_ok-attrs.attrs c.args.book.seen
     c.args.book.mine
     (subst (λ (p : List ℕ). IsMeasuredPath Ima p) path_is c.requires.path)
+    (subst (λ (i : Inode). length i.birth.content ≤ most_bytes) (sym c.in_ok-kept.ensures.inode)
+    c.requires.content)
     c.in_ok-kept.ensures.list (c.in-Ok.ensures.ok
     ∙ c.as_slice.ensures.bytes) c.in_ok-attrs.ensures c.requires.book

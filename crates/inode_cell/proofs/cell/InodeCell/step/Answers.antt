@@ -1,9 +1,7 @@
-use Rattle.std.proofs.Common.{◌≡◌, [], ◌∷◌, Some, None, List, sym, ap, subst, ◌∙◌, refl}
-use Rattle.ima_templates.specs.declared.entry.Entry.{Entry}
+use Rattle.std.proofs.Common.{[], sym, subst, ◌∙◌}
 use Rattle.ima_templates.specs.declared.entry.Placed.TheVariants.{Added}
 use Rattle.inode_events.specs.Past.{past}
-use Rattle.inode_cell.specs.Acts.{Acts, IsPlain}
-use Rattle.inode_cell.specs.Fields.{Holds}
+use Rattle.inode_cell.specs.Acts.{IsPlain}
 use Rattle.inode_cell.specs.Value.{CellValue}
 use Rattle.inode_cell.proofs.Steps.{books_quiet, holds_on, outcome_quiet, placed_back}
 use Rattle.inode_cell.proofs.cell.InodeCell.step.Goals as goal

@@ -5,7 +5,7 @@ use Rattle.ima_templates.specs.declared.entry.Placed.TheVariants.{Added}
 use Rattle.inode_events.specs.Asked.{asked, placed_for}
 use Rattle.inode_events.specs.Checks.{last_check}
 use Rattle.inode_events.specs.Inode.{Inode}
-use Rattle.inode_events.specs.Integrity.{Digests, attributes, collecting, fixed_by, in_force}
+use Rattle.inode_events.specs.Integrity.{attributes, collecting, fixed_by, in_force}
 use Rattle.inode_events.specs.Past.{past}
 use Rattle.inode_events.specs.Says.{take_told}
 use Rattle.inode_events.specs.State.{metadata}
@@ -13,13 +13,12 @@ use Rattle.inode_events.specs.declared.deed.Deed.TheVariants as deed
 use Rattle.inode_events.specs.declared.told.Event.{Event}
 use Rattle.inode_events.specs.declared.told.Told.TheVariants as told
 use Rattle.inode_kept.specs.Known.{IsKnown}
-use Rattle.inode_kept.specs.declared.in_force.Sums.{Sums}
 use Rattle.own_laws.specs.Own.{IsBy}
 use Rattle.inode_cell.specs.Acts.{MayBy}
 use Rattle.inode_cell.specs.Granting.{sums_in_force}
-use Rattle.inode_cell.specs.Value.{CellValue}
 use Rattle.inode_cell.proofs.Acting.{acts_from, blocked, may_from}
 use Rattle.inode_cell.proofs.GrantLemmas.{moved, take_asks, take_asks_none, take_begins, take_digest, take_tells}
+use Rattle.inode_cell.proofs.Guarding.{force_sha1, take_sha1}
 use Rattle.inode_cell.proofs.cell.InodeCell.take.Goals as goal
 
 pub returns-then-is_collecting-clause-acts : goal.returns-then-is_collecting-clause-acts
@@ -85,6 +84,7 @@ grant-requires-clause-grants c =
     let some : sums_in_force (in_force i p) ≡ Some sums = sym c.in-Some.ensures in
     record {
       check = record { slot = c.requires.slot; action = c.requires.action };
+      sha1 = take_sha1 sums (in_force i p) (force_sha1 i p) some;
       tells = λ placed. take_tells i file placed p sums (collecting i p) (in_force i p) free some;
       asks = take_asks i file p (last_check file p).action.measure sums (collecting i p) (in_force
           i p) free some;

@@ -1,11 +1,6 @@
-use Rattle.std.proofs.Common.{◌≡◌, ◌<◌, ◌+◌, [], Some, None, ℕ, List, length, true, refl, sym, ap, subst, ◌∙◌}
-use Rattle.inode_events.specs.declared.deed.Deed.TheVariants as deed
-use Rattle.inode_events.specs.declared.told.Told.{Told}
-use Rattle.inode_events.specs.declared.told.Told.TheVariants as told
-use Rattle.inode_events.specs.Past.{past}
+use Rattle.std.proofs.Common.{Some, ap}
 use Rattle.inode_cell.specs.Answers.{piece_told}
-use Rattle.inode_cell.proofs.Acting.{acts_from, acts_ok, may_from}
-use Rattle.inode_cell.proofs.Steps.{holds_on, written_told}
+use Rattle.inode_cell.proofs.Acting.{acts_ok, may_from}
 use Rattle.inode_cell.proofs.cell.InodeCell.take_piece.Goals as goal
 
 pub returns-clause-acts : goal.returns-clause-acts

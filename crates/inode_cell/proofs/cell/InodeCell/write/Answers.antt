@@ -1,10 +1,8 @@
-use Rattle.std.proofs.Common.{◌≡◌, ◌<◌, ◌+◌, [], Some, None, ℕ, List, length, true, refl, sym, ap, subst, ◌∙◌}
+use Rattle.std.proofs.Common.{◌≡◌, ◌<◌, ◌+◌, [], Some, ℕ, List, length, refl, sym, ap, subst, ◌∙◌}
 use Rattle.inode_events.specs.declared.deed.Deed.TheVariants as deed
-use Rattle.inode_events.specs.declared.told.Told.{Told}
 use Rattle.inode_events.specs.declared.told.Told.TheVariants as told
 use Rattle.inode_events.specs.Past.{past}
-use Rattle.inode_cell.specs.Answers.{piece_told}
-use Rattle.inode_cell.proofs.Acting.{acts_from, acts_ok, may_from}
+use Rattle.inode_cell.proofs.Acting.{acts_from}
 use Rattle.inode_cell.proofs.Steps.{holds_on, not_err, written_told}
 use Rattle.inode_pages.specs.Content.{most_bytes, overwritten}
 use Rattle.inode_cell.specs.Acts.{Acts}

@@ -6,7 +6,7 @@ use Rattle.grow_list.specs.Entries.{entries_of}
 use Rattle.grow_list.specs.Shown.{HasItsOwn}
 use Rattle.inode_events.specs.Callers.{caller_of}
 use Rattle.kept_journal.specs.Value.{KeptValue}
-use Rattle.kept_journal.proofs.Own.{HasBirth, HasEach-others, places-others}
+use Rattle.kept_journal.proofs.Own.{HasEach-others, places-others}
 use Rattle.kept_journal.proofs.journal.KeptJournal.close.Goals as goal
 
 pub close_with-requires : goal.close_with-requires

@@ -1,56 +1,52 @@
-use Rattle.std.proofs.Common.{◌≡◌, ℕ, ◌<◌, ◌^◌, ◌∷◌, Some, ap, sym, ◌∙◌, arith, length, subst}
+use Rattle.std.proofs.Common.{◌≡◌, ℕ, ◌+◌, ◌-◌, ◌<◌, ◌^◌, List, [], ◌∷◌, ◌++◌, Some, ap, sym, ◌∙◌, arith, length, rules, subst}
+use Rattle.std.specs.Prelude.{slice_get}
+use Rattle.std.proofs.lemmas.List.{length_push}
+use Rattle.std.proofs.lemmas.Option.{same_Some}
+use Rattle.grow_list.proofs.Own.{slice_get-push}
 use Rattle.inode_events.specs.Callers.{caller_of}
-use Rattle.inode_events.specs.Legal.{Follows, May}
+use Rattle.inode_events.specs.Legal.{EachFollows, Follows, May}
 use Rattle.inode_events.specs.Says.{placed_in, says}
 use Rattle.inode_events.specs.Past.{past}
+use Rattle.inode_events.specs.declared.told.Event.{Event}
 use Rattle.inode_kept.specs.Known.{IsKnown}
 use Rattle.inode_kept.specs.State.{IsState}
 use Rattle.own_laws.specs.Own.{IsBy}
-use Rattle.kept_journal.proofs.Keeping.{IsSmall, birth_same, follows_by, kept_on, length_past, small}
+use Rattle.kept_journal.proofs.Keeping.{birth_same, follows_by, kept_on, length_past, small}
 use Rattle.kept_journal.specs.Fields.{inode_in}
 use Rattle.kept_journal.specs.Value.{KeptValue, birth_in}
 use Rattle.kept_journal.proofs.journal.KeptJournal.enter.Goals as goal
 
-few_events : (c : goal.After-event-1) → length c.self.inside.journal.list < 2 ^ 62
-few_events c = subst (λ (v : KeptValue). length v.list < 2 ^ 62) (sym c.self.view_is)
-    c.requires.small
+-- the list with the event more has a length of 64 bits
+fits : (list new : List Event) (e : Event) (n : ℕ) → new ≡ list ++ e ∷ [] → n ≡ length new
+    → n < 2 ^ 64 → length list + 1 < 2 ^ 64
+fits list new e n l is small = omega (arith, ap length l, length_push list e)
 
-few_kept : (c : goal.After-event-1) → IsSmall c.self.inside.state (length
-    c.self.inside.journal.list)
-few_kept c = small (inode_in c.self.inside) c.self.inside.journal.list c.self.inside.state
-    c.self.invariant.state
+-- and the event at its end
+there : (list new : List Event) (e x : Event) (n : ℕ) → new ≡ list ++ e ∷ [] → n ≡ length new
+    → Some x ≡ slice_get new (n - 1) → x ≡ e
+there list new e x n l is at =
+    let end : n - 1 ≡ length list = omega (arith, ap length l, length_push list e) in
+    same_Some x e (at ∙ ap (slice_get new) end
+    ∙ ap (λ (xs : List Event). slice_get xs (length list)) l ∙ slice_get-push list e)
 
-pub advance-requires-clause-writers : goal.advance-requires-clause-writers
-advance-requires-clause-writers c = let n = few_events c in let s = few_kept c in omega (
-  arith,
-  n,
-  s.writers,
-)
-
-pub advance-requires-clause-readers : goal.advance-requires-clause-readers
-advance-requires-clause-readers c = let n = few_events c in let s = few_kept c in omega (
-  arith,
-  n,
-  s.readers,
-)
-
-pub advance-requires-clause-execs : goal.advance-requires-clause-execs
-advance-requires-clause-execs c = let n = few_events c in let s = few_kept c in omega (
-  arith,
-  n,
-  s.execs,
-)
-
-pub advance-requires-clause-pieces : goal.advance-requires-clause-pieces
-advance-requires-clause-pieces c = let n = few_events c in let s = few_kept c in omega (
-  arith,
-  n,
-  s.pieces,
-)
+pub advance-requires : goal.advance-requires
+advance-requires c =
+    let i = c.self.inside in
+    let n = fits i.journal.list c.push-place.new.self.list c.args.event c.len-place.result
+    c.push-place.ensures.list c.len-place.ensures c.len-place.type_inv in
+    let s = small (inode_in i) i.journal.list i.state c.self.invariant.state in
+    record {
+      writers = omega (arith, n, s.writers);
+      readers = omega (arith, n, s.readers);
+      execs = omega (arith, n, s.execs);
+      pieces = omega (arith, n, s.pieces);
+      room = search rules;
+    }
 
 -- the birth stays, and so do path and settings
-birth : (c : goal.After-push) → birth_in c.push.new.self.list ≡ birth_in c.self.inside.journal.list
-birth c = ap birth_in c.push.ensures.list
+birth : (c : goal.After-advance) → birth_in c.push-place.new.self.list
+    ≡ birth_in c.self.inside.journal.list
+birth c = ap birth_in c.push-place.ensures.list
     ∙ birth_same c.self.inside.journal.list c.args.event c.self.invariant.legal.0
 
 pub invariant_of-self : goal.invariant_of-self
@@ -70,13 +66,26 @@ invariant_of-self c =
     e.deed (past v.list)) (sym c.self.view_is) c.requires.by in
     let known : IsKnown i (past list) e c.args.known.now = subst (λ (v : KeptValue). IsKnown
     v.inode (past v.list) e c.args.known.now) (sym c.self.view_is) c.requires.known in
-    let state : IsState i (e ∷ past list) c.advance.new.self = c.advance.ensures i (past list)
-    (c.len-place.ensures ∙ sym (length_past list)) (f, k.legal.1) known k.state in
-    rw (birth c) (kept_on i c.self.inside.journal c.push.new.self c.self.inside.own
+    let x = c.in-Some.event.now in
+    let same : x ≡ e = there list c.push-place.new.self.list e x c.len-place.result
+    c.push-place.ensures.list c.len-place.ensures c.in-Some.ensures.entry in
+    let place : c.len-place.result - 1 ≡ length (past list) = omega (
+      arith,
+      c.len-place.ensures,
+      ap length c.push-place.ensures.list,
+      length_push list e,
+      length_past list,
+    ) in
+    let state : IsState i (e ∷ past list) c.advance.new.self =
+    subst (λ (v : Event). IsState i (v ∷ past list) c.advance.new.self) same
+    (c.advance.ensures i (past list) place
+    (subst (λ (v : Event). EachFollows i (v ∷ past list)) (sym same) (f, k.legal.1))
+    (subst (λ (v : Event). IsKnown i (past list) v c.args.known.now) (sym same) known) k.state) in
+    rw (birth c) (kept_on i c.self.inside.journal c.push-place.new.self c.self.inside.own
     c.self.inside.state c.advance.new.self e c.args.pass.now.number k f by c.requires.number
-    c.push.ensures.kept.0 c.push.ensures.kept.1 (subst (λ (n : ℕ). n < c.push.new.self.callers)
-    c.push.ensures.same_pass.1 c.push.ensures.number) c.push.ensures.list
-    c.push.ensures.numbers state)
+    c.push-place.ensures.kept.0 c.push-place.ensures.kept.1 (subst (λ (n : ℕ). n < c.push-place.new.self.callers)
+    c.push-place.ensures.same_pass.1 c.push-place.ensures.number) c.push-place.ensures.list
+    c.push-place.ensures.numbers state)
 
 pub returns-clause-inode : goal.returns-clause-inode
 returns-clause-inode c = rw (birth c) (ap (λ (v : KeptValue). v.inode) c.self.view_is)

@@ -1,9 +1,8 @@
-use Rattle.std.proofs.Common.{◌≡◌, Option, Some, None, false, subst, sym, ◌∙◌}
+use Rattle.std.proofs.Common.{◌≡◌, Some, None, false, subst, ◌∙◌}
 use Rattle.inode_events.specs.Files.{held}
 use Rattle.inode_events.specs.Past.{past}
 use Rattle.inode_events.specs.Stage.{is_gone, stage}
-use Rattle.inode_events.specs.declared.deed.How.{How}
-use Rattle.kept_journal.proofs.Keeping.{held_at, how_of_event}
+use Rattle.kept_journal.proofs.Keeping.{held_at}
 use Rattle.kept_journal.specs.Fields.{inode_in}
 use Rattle.kept_journal.specs.Value.{KeptValue}
 use Rattle.kept_journal.proofs.journal.KeptJournal.how_at.Goals as goal

@@ -1,11 +1,10 @@
 -- The own pass is the first of those that the list gives, and adds the birth.
-use Rattle.std.proofs.Common.{◌≡◌, ℕ, suc, ◌<◌, ◌+◌, List, [], ◌∷◌, ◌++◌, length, map, refl, sym, ap, subst, ◌∙◌, arith}
+use Rattle.std.proofs.Common.{◌≡◌, ℕ, suc, ◌<◌, ◌+◌, List, [], ◌∷◌, ◌++◌, length, sym, ap, subst, ◌∙◌, arith}
 use Rattle.std.specs.Prelude.{slice_get}
 use Rattle.grow_list.specs.Shown.{HasEach, Passed, fresh}
 use Rattle.inode_events.specs.Inode.{Inode, nobody}
 use Rattle.inode_events.specs.declared.told.Event.{Event}
-use Rattle.kept_journal.specs.Fields.{inode_in}
-use Rattle.kept_journal.specs.Value.{HasOthers, KeptValue, birth_in, birth_of, having_seen}
+use Rattle.kept_journal.specs.Value.{HasOthers, KeptValue, birth_in, birth_of}
 use Rattle.kept_journal.proofs.Keeping.{keeps_born}
 use Rattle.grow_list.proofs.Others.{first_is, rest_fresh, split_first}
 use Rattle.kept_journal.proofs.Own.{HasOthers-rest}
