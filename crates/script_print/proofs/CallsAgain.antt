@@ -1,11 +1,8 @@
 -- The line of a call makes it again.
-use Rattle.std.proofs.Common.{◌≡◌, ℕ, zero, suc, ◌+◌, ◌<◌, ◌≤◌, Bool, true, false, ◌&&◌, ◌||◌, not, nat_le, nat_lt, List, [], ◌∷◌, ◌++◌, length, map, take, slice_get, Option, Some, None, Ok, is_some, refl, sym, ap, ◌∙◌, inl, inr, arith, length-append, append_assoc}
-use Rattle.std.specs.Prelude.{codes}
+use Rattle.std.proofs.Common.{◌≡◌, ℕ, ◌+◌, ◌<◌, ◌≤◌, Bool, true, false, ◌&&◌, ◌||◌, not, nat_le, nat_lt, List, [], ◌∷◌, ◌++◌, length, map, take, Some, None, Ok, refl, sym, ap, ◌∙◌, arith}
 use Rattle.std.specs.Fmt.{decimal}
-use Rattle.std.specs.Cmp.Lexicographic.{bytes_decides}
 use Rattle.std.specs.List.{list_all}
-use Rattle.std.specs.Str.{bytes_eq}
-use Rattle.std.proofs.lemmas.Bool.{cases_Bool, false≢true}
+use Rattle.std.proofs.lemmas.Bool.{false≢true}
 use Rattle.std.proofs.lemmas.Bool.Decides.{nat_tests}
 use Rattle.call_steps.specs.Forms.{is_offset, is_portion, is_small}
 use Rattle.call_steps.specs.declared.call.Call.{Call}
@@ -17,75 +14,21 @@ use Rattle.inode_events.specs.declared.deed.How.TheVariants as how
 use Rattle.text_forms.specs.Paths.{is_path}
 use Rattle.text_forms.specs.Words.{is_word}
 use Rattle.script_text.specs.Calls.{call_of, inode_at}
-use Rattle.script_text.specs.Forms.{are_apart, are_bytes, has_place, is_descriptor, is_id, is_line_call, is_mode, path_of_block}
-use Rattle.script_text.specs.Heads.{head_of}
+use Rattle.script_text.specs.Forms.{are_bytes, is_descriptor, is_id, is_line_call, is_mode, path_of_block}
 use Rattle.script_text.specs.Limits.{most_content, most_set}
-use Rattle.script_text.specs.Places.{one_on, place_in}
+use Rattle.script_text.specs.Places.{place_in}
 use Rattle.script_text.specs.declared.blocks.FileBlock.{FileBlock}
-use Rattle.script_text.specs.declared.head.CallWord.{CallWord}
 use Rattle.script_text.specs.declared.head.CallWord.TheVariants as word
-use Rattle.script_text.specs.declared.head.Head.TheVariants as head
 use Rattle.script_text.proofs.Holding.{left_true, right_true}
 use Rattle.script_text.proofs.ValueForms.{is_value}
-use Rattle.script_print.specs.Lines.{Line, begins_line, is_plain}
+use Rattle.script_print.specs.Lines.{Line, is_plain}
 use Rattle.script_print.specs.Rules.{HasReadRule}
-use Rattle.script_print.specs.Spelling.{call_line, mapping_word, path_at, trunc_words, way_words}
+use Rattle.script_print.specs.Spelling.{mapping_word, path_at, trunc_words, way_words}
+use Rattle.script_print.proofs.CallWords.{word_of, words_of}
 use Rattle.script_print.proofs.Lines.{text_behind}
+use Rattle.script_print.proofs.PathsAgain.{AreFound, flip, form_at, got, place_again}
 use Rattle.script_print.proofs.RulesAgain.{rule_back, rule_plain}
 use Rattle.script_print.proofs.Words.{any_number_back, decimal_plain, descriptor_back, descriptor_plain, hex_plain, id_back, id_plain, mode_back, octal_plain, offset_back, path_plain, small_back, value_back, word_plain}
-
--- ---- paths
-
-reflexive : (bs : List ℕ) → bytes_eq bs bs ≡ true
-reflexive bs = (bytes_decides bs bs).1 refl
-
-on_none : (o : Option ℕ) → is_some (one_on o) ≡ is_some o
-on_none None = refl
-on_none (Some n) = refl
-
--- a path behind those that are others
-place_first : (before rest : List (List ℕ)) (w : List ℕ) → has_place before w ≡ false
-    → place_in (before ++ w ∷ rest) w ≡ Some (length before)
-place_first [] rest w h = rw (reflexive w) refl
-place_first (p ∷ ps) rest w h = elim (cases_Bool (bytes_eq w p)) [
-  | inl e ↦
-      let no : true ≡ false = rw e at h in absurd (cc no)
-  | inr e ↦
-      let others : has_place ps w ≡ false = sym (on_none (place_in ps w)) ∙ (rw e at h) in
-      let more : length ps + 1 ≡ length (p ∷ ps) = omega arith in
-      rw (e, place_first ps rest w others) (ap (λ (n : ℕ). Some n) more)
-]
-
-flip : (b : Bool) → not b ≡ true → b ≡ false
-flip true h = absurd (false≢true h)
-flip false h = refl
-
--- a path is found where it stands
-pub place_again : (before ws : List (List ℕ)) → are_apart has_place before ws ≡ true → (k : ℕ)
-    (w : List ℕ) → slice_get ws k ≡ Some w → place_in (before ++ ws) w ≡ Some (length before + k)
-place_again before [] h k w e = absurd (cc e)
-place_again before (v ∷ vs) h zero w e =
-    let fresh = has_place before v in
-    let rest = are_apart has_place (before ++ v ∷ []) vs in
-    let same : v ≡ w = cc e in
-    let new : fresh ≡ false = flip fresh (left_true (not fresh) rest h) in
-    let none : length before ≡ length before + 0 = omega arith in
-    ap (λ (u : List ℕ). place_in (before ++ v ∷ vs) u) (sym same)
-    ∙ place_first before vs v new ∙ ap (λ (n : ℕ). Some n) none
-place_again before (v ∷ vs) h (suc k) w e =
-    let fresh = has_place before v in
-    let rest = are_apart has_place (before ++ v ∷ []) vs in
-    let more : length (before ++ v ∷ []) + k ≡ length before + suc k =
-    omega (arith, length-append before (v ∷ [])) in
-    ap (λ (ps : List (List ℕ)). place_in ps w) (sym (append_assoc before (v ∷ []) vs))
-    ∙ place_again (before ++ v ∷ []) vs (right_true (not fresh) rest h) k w e
-    ∙ ap (λ (n : ℕ). Some n) more
-
--- the files of a script, which have paths that are apart
-pub record AreFound (files : List FileBlock) (paths : List (List ℕ)) : Type 0 where
-  pub are : paths ≡ map path_of_block files
-  pub apart : are_apart has_place [] (map path_of_block files) ≡ true
-  pub forms : list_all is_path (map path_of_block files) ≡ true
 
 below : (i n : ℕ) → nat_lt i n ≡ true → i < n
 below i n h = grind (arith, nat_tests)
@@ -95,23 +38,6 @@ at_most n most h = grind (arith, nat_tests)
 
 le_of : (n most : ℕ) → nat_le n most ≡ true → n ≤ most
 le_of n most h = grind (arith, nat_tests)
-
-got : (files : List FileBlock) (k : ℕ) → k < length files
-    → slice_get (map path_of_block files) k ≡ Some (path_at files k)
-got [] k lt = absurd (omega (arith, lt))
-got (b ∷ bs) zero lt = refl
-got (b ∷ bs) (suc k) lt = got bs k (omega (arith, lt))
-
-form_at : (files : List FileBlock) (k : ℕ) → k < length files
-    → list_all is_path (map path_of_block files) ≡ true → is_path (path_at files k) ≡ true
-form_at [] k lt h = absurd (omega (arith, lt))
-form_at (b ∷ bs) zero lt h =
-    left_true (is_path b.path) (list_all is_path (map path_of_block bs)) h
-form_at (b ∷ bs) (suc k) lt h =
-    form_at bs k (omega (arith, lt))
-    (right_true (is_path b.path) (list_all is_path (map path_of_block bs)) h)
-
--- ---- the words of calls
 
 way_plain : (h : How) (trunc : Bool) → list_all is_plain (way_words h ++ trunc_words trunc) ≡ true
 way_plain (how.Read true) true = refl
@@ -132,104 +58,6 @@ way_plain how.Exec false = refl
 mapping_plain : (exec : Bool) → is_plain (mapping_word exec) ≡ true
 mapping_plain true = refl
 mapping_plain false = refl
-
--- the words behind the first
-abbrev pub rest_of : Line → Line
-rest_of [] = []
-rest_of (w ∷ ws) = ws
-
--- the first word of a call's line
-abbrev pub word_of : Call → CallWord
-word_of (call.Open fd inode h trunc) = word.Open
-word_of (call.Read fd from len) = word.Read
-word_of (call.Write fd from bytes) = word.Write
-word_of (call.Ftruncate fd len) = word.Ftruncate
-word_of (call.Close fd) = word.Close
-word_of (call.Mmap m fd exec) = word.Mmap
-word_of (call.Mread m from len) = word.Mread
-word_of (call.Munmap m) = word.Munmap
-word_of (call.Exec run inode) = word.Exec
-word_of (call.Endexec run) = word.Endexec
-word_of (call.SetAttr inode name None) = word.RemoveAttr
-word_of (call.SetAttr inode name (Some value)) = word.SetAttr
-word_of (call.SetMeta inode (change.Mode mode)) = word.Chmod
-word_of (call.SetMeta inode (change.Owner uid gid)) = word.Chown
-word_of (call.Post sem) = word.Post
-word_of (call.Wait sem) = word.Wait
-word_of (call.AddRule rule) = word.AddRule
-word_of (call.Module inode) = word.Module
-word_of (call.Firmware inode) = word.Firmware
-
-abbrev pub words_of : List FileBlock → Call → Line
-words_of files c = rest_of (call_line files c)
-
--- the first word of a call's line, with which a line begins
-pub record IsFirst (files : List FileBlock) (c : Call) (w : List ℕ) : Type 0 where
-  pub line : call_line files c ≡ w ∷ words_of files c
-  pub begins : begins_line w ≡ true
-  pub plain : is_plain w ≡ true
-  pub head : head_of w ≡ Some (head.Call (word_of c))
-
-abbrev pub head_word : Call → List ℕ
-head_word (call.Open fd inode h trunc) = codes "open"
-head_word (call.Read fd from len) = codes "read"
-head_word (call.Write fd from bytes) = codes "write"
-head_word (call.Ftruncate fd len) = codes "ftruncate"
-head_word (call.Close fd) = codes "close"
-head_word (call.Mmap m fd exec) = codes "mmap"
-head_word (call.Mread m from len) = codes "mread"
-head_word (call.Munmap m) = codes "munmap"
-head_word (call.Exec run inode) = codes "exec"
-head_word (call.Endexec run) = codes "endexec"
-head_word (call.SetAttr inode name None) = codes "removexattr"
-head_word (call.SetAttr inode name (Some value)) = codes "setxattr"
-head_word (call.SetMeta inode (change.Mode mode)) = codes "chmod"
-head_word (call.SetMeta inode (change.Owner uid gid)) = codes "chown"
-head_word (call.Post sem) = codes "post"
-head_word (call.Wait sem) = codes "wait"
-head_word (call.AddRule rule) = codes "addrule"
-head_word (call.Module inode) = codes "module"
-head_word (call.Firmware inode) = codes "firmware"
-
-pub first_word : (files : List FileBlock) (c : Call) → IsFirst files c (head_word c)
-first_word files (call.Open fd inode h trunc) =
-    record { line = refl; begins = refl; plain = refl; head = refl }
-first_word files (call.Read fd from len) =
-    record { line = refl; begins = refl; plain = refl; head = refl }
-first_word files (call.Write fd from bytes) =
-    record { line = refl; begins = refl; plain = refl; head = refl }
-first_word files (call.Ftruncate fd len) =
-    record { line = refl; begins = refl; plain = refl; head = refl }
-first_word files (call.Close fd) =
-    record { line = refl; begins = refl; plain = refl; head = refl }
-first_word files (call.Mmap m fd exec) =
-    record { line = refl; begins = refl; plain = refl; head = refl }
-first_word files (call.Mread m from len) =
-    record { line = refl; begins = refl; plain = refl; head = refl }
-first_word files (call.Munmap m) =
-    record { line = refl; begins = refl; plain = refl; head = refl }
-first_word files (call.Exec run inode) =
-    record { line = refl; begins = refl; plain = refl; head = refl }
-first_word files (call.Endexec run) =
-    record { line = refl; begins = refl; plain = refl; head = refl }
-first_word files (call.SetAttr inode name None) =
-    record { line = refl; begins = refl; plain = refl; head = refl }
-first_word files (call.SetAttr inode name (Some value)) =
-    record { line = refl; begins = refl; plain = refl; head = refl }
-first_word files (call.SetMeta inode (change.Mode mode)) =
-    record { line = refl; begins = refl; plain = refl; head = refl }
-first_word files (call.SetMeta inode (change.Owner uid gid)) =
-    record { line = refl; begins = refl; plain = refl; head = refl }
-first_word files (call.Post sem) =
-    record { line = refl; begins = refl; plain = refl; head = refl }
-first_word files (call.Wait sem) =
-    record { line = refl; begins = refl; plain = refl; head = refl }
-first_word files (call.AddRule rule) =
-    record { line = refl; begins = refl; plain = refl; head = refl }
-first_word files (call.Module inode) =
-    record { line = refl; begins = refl; plain = refl; head = refl }
-first_word files (call.Firmware inode) =
-    record { line = refl; begins = refl; plain = refl; head = refl }
 
 module _ (files : List FileBlock) (paths : List (List ℕ)) (found : AreFound files paths) where
   abbrev n : ℕ

@@ -1,24 +1,21 @@
 -- The lines of files make them again.
 use Rattle.std.proofs.Common.{◌≡◌, ℕ, zero, suc, ◌+◌, ◌^◌, ◌<◌, ◌≤◌, Bool, true, false, ◌&&◌, ◌||◌, not, nat_le, nat_lt, List, [], ◌∷◌, ◌++◌, length, map, flat_map, slice_get, Option, Some, None, Ok, ok_or, if◌then◌else◌, refl, sym, ap, ◌∙◌, subst, inl, inr, arith, length-append, append_assoc}
 use Rattle.std.specs.Prelude.{codes}
-use Rattle.std.specs.Fmt.{decimal}
-use Rattle.std.specs.List.{AllByRecursion, list_all, sum_by}
+use Rattle.std.specs.List.{AllByRecursion, sum_by}
 use Rattle.std.proofs.lemmas.Bool.{cases_Bool, false≢true}
 use Rattle.std.proofs.lemmas.Bool.Decides.{nat_tests}
 use Rattle.std.proofs.lemmas.List.{append-nil, map-append}
 use Rattle.std.proofs.lemmas.List.Folds.{list_all-append}
 use Rattle.std.proofs.lemmas.List.Sums.{sum_by-cons}
 use Rattle.inode_events.specs.declared.image.Image.{Image}
-use Rattle.inode_meta.specs.declared.identity.Meta.{Meta}
 use Rattle.policy_text.specs.declared.access.Super.{Super}
 use Rattle.text_forms.specs.Lines.{◌>>=◌}
-use Rattle.text_forms.specs.Paths.{is_path}
 use Rattle.text_forms.specs.Tokens.{is_filled}
 use Rattle.xattr_store.specs.Attrs.{Pair}
 use Rattle.script_words.specs.declared.fault.LineCause.TheVariants as cause
 use Rattle.script_text.specs.Draft.{Draft, start}
-use Rattle.script_text.specs.Files.{Front, block_of, filed, front_of, on_super, with_absent, with_block, with_file, with_front}
-use Rattle.script_text.specs.Forms.{AreFiles, IsFile, IsOnSome, are_apart, are_bytes, attr_bytes, file_bytes, has_place, is_bare, is_id, is_ino, is_meta, is_mode, path_of_block}
+use Rattle.script_text.specs.Files.{block_of, filed, on_super, with_absent, with_block, with_file, with_front}
+use Rattle.script_text.specs.Forms.{AreFiles, IsFile, IsOnSome, are_apart, are_bytes, attr_bytes, file_bytes, has_place, is_bare, path_of_block}
 use Rattle.script_text.specs.Grammar.{with_head}
 use Rattle.script_text.specs.Limits.{most_bytes, most_content, most_files, most_supers}
 use Rattle.script_text.specs.ScriptValue.{ScriptValue}
@@ -27,12 +24,13 @@ use Rattle.script_text.specs.declared.head.Head.TheVariants as head
 use Rattle.script_text.proofs.Holding.{left_true, right_true}
 use Rattle.script_text.proofs.ValueForms.{is_value}
 use Rattle.script_print.specs.Lines.{Line, is_plain}
-use Rattle.script_print.specs.Spelling.{attr_line, file_line, file_lines, hex_text, kind_word, meta_words, octal}
-use Rattle.script_print.proofs.AttrsAgain.{attrs_again, putting, with_attrs}
+use Rattle.script_print.specs.Spelling.{attr_line, file_line, file_lines, hex_text, kind_word}
+use Rattle.script_print.proofs.AttrsAgain.{attrs_again, putting}
+use Rattle.script_print.proofs.FileWords.{IsMeta, bare_block, front_back, front_for, meta_parts, shared_plain, shared_words}
 use Rattle.script_print.proofs.Many.{IsAt, Leads, again_at, many}
 use Rattle.script_print.proofs.Steps.{Reads, followed, one_line}
 use Rattle.script_print.proofs.SupersAgain.{after_supers}
-use Rattle.script_print.proofs.Words.{decimal_plain, hex_plain, id_back, id_plain, ino_back, ino_plain, mode_back, numeral_back, octal_plain, path_plain, place_back, value_back}
+use Rattle.script_print.proofs.Words.{hex_plain, place_back, value_back}
 
 at_most : (n most : ℕ) → n ≤ most → nat_le n most ≡ true
 at_most n most h = grind (arith, nat_tests)
@@ -53,83 +51,6 @@ there_below : (supers : List Super) (k : ℕ) (i : Image) → IsOnSome (slice_ge
 there_below [] k i h = absurd h
 there_below (x ∷ xs) zero i h = omega arith
 there_below (x ∷ xs) (suc k) i h = let lt = there_below xs k i h in omega arith
-
--- ---- the words of a file's line
-
--- what the words that `file` and `absent` share say of a block
-abbrev front_for : FileBlock → Front
-front_for b = record {
-  path = b.path;
-  fs = decimal b.fs;
-  ino = b.image.meta.ino;
-  generation = b.image.meta.generation;
-  uid = b.image.meta.uid;
-  gid = b.image.meta.gid;
-  mode = b.image.meta.mode;
-}
-
--- the block before its attributes
-abbrev pub bare_block : FileBlock → FileBlock
-bare_block b = with_attrs b []
-
--- the metadata has numbers within their limits
-pub record IsMeta (m : Meta) : Type 0 where
-  pub ino : is_ino m.ino ≡ true
-  pub generation : is_id m.generation ≡ true
-  pub uid : is_id m.uid ≡ true
-  pub gid : is_id m.gid ≡ true
-  pub mode : is_mode m.mode ≡ true
-
-meta_parts : (m : Meta) → is_meta m ≡ true → IsMeta m
-meta_parts m h =
-    let a = is_ino m.ino in
-    let b = is_id m.generation in
-    let c = is_id m.uid in
-    let d = is_id m.gid in
-    let e = is_mode m.mode in
-    let h4 : (a && b && c && d) ≡ true = left_true (a && b && c && d) e h in
-    let h3 : (a && b && c) ≡ true = left_true (a && b && c) d h4 in
-    let h2 : (a && b) ≡ true = left_true (a && b) c h3 in
-    record {
-      ino = left_true a b h2;
-      generation = right_true a b h2;
-      uid = right_true (a && b) c h3;
-      gid = right_true (a && b && c) d h4;
-      mode = right_true (a && b && c && d) e h;
-    }
-
-abbrev shared_words : FileBlock → List (List ℕ)
-shared_words b = b.path ∷ (codes "fs=" ++ decimal b.fs) ∷ meta_words b.image.meta
-
-module _ (b : FileBlock) (path : is_path b.path ≡ true) (meta : IsMeta b.image.meta)
-    (fits : b.fs < 2 ^ 64) where
-  shared_plain : list_all is_plain (shared_words b) ≡ true
-  shared_plain =
-      rw (
-        path_plain b.path path,
-        decimal_plain b.fs fits,
-        ino_plain b.image.meta.ino meta.ino,
-        id_plain b.image.meta.generation meta.generation,
-        id_plain b.image.meta.uid meta.uid,
-        id_plain b.image.meta.gid meta.gid,
-        octal_plain b.image.meta.mode meta.mode,
-      ) refl
-
-  front_back : front_of b.path (codes "fs=" ++ decimal b.fs)
-      (codes "ino=" ++ decimal b.image.meta.ino)
-      (codes "gen=" ++ decimal b.image.meta.generation)
-      (codes "uid=" ++ decimal b.image.meta.uid) (codes "gid=" ++ decimal b.image.meta.gid)
-      (codes "mode=" ++ octal b.image.meta.mode) ≡ Some (front_for b)
-  front_back =
-      rw (
-        path,
-        numeral_back b.fs fits,
-        ino_back b.image.meta.ino meta.ino,
-        id_back b.image.meta.generation meta.generation,
-        id_back b.image.meta.uid meta.uid,
-        id_back b.image.meta.gid meta.gid,
-        mode_back b.image.meta.mode meta.mode,
-      ) refl
 
 -- ---- a block
 

@@ -1,9 +1,12 @@
 pub mod AttrsAgain
+pub mod CallWords
 pub mod CallsAgain
 pub mod EvmAgain
+pub mod FileWords
 pub mod FilesAgain
 pub mod Lines
 pub mod Many
+pub mod PathsAgain
 pub mod Pieces
 pub mod RulesAgain
 pub mod ScriptAgain

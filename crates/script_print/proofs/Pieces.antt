@@ -1,11 +1,13 @@
 -- The pieces that the code puts one behind another are lines.
-use Rattle.std.proofs.Common.{◌≡◌, ℕ, List, [], ◌∷◌, ◌++◌, map, refl, sym, ap, ◌∙◌}
+use Rattle.std.proofs.Common.{◌≡◌, ℕ, ◌+◌, ◌<◌, List, [], ◌∷◌, ◌++◌, get_or, length, map, take, refl, sym, ap, ◌∙◌, subst, append_assoc}
 use Rattle.std.specs.Prelude.{decimal}
-use Rattle.std.specs.List.{flat_map}
+use Rattle.std.specs.List.{AllByRecursion, flat_map}
+use Rattle.std.proofs.lemmas.List.{append-nil, take_more}
 use Rattle.std.proofs.lemmas.List.Concat.{flat_map-append}
 use Rattle.policy_text.specs.RuleValue.{RuleValue}
 use Rattle.policy_text.specs.Spelling.{rule_text, rule_words}
-use Rattle.script_print.specs.Lines.{Line, line_text, lines_text, spaced, words_text}
+use Rattle.script_text.proofs.Lasts.{each_behind}
+use Rattle.script_print.specs.Lines.{Line, behind_space, line_text, lines_text, spaced, words_text}
 use Rattle.script_print.proofs.RulesAgain.{rule_joined}
 
 -- lines made one of each element
@@ -33,3 +35,153 @@ lines_more ls ms = flat_map-append line_text ls ms
 pub rule_behind : (w : List ℕ) (r : RuleValue)
     → words_text (w ∷ rule_words r) ≡ w ++ 32 ∷ rule_text r
 rule_behind w r = ap (λ t. w ++ 32 ∷ t) (rule_joined r)
+
+-- ---- one section behind another
+
+-- lines put behind lines
+put_more : (o p : List ℕ) (done ls : List Line) (text : List ℕ) → o ≡ lines_text done
+    → text ≡ lines_text ls → p ≡ o ++ text → p ≡ lines_text (done ++ ls)
+put_more o p done ls text h e k =
+    k ∙ ap (λ t. t ++ text) h ∙ ap (λ t. lines_text done ++ t) e ∙ sym (lines_more done ls)
+
+-- the same where something stands before them
+put_behind : (start o p : List ℕ) (done ls : List Line) (text : List ℕ)
+    → o ≡ start ++ lines_text done → text ≡ lines_text ls → p ≡ o ++ text
+    → p ≡ start ++ lines_text (done ++ ls)
+put_behind start o p done ls text h e k =
+    k ∙ ap (λ t. t ++ text) h ∙ append_assoc start (lines_text done) text
+    ∙ ap (λ t. start ++ (lines_text done ++ t)) e
+    ∙ ap (λ t. start ++ t) (sym (lines_more done ls))
+
+-- one line is lines
+one_line_text : (l : Line) → line_text l ≡ lines_text (l ∷ [])
+one_line_text l = sym (append-nil (line_text l))
+
+-- sections, grouped as they are put, are the lines of the script
+grouped : (a b c d e f g : List Line)
+    → ((((((a ++ b) ++ c) ++ d) ++ e) ++ f) ++ g) ≡ a ++ (b ++ (c ++ (d ++ (e ++ (f ++ g)))))
+grouped a b c d e f g = simp append_assoc
+
+-- the same of the lines of EVM's settings
+grouped_four : (a b c d : List Line) → (((a ++ b) ++ c) ++ d) ≡ a ++ (b ++ (c ++ d))
+grouped_four a b c d = simp append_assoc
+
+-- a line, and the lines behind it
+pub block_put : (start o p : List ℕ) (l : Line) (ls : List Line) (text : List ℕ)
+    → o ≡ start ++ line_text l → text ≡ lines_text ls → p ≡ o ++ text
+    → p ≡ start ++ lines_text (l ∷ ls)
+block_put start o p l ls text h e k =
+    k ∙ ap (λ t. t ++ text) h ∙ append_assoc start (line_text l) text
+    ∙ ap (λ t. start ++ (line_text l ++ t)) e
+
+-- five lines
+pub five_put : (start o1 o2 o3 o4 o5 : List ℕ) (l1 l2 l3 l4 l5 : Line)
+    → o1 ≡ start ++ line_text l1 → o2 ≡ o1 ++ line_text l2 → o3 ≡ o2 ++ line_text l3
+    → o4 ≡ o3 ++ line_text l4 → o5 ≡ o4 ++ line_text l5
+    → o5 ≡ start ++ lines_text (l1 ∷ l2 ∷ l3 ∷ l4 ∷ l5 ∷ [])
+five_put start o1 o2 o3 o4 o5 l1 l2 l3 l4 l5 e1 e2 e3 e4 e5 =
+    rw (e5, e4, e3, e2, e1) (simp append_assoc)
+
+-- three sections and a line
+pub four_put : (start o1 o2 o3 o4 : List ℕ) (a b c : List Line) (text : List ℕ) (l : Line)
+    → o1 ≡ start ++ lines_text a → text ≡ lines_text b → o2 ≡ o1 ++ text
+    → o3 ≡ o2 ++ lines_text c → o4 ≡ o3 ++ line_text l
+    → o4 ≡ start ++ lines_text (a ++ (b ++ (c ++ l ∷ [])))
+four_put start o1 o2 o3 o4 a b c text l e1 t e2 e3 e4 =
+    let h2 = put_behind start o1 o2 a b text e1 t e2 in
+    let h3 = put_behind start o2 o3 (a ++ b) c (lines_text c) h2 refl e3 in
+    let h4 = put_behind start o3 o4 ((a ++ b) ++ c) (l ∷ []) (line_text l) h3 (one_line_text l) e4
+    in
+    h4 ∙ ap (λ ls. start ++ lines_text ls) (grouped_four a b c (l ∷ []))
+
+-- six sections and a line
+pub seven_put : (o0 o1 o2 o3 o4 o5 o6 o7 : List ℕ) (a b c d e f : List Line)
+    (tc td te tf : List ℕ) (l : Line)
+    → o0 ≡ [] → o1 ≡ o0 ++ lines_text a → o2 ≡ o1 ++ lines_text b
+    → tc ≡ lines_text c → o3 ≡ o2 ++ tc → td ≡ lines_text d → o4 ≡ o3 ++ td
+    → te ≡ lines_text e → o5 ≡ o4 ++ te → tf ≡ lines_text f → o6 ≡ o5 ++ tf
+    → o7 ≡ o6 ++ line_text l
+    → o7 ≡ lines_text (a ++ (b ++ (c ++ (d ++ (e ++ (f ++ l ∷ []))))))
+seven_put o0 o1 o2 o3 o4 o5 o6 o7 a b c d e f tc td te tf l n e1 e2 c3 e3 c4 e4 c5 e5 c6 e6 e7 =
+    let h1 : o1 ≡ lines_text a = put_more o0 o1 [] a (lines_text a) n refl e1 in
+    let h2 = put_more o1 o2 a b (lines_text b) h1 refl e2 in
+    let h3 = put_more o2 o3 (a ++ b) c tc h2 c3 e3 in
+    let h4 = put_more o3 o4 ((a ++ b) ++ c) d td h3 c4 e4 in
+    let h5 = put_more o4 o5 (((a ++ b) ++ c) ++ d) e te h4 c5 e5 in
+    let h6 = put_more o5 o6 ((((a ++ b) ++ c) ++ d) ++ e) f tf h5 c6 e6 in
+    let h7 = put_more o6 o7 (((((a ++ b) ++ c) ++ d) ++ e) ++ f) (l ∷ []) (line_text l) h6
+    (one_line_text l) e7 in
+    h7 ∙ ap (λ ls. lines_text ls) (grouped a b c d e f (l ∷ []))
+
+-- ---- the words of a line, one behind another
+
+-- a first word and a rule
+pub added_put : (start o p : List ℕ) (w : List ℕ) (r : RuleValue) → o ≡ start ++ (w ++ 32 ∷ [])
+    → p ≡ o ++ rule_text r → p ≡ start ++ words_text (w ∷ rule_words r)
+added_put start o p w r h k =
+    k ∙ ap (λ t. t ++ rule_text r) h ∙ append_assoc start (w ++ 32 ∷ []) (rule_text r)
+    ∙ ap (λ t. start ++ t) (append_assoc w (32 ∷ []) (rule_text r) ∙ sym (rule_behind w r))
+
+-- the same with the end of the line
+pub rule_put : (start o p q : List ℕ) (w : List ℕ) (r : RuleValue) → o ≡ start ++ (w ++ 32 ∷ [])
+    → p ≡ o ++ rule_text r → q ≡ p ++ 10 ∷ [] → q ≡ start ++ line_text (w ∷ rule_words r)
+rule_put start o p q w r h k e =
+    e ∙ ap (λ t. t ++ 10 ∷ []) (added_put start o p w r h k)
+    ∙ append_assoc start (words_text (w ∷ rule_words r)) (10 ∷ [])
+
+-- a first word and turns
+pub turns_put : (start o p q : List ℕ) (w : List ℕ) (turns : List ℕ) → o ≡ start ++ w
+    → p ≡ o ++ flat_map (λ t. 32 ∷ decimal t) turns → q ≡ p ++ 10 ∷ []
+    → q ≡ start ++ line_text (w ∷ map decimal turns)
+turns_put start o p q w turns h k e =
+    rw (e, k, h, turns_text turns) (simp append_assoc)
+
+-- three words, some more, and the last
+pub front_put : (start o1 o2 o3 o4 o5 o6 k p f : List ℕ) (ms cs : Line) → o1 ≡ start ++ k
+    → o2 ≡ o1 ++ 32 ∷ p → o3 ≡ o2 ++ 32 ∷ f → o4 ≡ o3 ++ spaced ms → o5 ≡ o4 ++ spaced cs
+    → o6 ≡ o5 ++ 10 ∷ [] → o6 ≡ start ++ line_text (k ∷ p ∷ f ∷ (ms ++ cs))
+front_put start o1 o2 o3 o4 o5 o6 k p f ms cs e1 e2 e3 e4 e5 e6 =
+    rw (e6, e5, e4, e3, e2, e1, flat_map-append behind_space ms cs) (simp append_assoc)
+
+-- pieces of a text in any grouping
+five_pieces : (start o1 o2 o3 o4 o5 o6 w m u key n v s e : List ℕ)
+    → o1 ≡ start ++ (w ++ (s ++ m)) → o2 ≡ o1 ++ (s ++ u) → o3 ≡ o2 ++ (s ++ key)
+    → o4 ≡ o3 ++ n → o5 ≡ o4 ++ (s ++ v) → o6 ≡ o5 ++ e
+    → o6 ≡ start
+    ++ ((w ++ ((s ++ m) ++ ((s ++ u) ++ ((s ++ (key ++ n)) ++ ((s ++ v) ++ []))))) ++ e)
+five_pieces start o1 o2 o3 o4 o5 o6 w m u key n v s e e1 e2 e3 e4 e5 e6 =
+    rw (e6, e5, e4, e3, e2, e1) (simp (append-nil, append_assoc))
+
+-- five words, of which one is a key and a value
+pub super_put : (start o1 o2 o3 o4 o5 o6 w m u key n v : List ℕ)
+    → o1 ≡ start ++ (w ++ 32 ∷ m) → o2 ≡ o1 ++ 32 ∷ u → o3 ≡ o2 ++ 32 ∷ key → o4 ≡ o3 ++ n
+    → o5 ≡ o4 ++ 32 ∷ v → o6 ≡ o5 ++ 10 ∷ []
+    → o6 ≡ start ++ line_text (w ∷ m ∷ u ∷ (key ++ n) ∷ v ∷ [])
+super_put start o1 o2 o3 o4 o5 o6 w m u key n v e1 e2 e3 e4 e5 e6 =
+    five_pieces start o1 o2 o3 o4 o5 o6 w m u key n v (32 ∷ []) (10 ∷ []) e1 e2 e3 e4 e5 e6
+
+-- ---- one turn of a loop
+
+-- the elements before the next one, and that one
+taken : {X : Type 0} (xs : List X) (i : ℕ) (x : X) → i < length xs → x ≡ get_or xs i x
+    → take (i + 1) xs ≡ take i xs ++ x ∷ []
+taken xs i x lt is = take_more xs i x lt ∙ ap (λ y. take i xs ++ y ∷ []) (sym is)
+
+-- the texts so far, and one more
+pub text_more : {X : Type 0} (f : X → List ℕ) (xs : List X) (i : ℕ) (x : X)
+    (start o p : List ℕ) → i < length xs → x ≡ get_or xs i x
+    → o ≡ start ++ flat_map f (take i xs) → p ≡ o ++ f x
+    → p ≡ start ++ flat_map f (take (i + 1) xs)
+text_more f xs i x start o p lt is h k =
+    k ∙ ap (λ l. l ++ f x) h ∙ append_assoc start (flat_map f (take i xs)) (f x)
+    ∙ ap (λ l. start ++ l)
+    (ap (λ l. flat_map f (take i xs) ++ l) (sym (append-nil (f x)))
+    ∙ sym (flat_map-append f (take i xs) (x ∷ []))
+    ∙ ap (λ l. flat_map f l) (sym (taken xs i x lt is)))
+
+-- what holds of the elements so far, and of one more
+pub all_more : {X : Type 0} (P : X → Type 0) (xs : List X) (i : ℕ) (x : X) → i < length xs
+    → x ≡ get_or xs i x → AllByRecursion P (take i xs) → P x
+    → AllByRecursion P (take (i + 1) xs)
+all_more P xs i x lt is h k =
+    subst (λ l. AllByRecursion P l) (sym (taken xs i x lt is)) (each_behind P (take i xs) x h k)

@@ -1,5 +1,5 @@
 -- The canonical text of a script is read as the script.
-use Rattle.std.proofs.Common.{◌≡◌, ℕ, ◌+◌, ◌<◌, ◌≤◌, true, false, nat_le, nat_lt, List, [], ◌∷◌, ◌++◌, length, map, flat_map, Ok, Result, refl, sym, ap, ◌∙◌, subst, arith}
+use Rattle.std.proofs.Common.{◌≡◌, ℕ, ◌+◌, ◌<◌, ◌≤◌, true, false, nat_le, nat_lt, List, [], ◌∷◌, ◌++◌, length, map, flat_map, Ok, refl, sym, ap, ◌∙◌, subst, arith}
 use Rattle.std.specs.Prelude.{codes}
 use Rattle.std.specs.Fmt.{decimal}
 use Rattle.std.specs.List.{AllByRecursion, list_all, sum_by}
@@ -8,14 +8,11 @@ use Rattle.std.proofs.lemmas.List.{append-nil}
 use Rattle.call_steps.specs.declared.ending.Ending.{Ending}
 use Rattle.call_steps.specs.declared.ending.Ending.TheVariants as ending
 use Rattle.policy_text.specs.declared.access.Super.{Super}
-use Rattle.text_forms.specs.Lines.{◌>>=◌}
 use Rattle.text_forms.specs.Numbers.{is_short_numeral}
 use Rattle.text_forms.specs.Paths.{is_path}
-use Rattle.script_words.specs.declared.fault.Fault.{Fault}
-use Rattle.script_words.specs.Read.{from_ended}
 use Rattle.script_text.specs.Draft.{Draft, start}
 use Rattle.script_text.specs.Forms.{IsFile, IsScript, file_bytes, is_ending, path_of_block}
-use Rattle.script_text.specs.Grammar.{add, script_of, with_head}
+use Rattle.script_text.specs.Grammar.{script_of, with_head}
 use Rattle.script_text.specs.Heads.{is_over}
 use Rattle.script_text.specs.Limits.{most_bytes, most_tasks, most_threads, most_turns}
 use Rattle.script_text.specs.ScriptValue.{ScriptValue}
@@ -27,14 +24,14 @@ use Rattle.script_text.proofs.Holding.{both_true, left_true, right_true}
 use Rattle.script_print.specs.Lines.{is_plain}
 use Rattle.script_print.specs.Rules.{AreReadRules, IsReadRule}
 use Rattle.script_print.specs.Spelling.{ending_line, evm_lines, file_lines, rule_line, script_lines, script_text, setting_lines, super_line, task_lines}
-use Rattle.script_print.proofs.CallsAgain.{AreFound}
 use Rattle.script_print.proofs.EvmAgain.{after_evm, evm_again}
 use Rattle.script_print.proofs.FilesAgain.{Filed, filing, files_again}
-use Rattle.script_print.proofs.Lines.{fields_words_text, folded, lines_of}
+use Rattle.script_print.proofs.Lines.{fields_words_text}
 use Rattle.script_print.proofs.Many.{IsAt, Leads, above}
+use Rattle.script_print.proofs.PathsAgain.{AreFound}
 use Rattle.script_print.proofs.RulesAgain.{ruling, rules_again}
 use Rattle.script_print.proofs.SettingsAgain.{after_mode, draft, settings_again}
-use Rattle.script_print.proofs.Steps.{Reads, followed, one_line}
+use Rattle.script_print.proofs.Steps.{Reads, followed, one_line, text_read}
 use Rattle.script_print.proofs.SupersAgain.{after_supers, supers_again}
 use Rattle.script_print.proofs.TasksAgain.{Tasked, tasking, tasks_again}
 use Rattle.script_print.proofs.Words.{any_number_back, decimal_plain, numeral, place_back}
@@ -232,8 +229,4 @@ module _ (s : ScriptValue) (h : IsScript s) (rules : AllByRecursion IsReadRule s
   unfolding script_text
   script_again =
       let e = whole in
-      ap (λ (r : Result Draft Fault). r >>= λ d. Ok d.script)
-      (ap (λ (ls : List (List ℕ)). from_ended add is_over 1 start ls)
-      (lines_of (script_lines s) e.reads.lines)
-      ∙ folded (script_lines s) 1 start e.to e.reads.lines e.reads.made e.is.over)
-      ∙ ap (λ (v : ScriptValue). Ok v) e.is.script
+      text_read (script_lines s) e.to e.reads e.is.over ∙ ap (λ (v : ScriptValue). Ok v) e.is.script

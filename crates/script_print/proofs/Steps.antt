@@ -1,18 +1,20 @@
 -- What lines make of a draft, one section after the other.
-use Rattle.std.proofs.Common.{◌≡◌, ℕ, true, List, [], ◌∷◌, ◌++◌, take, Option, Some, None, Ok, Err, ok_or, refl, ap, ◌∙◌}
+use Rattle.std.proofs.Common.{◌≡◌, ℕ, true, List, [], ◌∷◌, ◌++◌, take, Option, Some, None, Result, Ok, Err, ok_or, refl, ap, ◌∙◌}
 use Rattle.std.specs.List.{list_all}
 use Rattle.std.proofs.lemmas.List.Folds.{list_all-append}
 use Rattle.text_forms.specs.Lines.{◌>>=◌}
+use Rattle.script_words.specs.declared.fault.Fault.{Fault}
 use Rattle.script_words.specs.declared.fault.LineCause.TheVariants as cause
 use Rattle.script_words.specs.Line.{fields}
-use Rattle.script_text.specs.Draft.{Draft}
-use Rattle.script_text.specs.Grammar.{add, headed, placed, with_head}
-use Rattle.script_text.specs.Heads.{head_of, rank, stands}
+use Rattle.script_words.specs.Read.{from_ended}
+use Rattle.script_text.specs.Draft.{Draft, start}
+use Rattle.script_text.specs.Grammar.{add, headed, placed, script_of, with_head}
+use Rattle.script_text.specs.Heads.{head_of, is_over, rank, stands}
 use Rattle.script_text.specs.Settings.{Made}
 use Rattle.script_text.specs.declared.head.Head.{Head}
 use Rattle.script_text.proofs.Holding.{both_true}
-use Rattle.script_print.specs.Lines.{Line, begins_line, is_plain, is_read_line, words_text}
-use Rattle.script_print.proofs.Lines.{cut_words_text, fields_words_text, run, text_behind}
+use Rattle.script_print.specs.Lines.{Line, begins_line, is_plain, is_read_line, lines_text, words_text}
+use Rattle.script_print.proofs.Lines.{cut_words_text, fields_words_text, folded, lines_of, run, text_behind}
 
 -- the lines are read word by word, and make the draft e of the draft d
 pub record Reads (d : Draft) (ls : List Line) (e : Draft) : Type 0 where
@@ -77,3 +79,11 @@ one_line w ws h d e begins plain others is at makes = record {
       (both_true (is_plain w) (list_all is_plain ws) plain others)) refl;
   made = only (add d (words_text (w ∷ ws))) e (added w ws h d plain others is at ∙ makes);
 }
+
+-- lines of which the last is an end are the text of a script
+pub text_read : (ls : List Line) (d : Draft) → Reads start ls d → is_over d ≡ true
+    → script_of (lines_text ls) ≡ Ok d.script
+text_read ls d h over =
+    ap (λ (r : Result Draft Fault). r >>= λ e. Ok e.script)
+    (ap (λ (ts : List (List ℕ)). from_ended add is_over 1 start ts) (lines_of ls h.lines)
+    ∙ folded ls 1 start d h.lines h.made over)

@@ -23,9 +23,11 @@ use Rattle.script_text.proofs.Lasts.{change_behind}
 use Rattle.script_print.specs.Lines.{Line, is_plain}
 use Rattle.script_print.specs.Rules.{AreReadRules, HasReadRule}
 use Rattle.script_print.specs.Spelling.{admin_words, call_line, task_line, task_lines}
-use Rattle.script_print.proofs.CallsAgain.{AreFound, call_back, first_word, head_word, word_of, words_of}
+use Rattle.script_print.proofs.CallWords.{first_word, head_word, word_of, words_of}
+use Rattle.script_print.proofs.CallsAgain.{call_back}
 use Rattle.script_print.proofs.Lines.{text_behind}
 use Rattle.script_print.proofs.Many.{IsAt, Leads, again_at, by_map, many}
+use Rattle.script_print.proofs.PathsAgain.{AreFound}
 use Rattle.script_print.proofs.Steps.{Reads, followed, one_line}
 use Rattle.script_print.proofs.Words.{id_back, id_plain}
 

@@ -3,6 +3,15 @@
 //! `specs/Spelling` has the text line by line, each line by its words.
 #![tactic(auto)]
 
+mod calls;
+mod files;
 mod law;
+mod pushed;
+mod script;
+mod settings;
 
 pub use law::text_is_read;
+pub use script::print;
+
+#[cfg(test)]
+mod tests;

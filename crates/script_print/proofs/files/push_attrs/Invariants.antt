@@ -1,0 +1,11 @@
+-- the lines of the attributes so far
+use Rattle.std.proofs.Common.{◌≡◌, ◌++◌, take}
+use Rattle.std.specs.List.{flat_map}
+use Rattle.script_print.specs.Lines.{line_text}
+use Rattle.script_print.specs.Spelling.{attr_line}
+use Rattle.script_print.proofs.files.push_attrs.Given as goal
+
+abbrev pub invariant-loop-attr : goal.invariant-loop-attr
+invariant-loop-attr l =
+    l.out.items ≡ l.fn.out.items
+    ++ flat_map (λ a. line_text (attr_line a)) (take l.attr-index l.attrs)

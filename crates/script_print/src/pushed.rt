@@ -1,0 +1,70 @@
+// Words and numbers, put behind a text.
+
+ghost use Rattle.std.specs.Prelude.{◌≡◌, [], ◌∷◌, ◌++◌, decimal, OnOk};
+ghost use Rattle.script_print.specs.Lines.{line_text};
+ghost use Rattle.script_print.specs.Spelling.{hex_text, octal};
+
+use inode_meta::OutOfMemory;
+use list_format::append_hex;
+use std::alloc::AllocError;
+use std::io::Write;
+
+// A number behind its key.
+pub fn push_number(out: &mut Vec<u8>, key: &[u8], n: u64) -> Result<(), OutOfMemory>
+    ensures { OnOk result (out.new.items ≡ out.old.items ++ (key.now ++ decimal n)) }
+{
+    out.extend_from_slice(key)?;
+    match write!(out, "{n}") {
+        Ok(()) => Ok(()),
+        Err(_) => Err(AllocError),
+    }
+}
+
+// A mode behind its key, in octal digits.
+pub fn push_octal(out: &mut Vec<u8>, key: &[u8], mode: u16) -> Result<(), OutOfMemory>
+    ensures { OnOk result (out.new.items ≡ out.old.items ++ (key.now ++ octal mode)) }
+{
+    out.extend_from_slice(key)?;
+    match write!(out, "{mode:o}") {
+        Ok(()) => Ok(()),
+        Err(_) => Err(AllocError),
+    }
+}
+
+// A value behind its key.
+pub fn push_value(out: &mut Vec<u8>, key: &[u8], bytes: &[u8]) -> Result<(), OutOfMemory>
+    ensures { OnOk result (out.new.items ≡ out.old.items ++ (key.now ++ hex_text bytes.now)) }
+{
+    out.extend_from_slice(key)?;
+    out.extend_from_slice(b"hex")?;
+    append_hex(out, b':', bytes)
+}
+
+// A word behind a space.
+pub fn push_word(out: &mut Vec<u8>, word: &[u8]) -> Result<(), OutOfMemory>
+    ensures { OnOk result (out.new.items ≡ out.old.items ++ 32 ∷ word.now) }
+{
+    out.push(b' ')?;
+    out.extend_from_slice(word)
+}
+
+// A line of two words.
+pub fn push_line(out: &mut Vec<u8>, head: &[u8], word: &[u8]) -> Result<(), OutOfMemory>
+    ensures { OnOk result (out.new.items ≡ out.old.items ++ line_text (head.now ∷ word.now ∷ [])) }
+{
+    out.extend_from_slice(head)?;
+    push_word(out, word)?;
+    out.push(b'\n')?;
+    Ok(())
+}
+
+// A line of a word and a value.
+pub fn push_value_line(out: &mut Vec<u8>, head: &[u8], bytes: &[u8]) -> Result<(), OutOfMemory>
+    ensures { OnOk result (
+        out.new.items ≡ out.old.items ++ line_text (head.now ∷ hex_text bytes.now ∷ [])) }
+{
+    out.extend_from_slice(head)?;
+    push_value(out, b" ", bytes)?;
+    out.push(b'\n')?;
+    Ok(())
+}
