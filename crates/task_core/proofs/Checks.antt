@@ -1,0 +1,265 @@
+-- A check on one inode of a world, behind two looks at the appended rules.
+use Rattle.std.proofs.Common.{◌≡◌, ℕ, zero, suc, ◌+◌, ◌<◌, List, [], ◌∷◌, ◌++◌, length, get_or, Option, Some, refl, sym, ◌∙◌, ap, subst}
+use Rattle.std.specs.Prelude.{Result, slice_get, slice_set}
+use Rattle.std.proofs.lemmas.List.{append-nil}
+use Rattle.std.proofs.lemmas.Option.{get_or_from_slice_get}
+use mathlib.Core.List.{IsPrefix}
+use Rattle.grow_list.specs.Shown.{Grown, IsSameList, Passed}
+use Rattle.ima_templates.specs.declared.entry.Entry.{Entry}
+use Rattle.inode_events.specs.Inode.{Inode}
+use Rattle.inode_events.specs.Past.{past}
+use Rattle.inode_events.specs.State.{metadata}
+use Rattle.inode_events.specs.declared.deed.Deed.{Deed}
+use Rattle.inode_events.specs.declared.settings.Settings.{Settings}
+use Rattle.inode_events.specs.declared.told.Event.{Event}
+use Rattle.inode_meta.specs.declared.identity.Cred.{Cred}
+use Rattle.inode_meta.specs.declared.step.Who.{Who}
+use Rattle.policy_cell.specs.Policy.{PolicyValue, in_force, rules_in}
+use Rattle.policy_cell.specs.declared.cell.RuleEntry.{RuleEntry}
+use Rattle.policy_text.specs.RuleValue.{RuleValue}
+use Rattle.policy_text.specs.declared.access.Super.{Super}
+use Rattle.rule_laws.specs.Stations.{CountsAll}
+use Rattle.run_model.specs.Scene.{rules_with}
+use Rattle.run_model.specs.Turns.{State}
+use Rattle.task_deeds.specs.declared.listed.Checks.{Checks}
+use Rattle.task_frame.specs.Frame.{Frame, Site, inode_in, no_super, scene_of, super_at}
+use Rattle.task_frame.specs.Tasks.{PassesValue}
+use Rattle.task_frame.specs.World.{StationValue, journal_of, site_of}
+use Rattle.task_frame.specs.declared.gathered.Gathered.{Gathered}
+use Rattle.task_laws.proofs.Eventing.{get_map, get_set}
+use Rattle.task_laws.specs.Events.{EventOn}
+use Rattle.task_laws.specs.Steps.{Adds}
+use Rattle.world_close.specs.Closed.{AreIdle}
+use Rattle.world_deeds.proofs.Looked.{force_count, frame_looked, parts_looked}
+use Rattle.world_deeds.proofs.Looks.{at_index}
+use Rattle.world_deeds.proofs.Worlds.{event_on, frame_same, map_same, world_same}
+use Rattle.world_deeds.specs.Acting.{StationDid, told_in}
+use Rattle.world_deeds.specs.Checking.{CheckIn, IsChecked, check_by}
+use Rattle.world_deeds.specs.Parts.{AreParts, frame_by, state_by}
+use Rattle.world_deeds.specs.declared.answers.Answered.{Answered}
+
+-- of two elements that are put at one place the second stands there
+set_set : {A : Type 0} (xs : List A) (i : ℕ) (a b : A)
+    → slice_set (slice_set xs i a) i b ≡ slice_set xs i b
+set_set [] i a b = refl
+set_set (x ∷ xs) zero a b = refl
+set_set (x ∷ xs) (suc i) a b = ap (λ ys. x ∷ ys) (set_set xs i a b)
+
+-- what the file system of a place is
+super_is : (supers : List Super) (k : ℕ) (x : Super) → k < length supers → x ≡ get_or supers k x
+    → x ≡ get_or supers k no_super
+super_is supers k x l e =
+    sym (get_or_from_slice_get supers k x no_super (at_index supers k x x l e))
+
+-- a look of a pass at the appended rules, as it leaves the rules and the pass
+pub record RulesLooked (rules rules2 : PolicyValue) (q q2 : Passed RuleEntry) : Type 0 where
+  pub base : rules2.base ≡ rules.base
+  pub list : IsSameList rules.appended rules2.appended
+  pub before : IsPrefix q.seen rules.appended.list
+  pub seen : q2.seen ≡ rules2.appended.list
+  pub mine : q2.mine ≡ q.mine
+  pub pass : (q2.name ≡ q.name) × (q2.number ≡ q.number)
+
+-- it has seen no less
+seen_more : (rules rules2 : PolicyValue) (q q2 : Passed RuleEntry) → RulesLooked rules rules2 q q2
+    → IsPrefix q.seen q2.seen
+seen_more rules rules2 q q2 x =
+    subst (λ (xs : List RuleEntry). IsPrefix q.seen xs) (sym (x.seen ∙ x.list.list)) x.before
+
+-- it has added nothing
+adds_by : (rules rules2 : PolicyValue) (q q2 : Passed RuleEntry) → RulesLooked rules rules2 q q2
+    → Adds q q2 []
+adds_by rules rules2 q q2 x = record {
+  name = x.pass.0;
+  number = x.pass.1;
+  mine = x.mine ∙ sym (append-nil q.mine);
+}
+
+same_twice : (a b c : Grown RuleEntry) → IsSameList a b → IsSameList b c → IsSameList a c
+same_twice a b c x y = record {
+  name = y.name ∙ x.name;
+  callers = y.callers ∙ x.callers;
+  list = y.list ∙ x.list;
+  numbers = y.numbers ∙ x.numbers;
+}
+
+module _ {E : Type 0} (settings : Settings) (stations : List StationValue) (supers : List Super)
+    (book book2 : Grown Entry) (sems : Grown Event) (rules between rules2 : PolicyValue)
+    (tasks i : ℕ) (st st2 : StationValue) (q : Passed RuleEntry) (pass pass2 : Passed Event)
+    (listed listed2 : Passed Entry) (own own2 : Passed RuleEntry) (who : Who) (cred : Cred)
+    (asked : Checks) (place : Super) (index : List RuleValue) (r : Result (Option Answered) E)
+    (parts : AreParts (frame_by settings stations supers book sems rules tasks) stations book sems
+    rules) (there : slice_get stations i ≡ Some st)
+    (first : RulesLooked rules between st.rules q) (second : RulesLooked between rules2 own own2)
+    (index_is : index ≡ in_force rules2) (place_is : place ≡ get_or supers st.place place)
+    (did : (g : Gathered) → StationDid (record st { rules = q }) st2 book book2 pass pass2 listed
+    listed2 who (check_by index cred place (metadata (past st.cell.list)) asked) g g (told_in r))
+    (told : IsChecked st.cell.inode st.cell.list book.list index cred place asked r) where
+  abbrev F : Frame
+  F = frame_by settings stations supers book sems rules tasks
+
+  abbrev S : State
+  S = state_by stations book sems rules
+
+  base : rules2.base ≡ rules.base
+  base = second.base ∙ first.base
+
+  list : IsSameList rules.appended rules2.appended
+  list = same_twice rules.appended between.appended rules2.appended first.list second.list
+
+  seen : q.seen ≡ rules2.appended.list
+  seen = first.seen ∙ sym second.list.list
+
+  more : IsPrefix st.rules.seen q.seen
+  more = seen_more rules between st.rules q first
+
+  -- behind the looks
+  abbrev st1 : StationValue
+  st1 = record st { rules = q }
+
+  abbrev stations1 : List StationValue
+  stations1 = slice_set stations i st1
+
+  there1 : slice_get stations1 i ≡ Some st1
+  there1 = get_set stations i st1 st there
+
+  frame1 : frame_by settings stations1 supers book sems rules2 tasks ≡ F
+  frame1 = frame_looked settings stations supers book sems rules rules2 tasks i st q parts there
+      base list first.pass.0 first.pass.1 first.mine more
+
+  parts1 : AreParts (frame_by settings stations1 supers book sems rules2 tasks) stations1 book sems
+      rules2
+  parts1 = parts_looked settings stations supers book sems rules rules2 tasks i st q parts there
+      base list first.pass.0 first.pass.1 first.mine more
+
+  state1 : state_by stations1 book sems rules2 ≡ S
+  state1 =
+      ap (λ (js : List (List Event)). record S { journals = js; added = rules2.appended.list })
+      (map_same journal_of stations i st st1 there refl)
+      ∙ ap (λ (xs : List RuleEntry). record S { added = xs }) list.list
+
+  -- the check, by the rules that the looks found
+  abbrev found : Deed
+  found = check_by index cred place (metadata (past st.cell.list)) asked
+
+  counts : CountsAll (length rules2.base + length q.seen) found
+  counts =
+      ap length index_is ∙ force_count rules2
+      ∙ ap (λ (xs : List RuleEntry). length rules2.base + length xs) (sym seen)
+
+  -- behind the check
+  abbrev stations2 : List StationValue
+  stations2 = slice_set stations i st2
+
+  twice : slice_set stations1 i st2 ≡ stations2
+  twice = set_set stations i st1 st2
+
+  pub check_frame : Gathered → frame_by settings stations2 supers book2 sems rules2 tasks ≡ F
+  check_frame g =
+      ap (λ (xs : List StationValue). frame_by settings xs supers book2 sems rules2 tasks)
+      (sym twice)
+      ∙ frame_same settings stations1 supers book book2 sems rules2 tasks i st1 st2 pass pass2
+      listed listed2 who found g g (told_in r) parts1 there1 (did g)
+      ∙ frame1
+
+  pub check_parts : Gathered → AreParts
+      (frame_by settings stations2 supers book2 sems rules2 tasks) stations2 book2 sems rules2
+  check_parts g =
+      subst (λ (xs : List StationValue). AreParts
+      (frame_by settings xs supers book2 sems rules2 tasks) xs book2 sems rules2) twice
+      (world_same settings stations1 supers book book2 sems rules2 tasks i st1 st2 pass pass2
+      listed listed2 who found g g (told_in r) parts1 there1 (did g) counts)
+
+  pub check_idle : Gathered → (idle : List (Passed RuleEntry)) → AreIdle F idle
+      → AreIdle (frame_by settings stations2 supers book2 sems rules2 tasks) idle
+  check_idle g idle h = subst (λ (x : Frame). AreIdle x idle) (sym (check_frame g)) h
+
+  -- the rules are all that are in force
+  all_rules : index ≡ rules_with (scene_of F []) S.added
+  all_rules =
+      index_is ∙ ap (λ (xs : List RuleValue). xs ++ rules_in rules2.appended.list) base
+      ∙ ap (λ (xs : List RuleEntry). rules.base ++ rules_in xs) list.list
+
+  its_super : place ≡ super_at F st.place
+  its_super = super_is supers st.place place (parts.stations i st there).place place_is
+
+  abbrev New : State
+  New = state_by stations2 book2 sems rules2
+
+  inode_same : st.cell.inode ≡ inode_in F (site_of st)
+  inode_same =
+      ap (λ (x : Settings). record {
+        path = st.cell.inode.path;
+        settings = x;
+        birth = st.cell.inode.birth;
+      }) (parts.stations i st there).settings
+
+  module _ (passes passes2 : PassesValue) (at : slice_get passes.inodes i ≡ Some pass)
+      (inodes : passes2.inodes ≡ slice_set passes.inodes i pass2)
+      (semaphores : passes2.sems ≡ passes.sems) (rules_before : passes.rules ≡ own)
+      (rules_after : passes2.rules ≡ own2) (before : passes.book ≡ listed)
+      (after : passes2.book ≡ listed2) (number_is : pass.number ≡ who.task + 1) where
+    found_on : (g : Gathered) → EventOn
+        (frame_by settings stations1 supers book sems rules2 tasks) i (site_of st) who found
+        (state_by stations1 book sems rules2) (state_by (slice_set stations1 i st2) book2 sems
+        rules2) passes passes2 g g (told_in r)
+    found_on g =
+        event_on settings stations1 supers book book2 sems rules2 tasks i st1 st2 pass pass2 listed
+        listed2 who found g g (told_in r) parts1 there1 (did g) passes passes2 at inodes semaphores
+        (subst (λ (x : Passed RuleEntry). Adds x passes2.rules []) (sym rules_before)
+        (subst (λ (x : Passed RuleEntry). Adds own x []) (sym rules_after)
+        (adds_by between rules2 own own2 second)))
+        (subst (λ (x : Passed RuleEntry). IsPrefix x.seen passes2.rules.seen) (sym rules_before)
+        (subst (λ (x : Passed RuleEntry). IsPrefix own.seen x.seen) (sym rules_after)
+        (seen_more between rules2 own own2 second)))
+        before after number_is
+
+    -- the same of the frame and the lists before the looks, by all rules in force
+    abbrev by_all : Deed
+    by_all =
+        check_by (rules_with (scene_of F []) S.added) cred (super_at F st.place)
+        (metadata (past st.cell.list)) asked
+
+    is_by_all : found ≡ by_all
+    is_by_all =
+        ap (λ (xs : List RuleValue). check_by xs cred place (metadata (past st.cell.list)) asked)
+        all_rules
+        ∙ ap (λ (x : Super). check_by (rules_with (scene_of F []) S.added) cred x
+        (metadata (past st.cell.list)) asked) its_super
+
+    event_found : (g : Gathered) → EventOn F i (site_of st) who by_all S New passes passes2 g g
+        (told_in r)
+    event_found g =
+        subst (λ (d : Deed). EventOn F i (site_of st) who d S New passes passes2 g g (told_in r))
+        is_by_all
+        (subst (λ (x : Frame). EventOn x i (site_of st) who found S New passes passes2 g g
+        (told_in r)) frame1
+        (subst (λ (s : State). EventOn (frame_by settings stations1 supers book sems rules2 tasks) i
+        (site_of st) who found s New passes passes2 g g (told_in r)) state1
+        (subst (λ (xs : List StationValue).
+        EventOn (frame_by settings stations1 supers book sems rules2 tasks) i (site_of st) who found
+        (state_by stations1 book sems rules2) (state_by xs book2 sems rules2) passes passes2 g g
+        (told_in r)) twice (found_on g))))
+
+    told_by_all : IsChecked (inode_in F (site_of st)) st.cell.list S.list
+        (rules_with (scene_of F []) S.added) cred (super_at F st.place) asked r
+    told_by_all =
+        subst (λ (x : Inode). IsChecked x st.cell.list S.list (rules_with (scene_of F []) S.added)
+        cred (super_at F st.place) asked r) inode_same
+        (subst (λ (x : Super). IsChecked st.cell.inode st.cell.list S.list
+        (rules_with (scene_of F []) S.added) cred x asked r) its_super
+        (subst (λ (xs : List RuleValue). IsChecked st.cell.inode st.cell.list S.list xs cred place
+        asked r) all_rules told))
+
+    pub check_in : (g : Gathered) → CheckIn F i (slice_get F.sites i) who cred asked S New passes
+        passes2 g r
+    check_in g =
+        subst (λ (x : Option Site). CheckIn F i x who cred asked S New passes passes2 g r)
+        (sym (get_map site_of stations i st there))
+        (record {
+          journal = st.cell.list;
+          event = event_found g;
+          journal_at = get_map journal_of stations i st there;
+          seen = ap (λ (x : Passed RuleEntry). x.seen) rules_after ∙ second.seen ∙ list.list;
+          told = told_by_all;
+        })

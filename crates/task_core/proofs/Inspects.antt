@@ -1,0 +1,162 @@
+-- A world and the passes of a task, opened at the inode of a number that is to be checked.
+use Rattle.std.proofs.Common.{◌≡◌, ℕ, ◌+◌, ◌<◌, List, length, get_or, Option, Some, refl, sym, ◌∙◌, ap, subst}
+use Rattle.std.specs.Prelude.{Result, slice_get, slice_set}
+use Rattle.grow_list.specs.Shown.{Grown, Passed}
+use Rattle.ima_templates.specs.declared.entry.Entry.{Entry}
+use Rattle.inode_cell.specs.Acts.{MayBy}
+use Rattle.inode_cell.specs.Value.{CellValue}
+use Rattle.inode_events.specs.Past.{past}
+use Rattle.inode_events.specs.State.{metadata}
+use Rattle.inode_events.specs.declared.deed.Deed.{Deed}
+use Rattle.inode_events.specs.declared.settings.Settings.{Settings}
+use Rattle.inode_events.specs.declared.told.Event.{Event}
+use Rattle.inode_meta.specs.declared.appraisal.Slot.{Slot}
+use Rattle.inode_meta.specs.declared.identity.Cred.{Cred}
+use Rattle.inode_meta.specs.declared.step.Who.{Who}
+use Rattle.policy_cell.specs.Policy.{PolicyValue, in_force}
+use Rattle.policy_cell.specs.declared.cell.RuleEntry.{RuleEntry}
+use Rattle.policy_text.specs.ActionValue.{ActionValue}
+use Rattle.policy_text.specs.RuleValue.{RuleValue}
+use Rattle.policy_text.specs.declared.access.Super.{Super}
+use Rattle.task_core.proofs.Checks.{RulesLooked, check_frame, check_idle, check_in, check_parts}
+use Rattle.task_core.proofs.Opens.{open_book, open_found, open_may, open_pass}
+use Rattle.task_deeds.specs.declared.listed.Checks.{Checks}
+use Rattle.task_frame.specs.Frame.{Frame}
+use Rattle.task_frame.specs.Tasks.{ArePassesOf, PassesValue}
+use Rattle.task_frame.specs.World.{StationValue, WorldValue}
+use Rattle.task_frame.specs.declared.gathered.Gathered.{Gathered}
+use Rattle.task_frame.specs.declared.gathered.Gathered.TheVariants as gathered
+use Rattle.task_laws.specs.Ready.{HasLooked}
+use Rattle.world_close.specs.Closed.{AreIdle}
+use Rattle.world_deeds.proofs.Calls.{found_place, found_rules}
+use Rattle.world_deeds.proofs.Looks.{at_index}
+use Rattle.world_deeds.specs.Acting.{ReadyAt, StationDid, told_in}
+use Rattle.world_deeds.specs.Checking.{CheckIn, IsChecked, check_by}
+use Rattle.world_deeds.specs.Parts.{AreParts, frame_by, state_by}
+use Rattle.world_deeds.specs.declared.answers.Answered.{Answered}
+
+module _ (settings : Settings) (stations : List StationValue) (supers : List Super)
+    (book : Grown Entry) (sems : Grown Event) (rules : PolicyValue) (tasks : ℕ)
+    (parts : AreParts (frame_by settings stations supers book sems rules tasks) stations book sems
+    rules) (i : ℕ) (cell : CellValue) (seen : Passed RuleEntry) (place : ℕ) (opened : StationValue)
+    (station_view : ◌≡◌ {A = StationValue}
+    (record { cell = cell; rules = seen; place = place }) opened)
+    (within : i < length stations) (opened_is : opened ≡ get_or stations i opened) where
+  abbrev F : Frame
+  F = frame_by settings stations supers book sems rules tasks
+
+  abbrev st : StationValue
+  st = record { cell = cell; rules = seen; place = place }
+
+  st_is : st ≡ get_or stations i st
+  st_is = subst (λ (x : StationValue). x ≡ get_or stations i x) (sym station_view) opened_is
+
+  there : slice_get stations i ≡ Some st
+  there = at_index stations i st st within st_is
+
+  -- the inode's pass is one of the rules
+  pub inspect_rules : seen.name ≡ rules.appended.name
+  inspect_rules = found_rules settings stations supers book sems rules tasks i st parts there
+
+  -- there is a file system of its number
+  pub inspect_place : place < length supers
+  inspect_place = found_place settings stations supers book sems rules tasks i st parts there
+
+  module _ (w : WorldValue)
+      (view : ◌≡◌ {A = WorldValue} (record {
+        frame = frame_by settings stations supers book sems rules tasks;
+        state = state_by stations book sems rules;
+      }) w) (inodes : List (Passed Event)) (signals : Passed Event) (lists : Passed Entry)
+      (own : Passed RuleEntry) (p : PassesValue)
+      (passes_view : ◌≡◌ {A = PassesValue} (record {
+        inodes = inodes;
+        sems = signals;
+        book = lists;
+        rules = own;
+      }) p) (n : ℕ) (are : ArePassesOf w.frame n p) (pass : Passed Event)
+      (pass_is : pass ≡ get_or inodes i pass) where
+    -- the pass is one of the inode's journal, and has the task's number
+    pub inspect_found : (pass.name ≡ cell.journal) × (pass.number ≡ n + 1)
+    inspect_found =
+        open_found settings stations supers book sems rules tasks parts w view inodes signals lists
+        own p passes_view n are i st pass within st_is pass_is
+
+    pub inspect_book : cell.book ≡ book.name
+    inspect_book =
+        open_book settings stations supers book sems rules tasks parts w view inodes signals lists
+        own p passes_view n are i st pass within st_is pass_is
+
+    -- after a look the check may be made
+    pub inspect_may : (action : ActionValue) (slot : Slot) (d : Deed)
+        → ((g : Gathered) → ReadyAt w.frame i p.inodes n g action slot d)
+        → HasLooked cell.inode pass.number pass.seen cell.list pass.mine
+        → MayBy cell pass.number d
+    inspect_may action slot d ready =
+        open_may settings stations supers book sems rules tasks parts w view inodes signals lists
+        own p passes_view n are i st pass within st_is pass_is gathered.Nothing action slot d
+        (ready gathered.Nothing)
+
+    -- behind the check
+    module _ {E : Type 0} (between rules2 : PolicyValue) (q own2 : Passed RuleEntry)
+        (first : RulesLooked rules between seen q) (second : RulesLooked between rules2 own own2)
+        (st2 : StationValue) (book2 : Grown Entry) (pass2 : Passed Event) (lists2 : Passed Entry)
+        (who : Who) (task : n ≡ who.task) (cred : Cred) (asked : Checks) (file_system : Super)
+        (index : List RuleValue) (r : Result (Option Answered) E)
+        (index_is : index ≡ in_force rules2)
+        (place_is : file_system ≡ get_or supers place file_system)
+        (did : (g : Gathered) → StationDid (record { cell = cell; rules = q; place = place }) st2
+        book book2 pass pass2 lists lists2 who
+        (check_by index cred file_system (metadata (past cell.list)) asked) g g (told_in r))
+        (told : IsChecked cell.inode cell.list book.list index cred file_system asked r) where
+      abbrev stations2 : List StationValue
+      stations2 = slice_set stations i st2
+
+      pub inspected_frame : frame_by settings stations2 supers book2 sems rules2 tasks ≡ w.frame
+      inspected_frame =
+          check_frame settings stations supers book book2 sems rules between rules2 tasks i st st2 q
+          pass pass2 lists lists2 own own2 who cred asked file_system index r parts there first
+          second index_is place_is did told gathered.Nothing
+          ∙ ap (λ (x : WorldValue). x.frame) view
+
+      pub inspected_parts : AreParts (frame_by settings stations2 supers book2 sems rules2 tasks)
+          stations2 book2 sems rules2
+      inspected_parts =
+          check_parts settings stations supers book book2 sems rules between rules2 tasks i st st2 q
+          pass pass2 lists lists2 own own2 who cred asked file_system index r parts there first
+          second index_is place_is did told gathered.Nothing
+
+      pub inspected_idle : (idle : List (Passed RuleEntry)) → AreIdle F idle
+          → AreIdle (frame_by settings stations2 supers book2 sems rules2 tasks) idle
+      inspected_idle idle h =
+          check_idle settings stations supers book book2 sems rules between rules2 tasks i st st2 q
+          pass pass2 lists lists2 own own2 who cred asked file_system index r parts there first
+          second index_is place_is did told gathered.Nothing idle h
+
+      pub inspected_check : (g : Gathered) → CheckIn w.frame i (slice_get w.frame.sites i) who cred
+          asked w.state (state_by stations2 book2 sems rules2) p
+          (record {
+            inodes = slice_set inodes i pass2;
+            sems = signals;
+            book = lists2;
+            rules = own2;
+          }) g r
+      inspected_check g =
+          let before : PassesValue =
+          record { inodes = inodes; sems = signals; book = lists; rules = own } in
+          let after : PassesValue = record {
+            inodes = slice_set inodes i pass2;
+            sems = signals;
+            book = lists2;
+            rules = own2;
+          } in
+          let at = open_pass settings stations supers book sems rules tasks parts w view inodes
+          signals lists own p passes_view n are i st pass within st_is pass_is in
+          subst (λ (x : WorldValue). CheckIn x.frame i (slice_get x.frame.sites i) who cred asked
+          x.state (state_by stations2 book2 sems rules2) p after g r) view
+          (subst (λ (y : PassesValue). CheckIn F i (slice_get F.sites i) who cred asked
+          (state_by stations book sems rules) (state_by stations2 book2 sems rules2) y after g r)
+          passes_view
+          (check_in settings stations supers book book2 sems rules between rules2 tasks i st st2 q
+          pass pass2 lists lists2 own own2 who cred asked file_system index r parts there first
+          second index_is place_is did told before after at refl refl refl refl refl refl
+          (inspect_found.1 ∙ ap (λ (k : ℕ). k + 1) task) g))

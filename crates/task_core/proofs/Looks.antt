@@ -1,0 +1,245 @@
+-- A look at all lists of a world.
+use Rattle.std.proofs.Common.{◌≡◌, ℕ, ◌+◌, List, [], map, Some, sym, ◌∙◌, ap, subst}
+use Rattle.std.specs.Prelude.{slice_get}
+use Rattle.std.proofs.lemmas.List.{append-nil, length-map}
+use Rattle.std.proofs.lemmas.Option.{same_Some}
+use mathlib.Core.List.{IsPrefix}
+use Rattle.grow_list.specs.Entries.{entries_of}
+use Rattle.grow_list.specs.Shown.{Grown, HasItsOwn, IsSameList, ListName, Passed}
+use Rattle.ima_templates.specs.declared.entry.Entry.{Entry}
+use Rattle.inode_events.specs.Callers.{caller_of}
+use Rattle.inode_events.specs.Inode.{Inode}
+use Rattle.inode_events.specs.declared.settings.Settings.{Settings}
+use Rattle.inode_events.specs.declared.told.Event.{Event}
+use Rattle.policy_cell.specs.Policy.{PolicyValue}
+use Rattle.policy_cell.specs.declared.cell.RuleEntry.{RuleEntry}
+use Rattle.policy_text.specs.RuleValue.{RuleValue}
+use Rattle.policy_text.specs.declared.access.Super.{Super}
+use Rattle.run_model.specs.Turns.{State}
+use Rattle.task_frame.specs.Frame.{Frame, Site, boot_in, inode_in}
+use Rattle.task_frame.specs.Runs.{HasMade}
+use Rattle.task_frame.specs.Tasks.{ArePassesOf, IsTask, PassesValue, Tasked}
+use Rattle.task_frame.specs.World.{StationValue, WorldValue, journal_of, site_of}
+use Rattle.task_frame.specs.declared.gathered.Gathered.{Gathered}
+use Rattle.task_laws.proofs.Eventing.{get_map}
+use Rattle.task_laws.proofs.Looking.{look_is_made, look_is_played}
+use Rattle.task_laws.specs.Looks.{HasLookedAtAll, InodeLooked}
+use Rattle.task_laws.specs.Plays.{task_left}
+use Rattle.task_laws.specs.Ready.{HasLooked}
+use Rattle.task_laws.specs.Steps.{Adds}
+use Rattle.task_mind.specs.Value.{TaskValue}
+use Rattle.world_close.specs.Closed.{AreIdle}
+use Rattle.world_deeds.proofs.Keeping.{journals_kept, sites_kept, stations_kept}
+use Rattle.world_deeds.specs.Looking.{AreKept, HaveLooked, LookedAt}
+use Rattle.world_deeds.specs.Parts.{AreParts, frame_by, state_by}
+
+-- a pass that has seen a list, as it leaves the pass
+pub record PassSees {E : Type 0} (g g2 : Grown E) (q q2 : Passed E) : Type 0 where
+  pub same : IsSameList g g2
+  pub before : IsPrefix q.seen g.list
+  pub seen : q2.seen ≡ g2.list
+  pub mine : q2.mine ≡ q.mine
+  pub own : HasItsOwn g2 q2
+  pub pass : (q2.name ≡ q.name) × (q2.number ≡ q.number)
+
+adds_by : {E : Type 0} (g g2 : Grown E) (q q2 : Passed E) → PassSees g g2 q q2 → Adds q q2 []
+adds_by g g2 q q2 x = record {
+  name = x.pass.0;
+  number = x.pass.1;
+  mine = x.mine ∙ sym (append-nil q.mine);
+}
+
+module _ (settings : Settings) (stations stations2 : List StationValue) (supers : List Super)
+    (book book2 : Grown Entry) (sems sems2 : Grown Event) (rules rules2 : PolicyValue) (tasks : ℕ)
+    (kept : AreKept stations stations2) (books : IsSameList book book2)
+    (signals : IsSameList sems sems2) (base : rules2.base ≡ rules.base)
+    (added : IsSameList rules.appended rules2.appended) where
+  abbrev F : Frame
+  F = frame_by settings stations supers book sems rules tasks
+
+  abbrev Later : Frame
+  Later = frame_by settings stations2 supers book2 sems2 rules2 tasks
+
+  pub frame_looked : Later ≡ F
+  frame_looked =
+      ap (λ (xs : List Site). record Later { sites = xs }) (sites_kept stations stations2 kept)
+      ∙ ap (λ (xs : List Entry). record Later { sites = F.sites; boot = boot_in xs }) books.list
+      ∙ ap (λ (x : ListName). record Later { sites = F.sites; boot = F.boot; book = x }) books.name
+      ∙ ap (λ (x : ListName). record F { signals = x; base = rules2.base; rules = Later.rules })
+      signals.name
+      ∙ ap (λ (xs : List RuleValue). record F { base = xs; rules = Later.rules }) base
+      ∙ ap (λ (x : ListName). record F { rules = x }) added.name
+
+  pub state_looked : state_by stations2 book2 sems2 rules2 ≡ state_by stations book sems rules
+  state_looked =
+      ap (λ (js : List (List Event)). record {
+        journals = js;
+        list = book2.list;
+        signals = sems2.list;
+        added = rules2.appended.list;
+      }) (journals_kept stations stations2 kept)
+      ∙ ap (λ (xs : List Entry). record {
+        journals = map journal_of stations;
+        list = xs;
+        signals = sems2.list;
+        added = rules2.appended.list;
+      }) books.list
+      ∙ ap (λ (xs : List Event). record {
+        journals = map journal_of stations;
+        list = book.list;
+        signals = xs;
+        added = rules2.appended.list;
+      }) signals.list
+      ∙ ap (λ (xs : List RuleEntry). record {
+        journals = map journal_of stations;
+        list = book.list;
+        signals = sems.list;
+        added = xs;
+      }) added.list
+
+  parts_at : AreParts F stations book sems rules → AreParts F stations2 book2 sems2 rules2
+  parts_at parts = record {
+    stations = stations_kept F stations stations2 kept parts.stations;
+    book = record {
+      name = books.name ∙ parts.book.name;
+      boot = ap (λ (xs : List Entry). slice_get xs 0) books.list ∙ parts.book.boot;
+      callers = books.callers ∙ parts.book.callers;
+    };
+    sems = record {
+      name = signals.name ∙ parts.sems.name;
+      callers = signals.callers ∙ parts.sems.callers;
+    };
+    rules = record {
+      name = added.name ∙ parts.rules.name;
+      base = base ∙ parts.rules.base;
+      callers = added.callers ∙ parts.rules.callers;
+      numbers = added.numbers ∙ parts.rules.numbers
+          ∙ ap (λ (xs : List RuleEntry). map (λ (r : RuleEntry). r.who.task) xs) (sym added.list);
+    };
+  }
+
+  pub parts_looked : AreParts F stations book sems rules
+      → AreParts Later stations2 book2 sems2 rules2
+  parts_looked parts =
+      subst (λ (x : Frame). AreParts x stations2 book2 sems2 rules2) (sym frame_looked)
+      (parts_at parts)
+
+  pub idle_looked : (idle : List (Passed RuleEntry)) → AreIdle F idle → AreIdle Later idle
+  idle_looked idle h = subst (λ (x : Frame). AreIdle x idle) (sym frame_looked) h
+
+  -- what the looks are to the task
+  module _ (t : Tasked) (passes : PassesValue)
+      (parts : AreParts F stations book sems rules)
+      (is : IsTask F t)
+      (looks : HaveLooked stations t.passes.inodes passes.inodes)
+      (sem_look : PassSees sems sems2 t.passes.sems passes.sems)
+      (numbers : sems2.numbers ≡ map caller_of sems2.list)
+      (book_look : PassSees book book2 t.passes.book passes.book)
+      (rule_look : PassSees rules.appended rules2.appended t.passes.rules passes.rules) where
+    abbrev S : State
+    S = state_by stations book sems rules
+
+    own : ArePassesOf F t.number t.passes
+    own = is.played.passes
+
+    inode_looked : (i : ℕ) (q : Passed Event) → slice_get passes.inodes i ≡ Some q
+        → InodeLooked F (t.number + 1) i S.journals t.passes.inodes q
+    inode_looked i q h =
+        let x : LookedAt stations t.passes.inodes i q = looks.each i q h in
+        let site : slice_get F.sites i ≡ Some (site_of x.station) =
+        get_map site_of stations i x.station x.station_at in
+        let number : x.before.number ≡ t.number + 1 =
+        (own.inodes i (site_of x.station) x.before site x.at).1 in
+        record {
+          before = x.before;
+          at = x.at;
+          name = x.looked.name;
+          number = x.looked.number;
+          mine = x.looked.mine;
+          journal = x.station.cell.list;
+          journal_at = get_map journal_of stations i x.station x.station_at;
+          seen = x.looked.seen;
+          looked = λ s here.
+              subst (λ (z : Site). HasLooked (inode_in F z) (t.number + 1) x.before.seen
+              x.station.cell.list x.before.mine)
+              (same_Some (site_of x.station) s (sym site ∙ here))
+              (subst (λ (z : Inode). HasLooked z (t.number + 1) x.before.seen x.station.cell.list
+              x.before.mine)
+              (ap (λ (z : Settings). record {
+                path = x.station.cell.inode.path;
+                settings = z;
+                birth = x.station.cell.inode.birth;
+              }) (parts.stations i x.station x.station_at).settings)
+              (subst (λ (k : ℕ). HasLooked x.station.cell.inode k x.before.seen x.station.cell.list
+              x.before.mine) number x.looked.looked));
+        }
+
+    looked_at_all : HasLookedAtAll F t S passes
+    looked_at_all = record {
+      even = looks.even;
+      journals = length-map stations journal_of ∙ sym (length-map stations site_of);
+      inodes = inode_looked;
+      sems = adds_by sems sems2 t.passes.sems passes.sems sem_look;
+      signals =
+          ap (λ (k : ℕ). entries_of k (map caller_of sems.list) sems.list)
+          (sym (sem_look.pass.1 ∙ own.sems.1))
+          ∙ ap (λ (xs : List Event). entries_of passes.sems.number (map caller_of xs) xs)
+          (sym signals.list)
+          ∙ ap (λ (ns : List ℕ). entries_of passes.sems.number ns sems2.list) (sym numbers)
+          ∙ sem_look.own;
+      book = adds_by book book2 t.passes.book passes.book book_look;
+      book_before = book_look.before;
+      book_seen = book_look.seen ∙ books.list;
+      rules = adds_by rules.appended rules2.appended t.passes.rules passes.rules rule_look;
+      rules_before = rule_look.before;
+      rules_seen = rule_look.seen ∙ added.list;
+      appended =
+          ap (λ (k : ℕ). entries_of k
+          (map (λ (r : RuleEntry). r.who.task) rules.appended.list) rules.appended.list)
+          (sym (rule_look.pass.1 ∙ own.rules.1))
+          ∙ ap (λ (ns : List ℕ). entries_of passes.rules.number ns rules.appended.list)
+          (sym (added.numbers ∙ parts.rules.numbers))
+          ∙ ap (λ (xs : List RuleEntry). entries_of passes.rules.number rules2.appended.numbers xs)
+          (sym added.list)
+          ∙ rule_look.own;
+    }
+
+    -- in each list the entries of its number are those that it has made
+    pub looked_made : HasMade Later (state_by stations2 book2 sems2 rules2)
+        (task_left t passes t.gathered)
+    looked_made =
+        subst (λ (x : Frame). HasMade x (state_by stations2 book2 sems2 rules2)
+        (task_left t passes t.gathered)) (sym frame_looked)
+        (subst (λ (x : State). HasMade F x (task_left t passes t.gathered)) (sym state_looked)
+        (look_is_made F t S passes is looked_at_all))
+
+    pub looked_still : IsTask Later (task_left t passes t.gathered)
+    looked_still =
+        subst (λ (x : Frame). IsTask x (task_left t passes t.gathered)) (sym frame_looked)
+        (record {
+          history = is.history;
+          played = look_is_played F t is.history S passes is.played looked_at_all;
+        })
+
+-- the passes are of the journals of the inodes
+pub look_names : (settings : Settings) (stations : List StationValue) (supers : List Super)
+    (book : Grown Entry) (sems : Grown Event) (rules : PolicyValue) (tasks n : ℕ)
+    (passes : PassesValue)
+    → ArePassesOf (frame_by settings stations supers book sems rules tasks) n passes
+    → (i : ℕ) (s : StationValue) (q : Passed Event) → slice_get stations i ≡ Some s
+    → slice_get passes.inodes i ≡ Some q → q.name ≡ s.cell.journal
+look_names settings stations supers book sems rules tasks n passes own i s q at here =
+    (own.inodes i (site_of s) q (get_map site_of stations i s at) here).0
+
+-- the task of an opened world, with its passes opened
+pub look_opens : (w0 w : WorldValue) (t : Tasked) (n : ℕ) (mind : TaskValue) (g : Gathered)
+    (passes q : PassesValue) → w0 ≡ w
+    → ◌≡◌ {A = Tasked} (record { number = n; mind = mind; gathered = g; passes = q }) t
+    → passes ≡ q → IsTask w.frame t
+    → IsTask w0.frame (record { number = n; mind = mind; gathered = g; passes = passes })
+look_opens w0 w t n mind g passes q e f k is =
+    subst (λ (x : WorldValue). IsTask x.frame
+    (record { number = n; mind = mind; gathered = g; passes = passes })) (sym e)
+    (subst (λ (y : PassesValue). IsTask w.frame
+    (record { number = n; mind = mind; gathered = g; passes = y })) (sym k)
+    (subst (λ (x : Tasked). IsTask w.frame x) (sym f) is))

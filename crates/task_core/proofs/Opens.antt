@@ -1,0 +1,156 @@
+-- A world and the passes of a task, opened at the inode of a number.
+use Rattle.std.proofs.Common.{◌≡◌, ℕ, ◌+◌, ◌<◌, List, length, get_or, Option, Some, refl, sym, ◌∙◌, ap, subst, arith}
+use Rattle.std.specs.Prelude.{IfOk, Result, slice_get, slice_set}
+use Rattle.std.proofs.lemmas.List.{length-map}
+use Rattle.grow_list.proofs.Prefixes.{prefix_refl}
+use Rattle.grow_list.specs.Shown.{Grown, Passed}
+use Rattle.ima_templates.specs.declared.entry.Entry.{Entry}
+use Rattle.inode_cell.specs.Acts.{MayBy}
+use Rattle.inode_events.specs.Asked.{outcome}
+use Rattle.inode_events.specs.Past.{past}
+use Rattle.inode_events.specs.declared.deed.Deed.{Deed}
+use Rattle.inode_events.specs.declared.settings.Settings.{Settings}
+use Rattle.inode_events.specs.declared.told.Event.{Event}
+use Rattle.inode_events.specs.declared.told.Told.{Told}
+use Rattle.inode_meta.specs.declared.appraisal.Slot.{Slot}
+use Rattle.inode_meta.specs.declared.step.Who.{Who}
+use Rattle.policy_cell.specs.Policy.{PolicyValue}
+use Rattle.policy_cell.specs.declared.cell.RuleEntry.{RuleEntry}
+use Rattle.policy_text.specs.ActionValue.{ActionValue}
+use Rattle.policy_text.specs.declared.access.Super.{Super}
+use Rattle.rule_laws.specs.Stations.{CountsAll}
+use Rattle.task_frame.specs.Frame.{Frame}
+use Rattle.task_frame.specs.Tasks.{ArePassesOf, PassesValue}
+use Rattle.task_frame.specs.World.{StationValue, WorldValue, site_of}
+use Rattle.task_frame.specs.declared.gathered.Gathered.{Gathered}
+use Rattle.task_laws.proofs.Eventing.{adds_none}
+use Rattle.task_laws.specs.Ready.{HasLooked, IsReady}
+use Rattle.world_close.specs.Closed.{AreIdle}
+use Rattle.world_deeds.proofs.Calls.{found_may, found_pass, found_ready, found_said}
+use Rattle.world_deeds.proofs.Looks.{at_index}
+use Rattle.world_deeds.proofs.Worlds.{event_in, frame_same, world_same}
+use Rattle.world_deeds.specs.Acting.{EventIn, IsPlacedAt, IsSaid, ReadyAt, StationDid, told_of}
+use Rattle.world_deeds.specs.Parts.{AreParts, frame_by, state_by}
+use Rattle.world_deeds.specs.declared.answers.Answered.{Answered}
+
+module _ (settings : Settings) (stations : List StationValue) (supers : List Super)
+    (book : Grown Entry) (sems : Grown Event) (rules : PolicyValue) (tasks : ℕ)
+    (parts : AreParts (frame_by settings stations supers book sems rules tasks) stations book sems
+    rules) (w : WorldValue)
+    (view : ◌≡◌ {A = WorldValue} (record {
+      frame = frame_by settings stations supers book sems rules tasks;
+      state = state_by stations book sems rules;
+    }) w) (inodes : List (Passed Event)) (signals : Passed Event) (lists : Passed Entry)
+    (own : Passed RuleEntry) (p : PassesValue)
+    (passes_view : ◌≡◌ {A = PassesValue} (record {
+      inodes = inodes;
+      sems = signals;
+      book = lists;
+      rules = own;
+    }) p) (n : ℕ) (are : ArePassesOf w.frame n p) (i : ℕ) (st : StationValue)
+    (pass : Passed Event) (within : i < length stations) (st_is : st ≡ get_or stations i st)
+    (pass_is : pass ≡ get_or inodes i pass) where
+  abbrev F : Frame
+  F = frame_by settings stations supers book sems rules tasks
+
+  abbrev P : PassesValue
+  P = record { inodes = inodes; sems = signals; book = lists; rules = own }
+
+  pub open_passes : ArePassesOf F n P
+  open_passes =
+      subst (λ (x : WorldValue). ArePassesOf x.frame n P) (sym view)
+      (subst (λ (q : PassesValue). ArePassesOf w.frame n q) (sym passes_view) are)
+
+  pub open_there : slice_get stations i ≡ Some st
+  open_there = at_index stations i st st within st_is
+
+  open_within : i < length inodes
+  open_within =
+      let even : length inodes ≡ length stations =
+      open_passes.even ∙ length-map stations site_of in
+      omega arith
+
+  pub open_pass : slice_get inodes i ≡ Some pass
+  open_pass = at_index inodes i pass pass open_within pass_is
+
+  pub open_found : (pass.name ≡ st.cell.journal) × (pass.number ≡ n + 1)
+  open_found =
+      found_pass settings stations supers book sems rules tasks i st parts open_there n P pass
+      open_passes open_pass
+
+  pub open_book : st.cell.book ≡ book.name
+  open_book = (parts.stations i st open_there).book
+
+  open_ready_at : (g : Gathered) (action : ActionValue) (slot : Slot) (d : Deed)
+      → ReadyAt w.frame i p.inodes n g action slot d → ReadyAt F i inodes n g action slot d
+  open_ready_at g action slot d ready =
+      subst (λ (x : WorldValue). ReadyAt x.frame i inodes n g action slot d) (sym view)
+      (subst (λ (q : PassesValue). ReadyAt w.frame i q.inodes n g action slot d) (sym passes_view)
+      ready)
+
+  pub open_ready : (g : Gathered) (action : ActionValue) (slot : Slot) (d : Deed)
+      → ReadyAt w.frame i p.inodes n g action slot d
+      → HasLooked st.cell.inode pass.number pass.seen st.cell.list pass.mine
+      → IsReady st.cell.inode pass.number st.cell.list g action slot d
+  open_ready g action slot d ready =
+      found_ready settings stations supers book sems rules tasks i st parts open_there n inodes pass
+      g action slot d open_pass open_found.1 (open_ready_at g action slot d ready)
+
+  pub open_may : (g : Gathered) (action : ActionValue) (slot : Slot) (d : Deed)
+      → ReadyAt w.frame i p.inodes n g action slot d
+      → HasLooked st.cell.inode pass.number pass.seen st.cell.list pass.mine
+      → MayBy st.cell pass.number d
+  open_may g action slot d ready =
+      found_may settings stations supers book sems rules tasks i st parts open_there n inodes pass
+      g action slot d open_pass open_found.1 (open_ready_at g action slot d ready)
+
+  -- behind the deed
+  module _ (st2 : StationValue) (book2 : Grown Entry) (pass2 : Passed Event)
+      (lists2 : Passed Entry) (who : Who) (d : Deed) (g g2 : Gathered) (o : Option Told)
+      (counts : CountsAll (length F.base + length st.rules.seen) d) (task : n ≡ who.task)
+      (did : StationDid st st2 book book2 pass pass2 lists lists2 who d g g2 o) where
+    abbrev stations2 : List StationValue
+    stations2 = slice_set stations i st2
+
+    pub done_frame : frame_by settings stations2 supers book2 sems rules tasks ≡ F
+    done_frame =
+        frame_same settings stations supers book book2 sems rules tasks i st st2 pass pass2 lists
+        lists2 who d g g2 o parts open_there did
+
+    pub done_view : frame_by settings stations2 supers book2 sems rules tasks ≡ w.frame
+    done_view = done_frame ∙ ap (λ (x : WorldValue). x.frame) view
+
+    pub done_parts : AreParts (frame_by settings stations2 supers book2 sems rules tasks) stations2
+        book2 sems rules
+    done_parts =
+        world_same settings stations supers book book2 sems rules tasks i st st2 pass pass2 lists
+        lists2 who d g g2 o parts open_there did counts
+
+    pub done_idle : (idle : List (Passed RuleEntry)) → AreIdle F idle
+        → AreIdle (frame_by settings stations2 supers book2 sems rules tasks) idle
+    done_idle idle h = subst (λ (x : Frame). AreIdle x idle) (sym done_frame) h
+
+    pub done_event : EventIn w.frame i (slice_get w.frame.sites i) who d w.state
+        (state_by stations2 book2 sems rules) p
+        (record { inodes = slice_set inodes i pass2; sems = signals; book = lists2; rules = own })
+        g g2 o
+    done_event =
+        let p2 : PassesValue =
+        record { inodes = slice_set inodes i pass2; sems = signals; book = lists2; rules = own } in
+        subst (λ (x : WorldValue). EventIn x.frame i (slice_get x.frame.sites i) who d x.state
+        (state_by stations2 book2 sems rules) p p2 g g2 o) view
+        (subst (λ (q : PassesValue). EventIn F i (slice_get F.sites i) who d
+        (state_by stations book sems rules) (state_by stations2 book2 sems rules) q p2 g g2 o)
+        passes_view
+        (event_in settings stations supers book book2 sems rules tasks i st st2 pass pass2 lists
+        lists2 who d g g2 o parts open_there did P p2 open_pass refl refl
+        (adds_none own own refl) (prefix_refl own.seen) refl refl
+        (open_found.1 ∙ ap (λ (k : ℕ). k + 1) task)))
+
+  pub done_said : {E : Type 0} (r : Result (Option Answered) E) (d : Deed)
+      → IfOk r (λ o. told_of o ≡ outcome st.cell.inode book.list d (past st.cell.list))
+      → IfOk r (λ o. IsPlacedAt (length st.cell.list) o)
+      → IfOk r (λ o. IsSaid w.frame i d w.state o)
+  done_said r d told at =
+      subst (λ (x : WorldValue). IfOk r (λ o. IsSaid x.frame i d x.state o)) view
+      (found_said settings stations supers book sems rules tasks i st parts open_there r d told at)

@@ -1,0 +1,98 @@
+-- A world whose semaphores or rules have changed.
+use Rattle.std.proofs.Common.{◌≡◌, ℕ, List, [], ◌∷◌, ◌++◌, map, sym, ◌∙◌, ap, subst}
+use Rattle.std.proofs.lemmas.List.{map-append}
+use Rattle.grow_list.specs.Shown.{Grown, IsSameList, ListName, Passed}
+use Rattle.ima_templates.specs.declared.entry.Entry.{Entry}
+use Rattle.inode_events.specs.declared.settings.Settings.{Settings}
+use Rattle.inode_events.specs.declared.told.Event.{Event}
+use Rattle.policy_cell.specs.Policy.{PolicyValue}
+use Rattle.policy_cell.specs.declared.cell.RuleEntry.{RuleEntry}
+use Rattle.policy_text.specs.RuleValue.{RuleValue}
+use Rattle.policy_text.specs.declared.access.Super.{Super}
+use Rattle.task_frame.specs.Frame.{Frame}
+use Rattle.task_frame.specs.World.{AreRulesOf, AreSignalsOf, StationValue}
+use Rattle.world_close.specs.Closed.{AreIdle}
+use Rattle.world_deeds.specs.Parts.{AreParts, frame_by}
+
+module _ (settings : Settings) (stations : List StationValue) (supers : List Super)
+    (book : Grown Entry) (sems sems2 : Grown Event) (rules rules2 : PolicyValue) (tasks : ℕ)
+    (idle : List (Passed RuleEntry))
+    (parts : AreParts (frame_by settings stations supers book sems rules tasks) stations book sems
+    rules) (rest : AreIdle (frame_by settings stations supers book sems rules tasks) idle) where
+  abbrev F : Frame
+  F = frame_by settings stations supers book sems rules tasks
+
+  with_both : frame_by settings stations supers book sems2 rules2 tasks ≡ F
+      → AreSignalsOf F sems2 → AreRulesOf F rules2
+      → AreParts (frame_by settings stations supers book sems2 rules2 tasks) stations book sems2
+      rules2
+      × AreIdle (frame_by settings stations supers book sems2 rules2 tasks) idle
+  with_both same s r = (
+    subst (λ (x : Frame). AreParts x stations book sems2 rules2) (sym same)
+        (record { stations = parts.stations; book = parts.book; sems = s; rules = r }),
+    subst (λ (x : Frame). AreIdle x idle) (sym same) rest,
+  )
+
+module _ (settings : Settings) (stations : List StationValue) (supers : List Super)
+    (book : Grown Entry) (sems : Grown Event) (rules : PolicyValue) (tasks : ℕ)
+    (idle : List (Passed RuleEntry))
+    (parts : AreParts (frame_by settings stations supers book sems rules tasks) stations book sems
+    rules) (rest : AreIdle (frame_by settings stations supers book sems rules tasks) idle) where
+  abbrev G : Frame
+  G = frame_by settings stations supers book sems rules tasks
+
+  -- the semaphores keep their name and their callers
+  pub with_sems : (sems2 : Grown Event) → sems2.name ≡ sems.name → sems2.callers ≡ sems.callers
+      → AreParts (frame_by settings stations supers book sems2 rules tasks) stations book sems2
+      rules
+      × AreIdle (frame_by settings stations supers book sems2 rules tasks) idle
+  with_sems sems2 name callers =
+      with_both settings stations supers book sems sems2 rules rules tasks idle parts rest
+      (ap (λ (x : ListName). record G { signals = x }) name)
+      (record { name = name; callers = callers ∙ parts.sems.callers }) parts.rules
+
+  with_rules : (rules2 : PolicyValue) → rules2.base ≡ rules.base
+      → rules2.appended.name ≡ rules.appended.name
+      → rules2.appended.callers ≡ rules.appended.callers
+      → rules2.appended.numbers ≡ map (λ (r : RuleEntry). r.who.task) rules2.appended.list
+      → AreParts (frame_by settings stations supers book sems rules2 tasks) stations book sems
+      rules2
+      × AreIdle (frame_by settings stations supers book sems rules2 tasks) idle
+  with_rules rules2 base name callers numbers =
+      with_both settings stations supers book sems sems rules rules2 tasks idle parts rest
+      (ap (λ (xs : List RuleValue). record G { base = xs; rules = rules2.appended.name }) base
+      ∙ ap (λ (x : ListName). record G { rules = x }) name) parts.sems
+      (record {
+        name = name;
+        base = base;
+        callers = callers ∙ parts.rules.callers;
+        numbers = numbers;
+      })
+
+  -- the rules are as they were
+  pub with_same_rules : (rules2 : PolicyValue) → rules2.base ≡ rules.base
+      → IsSameList rules.appended rules2.appended
+      → AreParts (frame_by settings stations supers book sems rules2 tasks) stations book sems
+      rules2
+      × AreIdle (frame_by settings stations supers book sems rules2 tasks) idle
+  with_same_rules rules2 base list =
+      with_rules rules2 base list.name list.callers
+      (list.numbers ∙ parts.rules.numbers
+      ∙ ap (λ (xs : List RuleEntry). map (λ (r : RuleEntry). r.who.task) xs) (sym list.list))
+
+  -- a rule was appended by the task of its Who
+  pub with_rule : (rules2 : PolicyValue) (e : RuleEntry) (n : ℕ)
+      → (rules2.base ≡ rules.base) × (rules2.appended.name ≡ rules.appended.name)
+      × (rules2.appended.callers ≡ rules.appended.callers)
+      → rules2.appended.list ≡ rules.appended.list ++ e ∷ []
+      → rules2.appended.numbers ≡ rules.appended.numbers ++ n ∷ [] → n ≡ e.who.task
+      → AreParts (frame_by settings stations supers book sems rules2 tasks) stations book sems
+      rules2
+      × AreIdle (frame_by settings stations supers book sems rules2 tasks) idle
+  with_rule rules2 e n kept list numbers is =
+      with_rules rules2 kept.0 kept.1 kept.2
+      (numbers
+      ∙ ap (λ (ns : List ℕ). ns ++ n ∷ []) parts.rules.numbers
+      ∙ ap (λ (m : ℕ). map (λ (r : RuleEntry). r.who.task) rules.appended.list ++ m ∷ []) is
+      ∙ sym (map-append (λ (r : RuleEntry). r.who.task) rules.appended.list (e ∷ []))
+      ∙ ap (λ (xs : List RuleEntry). map (λ (r : RuleEntry). r.who.task) xs) (sym list))

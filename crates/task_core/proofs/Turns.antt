@@ -1,0 +1,312 @@
+-- What a task finds at its turn, and what it is behind it.
+use Rattle.std.proofs.Common.{◌≡◌, ℕ, ◌+◌, List, ◌∷◌, length, Option, Some, None, refl, sym, ◌∙◌, ap, subst}
+use Rattle.std.specs.Prelude.{IfOk, Result, Ok, slice_get, unwrap_or}
+use Rattle.call_steps.specs.Mind.{Step}
+use Rattle.call_steps.specs.Mind.{Appends, Checks, Does, Signals}
+use Rattle.call_steps.specs.Steps.{given}
+use Rattle.inode_events.specs.Checks.{no_action}
+use Rattle.inode_events.specs.Past.{past}
+use Rattle.inode_events.specs.Semaphores.{semaphore_says}
+use Rattle.inode_events.specs.declared.deed.Deed.{Deed}
+use Rattle.inode_events.specs.declared.deed.Deed.TheVariants as deed
+use Rattle.inode_events.specs.declared.told.Told.TheVariants as told
+use Rattle.inode_meta.specs.declared.appraisal.Mode.{Mode}
+use Rattle.inode_meta.specs.declared.appraisal.Slot.{Slot}
+use Rattle.inode_meta.specs.declared.identity.Cred.{Cred}
+use Rattle.inode_meta.specs.declared.step.Who.{Who}
+use Rattle.policy_text.specs.ActionValue.{ActionValue}
+use Rattle.policy_text.specs.RuleValue.{RuleValue}
+use Rattle.policy_text.specs.declared.rule.Func.{Func}
+use Rattle.run_model.specs.History.{Answer, Thought, hear, step_at, who_at}
+use Rattle.run_model.specs.Scene.{Program}
+use Rattle.run_model.specs.Turns.{State, go_step}
+use Rattle.run_model.specs.declared.turn.Turn.TheVariants as turns
+use Rattle.task_frame.specs.Frame.{Frame, inode_in, mode_in, scene_of}
+use Rattle.task_frame.specs.Tasks.{ArePassesOf, HasPlayed, IsTask, PassesValue, Tasked}
+use Rattle.task_frame.specs.declared.gathered.Gathered.{Gathered}
+use Rattle.task_laws.proofs.Blocking.{task_of_who}
+use Rattle.task_laws.proofs.Readying.{ready_by_look}
+use Rattle.task_laws.specs.Due.{slot_in}
+use Rattle.task_laws.specs.Plays.{task_after, task_left}
+use Rattle.task_laws.specs.Ready.{HasLooked, IsReady, IsStepOn}
+use Rattle.task_deeds.specs.declared.listed.Checks.{Checks as Asked}
+use Rattle.task_mind.specs.Steps.{step_in}
+use Rattle.task_mind.specs.Value.{IsSameTask, TaskValue, due_at}
+use Rattle.task_mind.specs.declared.step.Step.{Step as Named}
+use Rattle.world_deeds.proofs.Checked.{check_reaches}
+use Rattle.world_deeds.proofs.Reaching.{does_reaches, same_left}
+use Rattle.world_deeds.proofs.Sharing.{appends_tells, signals_reach}
+use Rattle.world_deeds.specs.Acting.{EventIn, IsPlacedAt, IsSaid, ReadyAt, told_in, told_of}
+use Rattle.world_deeds.specs.Checking.{CheckIn}
+use Rattle.world_deeds.specs.Sharing.{AppendsTo, SignalsOn}
+use Rattle.world_deeds.specs.Turning.{Fails, Goes, Reaches, StillPlays, Stops, Tells, answer_of, reached_by, turned_to}
+use Rattle.world_deeds.specs.declared.answers.Answered.{Answered}
+use Rattle.world_deeds.specs.declared.answers.Reached.{Reached}
+use Rattle.world_deeds.specs.declared.answers.Reached.TheVariants as reached
+
+module _ (frame : Frame) (n room : ℕ) (g : Gathered) (passes : PassesValue) (h : List Answer) where
+  -- the task with this of its own words has played the history
+  abbrev PlayedWith : Program → Thought → ActionValue → Type 0
+  PlayedWith p t c = HasPlayed frame (record {
+    number = n;
+    mind = record { program = p; thought = t; checked = c; spare = room };
+    gathered = g;
+    passes = passes;
+  }) h
+
+  with_words : (a : TaskValue) (p : Program) (t : Thought) (c : ActionValue) → a.program ≡ p
+      → a.thought ≡ t → a.checked ≡ c
+      → HasPlayed frame (record { number = n; mind = a; gathered = g; passes = passes }) h
+      → PlayedWith p t c
+  with_words a p t c e f k x =
+      subst (λ (q : Program). PlayedWith q t c) e
+      (subst (λ (u : Thought). PlayedWith a.program u c) f
+      (subst (λ (d : ActionValue). PlayedWith a.program a.thought d) k
+      (record {
+        calls = x.calls;
+        stands = x.stands;
+        checked = x.checked;
+        passes = x.passes;
+        events = x.events;
+        placed = x.placed;
+        signals = x.signals;
+        rules = x.rules;
+        unlisted = x.unlisted;
+        checks = x.checks;
+        rises = x.rises;
+        hashed = x.hashed;
+      })))
+
+-- a task with another room has played as much
+played_same : (frame : Frame) (n : ℕ) (a b : TaskValue) (g : Gathered) (passes : PassesValue)
+    (h : List Answer) → IsSameTask a b
+    → HasPlayed frame (record { number = n; mind = a; gathered = g; passes = passes }) h
+    → HasPlayed frame (record { number = n; mind = b; gathered = g; passes = passes }) h
+played_same frame n a b g passes h s x =
+    with_words frame n b.spare g passes h a b.program b.thought b.checked (sym s.program)
+    (sym s.thought) (sym s.checked) x
+
+pub task_same : (frame : Frame) (n : ℕ) (a b : TaskValue) (g : Gathered) (passes : PassesValue)
+    → IsSameTask a b
+    → IsTask frame (record { number = n; mind = a; gathered = g; passes = passes })
+    → IsTask frame (record { number = n; mind = b; gathered = g; passes = passes })
+task_same frame n a b g passes s x = record {
+  history = x.history;
+  played = played_same frame n a b g passes x.history s x.played;
+}
+
+module _ (frame : Frame) (t : Tasked) (is : IsTask frame t) where
+  abbrev due : Option Step
+  due = step_at t.mind.program t.mind.thought.mind
+
+  abbrev who : Who
+  who = who_at t.number t.mind.program t.mind.thought.mind
+
+  -- its passes are those of the task of its Who
+  pub turn_passes : ArePassesOf frame who.task t.passes
+  turn_passes =
+      subst (λ (n : ℕ). ArePassesOf frame n t.passes)
+      (sym (task_of_who t.number t.mind.program t.mind.thought.mind)) is.played.passes
+
+  -- after a look its step is ready
+  pub turn_ready : (i : ℕ) (d : Deed) → IsStepOn i d due
+      → ReadyAt frame i t.passes.inodes who.task t.gathered t.mind.checked
+      (slot_in (due_at t.mind.program t.mind.thought.mind)) d
+  turn_ready i d on s q list here at looked =
+      let number = task_of_who t.number t.mind.program t.mind.thought.mind in
+      subst (λ (n : ℕ). IsReady (inode_in frame s) (n + 1) list t.gathered t.mind.checked
+      (slot_in (due_at t.mind.program t.mind.thought.mind)) d) (sym number)
+      (ready_by_look frame t is.history i s q list d is.played here at
+      (subst (λ (n : ℕ). HasLooked (inode_in frame s) (n + 1) q.seen list q.mine) number looked)
+      on)
+
+  -- a program that is over
+  pub turn_over : (old : State) → due ≡ None
+      → Stops frame t old old t.passes t.gathered turns.Done
+  turn_over old over = record {
+    plays = λ h x. x;
+    goes = λ programs.
+        ap (go_step (scene_of frame programs) t.number t.mind.program old t.mind.thought) over;
+  }
+
+  -- the same of whoever asks so
+  ready_by : (w : Who) (action : ActionValue) (slot : Slot) (i : ℕ) (d : Deed) → w ≡ who
+      → action ≡ t.mind.checked → slot ≡ slot_in (due_at t.mind.program t.mind.thought.mind)
+      → IsStepOn i d due
+      → ReadyAt frame i t.passes.inodes w.task t.gathered action slot d
+  ready_by w action slot i d e f k on =
+      subst (λ (x : Who). ReadyAt frame i t.passes.inodes x.task t.gathered action slot d) (sym e)
+      (subst (λ (a : ActionValue). ReadyAt frame i t.passes.inodes who.task t.gathered a slot d)
+      (sym f)
+      (subst (λ (z : Slot). ReadyAt frame i t.passes.inodes who.task t.gathered t.mind.checked z d)
+      (sym k) (turn_ready i d on)))
+
+  pub does_ready : (w : Who) (action : ActionValue) (slot : Slot) (i : ℕ) (d : Deed) → w ≡ who
+      → action ≡ t.mind.checked → slot ≡ slot_in (due_at t.mind.program t.mind.thought.mind)
+      → due ≡ Some (Does i d)
+      → ReadyAt frame i t.passes.inodes w.task t.gathered action slot d
+  does_ready w action slot i d e f k st =
+      ready_by w action slot i d e f k
+      (subst (λ (o : Option Step). IsStepOn i d o) (sym st) (refl, refl))
+
+  -- a check needs nothing that is hashed
+  pub checks_ready : (w : Who) (action : ActionValue) (slot : Slot) (i file : ℕ) (func : Func)
+      (mask : ℕ) → w ≡ who → action ≡ t.mind.checked
+      → slot ≡ slot_in (due_at t.mind.program t.mind.thought.mind)
+      → due ≡ Some (Checks i file func mask)
+      → (g : Gathered) → ReadyAt frame i t.passes.inodes w.task g action slot
+      (deed.Check file func no_action 0)
+  checks_ready w action slot i file func mask e f k st g s q list here at looked =
+      let d : Deed = deed.Check file func no_action 0 in
+      let is : IsReady (inode_in frame s) (w.task + 1) list t.gathered action slot d =
+      ready_by w action slot i d e f k
+      (subst (λ (o : Option Step). IsStepOn i d o) (sym st) (refl, refl)) s q list here at looked in
+      record { may = is.may; by = is.by; hashes = tt; asks = tt }
+
+-- the step that is named is the due one
+pub due_is : (o : Option Step) (s x : Named) → s ≡ x → Some (step_in s) ≡ o
+    → o ≡ Some (step_in x)
+due_is o s x e f = sym f ∙ ap (λ (z : Named). Some (step_in z)) e
+
+-- ---- what became of the turn
+
+module _ (frame : Frame) (t : Tasked) (old new : State) (passes : PassesValue) (w : Who)
+    (w_is : w ≡ who_at t.number t.mind.program t.mind.thought.mind) where
+  abbrev asks : Option Step
+  asks = step_at t.mind.program t.mind.thought.mind
+
+  pub does_turn : {E : Type 0} (i : ℕ) (d : Deed) (g : Gathered) (r : Result (Option Answered) E)
+      (x : Result Reached E) → asks ≡ Some (Does i d)
+      → EventIn frame i (slice_get frame.sites i) w d old new t.passes passes t.gathered g
+      (told_in r)
+      → IfOk r (IsSaid frame i d old) → x ≡ reached_by r
+      → Reaches frame t old new passes g x
+  does_turn {E} i d g r x st e said is =
+      subst (λ (z : Result Reached E). Reaches frame t old new passes g z) (sym is)
+      (does_reaches frame t i d old new passes g st r
+      (subst (λ (y : Who). EventIn frame i (slice_get frame.sites i) y d old new t.passes passes
+      t.gathered g (told_in r)) w_is e) said)
+
+  pub check_turn : {E : Type 0} (i : ℕ) (asked : Asked) (cred : Cred)
+      (r : Result (Option Answered) E) (x : Result Reached E)
+      → asks ≡ Some (Checks i asked.file asked.func asked.mask)
+      → cred ≡ t.mind.program.cred
+      → ((g : Gathered) → CheckIn frame i (slice_get frame.sites i) w cred asked old new t.passes
+      passes g r) → x ≡ reached_by r
+      → Reaches frame t old new passes t.gathered x
+  check_turn {E} i asked cred r x st c e is =
+      subst (λ (z : Result Reached E). Reaches frame t old new passes t.gathered z) (sym is)
+      (check_reaches frame t i asked.file asked.func asked.mask old new passes st r
+      (subst (λ (y : Who). CheckIn frame i (slice_get frame.sites i) y t.mind.program.cred asked old
+      new t.passes passes t.gathered r) w_is
+      (subst (λ (k : Cred). CheckIn frame i (slice_get frame.sites i) w k asked old new t.passes
+      passes t.gathered r) c (e t.gathered))))
+
+  pub signals_turn : {E : Type 0} (d : Deed) (r : Result (Option Answered) E)
+      (x : Result Reached E) → asks ≡ Some (Signals d)
+      → SignalsOn old new t.passes passes w d (told_in r)
+      → IfOk r (λ o. (told_of o ≡ semaphore_says (past old.signals) d)
+      × IsPlacedAt (length old.signals) o) → x ≡ reached_by r
+      → Reaches frame t old new passes t.gathered x
+  signals_turn {E} d r x st e said is =
+      subst (λ (z : Result Reached E). Reaches frame t old new passes t.gathered z) (sym is)
+      (signals_reach frame t d old new passes st r
+      (subst (λ (y : Who). SignalsOn old new t.passes passes y d (told_in r)) w_is e) said)
+
+  pub appends_turn : (rule : RuleValue) (a : Answered) → asks ≡ Some (Appends rule)
+      → AppendsTo old new t.passes passes (record { who = w; rule = rule })
+      → (a.place ≡ length old.added) × (a.told ≡ told.Done) × (a.action ≡ None)
+      → Tells frame t old new passes t.gathered a
+  appends_turn rule a st e said =
+      appends_tells frame t rule old new passes st a
+      (subst (λ (y : Who). AppendsTo old new t.passes passes (record { who = y; rule = rule }))
+      w_is e) said
+
+  pub appends_fail : (new ≡ old) × (passes ≡ t.passes)
+      → Fails frame t old new passes t.gathered
+  appends_fail e =
+      record { plays = same_left frame t passes t.gathered e.1 refl; state = e.0 }
+
+-- ---- behind the turn
+
+module _ (frame : Frame) (t : Tasked) (old new : State) (passes : PassesValue) (g : Gathered) where
+  -- the task heard what it was told
+  pub heard_task : (a : Answered) (mind : TaskValue) (x : Tells frame t old new passes g a)
+      → IsTask frame t → mind.program ≡ t.mind.program
+      → mind.thought ≡ hear (mode_in frame) t.mind.program t.mind.thought (answer_of a x.rules)
+      → mind.checked ≡ unwrap_or a.action t.mind.checked
+      → IsTask frame (task_after t mind passes g)
+  heard_task a mind x is program thought checked = record {
+    history = answer_of a x.rules ∷ is.history;
+    played = x.plays is.history mind is.played (record {
+      program = program;
+      thought = thought;
+      checked = checked ∙ x.checked;
+    });
+  }
+
+  pub heard_goes : (a : Answered) (thought : Thought) (x : Tells frame t old new passes g a)
+      → thought ≡ hear (mode_in frame) t.mind.program t.mind.thought (answer_of a x.rules)
+      → Goes frame t old (turned_to new thought turns.Moved)
+  heard_goes a thought x e programs =
+      x.goes programs ∙ ap (λ (u : Thought). turned_to new u turns.Moved) (sym e)
+
+-- the same of its world behind the turn, whose constants are as before
+module _ (frame after : Frame) (t : Tasked) (old new : State) (passes : PassesValue)
+    (g : Gathered) (same : after ≡ frame) (is : IsTask frame t) where
+  told_still : (a : Answered) (mode : Mode) (action : Option ActionValue) (mind : TaskValue)
+      → Tells frame t old new passes g a → mode ≡ mode_in frame → action ≡ a.action
+      → mind.program ≡ t.mind.program
+      → ((rules : ℕ) → mind.thought ≡ hear mode t.mind.program t.mind.thought
+      (record { place = a.place; told = a.told; action = given action; rules = rules }))
+      → mind.checked ≡ unwrap_or action t.mind.checked
+      → IsTask after (task_after t mind passes g)
+  told_still a mode action mind x m k program thought checked =
+      subst (λ (y : Frame). IsTask y (task_after t mind passes g)) (sym same)
+      (heard_task frame t old new passes g a mind x is program
+      (thought x.rules
+      ∙ ap (λ (y : Mode). hear y t.mind.program t.mind.thought
+      (record { place = a.place; told = a.told; action = given action; rules = x.rules })) m
+      ∙ ap (λ (y : Option ActionValue). hear (mode_in frame) t.mind.program t.mind.thought
+      (record { place = a.place; told = a.told; action = given y; rules = x.rules })) k)
+      (checked ∙ ap (λ (y : Option ActionValue). unwrap_or y t.mind.checked) k))
+
+  -- it made no step
+  pub left_still : StillPlays frame t passes g → IsTask after (task_left t passes g)
+  left_still x =
+      subst (λ (y : Frame). IsTask y (task_left t passes g)) (sym same)
+      (record { history = is.history; played = x is.history is.played })
+
+  pub over_still : {E : Type 0} (r : Result Reached E) (x : Reached) (after_turn : Tasked)
+      → r ≡ Ok x → x ≡ reached.Over → Reaches frame t old new passes g r
+      → after_turn ≡ task_left t passes g → IsTask after after_turn
+  over_still {E} r x after_turn e f h k =
+      let stops : Stops frame t old new passes g turns.Done =
+      subst (λ (z : Result Reached E). Reaches frame t old new passes g z)
+      (e ∙ ap (λ (z : Reached). Ok z) f) h in
+      subst (λ (z : Tasked). IsTask after z) (sym k) (left_still stops.plays)
+
+  pub blocked_still : {E : Type 0} (r : Result Reached E) (x : Reached) (after_turn : Tasked)
+      → r ≡ Ok x → x ≡ reached.Blocked → Reaches frame t old new passes g r
+      → after_turn ≡ task_left t passes g → IsTask after after_turn
+  blocked_still {E} r x after_turn e f h k =
+      let stops : Stops frame t old new passes g turns.Blocked =
+      subst (λ (z : Result Reached E). Reaches frame t old new passes g z)
+      (e ∙ ap (λ (z : Reached). Ok z) f) h in
+      subst (λ (z : Tasked). IsTask after z) (sym k) (left_still stops.plays)
+
+  pub moved_still : {E : Type 0} (r : Result Reached E) (x : Reached) (after_turn : Tasked)
+      (a : Answered) (mode : Mode) (action : Option ActionValue) (mind : TaskValue)
+      → r ≡ Ok x → x ≡ reached.Told a → Reaches frame t old new passes g r
+      → after_turn ≡ task_after t mind passes g → mode ≡ mode_in frame → action ≡ a.action
+      → mind.program ≡ t.mind.program
+      → ((rules : ℕ) → mind.thought ≡ hear mode t.mind.program t.mind.thought
+      (record { place = a.place; told = a.told; action = given action; rules = rules }))
+      → mind.checked ≡ unwrap_or action t.mind.checked
+      → IsTask after after_turn
+  moved_still {E} r x after_turn a mode action mind e f h k m same_action program thought checked =
+      let tells : Tells frame t old new passes g a =
+      subst (λ (z : Result Reached E). Reaches frame t old new passes g z)
+      (e ∙ ap (λ (z : Reached). Ok z) f) h in
+      subst (λ (z : Tasked). IsTask after z) (sym k)
+      (told_still a mode action mind tells m same_action program thought checked)

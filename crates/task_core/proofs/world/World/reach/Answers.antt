@@ -1,0 +1,163 @@
+-- The step that is due is ready, and what became of it is a turn.
+use Rattle.std.proofs.Common.{None, refl}
+use Rattle.inode_events.specs.declared.deed.Deed.TheVariants as deed
+use Rattle.inode_events.specs.declared.told.Told.TheVariants as told
+use Rattle.run_model.specs.History.{step_at}
+use Rattle.task_frame.specs.Tasks.{Tasked}
+use Rattle.task_mind.specs.Steps.{deed_in}
+use Rattle.task_mind.specs.declared.step.Step.TheVariants as step
+use Rattle.world_deeds.proofs.Sharing.{nothing_tells}
+use Rattle.task_core.proofs.Turns.{appends_fail, appends_turn, check_turn, checks_ready, does_ready, does_turn, due_is, signals_turn}
+use Rattle.task_core.proofs.world.World.reach.Goals as goal
+
+pub does-requires-clause-ready : goal.does-requires-clause-ready
+does-requires-clause-ready c =
+    let t : Tasked =
+    record {
+      number = c.args.number;
+      mind = c.args.mind.now;
+      gathered = c.args.gathered.now;
+      passes = c.args.passes.now;
+    } in
+    let st = due_is (step_at t.mind.program t.mind.thought.mind) c.in-Some-Does.field-0
+    (step.Does c.in-Some-Does.inode c.in-Some-Does.doing) c.in-Some-Does.field-0-is
+    c.in-Some-Does.ensures in
+    does_ready c.args.self.now.frame t c.requires c.who-who.result c.checked.result
+    c.slot_due.result c.in-Some-Does.inode (deed_in c.in-Some-Does.doing) c.who-who.ensures
+    c.checked.ensures
+    c.slot_due.ensures st
+
+pub checks-requires-clause-ready : goal.checks-requires-clause-ready
+checks-requires-clause-ready c =
+    let t : Tasked =
+    record {
+      number = c.args.number;
+      mind = c.args.mind.now;
+      gathered = c.args.gathered.now;
+      passes = c.args.passes.now;
+    } in
+    let st = due_is (step_at t.mind.program t.mind.thought.mind) c.in-Some-Checks.field-0
+    (step.Checks c.in-Some-Checks.inode c.in-Some-Checks.file c.in-Some-Checks.func
+    c.in-Some-Checks.mask) c.in-Some-Checks.field-0-is c.in-Some-Checks.ensures in
+    checks_ready c.args.self.now.frame t c.requires c.who-who.result c.checked.result
+    c.slot_due.result c.in-Some-Checks.inode c.in-Some-Checks.file c.in-Some-Checks.func
+    c.in-Some-Checks.mask c.who-who.ensures c.checked.ensures
+    c.slot_due.ensures st
+
+pub returns-in-Some-Nothing-clause-reaches : goal.returns-in-Some-Nothing-clause-reaches
+returns-in-Some-Nothing-clause-reaches c =
+    let t : Tasked =
+    record {
+      number = c.args.number;
+      mind = c.args.mind.now;
+      gathered = c.args.gathered.now;
+      passes = c.args.passes.now;
+    } in
+    let st = due_is (step_at t.mind.program t.mind.thought.mind) c.in-Some-Nothing.field-0
+    step.Nothing c.in-Some-Nothing.field-0-is c.in-Some-Nothing.ensures in
+    nothing_tells c.args.self.now.frame t c.args.self.now.state
+    (record { place = 0; told = told.Nothing; action = None }) st refl refl refl
+
+pub returns-in-Some-Does-clause-reaches : goal.returns-in-Some-Does-clause-reaches
+returns-in-Some-Does-clause-reaches c =
+    let t : Tasked =
+    record {
+      number = c.args.number;
+      mind = c.args.mind.now;
+      gathered = c.args.gathered.now;
+      passes = c.args.passes.now;
+    } in
+    let st = due_is (step_at t.mind.program t.mind.thought.mind) c.in-Some-Does.field-0
+    (step.Does c.in-Some-Does.inode c.in-Some-Does.doing) c.in-Some-Does.field-0-is
+    c.in-Some-Does.ensures in
+    does_turn c.args.self.now.frame t c.args.self.now.state c.does.new.self.state
+    c.does.new.passes c.who-who.result c.who-who.ensures c.in-Some-Does.inode
+    (deed_in c.in-Some-Does.doing)
+    c.does.new.gathered c.does.result c.became.result st c.does.ensures.event c.does.ensures.told
+    c.became.ensures
+
+pub returns-in-Some-Checks-clause-reaches : goal.returns-in-Some-Checks-clause-reaches
+returns-in-Some-Checks-clause-reaches c =
+    let t : Tasked =
+    record {
+      number = c.args.number;
+      mind = c.args.mind.now;
+      gathered = c.args.gathered.now;
+      passes = c.args.passes.now;
+    } in
+    let st = due_is (step_at t.mind.program t.mind.thought.mind) c.in-Some-Checks.field-0
+    (step.Checks c.in-Some-Checks.inode c.in-Some-Checks.file c.in-Some-Checks.func
+    c.in-Some-Checks.mask) c.in-Some-Checks.field-0-is c.in-Some-Checks.ensures in
+    check_turn c.args.self.now.frame t c.args.self.now.state c.checks.new.self.state
+    c.checks.new.passes c.who-who.result c.who-who.ensures c.in-Some-Checks.inode
+    (record {
+      file = c.in-Some-Checks.file;
+      func = c.in-Some-Checks.func;
+      mask =
+          c.in-Some-Checks.mask;
+    }) c.cred.result.now
+    c.checks.result c.became-in-Some-Checks.result st c.cred.ensures c.checks.ensures.check
+    c.became-in-Some-Checks.ensures
+
+pub returns-in-Some-Posts-clause-reaches : goal.returns-in-Some-Posts-clause-reaches
+returns-in-Some-Posts-clause-reaches c =
+    let t : Tasked =
+    record {
+      number = c.args.number;
+      mind = c.args.mind.now;
+      gathered = c.args.gathered.now;
+      passes = c.args.passes.now;
+    } in
+    let st = due_is (step_at t.mind.program t.mind.thought.mind) c.in-Some-Posts.field-0
+    (step.Posts c.in-Some-Posts.sem) c.in-Some-Posts.field-0-is c.in-Some-Posts.ensures in
+    signals_turn c.args.self.now.frame t c.args.self.now.state c.signals.new.self.state
+    c.signals.new.passes c.who-who.result c.who-who.ensures (deed.Post c.in-Some-Posts.sem)
+    c.signals.result
+    c.became-in-Some-Posts.result st c.signals.ensures.signals c.signals.ensures.told
+    c.became-in-Some-Posts.ensures
+
+pub returns-in-Some-Waits-clause-reaches : goal.returns-in-Some-Waits-clause-reaches
+returns-in-Some-Waits-clause-reaches c =
+    let t : Tasked =
+    record {
+      number = c.args.number;
+      mind = c.args.mind.now;
+      gathered = c.args.gathered.now;
+      passes = c.args.passes.now;
+    } in
+    let st = due_is (step_at t.mind.program t.mind.thought.mind) c.in-Some-Waits.field-0
+    (step.Waits c.in-Some-Waits.sem) c.in-Some-Waits.field-0-is c.in-Some-Waits.ensures in
+    signals_turn c.args.self.now.frame t c.args.self.now.state
+    c.signals-in-Some-Waits.new.self.state
+    c.signals-in-Some-Waits.new.passes c.who-who.result c.who-who.ensures
+    (deed.Wait c.in-Some-Waits.sem) c.signals-in-Some-Waits.result
+    c.became-in-Some-Waits.result st c.signals-in-Some-Waits.ensures.signals
+    c.signals-in-Some-Waits.ensures.told c.became-in-Some-Waits.ensures
+
+pub returns-in-Ok-clause-reaches : goal.returns-in-Ok-clause-reaches
+returns-in-Ok-clause-reaches c =
+    let t : Tasked =
+    record {
+      number = c.args.number;
+      mind = c.args.mind.now;
+      gathered = c.args.gathered.now;
+      passes = c.args.passes.now;
+    } in
+    let st = due_is (step_at t.mind.program t.mind.thought.mind) c.in-Some-Appends.field-0
+    (step.Appends c.in-Some-Appends.rule) c.in-Some-Appends.field-0-is c.in-Some-Appends.ensures in
+    appends_turn c.args.self.now.frame t c.args.self.now.state c.appends.new.self.state
+    c.appends.new.passes c.who-who.result c.who-who.ensures c.in-Some-Appends.rule.now
+    c.in-Ok.answered st
+    c.in-Ok.ensures.appends c.in-Ok.ensures.told
+
+pub returns-in-Err-clause-reaches : goal.returns-in-Err-clause-reaches
+returns-in-Err-clause-reaches c =
+    let t : Tasked =
+    record {
+      number = c.args.number;
+      mind = c.args.mind.now;
+      gathered = c.args.gathered.now;
+      passes = c.args.passes.now;
+    } in
+    appends_fail c.args.self.now.frame t c.args.self.now.state c.appends.new.self.state
+    c.appends.new.passes c.who-who.result c.who-who.ensures c.in-Err.ensures.err

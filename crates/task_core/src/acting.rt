@@ -1,0 +1,89 @@
+//! The steps of a task on one inode of its world.
+
+ghost use Rattle.inode_events.specs.declared.deed.Deed.TheVariants as Deed;
+ghost use Rattle.std.specs.Prelude.{◌≡◌, IfOk, slice_get};
+ghost use Rattle.inode_events.specs.Checks.{no_action};
+ghost use Rattle.task_frame.specs.Tasks.{ArePassesOf};
+ghost use Rattle.task_frame.specs.declared.gathered.Gathered.{Gathered as AnyGathered};
+ghost use Rattle.task_mind.specs.Steps.{deed_in};
+ghost use Rattle.world_deeds.specs.Acting.{EventIn, IsSaid, ReadyAt, told_in};
+ghost use Rattle.world_deeds.specs.Checking.{CheckIn};
+
+use crate::world::World;
+use grow_list::OutOfMemory;
+use task_deeds::{Actor, Checks};
+use task_frame::{Gathered, Passes};
+use task_mind::Doing;
+use world_deeds::{Answered, act_at, check_at};
+
+impl World {
+    /// Does the deed on the inode of this number, by the task's passes. `None` is blocked.
+    pub(crate) fn does(
+        &mut self,
+        i: u32,
+        passes: &mut Passes,
+        actor: &Actor<'_>,
+        doing: Doing<'_>,
+        gathered: &mut Gathered,
+    ) -> Result<Option<Answered>, OutOfMemory>
+        requires passes { ArePassesOf self.old.frame actor.now.who.task passes.old }
+        requires ready { ReadyAt self.old.frame i passes.old.inodes actor.now.who.task gathered.old
+            actor.now.action actor.now.slot (deed_in doing) }
+        ensures frame { self.new.frame ≡ self.old.frame }
+        ensures event { EventIn self.old.frame i (slice_get self.old.frame.sites i) actor.now.who
+            (deed_in doing.entry) self.old.state self.new.state passes.old passes.new gathered.old
+            gathered.new (told_in result) }
+        ensures told { IfOk result (λ o. IsSaid self.old.frame i (deed_in doing.entry)
+            self.old.state o) }
+    {
+        if i as usize >= self.stations.len() {
+            return Ok(None);
+        }
+        act_at(
+            &mut self.stations[i as usize],
+            &mut passes.inodes[i as usize],
+            &mut self.book,
+            &mut passes.book,
+            actor,
+            doing,
+            gathered,
+        )
+    }
+
+    /// Checks the inode of this number by all rules in force, by the task's passes. `None` is
+    /// blocked: the inode isn't there.
+    pub(crate) fn checks(
+        &mut self,
+        i: u32,
+        passes: &mut Passes,
+        actor: &Actor<'_>,
+        asked: Checks,
+    ) -> Result<Option<Answered>, OutOfMemory>
+        requires passes { ArePassesOf self.old.frame actor.now.who.task passes.old }
+        requires ready { (g : AnyGathered) → ReadyAt self.old.frame i passes.old.inodes
+            actor.now.who.task g actor.now.action actor.now.slot
+            (Deed.Check asked.file asked.func no_action 0) }
+        ensures frame { self.new.frame ≡ self.old.frame }
+        ensures check { (g : AnyGathered) → CheckIn self.old.frame i
+            (slice_get self.old.frame.sites i) actor.now.who actor.now.cred.now asked self.old.state
+            self.new.state passes.old passes.new g result }
+    {
+        if i as usize >= self.stations.len() {
+            return Ok(None);
+        }
+        let station = &mut self.stations[i as usize];
+        self.rules.look(&mut station.rules);
+        self.rules.look(&mut passes.rules);
+        let place = &self.supers[station.place as usize];
+        check_at(
+            station,
+            &mut passes.inodes[i as usize],
+            &mut self.book,
+            &mut passes.book,
+            actor,
+            asked,
+            self.rules.rules(),
+            place,
+        )
+    }
+}

@@ -1,0 +1,28 @@
+//! A task looks at all lists of its world.
+
+ghost use Rattle.std.specs.Prelude.{◌≡◌};
+ghost use Rattle.task_frame.specs.Runs.{HasMade};
+ghost use Rattle.task_frame.specs.Tasks.{IsTask};
+
+use crate::task::Task;
+use crate::world::World;
+use world_deeds::look_at_inodes;
+
+impl Task {
+    /// Looks at each list of the world. Afterwards the entries of the task's number in each list
+    /// are those that the task has made.
+    pub fn look(&mut self, world: &mut World)
+        requires { IsTask world.old.frame self.old }
+        ensures made { HasMade world.new.frame world.new.state self.new }
+        ensures still { IsTask world.new.frame self.new }
+        ensures frame { world.new.frame ≡ world.old.frame }
+        ensures state { world.new.state ≡ world.old.state }
+        ensures same { (self.new.number ≡ self.old.number) × (self.new.mind ≡ self.old.mind) }
+    {
+        let passes = &mut self.passes;
+        look_at_inodes(&mut world.stations, &mut passes.inodes);
+        world.sems.look(&mut passes.sems);
+        world.book.look(&mut passes.book);
+        world.rules.look(&mut passes.rules);
+    }
+}

@@ -1,0 +1,70 @@
+//! The steps of a task on what all tasks share beside the inodes: the semaphores and the rules.
+
+ghost use Rattle.std.specs.Prelude.{◌≡◌, ◌+◌, [], ◌∷◌, ◌++◌, length, None, IfOk, OnErr, OnOk};
+ghost use Rattle.inode_events.specs.Asked.{entered, made};
+ghost use Rattle.inode_events.specs.Past.{past};
+ghost use Rattle.inode_events.specs.Semaphores.{semaphore_says};
+ghost use Rattle.world_deeds.specs.Acting.{IsPlacedAt, told_in, told_of};
+ghost use Rattle.world_deeds.specs.Sharing.{AppendsTo, SignalsOn};
+ghost use Rattle.task_frame.specs.Tasks.{ArePassesOf};
+
+use crate::world::World;
+use grow_list::OutOfMemory;
+use inode_events::{Deed, Told};
+use inode_meta::Who;
+use policy_text::Rule;
+use task_frame::Passes;
+use world_deeds::Answered;
+
+impl World {
+    /// Posts to a semaphore or waits for one. `None` is blocked.
+    pub(crate) fn signals(
+        &mut self,
+        passes: &mut Passes,
+        who: Who,
+        deed: Deed,
+    ) -> Result<Option<Answered>, OutOfMemory>
+        requires { ArePassesOf self.old.frame who.task passes.old }
+        ensures frame { self.new.frame ≡ self.old.frame }
+        ensures signals { SignalsOn self.old.state self.new.state passes.old passes.new who deed
+            (told_in result) }
+        ensures told { IfOk result (λ o. (told_of o
+            ≡ semaphore_says (past self.old.state.signals) deed)
+            × IsPlacedAt (length self.old.state.signals) o) }
+    {
+        self.sems.reserve()?;
+        match self.sems.signal(&mut passes.sems, who, deed) {
+            Some(place) => Ok(Some(Answered {
+                place,
+                told: Told::Done,
+                action: None,
+            })),
+            None => Ok(None),
+        }
+    }
+
+    /// Appends a copy of the rule to those in force.
+    pub(crate) fn appends(
+        &mut self,
+        passes: &mut Passes,
+        who: Who,
+        rule: &Rule,
+    ) -> Result<Answered, OutOfMemory>
+        requires { ArePassesOf self.old.frame who.task passes.old }
+        ensures frame { self.new.frame ≡ self.old.frame }
+        ensures appends { OnOk result (AppendsTo self.old.state self.new.state passes.old
+            passes.new (record { who = who; rule = rule.now })) }
+        ensures told { IfOk result (λ a. (a.place ≡ length self.old.state.added)
+            × (a.told ≡ Told.Done) × (a.action ≡ None)) }
+        ensures err { OnErr result ((self.new.state ≡ self.old.state)
+            × (passes.new ≡ passes.old)) }
+    {
+        let place = self.rules.appended();
+        self.rules.append(self.alloc, &mut passes.rules, who, rule)?;
+        Ok(Answered {
+            place,
+            told: Told::Done,
+            action: None,
+        })
+    }
+}

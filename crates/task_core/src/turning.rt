@@ -1,0 +1,128 @@
+//! The turn of a task.
+
+ghost use Rattle.std.specs.Prelude.{◌≡◌, List, IfOk, OnErr};
+ghost use Rattle.run_model.specs.Scene.{Program};
+ghost use Rattle.run_model.specs.Turns.{go};
+ghost use Rattle.world_deeds.specs.Turning.{Reaches, turned_to};
+ghost use Rattle.task_frame.specs.Frame.{scene_of};
+ghost use Rattle.task_frame.specs.Tasks.{IsTask};
+ghost use Rattle.task_laws.specs.Due.{slot_in};
+ghost use Rattle.task_mind.specs.Value.{due_at};
+
+use crate::task::Task;
+use crate::world::World;
+use call_steps::Ask;
+use grow_list::OutOfMemory;
+use inode_events::{Deed, Told};
+use inode_meta::Slot;
+use run_model::Turn;
+use task_deeds::{Actor, Checks};
+use task_frame::{Gathered, Passes};
+use task_mind::{Step, TaskMind};
+use world_deeds::{Answered, Reached, became};
+
+// The slot of a take that is due.
+fn slot_due(mind: &TaskMind) -> Slot
+    ensures { result ≡ slot_in (due_at mind.now.program mind.now.thought.mind) }
+{
+    match mind.due() {
+        Some(Ask::Take { slot }) => slot,
+        _ => Slot::File,
+    }
+}
+
+impl World {
+    /// The step that is due for the task, whose passes and hashes these are.
+    fn reach(
+        &mut self,
+        mind: &TaskMind,
+        number: u32,
+        passes: &mut Passes,
+        gathered: &mut Gathered,
+    ) -> Result<Reached, OutOfMemory>
+        requires { IsTask self.old.frame (record {
+          number = number;
+          mind = mind.now;
+          gathered = gathered.old;
+          passes = passes.old;
+        }) }
+        ensures frame { self.new.frame ≡ self.old.frame }
+        ensures reaches { Reaches self.old.frame (record {
+          number = number;
+          mind = mind.now;
+          gathered = gathered.old;
+          passes = passes.old;
+        }) self.old.state self.new.state passes.new gathered.new result }
+    {
+        let who = mind.who(number);
+        let actor = Actor {
+            who,
+            cred: mind.cred(),
+            action: mind.checked(),
+            slot: slot_due(mind),
+        };
+        match mind.next() {
+            None => Ok(Reached::Over),
+            Some(Step::Nothing) => Ok(Reached::Told(Answered {
+                place: 0,
+                told: Told::Nothing,
+                action: None,
+            })),
+            Some(Step::Does { inode, doing }) => {
+                became(self.does(inode, passes, &actor, doing, gathered))
+            }
+            Some(
+                Step::Checks {
+                    inode,
+                    file,
+                    func,
+                    mask,
+                },
+            ) => became(self.checks(inode, passes, &actor, Checks { file, func, mask })),
+            Some(Step::Posts(sem)) => became(self.signals(passes, who, Deed::Post(sem))),
+            Some(Step::Waits(sem)) => became(self.signals(passes, who, Deed::Wait(sem))),
+            Some(Step::Appends(rule)) => match self.appends(passes, who, rule) {
+                Ok(answered) => Ok(Reached::Told(answered)),
+                Err(err) => Err(err),
+            },
+        }
+    }
+}
+
+impl Task {
+    /// One step of the task, as a turn on plain lists has it. After `Blocked` and after want of
+    /// memory the lists and the task are as before, but for what its passes have seen.
+    pub fn step(&mut self, world: &mut World) -> Result<Turn, OutOfMemory>
+        requires { IsTask world.old.frame self.old }
+        ensures go { IfOk result (λ r. (programs : List Program)
+            → go (scene_of world.old.frame programs) self.old.number self.old.mind.program
+            world.old.state self.old.mind.thought
+            ≡ turned_to world.new.state self.new.mind.thought r) }
+        ensures still { IsTask world.new.frame self.new }
+        ensures frame { world.new.frame ≡ world.old.frame }
+        ensures number { self.new.number ≡ self.old.number }
+        ensures program { self.new.mind.program ≡ self.old.mind.program }
+        ensures err { OnErr result ((world.new.state ≡ world.old.state)
+            × (self.new.mind.thought ≡ self.old.mind.thought)) }
+    {
+        self.mind.reserve()?;
+        match world.reach(
+            &self.mind,
+            self.number,
+            &mut self.passes,
+            &mut self.gathered,
+        )? {
+            Reached::Over => Ok(Turn::Done),
+            Reached::Blocked => Ok(Turn::Blocked),
+            Reached::Told(answered) => {
+                self.mind.hear(
+                    world.settings.mode,
+                    &answered.told,
+                    answered.place,
+                    answered.action.as_ref(),
+                );
+                Ok(Turn::Moved)
+            }
+        }
+    }
+}
