@@ -1,0 +1,51 @@
+-- What a run keeps of its tasks.
+use Rattle.std.proofs.Common.{◌≡◌, ◌<◌, ℕ, Bool, true, false, List, [], length, Some, refl, sym, ◌∙◌, ap, subst}
+use Rattle.std.specs.Prelude.{◌||◌, slice_get, slice_index_or}
+use Rattle.std.proofs.lemmas.List.{length-map}
+use Rattle.std.proofs.lemmas.Option.{slice_get-get_or}
+use Rattle.ending_laws.proofs.Rounds.{still as still_at_rest}
+use Rattle.run_model.specs.Rounds.{RoundsTo, moves}
+use Rattle.run_model.specs.Scene.{Program}
+use Rattle.run_model.specs.Turns.{Moment}
+use Rattle.task_frame.specs.Runs.{AreTasks, program_of}
+use Rattle.task_frame.specs.Tasks.{Tasked}
+use Rattle.task_frame.specs.World.{WorldValue}
+use Rattle.turn_laws.specs.Runs.{HasTurned, StillRuns, scene_in}
+
+-- the task of this number is there
+pub task_there : (tasks : List Tasked) (k : ℕ) (t : Tasked) → k < length tasks
+    → t ≡ slice_index_or tasks k t → slice_get tasks k ≡ Some t
+task_there tasks k t h e =
+    slice_get-get_or tasks k t h ∙ ap (λ (x : Tasked). Some x) (sym e)
+
+-- there are as many tasks as before
+pub still_even : (world w1 : WorldValue) (tasks t1 : List Tasked) → StillRuns world w1 tasks t1
+    → length t1 ≡ length tasks
+still_even world w1 tasks t1 s =
+    sym (length-map t1 program_of) ∙ ap (λ (ps : List Program). length ps) s.programs
+    ∙ length-map tasks program_of
+
+-- before the first turn
+pub still_here : (world : WorldValue) (tasks : List Tasked) → AreTasks world.frame tasks
+    → StillRuns world world tasks tasks
+still_here world tasks all = record { frame = refl; programs = refl; each = all }
+
+-- no turns
+pub no_turns : (world : WorldValue) (tasks : List Tasked) → AreTasks world.frame tasks
+    → HasTurned world world tasks tasks []
+no_turns world tasks all = record { still = still_here world tasks all; run = refl }
+
+-- one or the other
+pub or_swap : (a b : Bool) → (a || b) ≡ (b || a)
+or_swap true true = refl
+or_swap true false = refl
+or_swap false true = refl
+or_swap false false = refl
+
+-- where rounds end no task moves
+pub none_moves : (world : WorldValue) (tasks : List Tasked) (start end : Moment)
+    → RoundsTo (scene_in world tasks) start end → (k : ℕ) → k < length tasks
+    → moves (scene_in world tasks) end k ≡ false
+none_moves world tasks start end x k h =
+    still_at_rest (scene_in world tasks) end x.still k
+    (subst (λ (n : ℕ). k < n) (sym (length-map tasks program_of)) h)

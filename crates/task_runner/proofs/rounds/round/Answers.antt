@@ -1,0 +1,48 @@
+-- The turn of the next task.
+use Rattle.std.proofs.Common.{◌≡◌, ◌+◌, ℕ, Bool, length, refl, sym, ◌∙◌, subst, arith}
+use Rattle.run_model.specs.Rounds.{is_moved}
+use Rattle.turn_laws.specs.Runs.{IsInRound}
+use Rattle.turn_laws.proofs.Rounding.{round_is_whole, turn_in_round}
+use Rattle.turn_laws.proofs.Turning.{still_more}
+use Rattle.task_runner.proofs.Running.{no_turns, or_swap, still_even}
+use Rattle.task_runner.proofs.rounds.round.Goals as goal
+
+pub loop-k-init : goal.loop-k-init
+loop-k-init g c = record {
+  turned = no_turns c.args.world.now c.args.tasks.now.items c.requires;
+  moves = refl;
+}
+
+pub turn_at-requires : goal.turn_at-requires
+turn_at-requires g c =
+    let even : length c.loop-k.tasks.items ≡ length c.args.tasks.now.items =
+    still_even c.args.world.now c.loop-k.world c.args.tasks.now.items c.loop-k.tasks.items
+    c.loop-k.invariant.turned.still in
+    record { tasks = c.loop-k.invariant.turned.still.each; within = omega arith }
+
+pub returns-in_err-turn_at-clause-still : goal.returns-in_err-turn_at-clause-still
+returns-in_err-turn_at-clause-still g c =
+    still_more c.args.world.now c.loop-k.world c.turn_at.new.world c.args.tasks.now.items
+    c.loop-k.tasks.items c.turn_at.new.tasks.items c.loop-k.invariant.turned.still
+    c.turn_at.ensures.still
+
+pub loop-k-preserved : goal.loop-k-preserved
+loop-k-preserved g c =
+    subst (λ (b : Bool). IsInRound c.args.world.now c.turn_at.new.world c.args.tasks.now.items
+    c.turn_at.new.tasks.items (c.loop-k.k + 1) b)
+    (or_swap c.loop-k.moved (is_moved c.in_ok-turn_at.field-0) ∙ sym c.has_moved-moved.ensures)
+    (turn_in_round c.args.world.now c.loop-k.world c.turn_at.new.world c.args.tasks.now.items
+    c.loop-k.tasks.items c.turn_at.new.tasks.items c.loop-k.k c.loop-k.moved
+    c.in_ok-turn_at.field-0 c.loop-k.invariant c.turn_at.ensures.still
+    c.in_ok-turn_at.ensures.turned)
+
+pub returns-clause-round : goal.returns-clause-round
+returns-clause-round g c =
+    let all : c.loop-k.k ≡ length c.args.tasks.now.items = omega arith in
+    round_is_whole c.args.world.now c.loop-k.world c.args.tasks.now.items c.loop-k.tasks.items
+    c.loop-k.moved
+    (subst (λ (n : ℕ). IsInRound c.args.world.now c.loop-k.world c.args.tasks.now.items
+    c.loop-k.tasks.items n c.loop-k.moved) all c.loop-k.invariant)
+
+pub returns-clause-still : goal.returns-clause-still
+returns-clause-still g c = c.loop-k.invariant.turned.still

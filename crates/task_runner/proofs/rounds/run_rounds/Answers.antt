@@ -1,0 +1,55 @@
+-- A round more, or the last one.
+use Rattle.std.proofs.Common.{◌≡◌, Bool, true, false, refl, subst, arith, rules}
+use Rattle.turn_laws.specs.Runs.{IsRound, moment_in}
+use Rattle.turn_laws.proofs.Rounding.{round_is_more, rounds_are_over}
+use Rattle.turn_laws.proofs.Turning.{still_more}
+use Rattle.task_runner.proofs.Running.{none_moves, still_here}
+use Rattle.task_runner.proofs.rounds.run_rounds.Goals as goal
+
+pub loop-init : goal.loop-init
+loop-init g c = record {
+  still = still_here c.args.world.now c.args.tasks.now.items c.requires;
+  run = refl;
+  before = λ k h. absurd (omega arith);
+}
+
+pub round-requires : goal.round-requires
+round-requires g c = c.loop.invariant.still.each
+
+pub returns-in_err-round-clause-still : goal.returns-in_err-round-clause-still
+returns-in_err-round-clause-still g c =
+    still_more c.args.world.now c.loop.world c.round.new.world c.args.tasks.now.items
+    c.loop.tasks.items c.round.new.tasks.items c.loop.invariant.still c.round.ensures.still
+
+pub returns-then-not-branch-clause-run : goal.returns-then-not-branch-clause-run
+returns-then-not-branch-clause-run g c =
+    let quiet : c.in_ok-round.field-0 ≡ false = search rules in
+    rounds_are_over c.args.world.now c.loop.world c.round.new.world c.args.tasks.now.items
+    c.loop.tasks.items c.round.new.tasks.items c.loop.counter c.loop.invariant
+    c.round.ensures.still
+    (subst (λ (b : Bool). IsRound c.loop.world c.round.new.world c.loop.tasks.items
+    c.round.new.tasks.items b) quiet c.in_ok-round.ensures.round)
+
+pub returns-then-not-branch-clause-stops : goal.returns-then-not-branch-clause-stops
+returns-then-not-branch-clause-stops g c =
+    none_moves c.args.world.now c.args.tasks.now.items
+    (moment_in c.args.world.now c.args.tasks.now.items)
+    (moment_in c.round.new.world c.round.new.tasks.items)
+    (returns-then-not-branch-clause-run g c)
+
+pub returns-then-not-branch-clause-still : goal.returns-then-not-branch-clause-still
+returns-then-not-branch-clause-still g c =
+    still_more c.args.world.now c.loop.world c.round.new.world c.args.tasks.now.items
+    c.loop.tasks.items c.round.new.tasks.items c.loop.invariant.still c.round.ensures.still
+
+pub loop-preserved : goal.loop-preserved
+loop-preserved g c =
+    let moved : c.in_ok-round.field-0 ≡ true = search rules in
+    round_is_more c.args.world.now c.loop.world c.round.new.world c.args.tasks.now.items
+    c.loop.tasks.items c.round.new.tasks.items c.loop.counter c.loop.invariant
+    c.round.ensures.still
+    (subst (λ (b : Bool). IsRound c.loop.world c.round.new.world c.loop.tasks.items
+    c.round.new.tasks.items b) moved c.in_ok-round.ensures.round)
+
+pub returns-clause-still : goal.returns-clause-still
+returns-clause-still g c = c.loop.invariant.still

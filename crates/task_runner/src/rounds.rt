@@ -1,0 +1,60 @@
+//! Rounds of all tasks.
+
+ghost use Rattle.std.specs.Prelude.{◌≡◌, ℕ, ◌<◌, ◌||◌, false, IfOk, OnOk, length};
+ghost use Rattle.run_model.specs.Rounds.{RoundsTo, is_moved, moves};
+ghost use Rattle.task_frame.specs.Runs.{AreTasks};
+ghost use Rattle.turn_laws.specs.Runs.{IsRound, StillRuns, moment_in, scene_in};
+
+use crate::turns::turn_at;
+use grow_list::OutOfMemory;
+use ima_io::Gate;
+use std::alloc::AllocError;
+use task_core::{Task, Turn, World};
+
+// Whether a task has moved, before or by this turn.
+fn has_moved(before: bool, turn: Turn) -> bool
+    ensures { result ≡ (is_moved turn || before) }
+{
+    match turn {
+        Turn::Moved => true,
+        Turn::Blocked => before,
+        Turn::Done => before,
+    }
+}
+
+// One turn of each task. Answers whether one has moved.
+fn round<G: Gate>(world: &mut World, tasks: &mut Vec<Task>, gate: &G) -> Result<bool, OutOfMemory>
+    requires { AreTasks world.old.frame tasks.old.items }
+    ensures round { IfOk result (λ moved. IsRound world.old world.new tasks.old.items
+        tasks.new.items moved) }
+    ensures still { StillRuns world.old world.new tasks.old.items tasks.new.items }
+{
+    let mut moved = false;
+    for k in 0..tasks.len() {
+        moved = has_moved(moved, turn_at(world, tasks, k, gate)?);
+    }
+    Ok(moved)
+}
+
+/// Rounds of all tasks, until one moves none. After want of memory the tasks have made some of
+/// their turns. A run of 2^64 rounds counts as want of memory.
+pub fn run_rounds<G: Gate>(
+    world: &mut World,
+    tasks: &mut Vec<Task>,
+    gate: &G,
+) -> Result<(), OutOfMemory>
+    requires { AreTasks world.old.frame tasks.old.items }
+    ensures run { OnOk result (RoundsTo (scene_in world.old tasks.old.items)
+        (moment_in world.old tasks.old.items) (moment_in world.new tasks.new.items)) }
+    ensures stops { OnOk result ((k : ℕ) → k < length tasks.old.items
+        → moves (scene_in world.old tasks.old.items) (moment_in world.new tasks.new.items) k
+        ≡ false) }
+    ensures still { StillRuns world.old world.new tasks.old.items tasks.new.items }
+{
+    for _ in 0..u64::MAX {
+        if !round(world, tasks, gate)? {
+            return Ok(());
+        }
+    }
+    Err(AllocError)
+}

@@ -1,0 +1,55 @@
+//! One turn of a task, and schedules of turns.
+
+ghost use Rattle.std.specs.Prelude.{◌≡◌, ◌<◌, All, IfOk, OnOk, length};
+ghost use Rattle.run_model.specs.Turns.{turns_of};
+ghost use Rattle.task_frame.specs.Runs.{AreTasks};
+ghost use Rattle.turn_laws.specs.Runs.{IsTurn, StillRuns, moment_in, scene_in};
+
+use grow_list::OutOfMemory;
+use ima_io::{Gate, Who};
+use task_core::{Task, Turn, World};
+
+/// One turn of the task of this number, behind the gate unless its program is over.
+pub fn turn_at<G: Gate>(
+    world: &mut World,
+    tasks: &mut Vec<Task>,
+    k: usize,
+    gate: &G,
+) -> Result<Turn, OutOfMemory>
+    requires tasks { AreTasks world.old.frame tasks.old.items }
+    requires within { k < length tasks.old.items }
+    ensures turned { IfOk result (λ r. IsTurn world.old world.new tasks.old.items tasks.new.items
+        k r) }
+    ensures still { StillRuns world.old world.new tasks.old.items tasks.new.items }
+{
+    let task = &mut tasks[k];
+    if let Some(who) = task.who() {
+        gate.pass(Who {
+            task: who.task,
+            call: who.call,
+            step: who.step,
+        });
+    }
+    task.step(world)
+}
+
+/// One turn of each task that is named, in order. After want of memory the tasks have made some of
+/// their turns.
+pub fn run_schedule<G: Gate>(
+    world: &mut World,
+    tasks: &mut Vec<Task>,
+    turns: &[u32],
+    gate: &G,
+) -> Result<(), OutOfMemory>
+    requires tasks { AreTasks world.old.frame tasks.old.items }
+    requires turns { All (λ k. k < length tasks.old.items) turns.now }
+    ensures run { OnOk result (moment_in world.new tasks.new.items
+        ≡ turns_of (scene_in world.old tasks.old.items) (moment_in world.old tasks.old.items)
+        turns.now) }
+    ensures still { StillRuns world.old world.new tasks.old.items tasks.new.items }
+{
+    for k in turns {
+        turn_at(world, tasks, *k as usize, gate)?;
+    }
+    Ok(())
+}
