@@ -1,1 +1,10 @@
+pub mod Accepted
+pub mod CallsRead
+pub mod FilesRead
+pub mod Fills
 pub mod Loops
+pub mod Makes
+pub mod Numbered
+pub mod SettingsRead
+pub mod Spelled
+pub mod TasksRead

@@ -1,6 +1,7 @@
 // The text of a script.
 
 ghost use Rattle.std.specs.Prelude.{◌≡◌, ◌<◌, ◌≤◌, ◌++◌, IfOk, OnOk, codes};
+ghost use Rattle.load_gen.specs.Accepted.{IsAccepted};
 ghost use Rattle.load_gen.specs.Script.{file_text, files, group, groups, read_text, rules_text, script_text, settings_text, tasks, write_text};
 
 use crate::draws::Draws;
@@ -10,8 +11,11 @@ use std::alloc::{AllocError, Global};
 use std::io::Write;
 
 /// The script of a number from 1 to 1,000,000: 3,225 lines with 3,072 calls, which end in `rounds`.
+/// The grammar accepts the text, as a script of 64 files, 2 rules and 16 tasks.
 pub fn script(alloc: Global, number: u32) -> Result<Vec<u8>, OutOfMemory>
-    ensures { IfOk result (λ text. text.items ≡ script_text number) }
+    ensures text { IfOk result (λ text. text.items ≡ script_text number) }
+    // The grammar of scripts accepts it.
+    ensures accepted { IfOk result (λ text. IsAccepted text.items) }
 {
     let mut out = Vec::new(alloc);
     let mut draws = Draws {

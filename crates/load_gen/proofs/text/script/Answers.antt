@@ -1,7 +1,10 @@
+use Rattle.std.proofs.Common.{ℕ, List, sym, subst}
+use Rattle.load_gen.specs.Accepted.{IsAccepted}
+use Rattle.load_gen.proofs.Accepted.{accepted}
 use Rattle.load_gen.proofs.text.script.Goals as goal
 
-pub returns : goal.returns
-returns c =
+pub returns-clause-text : goal.returns-clause-text
+returns-clause-text c =
     rw (
       c.in_ok-extend_from_slice-3.ensures.items,
       c.in_ok-push_tasks.ensures,
@@ -12,3 +15,8 @@ returns c =
       c.new-out.ensures.items,
       c.from.ensures,
     )
+
+pub returns-clause-accepted : goal.returns-clause-accepted
+returns-clause-accepted c =
+    let P : List ℕ → Type 0 = λ t. IsAccepted t in
+    subst P (sym (returns-clause-text c)) (accepted c.args.number)
