@@ -1,9 +1,14 @@
-//! The end of a world: what its closed lists and its tasks leave is what its run leaves.
+//! The end of a world: what its closed lists and its tasks leave is what its run leaves, and which
+//! tasks rest at the end.
 //!
 //! The law is the contract of a function that does nothing.
 #![tactic(auto)]
 
+mod resting;
+
 ghost use Rattle.world_ended.specs.Leaves.{ClosedIsLeft};
+
+pub use resting::rests;
 
 /// What the closed lists and the tasks leave is what the run leaves.
 pub fn closed_is_left()
