@@ -5,3 +5,4 @@ pub mod Shares
 pub mod Opens
 pub mod Fresh
 pub mod Inspects
+pub mod Closing

@@ -2,8 +2,10 @@
 #![tactic(auto)]
 
 mod acting;
+mod close;
 mod looking;
 mod sharing;
+mod start;
 mod task;
 mod turning;
 mod world;

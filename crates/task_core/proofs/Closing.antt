@@ -1,0 +1,107 @@
+-- What the end of a world takes apart.
+use Rattle.std.proofs.Common.{◌≡◌, ℕ, ◌+◌, ◌-◌, ◌&&◌, Bool, false, List, length, refl, ap, sym, ◌∙◌, subst, arith, Some}
+use Rattle.std.specs.Prelude.{map, not, slice_get}
+use Rattle.std.specs.List.{list_any}
+use Rattle.std.proofs.lemmas.List.{length-map}
+use Rattle.grow_list.specs.Shown.{Grown}
+use Rattle.ima_templates.specs.Replay.{banks_of}
+use Rattle.ima_templates.specs.declared.entry.Entry.{Entry}
+use Rattle.inode_events.specs.Past.{past}
+use Rattle.inode_events.specs.Semaphores.{left}
+use Rattle.inode_events.specs.declared.settings.Settings.{Settings}
+use Rattle.inode_events.specs.declared.told.Event.{Event}
+use Rattle.policy_cell.specs.Policy.{PolicyValue, in_force}
+use Rattle.policy_text.specs.declared.access.Super.{Super}
+use Rattle.run_model.specs.EndedValue.{EndedValue}
+use Rattle.run_model.specs.Turns.{State}
+use Rattle.task_frame.specs.Frame.{Frame, scene_of}
+use Rattle.task_frame.specs.Runs.{AreTasks, moment_of, programs_of}
+use Rattle.task_frame.specs.Tasks.{ArePassesOf, PassesValue, Tasked}
+use Rattle.task_frame.specs.World.{AreRulesOf, AreSignalsOf, IsBookOf, StationValue, site_of}
+use Rattle.world_close.specs.Closed.{AreStations, WorldClosed, ended_station}
+use Rattle.world_close.specs.Finished.{HaveMade}
+use Rattle.world_close.proofs.Gets.{get_map}
+use Rattle.world_deeds.proofs.Looked.{force_count}
+use Rattle.world_deeds.specs.Parts.{AreParts, frame_by, state_by}
+use Rattle.world_ended.proofs.Ending.{closed_ended}
+use Rattle.world_ended.specs.Leaves.{are_stuck, left_by, may_append, task_left}
+use Rattle.world_ended.specs.Settled.{HasEnded}
+
+module _ (settings : Settings) (stations : List StationValue) (supers : List Super)
+    (book : Grown Entry) (sems : Grown Event) (rules : PolicyValue) (count : ℕ) (frame : Frame)
+    (is : frame_by settings stations supers book sems rules count ≡ frame) where
+  -- the parts are those of the frame
+  module _ (parts : AreParts (frame_by settings stations supers book sems rules count) stations
+      book sems rules) where
+    pub are_stations : AreStations frame stations
+    are_stations = subst (λ (f : Frame). AreStations f stations) is (record {
+      even = sym (length-map stations site_of);
+      each = parts.stations;
+    })
+
+    pub is_book : IsBookOf frame book
+    is_book = subst (λ (f : Frame). IsBookOf f book) is parts.book
+
+    pub are_signals : AreSignalsOf frame sems
+    are_signals = subst (λ (f : Frame). AreSignalsOf f sems) is parts.sems
+
+    pub are_rules : AreRulesOf frame rules
+    are_rules = subst (λ (f : Frame). AreRulesOf f rules) is parts.rules
+
+    -- what is left of them and of their tasks is what the run leaves
+    pub ended_by : (tasks : List Tasked) (state : State) (e : EndedValue)
+        → state_by stations book sems rules ≡ state → AreTasks frame tasks
+        → length tasks ≡ frame.tasks → HaveMade frame state tasks
+        → WorldClosed frame stations book.list sems.list rules.appended.list
+        (map (λ (t : Tasked). t.passes) tasks)
+        → e.inodes ≡ map ended_station stations → e.list ≡ book.list
+        → e.banks ≡ banks_of book.list → e.tasks ≡ map task_left tasks
+        → e.stuck ≡ are_stuck (λ sem. left sem (past sems.list)) tasks
+        → e.template ≡ settings.template → e.rules ≡ rules.appended.list
+        → e.base ≡ length rules.base → e.grows ≡ list_any may_append tasks
+        → HasEnded (scene_of frame (programs_of tasks)) (moment_of state tasks) e
+    ended_by tasks state e at of all made closed inodes list banks ended stuck template own base
+        grows =
+        subst (λ (x : State). HasEnded (scene_of frame (programs_of tasks))
+        (moment_of x tasks) e) at
+        (closed_ended frame stations book.list sems.list rules.appended.list tasks e
+        are_stations of all
+        (subst (λ (x : State). HaveMade frame x tasks) (sym at) made) closed
+        ((λ i. record {
+          inodes = inodes i;
+          list = list i;
+          banks = banks i;
+          tasks = ended i;
+          stuck = stuck i;
+          template = template i;
+          rules = own i;
+          base = base i;
+          grows = grows i;
+        }) ∙ ap (λ (f : Frame). left_by f stations book.list sems.list rules.appended.list
+        tasks) is))
+
+-- so many rules are the script's
+pub base_is : (p : PolicyValue) (n m : ℕ) → n ≡ length (in_force p)
+    → m ≡ length p.appended.list → n - m ≡ length p.base
+base_is p n m all own = omega (arith, all, own, force_count p)
+
+-- ---- the tasks
+
+-- their passes are those of the frame
+pub passes_are : (frame : Frame) (tasks : List Tasked) (passes : List PassesValue)
+    → AreTasks frame tasks → passes ≡ map (λ (t : Tasked). t.passes) tasks → (n : ℕ)
+    → (p : PassesValue) → slice_get passes n ≡ Some p → ArePassesOf frame n p
+passes_are frame tasks passes are all n p at =
+    by (get_map (λ (t : Tasked). t.passes) tasks n p
+    (ap (λ (l : List PassesValue). slice_get l n) (sym all) ∙ at)) where
+      by : (t : Tasked) × ((slice_get tasks n ≡ Some t) × (t.passes ≡ p)) → ArePassesOf frame n p
+      by t =
+          let nth = are.each n t.0 t.1.0 in
+          subst (λ (x : ℕ × PassesValue). ArePassesOf frame x.0 x.1)
+          (λ i. (nth.number i, t.1.1 i)) nth.task.played.passes
+
+-- some isn't done, so the run is stuck where none can go on
+pub stuck_when : (done rest d r : Bool) → done ≡ false → done ≡ d → rest ≡ r
+    → rest ≡ (not d && r)
+stuck_when done rest d r open_yet is e =
+    e ∙ ap (λ (b : Bool). not b && r) (sym open_yet ∙ is)

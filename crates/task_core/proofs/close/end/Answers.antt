@@ -1,0 +1,78 @@
+-- What the closed lists and the tasks leave.
+use Rattle.std.proofs.Common.{◌≡◌, ◌∙◌, List, length, map, refl, subst, sym, ap, arith}
+use Rattle.std.specs.List.{list_any}
+use Rattle.std.proofs.lemmas.List.{length-map}
+use Rattle.inode_events.specs.Past.{past}
+use Rattle.inode_events.specs.Semaphores.{left}
+use Rattle.policy_cell.specs.declared.cell.RuleEntry.{RuleEntry}
+use Rattle.policy_text.specs.RuleValue.{RuleValue}
+use Rattle.task_frame.specs.Frame.{Frame}
+use Rattle.task_frame.specs.Tasks.{PassesValue, Tasked}
+use Rattle.task_frame.specs.World.{WorldValue}
+use Rattle.world_close.specs.Closed.{AreIdle, ListsValue, WorldClosed}
+use Rattle.world_ended.specs.Leaves.{are_stuck, may_append}
+use Rattle.task_core.proofs.Closing.{are_rules, are_signals, are_stations, base_is, ended_by, is_book, passes_are}
+use Rattle.task_core.proofs.close.end.Goals as goal
+
+-- the requires, in order: stations, book, sems, rules, idle, count, passes
+pub close_lists-requires : goal.close_lists-requires
+close_lists-requires g c =
+    let w = c.world.inside in
+    let is = ap (λ (v : WorldValue). v.frame) c.world.view_is ∙ c.requires.0 in
+    let parts = c.world.invariant.parts in (
+      are_stations w.settings w.stations.items w.supers.items w.book w.sems w.rules w.tasks
+          g.frame is parts,
+      (
+        is_book w.settings w.stations.items w.supers.items w.book w.sems w.rules w.tasks g.frame
+            is parts,
+        (
+          are_signals w.settings w.stations.items w.supers.items w.book w.sems w.rules w.tasks
+              g.frame is parts,
+          (
+            are_rules w.settings w.stations.items w.supers.items w.book w.sems w.rules w.tasks
+                g.frame is parts,
+            (
+              subst (λ (f : Frame). AreIdle f w.idle.items) is c.world.invariant.idle,
+              (
+                ap length c.in_ok-passes.ensures.passes
+                    ∙ length-map c.args.tasks.items (λ (t : Tasked). t.passes) ∙ c.requires.1.0,
+                passes_are g.frame c.args.tasks.items c.in_ok-passes.passes.items
+                    c.requires.1.1.0 c.in_ok-passes.ensures.passes,
+              ),
+            ),
+          ),
+        ),
+      ),
+    )
+
+pub returns : goal.returns
+returns g c =
+    let w = c.world.inside in
+    let tasks = c.args.tasks.items in
+    let closed = c.in_ok-lists.ensures in
+    let is = ap (λ (v : WorldValue). v.frame) c.world.view_is ∙ c.requires.0 in
+    let at = ap (λ (v : WorldValue). v.state) c.world.view_is in
+    let own = ap (λ (l : ListsValue). l.rules) c.lists.view_is ∙ closed.rules in
+    let force = c.rules-in_force.ensures.rules ∙ c.rules-2.ensures in
+    ended_by w.settings w.stations.items w.supers.items w.book w.sems w.rules w.tasks g.frame is
+    c.world.invariant.parts tasks c.args.world.state _ at c.requires.1.1.0 c.requires.1.0
+    c.requires.1.1.1
+    (subst (λ (l : List PassesValue). WorldClosed g.frame w.stations.items w.book.list w.sems.list
+    w.rules.appended.list l) c.in_ok-passes.ensures.passes closed.closed)
+    (ap (λ (l : ListsValue). l.inodes) c.lists.view_is ∙ closed.inodes)
+    (ap (λ (l : ListsValue). l.list) c.lists.view_is ∙ closed.list)
+    (ap (λ (l : ListsValue). l.banks) c.lists.view_is ∙ closed.banks)
+    c.in_ok-passes.ensures.ended
+    (c.are_stuck-stuck.ensures
+    ∙ ap (λ (l : List Tasked). are_stuck (λ sem. left sem (past w.sems.list)) l)
+    c.as_slice.ensures.value) refl own
+    (base_is w.rules (length c.rules-in_force.result.now) c.len.result
+    (ap (λ (l : List RuleValue). length l) force)
+    (omega (
+      arith,
+      c.len.ensures,
+      c.lists.inside.rules.ok,
+      ap (λ (l : List RuleEntry). length l) own,
+    )))
+    (c.may_grow-grows.ensures
+    ∙ ap (λ (l : List Tasked). list_any may_append l) c.as_slice-2.ensures.value)

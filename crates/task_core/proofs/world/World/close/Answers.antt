@@ -1,0 +1,67 @@
+-- The tasks have looked, and the lists are closed.
+use Rattle.std.proofs.Common.{◌≡◌, ◌<◌, ◌∙◌, ℕ, length, refl, subst, sym, ap}
+use Rattle.std.specs.Prelude.{List, map}
+use Rattle.std.proofs.lemmas.List.{length-map}
+use Rattle.run_model.specs.Turns.{State}
+use Rattle.task_frame.specs.Frame.{Frame}
+use Rattle.task_frame.specs.Runs.{AreTasks, program_of}
+use Rattle.task_mind.specs.Value.{TaskValue}
+use Rattle.turn_laws.specs.Runs.{moment_in, scene_in}
+use Rattle.world_close.proofs.Finishing.{finished_ends, finished_shown}
+use Rattle.world_close.specs.Finished.{HaveMade}
+use Rattle.world_ended.proofs.Ending.{ended_same}
+use Rattle.world_ended.specs.Settled.{mind_of}
+use Rattle.task_core.proofs.world.World.close.Goals as goal
+
+-- the requires, in order: frame, count, tasks, made
+pub end-requires : goal.end-requires
+end-requires c =
+    let e = c.settle.ensures in (
+      refl,
+      (
+        sym (length-map c.settle.new.tasks.items mind_of)
+            ∙ ap (λ (l : List TaskValue). length l) e.same
+            ∙ length-map c.args.tasks.items mind_of
+            ∙ c.requires.count
+            ∙ ap (λ (f : Frame). f.tasks) (sym e.frame),
+        (
+          subst (λ (f : Frame). AreTasks f c.settle.new.tasks.items) (sym e.frame) e.tasks,
+          subst (λ (x : Frame × State). HaveMade x.0 x.1 c.settle.new.tasks.items)
+              (λ i. (sym e.frame i, sym e.state i)) e.made,
+        ),
+      ),
+    )
+
+pub returns-clause-ended : goal.returns-clause-ended
+returns-clause-ended c =
+    let e = c.settle.ensures in
+    (ended_same c.args.self.frame c.settle.new.world.frame c.args.self.state
+    c.settle.new.world.state c.args.tasks.items c.settle.new.tasks.items c.in_ok-ended.ended
+    e.frame e.state e.same c.in_ok-ended.ensures).ended
+
+pub returns-clause-finished : goal.returns-clause-finished
+returns-clause-finished c =
+    let e = c.settle.ensures in
+    (ended_same c.args.self.frame c.settle.new.world.frame c.args.self.state
+    c.settle.new.world.state c.args.tasks.items c.settle.new.tasks.items c.in_ok-ended.ended
+    e.frame e.state e.same c.in_ok-ended.ensures).finished
+
+pub returns-clause-ends : goal.returns-clause-ends
+returns-clause-ends c =
+    let e = c.settle.ensures in
+    let f = (ended_same c.args.self.frame c.settle.new.world.frame c.args.self.state
+    c.settle.new.world.state c.args.tasks.items c.settle.new.tasks.items c.in_ok-ended.ended
+    e.frame e.state e.same c.in_ok-ended.ensures).finished in
+    λ still. finished_ends (scene_in c.args.self c.args.tasks.items)
+    (moment_in c.args.self c.args.tasks.items) f
+    (λ n below. still n
+    (subst (λ (k : ℕ). n < k) (length-map c.args.tasks.items program_of) below))
+
+pub returns-clause-shown : goal.returns-clause-shown
+returns-clause-shown c =
+    let e = c.settle.ensures in
+    let f = (ended_same c.args.self.frame c.settle.new.world.frame c.args.self.state
+    c.settle.new.world.state c.args.tasks.items c.settle.new.tasks.items c.in_ok-ended.ended
+    e.frame e.state e.same c.in_ok-ended.ensures).finished in
+    λ ending through. finished_shown (scene_in c.args.self c.args.tasks.items)
+    (moment_in c.args.self c.args.tasks.items) ending f through

@@ -1,0 +1,15 @@
+-- The parts are those of the frame.
+use Rattle.task_core.proofs.world.World.start.Goals as goal
+
+pub invariant_of-world : goal.invariant_of-world
+invariant_of-world c =
+    let e = c.in_ok-start.ensures in
+    record {
+      parts = record {
+        stations = e.stations.each;
+        book = e.book;
+        sems = e.sems;
+        rules = e.rules;
+      };
+      idle = e.idle;
+    }

@@ -1,0 +1,175 @@
+//! The end of a world.
+
+ghost use Rattle.std.specs.Prelude.{◌≡◌, ℕ, ◌<◌, false, true, All, IfOk, length, map};
+ghost use Rattle.std.specs.List.{list_all, list_any};
+ghost use Rattle.call_steps.specs.declared.ending.Ending.{Ending as AnyEnding};
+ghost use Rattle.ima_templates.specs.IsEntry.{IsEntry};
+ghost use Rattle.inode_events.specs.Past.{past};
+ghost use Rattle.inode_events.specs.Semaphores.{left};
+ghost use Rattle.run_model.specs.Ended.{IsThrough};
+ghost use Rattle.run_model.specs.EndedValue.{ended_of};
+ghost use Rattle.run_model.specs.Rounds.{moves};
+ghost use Rattle.run_model.specs.Shown.{IsShown};
+ghost use Rattle.run_model.specs.Turns.{run_at};
+ghost use Rattle.task_frame.specs.Frame.{Frame, scene_of};
+ghost use Rattle.task_frame.specs.Runs.{AreTasks, moment_of, programs_of};
+ghost use Rattle.task_frame.specs.Tasks.{Tasked};
+ghost use Rattle.turn_laws.specs.Runs.{moment_in, scene_in};
+ghost use Rattle.world_close.specs.Finished.{HaveMade, IsFinished};
+ghost use Rattle.world_ended.specs.Leaves.{are_stuck, done_by, may_append, rests, task_left};
+ghost use Rattle.world_ended.specs.Settled.{HasEnded, HaveSameMinds, is_over};
+
+use crate::task::Task;
+use crate::world::World;
+use grow_list::OutOfMemory;
+use run_model::{Ended, EndedTask};
+use semaphore_cell::SemaphoreCell;
+use std::alloc::Global;
+use task_frame::Passes;
+use world_close::{Lists, close_lists};
+use world_ended::rests;
+
+// Each task looks at all lists.
+fn settle(world: &mut World, tasks: &mut Vec<Task>)
+    requires { AreTasks world.old.frame tasks.old.items }
+    ensures frame { world.new.frame ≡ world.old.frame }
+    ensures state { world.new.state ≡ world.old.state }
+    ensures made { HaveMade world.old.frame world.old.state tasks.new.items }
+    ensures tasks { AreTasks world.old.frame tasks.new.items }
+    ensures same { HaveSameMinds tasks.old.items tasks.new.items }
+{
+    for k in 0..tasks.len() {
+        tasks[k].look(world);
+    }
+}
+
+fn are_done(tasks: &[Task]) -> bool
+    ensures { result ≡ list_all done_by tasks.now }
+{
+    tasks.iter().all(|task| task.mind.is_done())
+}
+
+// Whether none can go on.
+fn all_rest(tasks: &[Task], sems: &SemaphoreCell) -> bool
+    ensures { result ≡ list_all (rests (λ sem. left sem (past sems.now.list))) tasks.now }
+{
+    tasks.iter().all(|task| rests(&task.mind, sems))
+}
+
+// Whether some task isn't done, and none can go on.
+fn are_stuck(tasks: &[Task], sems: &SemaphoreCell) -> bool
+    ensures { result ≡ are_stuck (λ sem. left sem (past sems.now.list)) tasks.now }
+{
+    !are_done(tasks) && all_rest(tasks, sems)
+}
+
+// Whether some task's program can append a rule.
+fn may_grow(tasks: &[Task]) -> bool
+    ensures { result ≡ list_any may_append tasks.now }
+{
+    tasks.iter().any(|task| task.mind.appends())
+}
+
+impl Task {
+    // Its passes, and what it leaves.
+    fn into_parts(self) -> (Passes, EndedTask)
+        ensures passes { result.0 ≡ self.passes }
+        ensures ended { result.1 ≡ task_left self }
+    {
+        let Task {
+            number: _,
+            mind,
+            gathered: _,
+            passes,
+        } = self;
+        (passes, mind.end())
+    }
+}
+
+// The passes of all tasks, and what they leave.
+fn part(alloc: Global, tasks: Vec<Task>) -> Result<(Vec<Passes>, Vec<EndedTask>), OutOfMemory>
+    ensures passes { IfOk result (λ r. r.0.items ≡ map (λ (t : Tasked). t.passes) tasks.items) }
+    ensures ended { IfOk result (λ r. r.1.items ≡ map task_left tasks.items) }
+{
+    let mut passes = Vec::new(alloc);
+    let mut ended = Vec::new(alloc);
+    for task in tasks {
+        let (own, left) = task.into_parts();
+        passes.push(own)?;
+        ended.push(left)?;
+    }
+    Ok((passes, ended))
+}
+
+// Closes the lists of a world at all of which its tasks have looked.
+fn end(world: World, tasks: Vec<Task>) -> Result<Ended, OutOfMemory>
+    ghost frame: { Frame }
+    requires frame { world.frame ≡ frame }
+    requires count { length tasks.items ≡ frame.tasks }
+    requires tasks { AreTasks frame tasks.items }
+    requires made { HaveMade frame world.state tasks.items }
+    ensures { IfOk result (λ e. HasEnded (scene_of frame (programs_of tasks.items))
+        (moment_of world.state tasks.items) e) }
+{
+    let stuck = are_stuck(tasks.as_slice(), &world.sems);
+    let grows = may_grow(tasks.as_slice());
+    let World {
+        stations,
+        book,
+        sems,
+        rules,
+        idle,
+        supers: _,
+        settings,
+        tasks: _,
+        alloc,
+    } = world;
+    let in_force = rules.rules().rules().len();
+    let (passes, ended) = part(alloc, tasks)?;
+    let lists = close_lists(alloc, stations, book, sems, rules, idle, passes)?;
+    let Lists {
+        inodes,
+        list,
+        banks,
+        rules: appended,
+    } = lists;
+    let base = (in_force - appended.len()) as u64;
+    Ok(Ended {
+        inodes,
+        list,
+        banks,
+        tasks: ended,
+        stuck,
+        template: settings.template,
+        rules: appended,
+        base,
+        grows,
+    })
+}
+
+impl World {
+    /// Closes the world of these tasks, and tells what their run leaves. Each journal is legal, the
+    /// list is merged with them, and the run is served. Where no task could move, each is done or
+    /// the run is stuck. A run that has gone on as long as its ending asks may be shown.
+    pub fn close(self, tasks: Vec<Task>) -> Result<Ended, OutOfMemory>
+        requires count { length tasks.items ≡ self.frame.tasks }
+        requires tasks { AreTasks self.frame tasks.items }
+        ensures ended { IfOk result (λ e. e ≡ ended_of (scene_in self tasks.items)
+            (run_at (moment_in self tasks.items))) }
+        ensures entries { IfOk result (λ e. All IsEntry e.list) }
+        ensures finished { IfOk result (λ e. IsFinished (scene_in self tasks.items)
+            (moment_in self tasks.items)) }
+        ensures ends { IfOk result (λ e. ((n : ℕ) → n < length tasks.items
+            → moves (scene_in self tasks.items) (moment_in self tasks.items) n ≡ false)
+            → is_over (scene_in self tasks.items) (moment_in self tasks.items) ≡ true) }
+        ensures shown { IfOk result (λ e. (ending : AnyEnding)
+            → IsThrough ending (is_over (scene_in self tasks.items) (moment_in self tasks.items))
+            → IsShown (scene_in self tasks.items) ending (run_at (moment_in self tasks.items))) }
+    {
+        let mut world = self;
+        let mut tasks = tasks;
+        settle(&mut world, &mut tasks);
+        let ended = end(world, tasks)?;
+        Ok(ended)
+    }
+}
