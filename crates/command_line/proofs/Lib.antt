@@ -1,3 +1,4 @@
 pub mod Strays
 pub mod Outcomes
 pub mod Answered
+pub mod Examples

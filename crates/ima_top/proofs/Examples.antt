@@ -1,7 +1,7 @@
 -- Texts and words, each with what it is.
 use Rattle.std.proofs.Common.{◌≡◌, ℕ, true, List, [], ◌∷◌, Option, Some, None, Ok, refl}
 use Rattle.std.specs.Prelude.{codes}
-use Rattle.ima_top.specs.declared.commands.Command.TheVariants as command
+use Rattle.command_line.specs.declared.command.Command.TheVariants as command
 use Rattle.script_words.specs.declared.fault.LineCause.TheVariants.{NoEnd}
 use Rattle.ima_top.specs.commands.BadLine.{bad_line}
 use Rattle.ima_top.specs.commands.Label.{label_refusal}
@@ -9,22 +9,14 @@ use Rattle.ima_top.specs.commands.List.{boot_entry, list_refusal, measured}
 use Rattle.script_text.specs.ListGrammar.{list_of}
 use Rattle.ima_top.specs.commands.Policy.{policy_refusal}
 use Rattle.ima_top.specs.Served.{Serves}
-use Rattle.ima_top.specs.Words.{command_of}
 use Rattle.ima_top.specs.commands.Table.{IsOutput, reads}
-use Rattle.ima_top.specs.declared.commands.Command.{Command}
+use Rattle.command_line.specs.declared.command.Command.{Command}
 use Rattle.ima_top.specs.declared.status.TheConstants.{DONE, USAGE, REFUSED, STUCK, READ_FAULT, WRITE_FAULT, TOO_LONG, OUT_OF_MEMORY}
 use Rattle.ima_top.specs.declared.top.TheConstants.{MOST_INPUT}
 
 two_files : list_of (codes "imalist 1\nfile /a txt:abc\nfile /e txt:\nend\n")
     ≡ Ok ((codes "/a", codes "abc") ∷ (codes "/e", []) ∷ [])
 two_files = refl
-
-commands : (command_of (codes "list" ∷ []) ≡ Some command.List)
-    × (command_of (codes "policy" ∷ []) ≡ Some command.Policy) × (command_of [] ≡ None)
-    × (command_of (codes "list" ∷ codes "list" ∷ []) ≡ None)
-    × (command_of (codes "lists" ∷ []) ≡ None)
-    × (command_of (codes "label" ∷ []) ≡ Some command.Label)
-commands = (refl, refl, refl, refl, refl, refl)
 
 -- no file is measured: the list is the boot aggregate alone
 boot_alone : measured [] ≡ boot_entry ∷ []

@@ -3,7 +3,7 @@ use Rattle.std.specs.Prelude.{◌≡◌, ℕ, ◌+◌, ◌<◌, ◌≤◌, ◌�
 use Rattle.std.specs.Io.KnownBytes.{Appends, Consumes}
 use Rattle.ima_io.specs.Bytes.{TookPart}
 use Rattle.ima_io.specs.Counts.{Rose}
-use Rattle.ima_top.specs.declared.commands.Command.{Command}
+use Rattle.command_line.specs.declared.command.Command.{Command}
 use Rattle.ima_top.specs.declared.not_done.NotDone.{NotDone}
 use Rattle.ima_top.specs.declared.not_done.NotDone.TheVariants.{Refused, Stuck, WriteFault}
 use Rattle.ima_top.specs.declared.status.TheConstants.{DONE, USAGE, REFUSED, STUCK, READ_FAULT, WRITE_FAULT, TOO_LONG, OUT_OF_MEMORY}

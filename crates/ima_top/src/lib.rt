@@ -3,9 +3,10 @@
 //!
 //! [`serve`] is generic over the outside, so its contract speaks of the bytes that a source gives
 //! and that sinks take. It speaks of every command by the same words: whether it reads, what
-//! refuses an input, and what is an output for it (`specs/commands/Table.antt`). A command has a
-//! file `src/commands/NAME.rt` with its definitions beside it in `specs/commands/Name.antt`, and a
-//! row in each table of `src/commands.rt`, `specs/commands/Table.antt` and `specs/Words.antt`.
+//! refuses an input, and what is an output for it (`specs/commands/Table.antt`). Which command the
+//! words are is said by `command_line`. A command has a file `src/commands/NAME.rt` with its
+//! definitions beside it in `specs/commands/Name.antt`, and a row in each table of
+//! `src/commands.rt` and `specs/commands/Table.antt`.
 #![tactic(auto)]
 
 mod commands;
@@ -13,7 +14,7 @@ mod not_done;
 mod status;
 mod top;
 
-pub use commands::Command;
+pub use command_line::Command;
 pub use status::{DONE, OUT_OF_MEMORY, READ_FAULT, REFUSED, STUCK, TOO_LONG, USAGE, WRITE_FAULT};
 pub use top::{MOST_INPUT, serve};
 

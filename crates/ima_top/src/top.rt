@@ -1,17 +1,19 @@
 // The top call.
 ghost use Rattle.std.specs.Prelude.{◌≡◌, ◌≢◌, ◌+◌, ◌<◌, ◌≤◌, ◌↔◌, ◌⊎◌, true, false, None, length, map, string_bytes, IfOk, IfErr, IfSome, OnOk, IsNone};
 ghost use Rattle.std.specs.Io.KnownBytes.{IsAtEnd};
+ghost use Rattle.command_line.specs.Words.{command_of};
 ghost use Rattle.ima_io.specs.Counts.{Rose};
 ghost use Rattle.ima_top.specs.commands.Table.{reads, refusal};
 ghost use Rattle.ima_top.specs.NotDone.{status_of, told_of};
 ghost use Rattle.ima_top.specs.Served.{IsPastReading, IsStatus, OnInput, Performed, Serves, Told, input_left};
-ghost use Rattle.ima_top.specs.Words.{command_of, reads_input};
+ghost use Rattle.ima_top.specs.Words.{reads_input};
 
-use crate::commands::{Command, command_of};
+use crate::commands::{answer_input, reads};
 use crate::not_done::NotDone;
 use crate::status::{
     DONE, OUT_OF_MEMORY, READ_FAULT, REFUSED, STUCK, TOO_LONG, USAGE, WRITE_FAULT,
 };
+use command_line::{Command, command_of};
 use ima_io::{Gate, Sink, Source, read_all, write_all};
 use std::alloc::Global;
 
@@ -35,7 +37,7 @@ fn read_input<S: Source>(
         × IfErr result (λ why. (status_of (Err why) ≡ TOO_LONG) ↔ (MOST_INPUT < length input))
         × IfOk result (λ bytes. (bytes.items ≡ input) × (length input ≤ MOST_INPUT))) }
 {
-    if command.reads() {
+    if reads(command) {
         Ok(read_all(alloc, script, MOST_INPUT)?)
     } else {
         Ok(Vec::new(alloc))
@@ -65,12 +67,45 @@ fn perform<S: Source, K: Sink>(
         → Rose (K.faults out.old) (K.faults out.new) }
 {
     let input = read_input(alloc, command, script)?;
-    let answer = command.answer(alloc, &input)?;
+    let answer = answer_input(alloc, command, &input)?;
     write_all(out, &answer.output)?;
     if answer.stuck {
         Err(NotDone::Stuck)
     } else {
         Ok(())
+    }
+}
+
+// Finds the command in the words and performs it. Where memory runs out over the words, nothing is
+// read.
+fn answer_words<S: Source, K: Sink>(
+    alloc: Global,
+    words: &[String],
+    script: &mut S,
+    out: &mut K,
+) -> Result<(), NotDone>
+    ensures usage { (status_of result ≡ USAGE → IsNone (command_of (map string_bytes words.now)))
+        × (IsNone (command_of (map string_bytes words.now))
+        → (status_of result ≡ USAGE) ⊎ (status_of result ≡ OUT_OF_MEMORY)) }
+    ensures unread { reads_input (command_of (map string_bytes words.now)) ≡ false
+        → script.new ≡ script.old }
+    ensures whole_input { reads_input (command_of (map string_bytes words.now)) ≡ true
+        → IsPastReading (status_of result) → IsAtEnd (S.left script.new) }
+    ensures read_fault { status_of result ≡ READ_FAULT
+        → Rose (S.faults script.old) (S.faults script.new) }
+    ensures input { IfSome (command_of (map string_bytes words.now)) (λ command.
+        OnInput (reads command) (S.left script.old) (S.left script.new) (λ input.
+        (length input ≤ MOST_INPUT + 1)
+        × ((status_of result ≡ TOO_LONG) ↔ (MOST_INPUT < length input))
+        × Performed command input (K.taken out.old) (K.taken out.new) result)) }
+    ensures unwritten { status_of result ≢ DONE → status_of result ≢ STUCK
+        → status_of result ≢ WRITE_FAULT → out.new ≡ out.old }
+    ensures write_fault { status_of result ≡ WRITE_FAULT
+        → Rose (K.faults out.old) (K.faults out.new) }
+{
+    match command_of(alloc, words)? {
+        Some(command) => perform(alloc, command, script, out),
+        None => Err(NotDone::Usage),
     }
 }
 
@@ -97,15 +132,17 @@ pub fn serve<S: Source, K: Sink, N: Sink, G: Gate + Sync>(
 ) -> u8
     ensures statuses { IsStatus result }
 
-    // The words: `USAGE` comes exactly where they aren't a command. Then, and by a command that
-    // doesn't read, nothing is read.
-    ensures usage { (result ≡ USAGE) ↔ IsNone (command_of (map string_bytes words.now)) }
+    // The words: `USAGE` comes exactly where they aren't a command, unless memory runs out while
+    // they
+    // are read. Then, and by a command that doesn't read, nothing is read.
+    ensures usage { (result ≡ USAGE → IsNone (command_of (map string_bytes words.now)))
+        × (IsNone (command_of (map string_bytes words.now))
+        → (result ≡ USAGE) ⊎ (result ≡ OUT_OF_MEMORY)) }
     ensures unread { reads_input (command_of (map string_bytes words.now)) ≡ false
         → script.new ≡ script.old }
 
     // The input: a command that reads it reads it to its end, except at `READ_FAULT`, `TOO_LONG`
-    // and
-    // `OUT_OF_MEMORY`.
+    // and `OUT_OF_MEMORY`.
     ensures whole_input { reads_input (command_of (map string_bytes words.now)) ≡ true
         → IsPastReading result → IsAtEnd (S.left script.new) }
     ensures read_fault { result ≡ READ_FAULT → Rose (S.faults script.old) (S.faults script.new) }
@@ -136,11 +173,7 @@ pub fn serve<S: Source, K: Sink, N: Sink, G: Gate + Sync>(
         ⊎ Rose (K.faults out.old) (K.faults out.new))) }
 {
     let _ = gate;
-    let result = match command_of(words) {
-        Some(command) => perform(alloc, command, script, out),
-        None => Err(NotDone::Usage),
-    };
-    match result {
+    match answer_words(alloc, words, script, out) {
         Ok(()) => DONE,
         Err(why) => {
             tell(note, why.line());

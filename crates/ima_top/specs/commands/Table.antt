@@ -1,8 +1,8 @@
 -- The commands: which of them read, what refuses an input, and what is an output for it. Each
 -- command is a row of each table, and what the row says stands in the command's own file.
 use Rattle.std.specs.Prelude.{◌≡◌, ℕ, Bool, true, false, List, Option}
-use Rattle.ima_top.specs.declared.commands.Command.{Command}
-use Rattle.ima_top.specs.declared.commands.Command.TheVariants as command
+use Rattle.command_line.specs.declared.command.Command.{Command}
+use Rattle.command_line.specs.declared.command.Command.TheVariants as command
 use Rattle.ima_top.specs.commands.Label.{label_refusal, IsLabelOutput}
 use Rattle.ima_top.specs.commands.List.{list_refusal, IsListOutput}
 use Rattle.ima_top.specs.commands.Policy.{policy_refusal, IsPolicyOutput}

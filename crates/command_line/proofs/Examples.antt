@@ -1,0 +1,12 @@
+-- Words, each with the command that they are.
+use Rattle.std.proofs.Common.{◌≡◌, [], ◌∷◌, Some, None, refl}
+use Rattle.std.specs.Prelude.{codes}
+use Rattle.command_line.specs.declared.command.Command.TheVariants as command
+use Rattle.command_line.specs.Words.{command_of}
+
+commands : (command_of (codes "list" ∷ []) ≡ Some command.List)
+    × (command_of (codes "policy" ∷ []) ≡ Some command.Policy)
+    × (command_of (codes "label" ∷ []) ≡ Some command.Label) × (command_of [] ≡ None)
+    × (command_of (codes "lists" ∷ []) ≡ None) × (command_of (codes "--help" ∷ []) ≡ None)
+    × (command_of (codes "list" ∷ codes "list" ∷ []) ≡ None)
+commands = (refl, refl, refl, refl, refl, refl, refl)
