@@ -10,11 +10,10 @@ use Rattle.inode_events.specs.declared.told.Event.{Event}
 use Rattle.policy_cell.specs.declared.cell.RuleEntry.{RuleEntry}
 use Rattle.run_model.specs.Ended.{waits_in_vain}
 use Rattle.run_model.specs.EndedValue.{EndedValue}
-use Rattle.run_model.specs.History.{Thought}
-use Rattle.run_model.specs.Scene.{Program, Scene}
+use Rattle.run_model.specs.Scene.{Scene}
 use Rattle.run_model.specs.Turns.{Moment, State}
 use Rattle.task_frame.specs.Frame.{Frame, scene_of}
-use Rattle.task_frame.specs.Runs.{AreTasks, moment_of, program_of, programs_of, thought_of}
+use Rattle.task_frame.specs.Runs.{AreTasks, moment_of, programs_of, thought_of}
 use Rattle.task_frame.specs.Tasks.{Tasked}
 use Rattle.task_frame.specs.World.{StationValue}
 use Rattle.task_mind.specs.Value.{TaskValue, awaited_by}

@@ -1,29 +1,25 @@
 -- What the closed lists and the tasks leave is what the run leaves.
-use Rattle.std.proofs.Common.{◌≡◌, ℕ, ◌-◌, ◌&&◌, ◌||◌, Bool, List, [], ◌∷◌, length, refl, ap, sym, ◌∙◌, arith, Some, suc}
+use Rattle.std.proofs.Common.{◌≡◌, ℕ, ◌&&◌, ◌||◌, Bool, List, [], ◌∷◌, length, refl, ap, sym, ◌∙◌, arith, Some, suc}
 use Rattle.std.specs.Prelude.{map, not, slice_get}
 use Rattle.std.specs.List.{list_all, list_any}
 use Rattle.std.proofs.lemmas.List.{length-map}
 use Rattle.std.proofs.lemmas.Option.{same_Some}
 use Rattle.ending_laws.proofs.Totals.{count_past, counted_when_reached}
 use Rattle.ima_templates.specs.Replay.{banks_of}
-use Rattle.ima_templates.specs.declared.entry.Entry.{Entry}
 use Rattle.inode_events.specs.EndedInode.{ended_inode}
 use Rattle.inode_events.specs.Past.{past}
 use Rattle.inode_events.specs.Semaphores.{left as count_left}
-use Rattle.inode_events.specs.declared.told.Event.{Event}
-use Rattle.policy_cell.specs.declared.cell.RuleEntry.{RuleEntry}
-use Rattle.run_model.specs.Ended.{all_done, all_wait, is_done, left, waits_in_vain}
+use Rattle.run_model.specs.Ended.{all_done, all_wait, left}
 use Rattle.run_model.specs.EndedValue.{EndedTaskValue, appends, inodes_ended, tasks_ended}
-use Rattle.run_model.specs.History.{Thought}
 use Rattle.run_model.specs.Scene.{Program, Scene, Station, inode_of}
-use Rattle.task_frame.specs.Frame.{Frame, scene_of, station_of}
+use Rattle.task_frame.specs.Frame.{scene_of, station_of}
 use Rattle.task_frame.specs.Runs.{moment_of, program_of, programs_of, thought_of}
 use Rattle.task_frame.specs.Tasks.{Tasked}
 use Rattle.task_frame.specs.World.{StationValue, journal_of}
-use Rattle.world_close.specs.Closed.{AreStations, ended_station}
-use Rattle.world_close.specs.Finished.{IsFinished, state_at}
+use Rattle.world_close.specs.Closed.{ended_station}
+use Rattle.world_close.specs.Finished.{state_at}
 use Rattle.world_close.proofs.Gets.{map_get}
-use Rattle.world_close.proofs.Scening.{is_at, lists_even}
+use Rattle.world_close.proofs.Scening.{is_at}
 use Rattle.world_ended.specs.Leaves.{ClosedIsLeft, done_by, may_append, rests, task_left}
 
 -- ---- the inodes

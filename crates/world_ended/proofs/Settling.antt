@@ -6,7 +6,6 @@ use Rattle.run_model.specs.Turns.{State}
 use Rattle.task_frame.specs.Frame.{Frame}
 use Rattle.task_frame.specs.Runs.{AreTasks, HasMade, IsNth}
 use Rattle.task_frame.specs.Tasks.{IsTask, Tasked}
-use Rattle.task_mind.specs.Value.{TaskValue}
 use Rattle.world_close.proofs.Gets.{get_set}
 use Rattle.world_close.specs.Finished.{HaveMade}
 use Rattle.world_ended.specs.Settled.{HaveLooked, mind_of}

@@ -1,5 +1,5 @@
 -- The parts that a world starts with are those of its frame.
-use Rattle.std.proofs.Common.{◌≡◌, ℕ, ◌+◌, ◌-◌, ◌<◌, ◌≤◌, List, [], ◌∷◌, length, refl, ap, sym, subst, ◌∙◌, arith, Some}
+use Rattle.std.proofs.Common.{◌≡◌, ℕ, ◌+◌, ◌-◌, ◌<◌, List, [], ◌∷◌, length, refl, ap, sym, subst, ◌∙◌, arith, Some}
 use Rattle.std.specs.Prelude.{All, map, max, slice_get}
 use mathlib.Core.List.{map-map}
 use Rattle.std.proofs.lemmas.List.{length-map}
@@ -16,7 +16,6 @@ use Rattle.policy_cell.specs.declared.cell.RuleEntry.{RuleEntry}
 use Rattle.policy_text.specs.declared.access.Super.{Super}
 use Rattle.rule_laws.specs.Stations.{StationRules}
 use Rattle.rule_laws.proofs.Risen.{law_rise_at_first}
-use Rattle.run_model.specs.Scene.{Program}
 use Rattle.run_model.specs.Turns.{newborn}
 use Rattle.task_frame.specs.Frame.{Frame, Site, boot_in, station_of}
 use Rattle.task_frame.specs.Tasks.{ArePassesOf, AreUnused, PassesValue}

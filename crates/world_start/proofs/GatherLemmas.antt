@@ -1,10 +1,6 @@
 -- One task more has its passes.
-use Rattle.std.proofs.Common.{◌≡◌, ℕ, ◌+◌, List, [], ◌∷◌, ◌++◌, length, refl, ap, sym, ◌∙◌, arith}
+use Rattle.std.proofs.Common.{◌≡◌, List, [], ◌∷◌, ◌++◌, length, refl, ap, ◌∙◌, arith}
 use Rattle.std.specs.Prelude.{map}
-use Rattle.grow_list.specs.Shown.{Passed}
-use Rattle.ima_templates.specs.declared.entry.Entry.{Entry}
-use Rattle.inode_events.specs.declared.told.Event.{Event}
-use Rattle.policy_cell.specs.declared.cell.RuleEntry.{RuleEntry}
 use Rattle.task_frame.specs.Tasks.{PassesValue}
 use Rattle.world_start.specs.Started.{AreGathered, ColumnsValue, HasTaken}
 use Rattle.world_start.proofs.Starting.{ended, moved}

@@ -1,10 +1,10 @@
 -- One inode more is started.
-use Rattle.std.proofs.Common.{◌≡◌, ℕ, ◌+◌, ◌<◌, List, [], ◌∷◌, ◌++◌, length, refl, ap, sym, ◌∙◌, arith, Some, get_or, subst, length-append}
+use Rattle.std.proofs.Common.{◌≡◌, ℕ, ◌<◌, List, [], ◌∷◌, ◌++◌, length, refl, ap, sym, ◌∙◌, arith, Some, get_or, subst}
 use Rattle.std.specs.Prelude.{All, map, slice_get}
 use Rattle.std.proofs.lemmas.List.{append-nil, append_assoc, map-append}
 use Rattle.std.proofs.lemmas.List.Elements.{All-append, All-cons, All-nil, All-tail}
 use Rattle.std.proofs.lemmas.Option.{same_Some, slice_get_within}
-use Rattle.grow_list.specs.Shown.{ListName, Passed}
+use Rattle.grow_list.specs.Shown.{Passed}
 use Rattle.ima_templates.specs.declared.entry.Entry.{Entry}
 use Rattle.inode_events.specs.declared.image.Image.{Image}
 use Rattle.inode_events.specs.declared.settings.Settings.{Settings}

@@ -1,6 +1,5 @@
-use Rattle.std.proofs.Common.{◌≡◌, ℕ, ◌+◌, ◌-◌, ◌≤◌, length, arith, refl, sym, ◌∙◌, ap}
+use Rattle.std.proofs.Common.{◌+◌, ◌-◌, arith, refl}
 use Rattle.std.specs.Prelude.{max}
-use Rattle.world_start.specs.Started.{AreFresh}
 use Rattle.world_start.proofs.Fresh.{below_max, fresh_all, fresh_as, fresh_drop, fresh_take}
 use Rattle.world_start.proofs.cells.start_cells.Goals as goal
 

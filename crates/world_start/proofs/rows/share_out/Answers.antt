@@ -1,4 +1,4 @@
-use Rattle.std.proofs.Common.{◌≡◌, ◌≤◌, length, arith, sym, ◌∙◌}
+use Rattle.std.proofs.Common.{◌≤◌, length, arith, sym, ◌∙◌}
 use Rattle.world_start.proofs.Sharing.{shares_all, shares_more, shares_none}
 use Rattle.world_start.specs.Started.{pass_of}
 use Rattle.world_start.proofs.rows.share_out.Goals as goal
