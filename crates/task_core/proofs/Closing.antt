@@ -1,5 +1,5 @@
 -- What the end of a world takes apart.
-use Rattle.std.proofs.Common.{◌≡◌, ℕ, ◌+◌, ◌-◌, ◌&&◌, Bool, false, List, length, refl, ap, sym, ◌∙◌, subst, arith, Some}
+use Rattle.std.proofs.Common.{◌≡◌, ℕ, ◌-◌, ◌&&◌, Bool, false, List, length, ap, sym, ◌∙◌, subst, arith, Some}
 use Rattle.std.specs.Prelude.{map, not, slice_get}
 use Rattle.std.specs.List.{list_any}
 use Rattle.std.proofs.lemmas.List.{length-map}

@@ -1,5 +1,5 @@
 -- What the closed lists and the tasks leave.
-use Rattle.std.proofs.Common.{◌≡◌, ◌∙◌, List, length, map, refl, subst, sym, ap, arith}
+use Rattle.std.proofs.Common.{◌∙◌, List, length, refl, subst, ap, arith}
 use Rattle.std.specs.List.{list_any}
 use Rattle.std.proofs.lemmas.List.{length-map}
 use Rattle.inode_events.specs.Past.{past}

@@ -1,12 +1,11 @@
 -- One task more has looked.
-use Rattle.std.proofs.Common.{◌≡◌, ◌<◌, ◌≤◌, length, refl, sym, ap, subst, ◌∙◌, arith, Some}
-use Rattle.std.specs.Prelude.{slice_get}
+use Rattle.std.proofs.Common.{◌<◌, ◌≤◌, length, refl, sym, subst, ◌∙◌, arith}
 use Rattle.std.proofs.lemmas.Option.{slice_get_read}
 use Rattle.std.proofs.lemmas.List.{length-set}
 use Rattle.run_model.specs.Turns.{State}
 use Rattle.task_frame.specs.Frame.{Frame}
 use Rattle.task_frame.specs.Runs.{HasMade}
-use Rattle.task_frame.specs.Tasks.{IsTask, Tasked}
+use Rattle.task_frame.specs.Tasks.{IsTask}
 use Rattle.world_ended.proofs.Settling.{looked_all, looked_more, looked_none}
 use Rattle.task_core.proofs.close.settle.Goals as goal
 

@@ -1,6 +1,6 @@
 -- The tasks have looked, and the lists are closed.
-use Rattle.std.proofs.Common.{◌≡◌, ◌<◌, ◌∙◌, ℕ, length, refl, subst, sym, ap}
-use Rattle.std.specs.Prelude.{List, map}
+use Rattle.std.proofs.Common.{◌<◌, ◌∙◌, ℕ, length, refl, subst, sym, ap}
+use Rattle.std.specs.Prelude.{List}
 use Rattle.std.proofs.lemmas.List.{length-map}
 use Rattle.run_model.specs.Turns.{State}
 use Rattle.task_frame.specs.Frame.{Frame}
