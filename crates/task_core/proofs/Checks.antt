@@ -1,7 +1,6 @@
 -- A check on one inode of a world, behind two looks at the appended rules.
 use Rattle.std.proofs.Common.{◌≡◌, ℕ, zero, suc, ◌+◌, ◌<◌, List, [], ◌∷◌, ◌++◌, length, get_or, Option, Some, refl, sym, ◌∙◌, ap, subst}
 use Rattle.std.specs.Prelude.{Result, slice_get, slice_set}
-use Rattle.std.proofs.lemmas.List.{append-nil}
 use Rattle.std.proofs.lemmas.Option.{get_or_from_slice_get}
 use mathlib.Core.List.{IsPrefix}
 use Rattle.grow_list.specs.Shown.{Grown, IsSameList, Passed}
@@ -21,6 +20,7 @@ use Rattle.policy_text.specs.declared.access.Super.{Super}
 use Rattle.rule_laws.specs.Stations.{CountsAll}
 use Rattle.run_model.specs.Scene.{rules_with}
 use Rattle.run_model.specs.Turns.{State}
+use Rattle.task_core.proofs.Seen.{PassSees, same_twice, sees_alone, sees_more}
 use Rattle.task_deeds.specs.declared.listed.Checks.{Checks}
 use Rattle.task_frame.specs.Frame.{Frame, Site, inode_in, no_super, scene_of, super_at}
 use Rattle.task_frame.specs.Tasks.{PassesValue}
@@ -51,37 +51,10 @@ super_is : (supers : List Super) (k : ℕ) (x : Super) → k < length supers →
 super_is supers k x l e =
     sym (get_or_from_slice_get supers k x no_super (at_index supers k x x l e))
 
--- a look of a pass at the appended rules, as it leaves the rules and the pass
+-- a look of a pass at the appended rules, which leaves the others as they were
 pub record RulesLooked (rules rules2 : PolicyValue) (q q2 : Passed RuleEntry) : Type 0 where
   pub base : rules2.base ≡ rules.base
-  pub list : IsSameList rules.appended rules2.appended
-  pub before : IsPrefix q.seen rules.appended.list
-  pub seen : q2.seen ≡ rules2.appended.list
-  pub mine : q2.mine ≡ q.mine
-  pub pass : (q2.name ≡ q.name) × (q2.number ≡ q.number)
-
--- it has seen no less
-seen_more : (rules rules2 : PolicyValue) (q q2 : Passed RuleEntry) → RulesLooked rules rules2 q q2
-    → IsPrefix q.seen q2.seen
-seen_more rules rules2 q q2 x =
-    subst (λ (xs : List RuleEntry). IsPrefix q.seen xs) (sym (x.seen ∙ x.list.list)) x.before
-
--- it has added nothing
-adds_by : (rules rules2 : PolicyValue) (q q2 : Passed RuleEntry) → RulesLooked rules rules2 q q2
-    → Adds q q2 []
-adds_by rules rules2 q q2 x = record {
-  name = x.pass.0;
-  number = x.pass.1;
-  mine = x.mine ∙ sym (append-nil q.mine);
-}
-
-same_twice : (a b c : Grown RuleEntry) → IsSameList a b → IsSameList b c → IsSameList a c
-same_twice a b c x y = record {
-  name = y.name ∙ x.name;
-  callers = y.callers ∙ x.callers;
-  list = y.list ∙ x.list;
-  numbers = y.numbers ∙ x.numbers;
-}
+  pub look : PassSees rules.appended rules2.appended q q2
 
 module _ {E : Type 0} (settings : Settings) (stations : List StationValue) (supers : List Super)
     (book book2 : Grown Entry) (sems : Grown Event) (rules between rules2 : PolicyValue)
@@ -105,13 +78,13 @@ module _ {E : Type 0} (settings : Settings) (stations : List StationValue) (supe
   base = second.base ∙ first.base
 
   list : IsSameList rules.appended rules2.appended
-  list = same_twice rules.appended between.appended rules2.appended first.list second.list
+  list = same_twice rules.appended between.appended rules2.appended first.look.same second.look.same
 
   seen : q.seen ≡ rules2.appended.list
-  seen = first.seen ∙ sym second.list.list
+  seen = first.look.seen ∙ sym second.look.same.list
 
   more : IsPrefix st.rules.seen q.seen
-  more = seen_more rules between st.rules q first
+  more = sees_more rules.appended between.appended st.rules q first.look
 
   -- behind the looks
   abbrev st1 : StationValue
@@ -120,17 +93,18 @@ module _ {E : Type 0} (settings : Settings) (stations : List StationValue) (supe
   abbrev stations1 : List StationValue
   stations1 = slice_set stations i st1
 
+  -- the inode stands in its place, and the world is one with these constants and lists
   there1 : slice_get stations1 i ≡ Some st1
   there1 = get_set stations i st1 st there
 
   frame1 : frame_by settings stations1 supers book sems rules2 tasks ≡ F
   frame1 = frame_looked settings stations supers book sems rules rules2 tasks i st q parts there
-      base list first.pass.0 first.pass.1 first.mine more
+      base list first.look.pass.0 first.look.pass.1 first.look.mine more
 
   parts1 : AreParts (frame_by settings stations1 supers book sems rules2 tasks) stations1 book sems
       rules2
   parts1 = parts_looked settings stations supers book sems rules rules2 tasks i st q parts there
-      base list first.pass.0 first.pass.1 first.mine more
+      base list first.look.pass.0 first.look.pass.1 first.look.mine more
 
   state1 : state_by stations1 book sems rules2 ≡ S
   state1 =
@@ -142,6 +116,7 @@ module _ {E : Type 0} (settings : Settings) (stations : List StationValue) (supe
   abbrev found : Deed
   found = check_by index cred place (metadata (past st.cell.list)) asked
 
+  -- the check counts all rules that the pass of the inode has seen
   counts : CountsAll (length rules2.base + length q.seen) found
   counts =
       ap length index_is ∙ force_count rules2
@@ -151,9 +126,11 @@ module _ {E : Type 0} (settings : Settings) (stations : List StationValue) (supe
   abbrev stations2 : List StationValue
   stations2 = slice_set stations i st2
 
+  -- the inode was put back twice
   twice : slice_set stations1 i st2 ≡ stations2
   twice = set_set stations i st1 st2
 
+  -- the constants stay, each part is one of them, and the passes of nobody stay idle
   pub check_frame : Gathered → frame_by settings stations2 supers book2 sems rules2 tasks ≡ F
   check_frame g =
       ap (λ (xs : List StationValue). frame_by settings xs supers book2 sems rules2 tasks)
@@ -180,12 +157,14 @@ module _ {E : Type 0} (settings : Settings) (stations : List StationValue) (supe
       index_is ∙ ap (λ (xs : List RuleValue). xs ++ rules_in rules2.appended.list) base
       ∙ ap (λ (xs : List RuleEntry). rules.base ++ rules_in xs) list.list
 
+  -- by the file system of the inode
   its_super : place ≡ super_at F st.place
   its_super = super_is supers st.place place (parts.stations i st there).place place_is
 
   abbrev New : State
   New = state_by stations2 book2 sems rules2
 
+  -- the inode is the one of its site
   inode_same : st.cell.inode ≡ inode_in F (site_of st)
   inode_same =
       ap (λ (x : Settings). record {
@@ -199,6 +178,7 @@ module _ {E : Type 0} (settings : Settings) (stations : List StationValue) (supe
       (semaphores : passes2.sems ≡ passes.sems) (rules_before : passes.rules ≡ own)
       (rules_after : passes2.rules ≡ own2) (before : passes.book ≡ listed)
       (after : passes2.book ≡ listed2) (number_is : pass.number ≡ who.task + 1) where
+    -- what the check leaves of the lists behind the looks
     found_on : (g : Gathered) → EventOn
         (frame_by settings stations1 supers book sems rules2 tasks) i (site_of st) who found
         (state_by stations1 book sems rules2) (state_by (slice_set stations1 i st2) book2 sems
@@ -208,10 +188,10 @@ module _ {E : Type 0} (settings : Settings) (stations : List StationValue) (supe
         listed2 who found g g (told_in r) parts1 there1 (did g) passes passes2 at inodes semaphores
         (subst (λ (x : Passed RuleEntry). Adds x passes2.rules []) (sym rules_before)
         (subst (λ (x : Passed RuleEntry). Adds own x []) (sym rules_after)
-        (adds_by between rules2 own own2 second)))
+        (sees_alone between.appended rules2.appended own own2 second.look)))
         (subst (λ (x : Passed RuleEntry). IsPrefix x.seen passes2.rules.seen) (sym rules_before)
         (subst (λ (x : Passed RuleEntry). IsPrefix own.seen x.seen) (sym rules_after)
-        (seen_more between rules2 own own2 second)))
+        (sees_more between.appended rules2.appended own own2 second.look)))
         before after number_is
 
     -- the same of the frame and the lists before the looks, by all rules in force
@@ -220,6 +200,7 @@ module _ {E : Type 0} (settings : Settings) (stations : List StationValue) (supe
         check_by (rules_with (scene_of F []) S.added) cred (super_at F st.place)
         (metadata (past st.cell.list)) asked
 
+    -- the check that was found is that one
     is_by_all : found ≡ by_all
     is_by_all =
         ap (λ (xs : List RuleValue). check_by xs cred place (metadata (past st.cell.list)) asked)
@@ -227,6 +208,7 @@ module _ {E : Type 0} (settings : Settings) (stations : List StationValue) (supe
         ∙ ap (λ (x : Super). check_by (rules_with (scene_of F []) S.added) cred x
         (metadata (past st.cell.list)) asked) its_super
 
+    -- what it leaves of the lists before the looks
     event_found : (g : Gathered) → EventOn F i (site_of st) who by_all S New passes passes2 g g
         (told_in r)
     event_found g =
@@ -241,6 +223,7 @@ module _ {E : Type 0} (settings : Settings) (stations : List StationValue) (supe
         (state_by stations1 book sems rules2) (state_by xs book2 sems rules2) passes passes2 g g
         (told_in r)) twice (found_on g))))
 
+    -- and what it was told
     told_by_all : IsChecked (inode_in F (site_of st)) st.cell.list S.list
         (rules_with (scene_of F []) S.added) cred (super_at F st.place) asked r
     told_by_all =
@@ -251,6 +234,7 @@ module _ {E : Type 0} (settings : Settings) (stations : List StationValue) (supe
         (subst (λ (xs : List RuleValue). IsChecked st.cell.inode st.cell.list S.list xs cred place
         asked r) all_rules told))
 
+    -- together, at the inode of the number
     pub check_in : (g : Gathered) → CheckIn F i (slice_get F.sites i) who cred asked S New passes
         passes2 g r
     check_in g =
@@ -260,6 +244,6 @@ module _ {E : Type 0} (settings : Settings) (stations : List StationValue) (supe
           journal = st.cell.list;
           event = event_found g;
           journal_at = get_map journal_of stations i st there;
-          seen = ap (λ (x : Passed RuleEntry). x.seen) rules_after ∙ second.seen ∙ list.list;
+          seen = ap (λ (x : Passed RuleEntry). x.seen) rules_after ∙ second.look.seen ∙ list.list;
           told = told_by_all;
         })

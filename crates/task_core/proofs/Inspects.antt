@@ -48,6 +48,7 @@ module _ (settings : Settings) (stations : List StationValue) (supers : List Sup
   abbrev st : StationValue
   st = record { cell = cell; rules = seen; place = place }
 
+  -- the opened inode stands in its place
   st_is : st ≡ get_or stations i st
   st_is = subst (λ (x : StationValue). x ≡ get_or stations i x) (sym station_view) opened_is
 
@@ -81,6 +82,7 @@ module _ (settings : Settings) (stations : List StationValue) (supers : List Sup
         open_found settings stations supers book sems rules tasks parts w view inodes signals lists
         own p passes_view n are i st pass within st_is pass_is
 
+    -- its journal goes to the measurement list
     pub inspect_book : cell.book ≡ book.name
     inspect_book =
         open_book settings stations supers book sems rules tasks parts w view inodes signals lists
@@ -111,6 +113,7 @@ module _ (settings : Settings) (stations : List StationValue) (supers : List Sup
       abbrev stations2 : List StationValue
       stations2 = slice_set stations i st2
 
+      -- the constants stay
       pub inspected_frame : frame_by settings stations2 supers book2 sems rules2 tasks ≡ w.frame
       inspected_frame =
           check_frame settings stations supers book book2 sems rules between rules2 tasks i st st2 q
@@ -118,6 +121,7 @@ module _ (settings : Settings) (stations : List StationValue) (supers : List Sup
           second index_is place_is did told gathered.Nothing
           ∙ ap (λ (x : WorldValue). x.frame) view
 
+      -- each part is one of them
       pub inspected_parts : AreParts (frame_by settings stations2 supers book2 sems rules2 tasks)
           stations2 book2 sems rules2
       inspected_parts =
@@ -125,6 +129,7 @@ module _ (settings : Settings) (stations : List StationValue) (supers : List Sup
           pass pass2 lists lists2 own own2 who cred asked file_system index r parts there first
           second index_is place_is did told gathered.Nothing
 
+      -- the passes of nobody stay idle
       pub inspected_idle : (idle : List (Passed RuleEntry)) → AreIdle F idle
           → AreIdle (frame_by settings stations2 supers book2 sems rules2 tasks) idle
       inspected_idle idle h =
@@ -132,6 +137,7 @@ module _ (settings : Settings) (stations : List StationValue) (supers : List Sup
           pass pass2 lists lists2 own own2 who cred asked file_system index r parts there first
           second index_is place_is did told gathered.Nothing idle h
 
+      -- and the check is one of the task on this world
       pub inspected_check : (g : Gathered) → CheckIn w.frame i (slice_get w.frame.sites i) who cred
           asked w.state (state_by stations2 book2 sems rules2) p
           (record {

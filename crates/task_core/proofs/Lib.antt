@@ -1,3 +1,4 @@
+pub mod Seen
 pub mod Turns
 pub mod Looks
 pub mod Checks

@@ -1,11 +1,10 @@
 -- A look at all lists of a world.
-use Rattle.std.proofs.Common.{◌≡◌, ℕ, ◌+◌, List, [], map, Some, sym, ◌∙◌, ap, subst}
+use Rattle.std.proofs.Common.{◌≡◌, ℕ, ◌+◌, List, map, Some, sym, ◌∙◌, ap, subst}
 use Rattle.std.specs.Prelude.{slice_get}
-use Rattle.std.proofs.lemmas.List.{append-nil, length-map}
+use Rattle.std.proofs.lemmas.List.{length-map}
 use Rattle.std.proofs.lemmas.Option.{same_Some}
-use mathlib.Core.List.{IsPrefix}
 use Rattle.grow_list.specs.Entries.{entries_of}
-use Rattle.grow_list.specs.Shown.{Grown, HasItsOwn, IsSameList, ListName, Passed}
+use Rattle.grow_list.specs.Shown.{Grown, IsSameList, ListName, Passed}
 use Rattle.ima_templates.specs.declared.entry.Entry.{Entry}
 use Rattle.inode_events.specs.Callers.{caller_of}
 use Rattle.inode_events.specs.Inode.{Inode}
@@ -16,6 +15,7 @@ use Rattle.policy_cell.specs.declared.cell.RuleEntry.{RuleEntry}
 use Rattle.policy_text.specs.RuleValue.{RuleValue}
 use Rattle.policy_text.specs.declared.access.Super.{Super}
 use Rattle.run_model.specs.Turns.{State}
+use Rattle.task_core.proofs.Seen.{PassSees, sees_alone}
 use Rattle.task_frame.specs.Frame.{Frame, Site, boot_in, inode_in}
 use Rattle.task_frame.specs.Runs.{HasMade}
 use Rattle.task_frame.specs.Tasks.{ArePassesOf, IsTask, PassesValue, Tasked}
@@ -26,28 +26,11 @@ use Rattle.task_laws.proofs.Looking.{look_is_made, look_is_played}
 use Rattle.task_laws.specs.Looks.{HasLookedAtAll, InodeLooked}
 use Rattle.task_laws.specs.Plays.{task_left}
 use Rattle.task_laws.specs.Ready.{HasLooked}
-use Rattle.task_laws.specs.Steps.{Adds}
 use Rattle.task_mind.specs.Value.{TaskValue}
 use Rattle.world_close.specs.Closed.{AreIdle}
 use Rattle.world_deeds.proofs.Keeping.{journals_kept, sites_kept, stations_kept}
 use Rattle.world_deeds.specs.Looking.{AreKept, HaveLooked, LookedAt}
 use Rattle.world_deeds.specs.Parts.{AreParts, frame_by, state_by}
-
--- a pass that has seen a list, as it leaves the pass
-pub record PassSees {E : Type 0} (g g2 : Grown E) (q q2 : Passed E) : Type 0 where
-  pub same : IsSameList g g2
-  pub before : IsPrefix q.seen g.list
-  pub seen : q2.seen ≡ g2.list
-  pub mine : q2.mine ≡ q.mine
-  pub own : HasItsOwn g2 q2
-  pub pass : (q2.name ≡ q.name) × (q2.number ≡ q.number)
-
-adds_by : {E : Type 0} (g g2 : Grown E) (q q2 : Passed E) → PassSees g g2 q q2 → Adds q q2 []
-adds_by g g2 q q2 x = record {
-  name = x.pass.0;
-  number = x.pass.1;
-  mine = x.mine ∙ sym (append-nil q.mine);
-}
 
 module _ (settings : Settings) (stations stations2 : List StationValue) (supers : List Super)
     (book book2 : Grown Entry) (sems sems2 : Grown Event) (rules rules2 : PolicyValue) (tasks : ℕ)
@@ -60,6 +43,7 @@ module _ (settings : Settings) (stations stations2 : List StationValue) (supers 
   abbrev Later : Frame
   Later = frame_by settings stations2 supers book2 sems2 rules2 tasks
 
+  -- the constants stay
   pub frame_looked : Later ≡ F
   frame_looked =
       ap (λ (xs : List Site). record Later { sites = xs }) (sites_kept stations stations2 kept)
@@ -70,6 +54,7 @@ module _ (settings : Settings) (stations stations2 : List StationValue) (supers 
       ∙ ap (λ (xs : List RuleValue). record F { base = xs; rules = Later.rules }) base
       ∙ ap (λ (x : ListName). record F { rules = x }) added.name
 
+  -- so do the lists
   pub state_looked : state_by stations2 book2 sems2 rules2 ≡ state_by stations book sems rules
   state_looked =
       ap (λ (js : List (List Event)). record {
@@ -97,6 +82,7 @@ module _ (settings : Settings) (stations stations2 : List StationValue) (supers 
         added = xs;
       }) added.list
 
+  -- each part is one of the constants
   parts_at : AreParts F stations book sems rules → AreParts F stations2 book2 sems2 rules2
   parts_at parts = record {
     stations = stations_kept F stations stations2 kept parts.stations;
@@ -124,6 +110,7 @@ module _ (settings : Settings) (stations stations2 : List StationValue) (supers 
       subst (λ (x : Frame). AreParts x stations2 book2 sems2 rules2) (sym frame_looked)
       (parts_at parts)
 
+  -- the passes of nobody stay idle
   pub idle_looked : (idle : List (Passed RuleEntry)) → AreIdle F idle → AreIdle Later idle
   idle_looked idle h = subst (λ (x : Frame). AreIdle x idle) (sym frame_looked) h
 
@@ -142,6 +129,7 @@ module _ (settings : Settings) (stations stations2 : List StationValue) (supers 
     own : ArePassesOf F t.number t.passes
     own = is.played.passes
 
+    -- each pass of a journal has seen it
     inode_looked : (i : ℕ) (q : Passed Event) → slice_get passes.inodes i ≡ Some q
         → InodeLooked F (t.number + 1) i S.journals t.passes.inodes q
     inode_looked i q h =
@@ -174,12 +162,13 @@ module _ (settings : Settings) (stations stations2 : List StationValue) (supers 
               x.before.mine) number x.looked.looked));
         }
 
+    -- the passes have seen all lists
     looked_at_all : HasLookedAtAll F t S passes
     looked_at_all = record {
       even = looks.even;
       journals = length-map stations journal_of ∙ sym (length-map stations site_of);
       inodes = inode_looked;
-      sems = adds_by sems sems2 t.passes.sems passes.sems sem_look;
+      sems = sees_alone sems sems2 t.passes.sems passes.sems sem_look;
       signals =
           ap (λ (k : ℕ). entries_of k (map caller_of sems.list) sems.list)
           (sym (sem_look.pass.1 ∙ own.sems.1))
@@ -187,10 +176,10 @@ module _ (settings : Settings) (stations stations2 : List StationValue) (supers 
           (sym signals.list)
           ∙ ap (λ (ns : List ℕ). entries_of passes.sems.number ns sems2.list) (sym numbers)
           ∙ sem_look.own;
-      book = adds_by book book2 t.passes.book passes.book book_look;
+      book = sees_alone book book2 t.passes.book passes.book book_look;
       book_before = book_look.before;
       book_seen = book_look.seen ∙ books.list;
-      rules = adds_by rules.appended rules2.appended t.passes.rules passes.rules rule_look;
+      rules = sees_alone rules.appended rules2.appended t.passes.rules passes.rules rule_look;
       rules_before = rule_look.before;
       rules_seen = rule_look.seen ∙ added.list;
       appended =
@@ -213,6 +202,7 @@ module _ (settings : Settings) (stations stations2 : List StationValue) (supers 
         (subst (λ (x : State). HasMade F x (task_left t passes t.gathered)) (sym state_looked)
         (look_is_made F t S passes is looked_at_all))
 
+    -- the task is one of its world still
     pub looked_still : IsTask Later (task_left t passes t.gathered)
     looked_still =
         subst (λ (x : Frame). IsTask x (task_left t passes t.gathered)) (sym frame_looked)

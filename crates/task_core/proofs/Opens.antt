@@ -56,11 +56,13 @@ module _ (settings : Settings) (stations : List StationValue) (supers : List Sup
   abbrev P : PassesValue
   P = record { inodes = inodes; sems = signals; book = lists; rules = own }
 
+  -- the passes are those of the task
   pub open_passes : ArePassesOf F n P
   open_passes =
       subst (λ (x : WorldValue). ArePassesOf x.frame n P) (sym view)
       (subst (λ (q : PassesValue). ArePassesOf w.frame n q) (sym passes_view) are)
 
+  -- the inode and the pass of its journal stand in their places
   pub open_there : slice_get stations i ≡ Some st
   open_there = at_index stations i st st within st_is
 
@@ -73,14 +75,17 @@ module _ (settings : Settings) (stations : List StationValue) (supers : List Sup
   pub open_pass : slice_get inodes i ≡ Some pass
   open_pass = at_index inodes i pass pass open_within pass_is
 
+  -- the pass is one of the journal, and has the number of the task
   pub open_found : (pass.name ≡ st.cell.journal) × (pass.number ≡ n + 1)
   open_found =
       found_pass settings stations supers book sems rules tasks i st parts open_there n P pass
       open_passes open_pass
 
+  -- the journal goes to the measurement list
   pub open_book : st.cell.book ≡ book.name
   open_book = (parts.stations i st open_there).book
 
+  -- after a look the deed is ready, and may be done
   open_ready_at : (g : Gathered) (action : ActionValue) (slot : Slot) (d : Deed)
       → ReadyAt w.frame i p.inodes n g action slot d → ReadyAt F i inodes n g action slot d
   open_ready_at g action slot d ready =
@@ -112,6 +117,7 @@ module _ (settings : Settings) (stations : List StationValue) (supers : List Sup
     abbrev stations2 : List StationValue
     stations2 = slice_set stations i st2
 
+    -- the constants stay
     pub done_frame : frame_by settings stations2 supers book2 sems rules tasks ≡ F
     done_frame =
         frame_same settings stations supers book book2 sems rules tasks i st st2 pass pass2 lists
@@ -120,16 +126,19 @@ module _ (settings : Settings) (stations : List StationValue) (supers : List Sup
     pub done_view : frame_by settings stations2 supers book2 sems rules tasks ≡ w.frame
     done_view = done_frame ∙ ap (λ (x : WorldValue). x.frame) view
 
+    -- each part is one of them
     pub done_parts : AreParts (frame_by settings stations2 supers book2 sems rules tasks) stations2
         book2 sems rules
     done_parts =
         world_same settings stations supers book book2 sems rules tasks i st st2 pass pass2 lists
         lists2 who d g g2 o parts open_there did counts
 
+    -- the passes of nobody stay idle
     pub done_idle : (idle : List (Passed RuleEntry)) → AreIdle F idle
         → AreIdle (frame_by settings stations2 supers book2 sems rules tasks) idle
     done_idle idle h = subst (λ (x : Frame). AreIdle x idle) (sym done_frame) h
 
+    -- the deed is one of the task on this world
     pub done_event : EventIn w.frame i (slice_get w.frame.sites i) who d w.state
         (state_by stations2 book2 sems rules) p
         (record { inodes = slice_set inodes i pass2; sems = signals; book = lists2; rules = own })
@@ -147,6 +156,7 @@ module _ (settings : Settings) (stations : List StationValue) (supers : List Sup
         (adds_none own own refl) (prefix_refl own.seen) refl refl
         (open_found.1 ∙ ap (λ (k : ℕ). k + 1) task)))
 
+  -- what it was told is its outcome
   pub done_said : {E : Type 0} (r : Result (Option Answered) E) (d : Deed)
       → IfOk r (λ o. told_of o ≡ outcome st.cell.inode book.list d (past st.cell.list))
       → IfOk r (λ o. IsPlacedAt (length st.cell.list) o)

@@ -22,6 +22,7 @@ module _ (settings : Settings) (stations : List StationValue) (supers : List Sup
   abbrev F : Frame
   F = frame_by settings stations supers book sems rules tasks
 
+  -- the constants stay, and each part is one of them
   with_both : frame_by settings stations supers book sems2 rules2 tasks ≡ F
       → AreSignalsOf F sems2 → AreRulesOf F rules2
       → AreParts (frame_by settings stations supers book sems2 rules2 tasks) stations book sems2
@@ -51,6 +52,7 @@ module _ (settings : Settings) (stations : List StationValue) (supers : List Sup
       (ap (λ (x : ListName). record G { signals = x }) name)
       (record { name = name; callers = callers ∙ parts.sems.callers }) parts.rules
 
+  -- so are rules with the same base, name and callers
   with_rules : (rules2 : PolicyValue) → rules2.base ≡ rules.base
       → rules2.appended.name ≡ rules.appended.name
       → rules2.appended.callers ≡ rules.appended.callers

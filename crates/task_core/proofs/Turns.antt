@@ -19,10 +19,10 @@ use Rattle.policy_text.specs.RuleValue.{RuleValue}
 use Rattle.policy_text.specs.declared.rule.Func.{Func}
 use Rattle.run_model.specs.History.{Answer, Thought, hear, step_at, who_at}
 use Rattle.run_model.specs.Scene.{Program}
-use Rattle.run_model.specs.Turns.{State, go_step}
+use Rattle.run_model.specs.Turns.{State}
 use Rattle.run_model.specs.declared.turn.Turn.TheVariants as turns
-use Rattle.task_frame.specs.Frame.{Frame, inode_in, mode_in, scene_of}
-use Rattle.task_frame.specs.Tasks.{ArePassesOf, HasPlayed, IsTask, PassesValue, Tasked}
+use Rattle.task_frame.specs.Frame.{Frame, inode_in, mode_in}
+use Rattle.task_frame.specs.Tasks.{HasPlayed, IsTask, PassesValue, Tasked}
 use Rattle.task_frame.specs.declared.gathered.Gathered.{Gathered}
 use Rattle.task_laws.proofs.Blocking.{task_of_who}
 use Rattle.task_laws.proofs.Readying.{ready_by_look}
@@ -39,7 +39,7 @@ use Rattle.world_deeds.proofs.Sharing.{appends_tells, signals_reach}
 use Rattle.world_deeds.specs.Acting.{EventIn, IsPlacedAt, IsSaid, ReadyAt, told_in, told_of}
 use Rattle.world_deeds.specs.Checking.{CheckIn}
 use Rattle.world_deeds.specs.Sharing.{AppendsTo, SignalsOn}
-use Rattle.world_deeds.specs.Turning.{Fails, Goes, Reaches, StillPlays, Stops, Tells, answer_of, reached_by, turned_to}
+use Rattle.world_deeds.specs.Turning.{Fails, Reaches, StillPlays, Stops, Tells, answer_of, reached_by}
 use Rattle.world_deeds.specs.declared.answers.Answered.{Answered}
 use Rattle.world_deeds.specs.declared.answers.Reached.{Reached}
 use Rattle.world_deeds.specs.declared.answers.Reached.TheVariants as reached
@@ -54,6 +54,7 @@ module _ (frame : Frame) (n room : ℕ) (g : Gathered) (passes : PassesValue) (h
     passes = passes;
   }) h
 
+  -- equal words have played as much
   with_words : (a : TaskValue) (p : Program) (t : Thought) (c : ActionValue) → a.program ≡ p
       → a.thought ≡ t → a.checked ≡ c
       → HasPlayed frame (record { number = n; mind = a; gathered = g; passes = passes }) h
@@ -86,6 +87,7 @@ played_same frame n a b g passes h s x =
     with_words frame n b.spare g passes h a b.program b.thought b.checked (sym s.program)
     (sym s.thought) (sym s.checked) x
 
+-- and is one of the same worlds
 pub task_same : (frame : Frame) (n : ℕ) (a b : TaskValue) (g : Gathered) (passes : PassesValue)
     → IsSameTask a b
     → IsTask frame (record { number = n; mind = a; gathered = g; passes = passes })
@@ -102,12 +104,6 @@ module _ (frame : Frame) (t : Tasked) (is : IsTask frame t) where
   abbrev who : Who
   who = who_at t.number t.mind.program t.mind.thought.mind
 
-  -- its passes are those of the task of its Who
-  pub turn_passes : ArePassesOf frame who.task t.passes
-  turn_passes =
-      subst (λ (n : ℕ). ArePassesOf frame n t.passes)
-      (sym (task_of_who t.number t.mind.program t.mind.thought.mind)) is.played.passes
-
   -- after a look its step is ready
   pub turn_ready : (i : ℕ) (d : Deed) → IsStepOn i d due
       → ReadyAt frame i t.passes.inodes who.task t.gathered t.mind.checked
@@ -119,15 +115,6 @@ module _ (frame : Frame) (t : Tasked) (is : IsTask frame t) where
       (ready_by_look frame t is.history i s q list d is.played here at
       (subst (λ (n : ℕ). HasLooked (inode_in frame s) (n + 1) q.seen list q.mine) number looked)
       on)
-
-  -- a program that is over
-  pub turn_over : (old : State) → due ≡ None
-      → Stops frame t old old t.passes t.gathered turns.Done
-  turn_over old over = record {
-    plays = λ h x. x;
-    goes = λ programs.
-        ap (go_step (scene_of frame programs) t.number t.mind.program old t.mind.thought) over;
-  }
 
   -- the same of whoever asks so
   ready_by : (w : Who) (action : ActionValue) (slot : Slot) (i : ℕ) (d : Deed) → w ≡ who
@@ -175,6 +162,7 @@ module _ (frame : Frame) (t : Tasked) (old new : State) (passes : PassesValue) (
   abbrev asks : Option Step
   asks = step_at t.mind.program t.mind.thought.mind
 
+  -- a deed on an inode
   pub does_turn : {E : Type 0} (i : ℕ) (d : Deed) (g : Gathered) (r : Result (Option Answered) E)
       (x : Result Reached E) → asks ≡ Some (Does i d)
       → EventIn frame i (slice_get frame.sites i) w d old new t.passes passes t.gathered g
@@ -187,6 +175,7 @@ module _ (frame : Frame) (t : Tasked) (old new : State) (passes : PassesValue) (
       (subst (λ (y : Who). EventIn frame i (slice_get frame.sites i) y d old new t.passes passes
       t.gathered g (told_in r)) w_is e) said)
 
+  -- a check
   pub check_turn : {E : Type 0} (i : ℕ) (asked : Asked) (cred : Cred)
       (r : Result (Option Answered) E) (x : Result Reached E)
       → asks ≡ Some (Checks i asked.file asked.func asked.mask)
@@ -202,6 +191,7 @@ module _ (frame : Frame) (t : Tasked) (old new : State) (passes : PassesValue) (
       (subst (λ (k : Cred). CheckIn frame i (slice_get frame.sites i) w k asked old new t.passes
       passes t.gathered r) c (e t.gathered))))
 
+  -- a post or a wait
   pub signals_turn : {E : Type 0} (d : Deed) (r : Result (Option Answered) E)
       (x : Result Reached E) → asks ≡ Some (Signals d)
       → SignalsOn old new t.passes passes w d (told_in r)
@@ -213,6 +203,7 @@ module _ (frame : Frame) (t : Tasked) (old new : State) (passes : PassesValue) (
       (signals_reach frame t d old new passes st r
       (subst (λ (y : Who). SignalsOn old new t.passes passes y d (told_in r)) w_is e) said)
 
+  -- a rule that was appended, and one for which memory was wanting
   pub appends_turn : (rule : RuleValue) (a : Answered) → asks ≡ Some (Appends rule)
       → AppendsTo old new t.passes passes (record { who = w; rule = rule })
       → (a.place ≡ length old.added) × (a.told ≡ told.Done) × (a.action ≡ None)
@@ -245,15 +236,10 @@ module _ (frame : Frame) (t : Tasked) (old new : State) (passes : PassesValue) (
     });
   }
 
-  pub heard_goes : (a : Answered) (thought : Thought) (x : Tells frame t old new passes g a)
-      → thought ≡ hear (mode_in frame) t.mind.program t.mind.thought (answer_of a x.rules)
-      → Goes frame t old (turned_to new thought turns.Moved)
-  heard_goes a thought x e programs =
-      x.goes programs ∙ ap (λ (u : Thought). turned_to new u turns.Moved) (sym e)
-
 -- the same of its world behind the turn, whose constants are as before
 module _ (frame after : Frame) (t : Tasked) (old new : State) (passes : PassesValue)
     (g : Gathered) (same : after ≡ frame) (is : IsTask frame t) where
+  -- it heard what it was told
   told_still : (a : Answered) (mode : Mode) (action : Option ActionValue) (mind : TaskValue)
       → Tells frame t old new passes g a → mode ≡ mode_in frame → action ≡ a.action
       → mind.program ≡ t.mind.program
@@ -277,6 +263,7 @@ module _ (frame after : Frame) (t : Tasked) (old new : State) (passes : PassesVa
       subst (λ (y : Frame). IsTask y (task_left t passes g)) (sym same)
       (record { history = is.history; played = x is.history is.played })
 
+  -- its program was over, it was blocked, or it moved
   pub over_still : {E : Type 0} (r : Result Reached E) (x : Reached) (after_turn : Tasked)
       → r ≡ Ok x → x ≡ reached.Over → Reaches frame t old new passes g r
       → after_turn ≡ task_left t passes g → IsTask after after_turn

@@ -89,20 +89,26 @@ invariant_of-self c =
     let first : RulesLooked w.rules c.look.new.self s.rules c.look.new.pass =
     record {
       base = c.look.ensures.base;
-      list = c.look.ensures.list;
-      before = c.look.ensures.before;
-      seen = c.look.ensures.seen;
-      mine = c.look.ensures.mine;
-      pass = c.look.ensures.same_pass;
+      look = record {
+        same = c.look.ensures.list;
+        before = c.look.ensures.before;
+        seen = c.look.ensures.seen;
+        mine = c.look.ensures.mine;
+        own = c.look.ensures.own;
+        pass = c.look.ensures.same_pass;
+      };
     } in
     let second : RulesLooked c.look.new.self c.look-2.new.self p.rules c.look-2.new.pass =
     record {
       base = c.look-2.ensures.base;
-      list = c.look-2.ensures.list;
-      before = c.look-2.ensures.before;
-      seen = c.look-2.ensures.seen;
-      mine = c.look-2.ensures.mine;
-      pass = c.look-2.ensures.same_pass;
+      look = record {
+        same = c.look-2.ensures.list;
+        before = c.look-2.ensures.before;
+        seen = c.look-2.ensures.seen;
+        mine = c.look-2.ensures.mine;
+        own = c.look-2.ensures.own;
+        pass = c.look-2.ensures.same_pass;
+      };
     } in
     record {
       parts = inspected_parts w.settings w.stations.items w.supers.items w.book w.sems w.rules
@@ -140,20 +146,26 @@ returns-clause-frame c =
     let first : RulesLooked w.rules c.look.new.self s.rules c.look.new.pass =
     record {
       base = c.look.ensures.base;
-      list = c.look.ensures.list;
-      before = c.look.ensures.before;
-      seen = c.look.ensures.seen;
-      mine = c.look.ensures.mine;
-      pass = c.look.ensures.same_pass;
+      look = record {
+        same = c.look.ensures.list;
+        before = c.look.ensures.before;
+        seen = c.look.ensures.seen;
+        mine = c.look.ensures.mine;
+        own = c.look.ensures.own;
+        pass = c.look.ensures.same_pass;
+      };
     } in
     let second : RulesLooked c.look.new.self c.look-2.new.self p.rules c.look-2.new.pass =
     record {
       base = c.look-2.ensures.base;
-      list = c.look-2.ensures.list;
-      before = c.look-2.ensures.before;
-      seen = c.look-2.ensures.seen;
-      mine = c.look-2.ensures.mine;
-      pass = c.look-2.ensures.same_pass;
+      look = record {
+        same = c.look-2.ensures.list;
+        before = c.look-2.ensures.before;
+        seen = c.look-2.ensures.seen;
+        mine = c.look-2.ensures.mine;
+        own = c.look-2.ensures.own;
+        pass = c.look-2.ensures.same_pass;
+      };
     } in
     inspected_frame w.settings w.stations.items w.supers.items w.book w.sems w.rules w.tasks
     c.self.invariant.parts c.args.i s.cell s.rules s.place c.index_mut-station.result.now
@@ -176,20 +188,26 @@ returns-clause-check c =
     let first : RulesLooked w.rules c.look.new.self s.rules c.look.new.pass =
     record {
       base = c.look.ensures.base;
-      list = c.look.ensures.list;
-      before = c.look.ensures.before;
-      seen = c.look.ensures.seen;
-      mine = c.look.ensures.mine;
-      pass = c.look.ensures.same_pass;
+      look = record {
+        same = c.look.ensures.list;
+        before = c.look.ensures.before;
+        seen = c.look.ensures.seen;
+        mine = c.look.ensures.mine;
+        own = c.look.ensures.own;
+        pass = c.look.ensures.same_pass;
+      };
     } in
     let second : RulesLooked c.look.new.self c.look-2.new.self p.rules c.look-2.new.pass =
     record {
       base = c.look-2.ensures.base;
-      list = c.look-2.ensures.list;
-      before = c.look-2.ensures.before;
-      seen = c.look-2.ensures.seen;
-      mine = c.look-2.ensures.mine;
-      pass = c.look-2.ensures.same_pass;
+      look = record {
+        same = c.look-2.ensures.list;
+        before = c.look-2.ensures.before;
+        seen = c.look-2.ensures.seen;
+        mine = c.look-2.ensures.mine;
+        own = c.look-2.ensures.own;
+        pass = c.look-2.ensures.same_pass;
+      };
     } in
     inspected_check w.settings w.stations.items w.supers.items w.book w.sems w.rules w.tasks
     c.self.invariant.parts c.args.i s.cell s.rules s.place c.index_mut-station.result.now
