@@ -6,7 +6,8 @@ use Rattle.command_line.specs.Words.{command_of}
 
 commands : (command_of (codes "list" ∷ []) ≡ Some command.List)
     × (command_of (codes "policy" ∷ []) ≡ Some command.Policy)
-    × (command_of (codes "label" ∷ []) ≡ Some command.Label) × (command_of [] ≡ None)
+    × (command_of (codes "label" ∷ []) ≡ Some command.Label)
+    × (command_of (codes "run" ∷ []) ≡ Some command.Run) × (command_of [] ≡ None)
     × (command_of (codes "lists" ∷ []) ≡ None) × (command_of (codes "--help" ∷ []) ≡ None)
     × (command_of (codes "list" ∷ codes "list" ∷ []) ≡ None)
-commands = (refl, refl, refl, refl, refl, refl, refl)
+commands = (refl, refl, refl, refl, refl, refl, refl, refl)

@@ -145,6 +145,10 @@ label_is_word : IsWord (codes "label")
 unfolding clap_on_literals
 label_is_word = record { turns = refl; stops = refl; lone = refl; found = λ rest. refl; met = refl }
 
+run_is_word : IsWord (codes "run")
+unfolding clap_on_literals
+run_is_word = record { turns = refl; stops = refl; lone = refl; found = λ rest. refl; met = refl }
+
 -- ---- other words
 
 -- unequal texts are unequal either way
@@ -156,53 +160,59 @@ unequal_by a b false e h = refl
 unequal : (a b : Text) → bytes_eq a b ≡ false → bytes_eq b a ≡ false
 unequal a b h = unequal_by a b (bytes_eq b a) refl h
 
--- none of three is found
-none_of : (p : Text × List Text → Bool) (x y z : Text × List Text) → p x ≡ false → p y ≡ false
-    → p z ≡ false → option_map (λ s. s.0) (find p (x ∷ y ∷ z ∷ [])) ≡ None
-none_of p x y z a b c = rw (a, b, c) refl
+-- none of four is found
+none_of : (p : Text × List Text → Bool) (w x y z : Text × List Text) → p w ≡ false → p x ≡ false
+    → p y ≡ false → p z ≡ false → option_map (λ s. s.0) (find p (w ∷ x ∷ y ∷ z ∷ [])) ≡ None
+none_of p w x y z a b c d = rw (a, b, c, d) refl
 
 -- a word that is none of these names no subcommand
 no_subcommand : (word : Text) → bytes_eq word (codes "list") ≡ false
     → bytes_eq word (codes "policy") ≡ false → bytes_eq word (codes "label") ≡ false
+    → bytes_eq word (codes "run") ≡ false
     → subcommand_met (names_of whole) idle word ≡ None
-no_subcommand word list policy label =
+no_subcommand word list policy label run =
     none_of (answers_to word) (codes "list", []) (codes "policy", []) (codes "label", [])
+    (codes "run", [])
     (ap (λ (b : Bool). b || false) (unequal word (codes "list") list))
     (ap (λ (b : Bool). b || false) (unequal word (codes "policy") policy))
     (ap (λ (b : Bool). b || false) (unequal word (codes "label") label))
+    (ap (λ (b : Bool). b || false) (unequal word (codes "run") run))
 
 -- nor is it a command, alone or not
 no_command : (word : Text) (rest : List Text) → bytes_eq word (codes "list") ≡ false
     → bytes_eq word (codes "policy") ≡ false → bytes_eq word (codes "label") ≡ false
-    → command_of (word ∷ rest) ≡ None
-no_command word [] list policy label = rw (list, policy, label) refl
-no_command word (v ∷ more) list policy label = refl
+    → bytes_eq word (codes "run") ≡ false → command_of (word ∷ rest) ≡ None
+no_command word [] list policy label run = rw (list, policy, label, run) refl
+no_command word (v ∷ more) list policy label run = refl
 
 -- equal texts
 text_is : (a b : Text) → bytes_eq a b ≡ true → a ≡ b
 text_is a b h = (bytes_eq-Decides a b).0 h
 
 -- the outcome by which of the words the first is
-by_word : (word : Text) (rest : List Text) (list policy label : Bool)
+by_word : (word : Text) (rest : List Text) (list policy label run : Bool)
     → bytes_eq word (codes "list") ≡ list → bytes_eq word (codes "policy") ≡ policy
-    → bytes_eq word (codes "label") ≡ label → is_option word ≡ false
-    → list_any is_option rest ≡ false → Outcome (word ∷ rest)
-by_word word rest true policy label l p b e more =
+    → bytes_eq word (codes "label") ≡ label → bytes_eq word (codes "run") ≡ run
+    → is_option word ≡ false → list_any is_option rest ≡ false → Outcome (word ∷ rest)
+by_word word rest true policy label run l p b r e more =
     rw (text_is word (codes "list") l) (word_outcome (codes "list") rest list_is_word more)
-by_word word rest false true label l p b e more =
+by_word word rest false true label run l p b r e more =
     rw (text_is word (codes "policy") p)
     (word_outcome (codes "policy") rest policy_is_word more)
-by_word word rest false false true l p b e more =
+by_word word rest false false true run l p b r e more =
     rw (text_is word (codes "label") b)
     (word_outcome (codes "label") rest label_is_word more)
-by_word word rest false false false l p b e more = refused (record {
+by_word word rest false false false true l p b r e more =
+    rw (text_is word (codes "run") r)
+    (word_outcome (codes "run") rest run_is_word more)
+by_word word rest false false false false l p b r e more = refused (record {
   kind = UnknownArgument;
   others = InvalidSubcommand ∷ [];
   is = stray_words whole.top (names_of whole) word rest
       (is_some (entered whole (walk_on (walk_from nothing_held) (word ∷ rest)).stopped))
       (entered_fault whole (walk_on (walk_from nothing_held) (word ∷ rest)).stopped)
-      UnknownArgument (InvalidSubcommand ∷ []) refl e (no_subcommand word l p b) refl;
-  none = no_command word rest l p b;
+      UnknownArgument (InvalidSubcommand ∷ []) refl e (no_subcommand word l p b r) refl;
+  none = no_command word rest l p b r;
 })
 
 -- each list of words without options is taken as the command that it is, or refused
@@ -211,5 +221,6 @@ unfolding clap_on_literals
 outcome [] e = refused (record { kind = MissingSubcommand; others = []; is = refl; none = refl })
 outcome (word ∷ rest) e =
     by_word word rest (bytes_eq word (codes "list")) (bytes_eq word (codes "policy"))
-    (bytes_eq word (codes "label")) refl refl refl (first_is_none word rest e)
+    (bytes_eq word (codes "label")) (bytes_eq word (codes "run")) refl refl refl refl
+    (first_is_none word rest e)
     (neither (is_option word) (list_any is_option rest) e).1

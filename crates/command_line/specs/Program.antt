@@ -15,5 +15,7 @@ bare = on_top (λ s. record s {
 abbrev pub program : App
 program =
     with_subcommand
+    (with_subcommand
     (with_subcommand (with_subcommand bare (new_shape (codes "list"))) (new_shape (codes "policy")))
-    (new_shape (codes "label"))
+    (new_shape (codes "label")))
+    (new_shape (codes "run"))

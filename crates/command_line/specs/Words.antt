@@ -10,6 +10,7 @@ command_named word =
     if bytes_eq word (codes "list") then Some command.List
     else if bytes_eq word (codes "policy") then Some command.Policy
     else if bytes_eq word (codes "label") then Some command.Label
+    else if bytes_eq word (codes "run") then Some command.Run
     else None
 
 -- the command that the words are

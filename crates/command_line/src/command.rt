@@ -11,6 +11,8 @@ pub enum Command {
     Policy,
     /// The values that a seal would write on the files of a script.
     Label,
+    /// The report of the run of a script.
+    Run,
 }
 
 impl Command {
@@ -22,6 +24,7 @@ impl Command {
             "list" => Some(Command::List),
             "policy" => Some(Command::Policy),
             "label" => Some(Command::Label),
+            "run" => Some(Command::Run),
             _ => None,
         }
     }

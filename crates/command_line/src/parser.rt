@@ -54,7 +54,8 @@ fn program<'a>(alloc: Global) -> Result<clap::Command<'a>, AllocError>
     let program = bare(alloc);
     let program = with_command(alloc, program, "list")?;
     let program = with_command(alloc, program, "policy")?;
-    with_command(alloc, program, "label")
+    let program = with_command(alloc, program, "label")?;
+    with_command(alloc, program, "run")
 }
 
 fn bare<'a>(alloc: Global) -> clap::Command<'a>

@@ -8,6 +8,7 @@ fn words_are_a_command_or_none(rt: HostRuntime) -> Result<(), Fail> {
         ("list", Some(Command::List)),
         ("policy", Some(Command::Policy)),
         ("label", Some(Command::Label)),
+        ("run", Some(Command::Run)),
         ("", None),
         ("lists", None),
         ("lis", None),

@@ -8,6 +8,7 @@ use Rattle.ima_top.specs.commands.Label.{label_refusal}
 use Rattle.ima_top.specs.commands.List.{boot_entry, list_refusal, measured}
 use Rattle.script_text.specs.ListGrammar.{list_of}
 use Rattle.ima_top.specs.commands.Policy.{policy_refusal}
+use Rattle.ima_top.specs.commands.Run.{not_built, run_refusal}
 use Rattle.ima_top.specs.Served.{Serves}
 use Rattle.ima_top.specs.commands.Table.{IsOutput, reads}
 use Rattle.command_line.specs.declared.command.Command.{Command}
@@ -30,14 +31,23 @@ no_script : label_refusal [] ≡ Some (bad_line (record { line = 1; cause = NoEn
 unfolding label_refusal
 no_script = refl
 
+no_run : run_refusal [] ≡ Some (bad_line (record { line = 1; cause = NoEnd }))
+unfolding run_refusal
+no_run = refl
+
+-- threads aren't built
+no_threads : run_refusal (codes "imakern 1\nthreads 2\n") ≡ Some not_built
+unfolding run_refusal
+no_threads = refl
+
 no_rule : policy_refusal [] ≡ None
 unfolding policy_refusal
 no_rule = refl
 
 all_read : (reads command.List ≡ true) × (reads command.Policy ≡ true)
-    × (reads command.Label ≡ true)
+    × (reads command.Label ≡ true) × (reads command.Run ≡ true)
 unfolding reads
-all_read = (refl, refl, refl)
+all_read = (refl, refl, refl, refl)
 
 -- ---- the limit and the statuses, which the contracts cite by name
 
@@ -48,7 +58,7 @@ statuses : (DONE ≡ 0) × (USAGE ≡ 1) × (REFUSED ≡ 2) × (STUCK ≡ 3) × 
     × (WRITE_FAULT ≡ 5) × (TOO_LONG ≡ 6) × (OUT_OF_MEMORY ≡ 7)
 statuses = (refl, refl, refl, refl, refl, refl, refl, refl)
 
--- ---- no command has a stuck run
+-- ---- no command but `run` has a stuck run
 
 abbrev IsNeverStuck : Command → Type 0
 IsNeverStuck command = (input output : List ℕ) → IsOutput command input true output → ⊥

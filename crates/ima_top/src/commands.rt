@@ -8,13 +8,15 @@ mod bad_line;
 mod label;
 mod list;
 mod policy;
+mod run;
 
 use crate::not_done::NotDone;
 use command_line::Command;
+use ima_io::Gate;
 use std::alloc::Global;
 
 /// The line that is told where the words aren't a command.
-pub const USAGE_LINE: &[u8] = b"usage: imakern list | policy | label\n";
+pub const USAGE_LINE: &[u8] = b"usage: imakern list | run | policy | label\n";
 
 /// Whether the command reads its input. One that doesn't is answered as if it had read nothing.
 #[tactic(auto, unfolding(crate::specs::commands::Table::reads))]
@@ -22,14 +24,19 @@ pub fn reads(command: Command) -> bool
     ensures { result ≡ reads command }
 {
     match command {
-        Command::List | Command::Policy | Command::Label => true,
+        Command::List | Command::Policy | Command::Label | Command::Run => true,
     }
 }
 
-/// What the command answers to the input: `Refused` where the input isn't in its grammar, or
-/// `OutOfMemory`.
+/// What the command answers to the input, whose run has each turn of a task behind the gate:
+/// `Refused` where the input isn't in its grammar, or `OutOfMemory`.
 #[tactic(auto, unfolding(crate::specs::commands::Table::refusal, crate::specs::commands::Table::IsOutput))]
-pub fn answer_input(alloc: Global, command: Command, input: &[u8]) -> Result<Answer, NotDone>
+pub fn answer_input<G: Gate>(
+    alloc: Global,
+    command: Command,
+    input: &[u8],
+    gate: &G,
+) -> Result<Answer, NotDone>
     requires { length input.now ≤ MOST_INPUT }
     ensures { Answers result (refusal command input.now)
         (λ answer. IsOutput command input.now answer.stuck answer.output.items) }
@@ -47,6 +54,7 @@ pub fn answer_input(alloc: Global, command: Command, input: &[u8]) -> Result<Ans
             output: label::answer(alloc, input)?,
             stuck: false,
         }),
+        Command::Run => run::answer(alloc, input, gate),
     }
 }
 

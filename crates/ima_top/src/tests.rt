@@ -242,9 +242,61 @@ fn the_labels_of_a_script_are_printed(rt: HostRuntime) -> Result<(), Fail> {
     Ok(())
 }
 
+// Runs of scripts of one file. The texts come from a second program.
+#[test]
+fn runs_end_done_stuck_or_refused(rt: HostRuntime) -> Result<(), Fail> {
+    let front = "imakern 1\nfs magic=0xef53 uuid=00000000-0000-0000-0000-000000000001 name=ext4 \
+        versions\nfile /a fs=0 ino=12 gen=1 uid=0 gid=0 mode=100644 content=txt:abc\n";
+    let list = "list 1 violations 0\n";
+    let rest = "inode 0 /a writers 0 readers 0 execs 0\nforce none\nattrs 0\nevents 1\n0 birth\n";
+    let task = "task uid=0 euid=0 gid=0 egid=0\n";
+    let rows = [
+        ("rounds\n", 0, "run done\n", "end\n", ""),
+        (
+            "wait 0\nrounds\n",
+            3,
+            "run stuck\n",
+            "task 0 unfinished\nend\n",
+            "stuck\n",
+        ),
+        (
+            "wait 0\nschedule\n",
+            3,
+            "run stuck\n",
+            "task 0 unfinished\nend\n",
+            "stuck\n",
+        ),
+        (
+            "post 0\nwait 0\nschedule 0\n",
+            0,
+            "run unfinished\n",
+            "task 0 unfinished\n0 ok\nend\n",
+            "",
+        ),
+        ("threads 2\n", 2, "", "", "not built\n"),
+        ("opne\nrounds\n", 2, "", "", "line 4: bad-word\n"),
+    ];
+    for (calls, status, ended, tasks, note) in rows {
+        let task = if calls.len() > 7 && status != 2 {
+            task
+        } else {
+            ""
+        };
+        let input = format!(in rt.alloc(); "{front}{task}{calls}")?;
+        let got = answer(rt.alloc(), "run", input.as_bytes())?;
+        let out = if status == 2 {
+            String::new(rt.alloc())
+        } else {
+            format!(in rt.alloc(); "imakern report 1\n{ended}{list}{BOOT}{rest}{tasks}")?
+        };
+        assert!(rt; got.is(status, out.as_str(), note), "at {calls}");
+    }
+    Ok(())
+}
+
 #[test]
 fn other_words_are_usage(rt: HostRuntime) -> Result<(), Fail> {
-    for word in ["", "lists", "-list", "help", "run"] {
+    for word in ["", "lists", "-list", "help", "gen"] {
         let got = answer(rt.alloc(), word, b"imalist 1\nend\n")?;
         assert_eq!(rt; got.status, 1, "at {word}");
         assert!(rt; got.out.is_empty(), "at {word}");

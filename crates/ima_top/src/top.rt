@@ -45,11 +45,12 @@ fn read_input<S: Source>(
 }
 
 // Reads the input whole, answers it, and writes the output whole.
-fn perform<S: Source, K: Sink>(
+fn perform<S: Source, K: Sink, G: Gate>(
     alloc: Global,
     command: Command,
     script: &mut S,
     out: &mut K,
+    gate: &G,
 ) -> Result<(), NotDone>
     ensures words { status_of result ≢ USAGE }
     ensures unread { reads command ≡ false → script.new ≡ script.old }
@@ -67,7 +68,7 @@ fn perform<S: Source, K: Sink>(
         → Rose (K.faults out.old) (K.faults out.new) }
 {
     let input = read_input(alloc, command, script)?;
-    let answer = answer_input(alloc, command, &input)?;
+    let answer = answer_input(alloc, command, &input, gate)?;
     write_all(out, &answer.output)?;
     if answer.stuck {
         Err(NotDone::Stuck)
@@ -78,11 +79,12 @@ fn perform<S: Source, K: Sink>(
 
 // Finds the command in the words and performs it. Where memory runs out over the words, nothing is
 // read.
-fn answer_words<S: Source, K: Sink>(
+fn answer_words<S: Source, K: Sink, G: Gate>(
     alloc: Global,
     words: &[String],
     script: &mut S,
     out: &mut K,
+    gate: &G,
 ) -> Result<(), NotDone>
     ensures usage { (status_of result ≡ USAGE → IsNone (command_of (map string_bytes words.now)))
         × (IsNone (command_of (map string_bytes words.now))
@@ -104,7 +106,7 @@ fn answer_words<S: Source, K: Sink>(
         → Rose (K.faults out.old) (K.faults out.new) }
 {
     match command_of(alloc, words)? {
-        Some(command) => perform(alloc, command, script, out),
+        Some(command) => perform(alloc, command, script, out, gate),
         None => Err(NotDone::Usage),
     }
 }
@@ -172,8 +174,7 @@ pub fn serve<S: Source, K: Sink, N: Sink, G: Gate + Sync>(
         ⊎ Rose (S.faults script.old) (S.faults script.new)
         ⊎ Rose (K.faults out.old) (K.faults out.new))) }
 {
-    let _ = gate;
-    match answer_words(alloc, words, script, out) {
+    match answer_words(alloc, words, script, out, gate) {
         Ok(()) => DONE,
         Err(why) => {
             tell(note, why.line());

@@ -1,24 +1,13 @@
 // What a seal would leave of a file.
 ghost use Rattle.std.specs.Prelude.{◌≡◌, IfOk};
-ghost use Rattle.script_text.specs.Files.{sealed, setup_of};
+ghost use Rattle.script_text.specs.Files.{sealed};
 
 use evm_verify::Evm;
 use hash_algos::{Algo, digest_of};
 use inode_meta::OutOfMemory;
 use label_values::{MAX_LABEL, write_label};
-use script_text::{FileBlock, Script};
-use std::alloc::Global;
+use script_text::FileBlock;
 use xattr_store::{Attrs, IMA_NAME, NewValue};
-
-/// EVM as the settings of the script have it.
-pub fn evm_of(alloc: Global, script: &Script) -> Result<Evm, OutOfMemory>
-    ensures { IfOk result (λ evm. evm ≡ setup_of script.now) }
-{
-    match &script.key {
-        Some(key) => Evm::new(alloc, Some(key.as_slice()), &script.added, script.format),
-        None => Evm::new(alloc, None, &script.added, script.format),
-    }
-}
 
 /// The attributes of the file as a seal would leave them.
 pub fn sealed_attrs(evm: &Evm, hash: Algo, file: &FileBlock) -> Result<Attrs, OutOfMemory>

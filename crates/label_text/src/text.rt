@@ -4,9 +4,10 @@ ghost use Rattle.std.specs.Option.{option_copied};
 ghost use Rattle.script_text.specs.Files.{setup_of};
 ghost use Rattle.label_text.specs.Labels.{file_lines, hmac_line, label_answer, line_under, value_line};
 
-use crate::seal::{evm_of, sealed_attrs};
+use crate::seal::sealed_attrs;
 use evm_verify::Evm;
 use inode_meta::OutOfMemory;
+use script_scene::evm_of;
 use script_text::{FileBlock, Script};
 use std::alloc::Global;
 use xattr_store::{EVM_NAME, IMA_NAME};

@@ -6,18 +6,21 @@ use Rattle.command_line.specs.declared.command.Command.TheVariants as command
 use Rattle.ima_top.specs.commands.Label.{label_refusal, IsLabelOutput}
 use Rattle.ima_top.specs.commands.List.{list_refusal, IsListOutput}
 use Rattle.ima_top.specs.commands.Policy.{policy_refusal, IsPolicyOutput}
+use Rattle.ima_top.specs.commands.Run.{run_refusal, IsRunOutput}
 
 -- The command reads its input. One that doesn't is answered as if it had read nothing.
 unfoldable pub reads : Command → Bool
 reads command.List = true
 reads command.Policy = true
 reads command.Label = true
+reads command.Run = true
 
 -- the line that is told of an input outside the command's grammar
 unfoldable pub refusal : Command → List ℕ → Option (List ℕ)
 refusal command.List input = list_refusal input
 refusal command.Policy input = policy_refusal input
 refusal command.Label input = label_refusal input
+refusal command.Run input = run_refusal input
 
 -- The bytes are an output for the input, of a run that is stuck or isn't. This is a relation, not a
 -- function, since an input whose tasks run on threads has several outputs. A command without tasks
@@ -26,3 +29,4 @@ unfoldable pub IsOutput : Command → List ℕ → Bool → List ℕ → Type 0
 IsOutput command.List input stuck output = (stuck ≡ false) × IsListOutput input output
 IsOutput command.Policy input stuck output = (stuck ≡ false) × IsPolicyOutput input output
 IsOutput command.Label input stuck output = (stuck ≡ false) × IsLabelOutput input output
+IsOutput command.Run input stuck output = IsRunOutput input stuck output

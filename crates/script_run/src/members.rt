@@ -1,0 +1,45 @@
+// The tasks of a script.
+ghost use Rattle.std.specs.Prelude.{◌≡◌, ◌<◌, ◌^◌, IfOk, length};
+ghost use Rattle.script_run.specs.Crew.{AreNew, IsNew};
+
+use grow_list::OutOfMemory;
+use script_text::TaskBlock;
+use std::alloc::Global;
+use std::collections::VecDeque;
+use task_core::Task;
+use task_frame::Passes;
+
+// The task of this number, before its first call.
+fn task_of(
+    alloc: Global,
+    number: u32,
+    block: TaskBlock,
+    passes: Passes,
+) -> Result<Task, OutOfMemory>
+    ensures { IfOk result (IsNew number block passes) }
+{
+    let TaskBlock { cred, calls } = block;
+    Task::new(alloc, number, cred, calls.into_vec(), passes)
+}
+
+// All tasks, in order, each with its passes.
+pub(crate) fn crew(
+    alloc: Global,
+    blocks: Vec<TaskBlock>,
+    passes: Vec<Passes>,
+) -> Result<Vec<Task>, OutOfMemory>
+    requires even { length passes.items ≡ length blocks.items }
+    requires few { length blocks.items < 2 ^ 32 }
+    ensures { IfOk result (λ tasks. AreNew blocks.items passes.items tasks.items) }
+{
+    let mut left = VecDeque::from(passes);
+    let mut tasks = Vec::new(alloc);
+    for block in blocks {
+        let Some(own) = left.pop_front() else {
+            unreachable!()
+        };
+        let number = tasks.len() as u32;
+        tasks.push(task_of(alloc, number, block, own)?)?;
+    }
+    Ok(tasks)
+}

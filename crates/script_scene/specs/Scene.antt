@@ -1,0 +1,61 @@
+-- The scene that a script sets up.
+use Rattle.std.specs.Prelude.{ℕ, false, List, [], map, codes, get_or, IsTrue}
+use Rattle.hash_algos.specs.declared.digest.Digest.{Digest}
+use Rattle.ima_templates.specs.Entries.{entry_of}
+use Rattle.ima_templates.specs.declared.entry.Entry.{Entry}
+use Rattle.inode_meta.specs.declared.measurement.Template.{Template}
+use Rattle.inode_meta.specs.declared.measurement.TheConstants.{DEFAULT_PCR}
+use Rattle.inode_events.specs.declared.image.Image.{Image}
+use Rattle.inode_events.specs.declared.settings.Settings.{Settings}
+use Rattle.policy_text.specs.RuleValue.{is_named_template}
+use Rattle.policy_text.specs.declared.access.Super.{Super}
+use Rattle.run_model.specs.Scene.{Program, Scene, Station}
+use Rattle.script_text.specs.Files.{setup_of}
+use Rattle.script_text.specs.ScriptValue.{ScriptValue}
+use Rattle.script_text.specs.declared.blocks.FileBlock.{FileBlock}
+use Rattle.script_text.specs.declared.blocks.TaskBlock.{TaskBlock}
+
+-- the script has a template that is for files, as each script has
+abbrev pub IsForFiles : ScriptValue → Type 0
+IsForFiles s = IsTrue (is_named_template s.template)
+
+-- what it sets for all inodes
+abbrev pub settings_of : (s : ScriptValue) → IsForFiles s → Settings
+settings_of s for_files = record {
+  hash = s.hash;
+  template = s.template;
+  mode = s.mode;
+  evm = setup_of s;
+  for_files = for_files;
+}
+
+-- the first entry of the measurement list, whose digest is by SHA-1 under the template `ima`
+abbrev pub boot_by : Template → Digest → Entry
+boot_by template boot = entry_of DEFAULT_PCR template boot boot (codes "boot_aggregate") []
+
+-- ---- files, each with its file system, which a script has
+
+abbrev pub file_of : FileBlock → List ℕ × Image
+file_of b = (b.path, b.image)
+
+abbrev pub fs_of : FileBlock → ℕ
+fs_of b = b.fs
+
+abbrev pub no_super : Super
+no_super = record { magic = 0; uuid = 0; name = []; versions = false }
+
+abbrev pub station_of : List Super → FileBlock → Station
+station_of supers b =
+    record { path = b.path; birth = b.image; place = get_or supers b.fs no_super }
+
+abbrev pub program_of : TaskBlock → Program
+program_of t = record { cred = t.cred; calls = t.calls }
+
+abbrev pub scene_of : (s : ScriptValue) → IsForFiles s → Scene
+scene_of s for_files = record {
+  settings = settings_of s for_files;
+  boot = boot_by s.template s.boot;
+  stations = map (station_of s.supers) s.files;
+  rules = s.rules;
+  programs = map program_of s.tasks;
+}
