@@ -3,4 +3,5 @@ pub mod BadLine
 pub mod Label
 pub mod List
 pub mod Policy
+pub mod Run
 pub mod Table
