@@ -1,6 +1,7 @@
 -- Texts and words, each with what it is.
 use Rattle.std.proofs.Common.{◌≡◌, ℕ, true, List, [], ◌∷◌, Option, Some, None, Ok, refl}
 use Rattle.std.specs.Prelude.{codes}
+use Rattle.call_steps.specs.declared.ending.Ending.TheVariants as ending
 use Rattle.command_line.specs.declared.command.Command.TheVariants as command
 use Rattle.script_words.specs.declared.fault.LineCause.TheVariants.{NoEnd}
 use Rattle.ima_top.specs.commands.BadLine.{bad_line}
@@ -8,7 +9,7 @@ use Rattle.ima_top.specs.commands.Label.{label_refusal}
 use Rattle.ima_top.specs.commands.List.{boot_entry, list_refusal, measured}
 use Rattle.script_text.specs.ListGrammar.{list_of}
 use Rattle.ima_top.specs.commands.Policy.{policy_refusal}
-use Rattle.ima_top.specs.commands.Run.{not_built, run_refusal}
+use Rattle.ima_top.specs.commands.Run.{not_built, run_refusal, unbuilt}
 use Rattle.ima_top.specs.Served.{Serves}
 use Rattle.ima_top.specs.commands.Table.{IsOutput, reads}
 use Rattle.command_line.specs.declared.command.Command.{Command}
@@ -36,9 +37,8 @@ unfolding run_refusal
 no_run = refl
 
 -- threads aren't built
-no_threads : run_refusal (codes "imakern 1\nthreads 2\n") ≡ Some not_built
-unfolding run_refusal
-no_threads = refl
+no_threads : (n : ℕ) → unbuilt (ending.Threads n) ≡ Some not_built
+no_threads n = refl
 
 no_rule : policy_refusal [] ≡ None
 unfolding policy_refusal
