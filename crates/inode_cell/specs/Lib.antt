@@ -7,5 +7,4 @@ pub mod Sums
 pub mod Pieces
 pub mod Listing
 pub mod Granting
-pub mod Checking
 pub mod Ending

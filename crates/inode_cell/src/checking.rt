@@ -8,10 +8,9 @@ ghost use Rattle.own_laws.specs.Own.{IsBy};
 ghost use Rattle.inode_events.specs.Past.{past};
 ghost use Rattle.inode_events.specs.Says.{check_told, place_of};
 ghost use Rattle.inode_events.specs.State.{metadata};
-ghost use Rattle.rule_match.specs.Decision.{decide_of};
+ghost use Rattle.rule_match.specs.Decision.{access_of, decide_of};
 ghost use Rattle.inode_cell.specs.Acts.{Acts, MayBy, Stays};
 ghost use Rattle.inode_cell.specs.Answers.{found_told};
-ghost use Rattle.inode_cell.specs.Checking.{access_of};
 
 use crate::answers::Found;
 use crate::cell::InodeCell;

@@ -3,13 +3,17 @@
 use Rattle.std.specs.Prelude.{ℕ, Bool, true, false, ◌&&◌, List, Option, Some, None, is_some, unwrap_or, find, if◌then◌else◌}
 use Rattle.std.specs.List.{position_from}
 use Rattle.std.specs.Option.{option_and_then, option_map_or}
+use Rattle.inode_meta.specs.declared.identity.Cred.{Cred}
+use Rattle.inode_meta.specs.declared.identity.Meta.{Meta}
 use Rattle.inode_meta.specs.declared.appraisal.Need.TheVariants as need
 use Rattle.inode_meta.specs.declared.measurement.TheConstants.{DEFAULT_PCR}
 use Rattle.policy_text.specs.ActionValue.{ActionValue}
 use Rattle.policy_text.specs.RuleValue.{RuleValue}
 use Rattle.policy_text.specs.declared.access.Access.{Access}
+use Rattle.policy_text.specs.declared.access.Super.{Super}
 use Rattle.policy_text.specs.declared.rule.Act.{Act}
 use Rattle.policy_text.specs.declared.rule.Act.TheVariants as act
+use Rattle.policy_text.specs.declared.rule.Func.{Func}
 use Rattle.rule_match.specs.Conditions.{rule_matches}
 use Rattle.rule_match.specs.declared.family.Family.{Family}
 use Rattle.rule_match.specs.declared.family.Family.TheVariants.{Measuring, Appraising, Auditing, Hashing}
@@ -62,6 +66,17 @@ action_of measure appraise audit hash = record {
   algos = option_and_then (λ r. r.algos) appraise;
   audit = is_some audit;
   hash = is_some hash;
+}
+
+-- a task's access to an inode on this file system, whose owner is that of the metadata
+abbrev pub access_of : Cred → Super → Meta → Func → ℕ → Access
+access_of cred place meta func mask = record {
+  func = func;
+  mask = mask;
+  cred = record { ref_ptr = (0, 0); now = cred };
+  owner = meta.uid;
+  group = meta.gid;
+  place = record { ref_ptr = (0, 0); now = place };
 }
 
 abbrev pub decide_of : List RuleValue → Access → ActionValue

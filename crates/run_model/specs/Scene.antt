@@ -1,20 +1,23 @@
 -- What a script sets up: its scene, and what never changes while it runs.
-use Rattle.std.specs.Prelude.{ℕ, List, ◌++◌, map}
+use Rattle.std.specs.Prelude.{ℕ, false, List, [], ◌++◌, map}
 use Rattle.ima_templates.specs.declared.entry.Entry.{Entry}
 use Rattle.inode_meta.specs.declared.appraisal.Mode.{Mode}
 use Rattle.inode_meta.specs.declared.identity.Cred.{Cred}
 use Rattle.inode_meta.specs.declared.identity.Meta.{Meta}
 use Rattle.policy_text.specs.ActionValue.{ActionValue}
 use Rattle.policy_text.specs.RuleValue.{RuleValue}
-use Rattle.policy_text.specs.declared.access.Access.{Access}
 use Rattle.policy_text.specs.declared.access.Super.{Super}
 use Rattle.policy_text.specs.declared.rule.Func.{Func}
-use Rattle.rule_match.specs.Decision.{decide_of}
+use Rattle.rule_match.specs.Decision.{access_of, decide_of}
 use Rattle.inode_events.specs.Inode.{Inode}
 use Rattle.inode_events.specs.declared.image.Image.{Image}
 use Rattle.inode_events.specs.declared.settings.Settings.{Settings}
 use Rattle.call_steps.specs.declared.call.Call.{Call}
 use Rattle.policy_cell.specs.declared.cell.RuleEntry.{RuleEntry}
+
+-- no file system
+abbrev pub no_super : Super
+no_super = record { magic = 0; uuid = 0; name = []; versions = false }
 
 -- a file of the script: its path, the inode as it comes into being, and the file system on which it
 -- lies
@@ -46,17 +49,6 @@ mode_of scene = scene.settings.mode
 -- the rules in force: the script's, and behind them the appended ones
 abbrev pub rules_with : Scene → List RuleEntry → List RuleValue
 rules_with scene added = scene.rules ++ map (λ (r : RuleEntry). r.rule) added
-
--- a task's access to a file, whose owner is that of the metadata
-abbrev pub access_of : Cred → Super → Meta → Func → ℕ → Access
-access_of cred place meta func mask = record {
-  func = func;
-  mask = mask;
-  cred = record { ref_ptr = (0, 0); now = cred };
-  owner = meta.uid;
-  group = meta.gid;
-  place = record { ref_ptr = (0, 0); now = place };
-}
 
 -- the action that the rules give it
 abbrev pub decided : List RuleValue → Cred → Super → Meta → Func → ℕ → ActionValue

@@ -2,11 +2,11 @@
 use Rattle.std.proofs.Common.{◌≡◌, ℕ, List, [], ◌∷◌, length, map, drop, get_or, refl, ap, sym, ◌∙◌, arith}
 use Rattle.inode_events.specs.declared.image.Image.{Image}
 use Rattle.policy_text.specs.declared.access.Super.{Super}
-use Rattle.run_model.specs.Scene.{Program}
+use Rattle.run_model.specs.Scene.{Program, no_super}
 use Rattle.script_text.specs.ScriptValue.{ScriptValue}
 use Rattle.script_text.specs.declared.blocks.FileBlock.{FileBlock}
 use Rattle.task_frame.specs.Frame as frames
-use Rattle.task_frame.specs.Frame.{Frame, Site, no_super}
+use Rattle.task_frame.specs.Frame.{Frame, Site}
 use Rattle.world_start.specs.Start.{IsFrameOf}
 use Rattle.script_scene.specs.Parts.{ArePartsOf}
 use Rattle.script_scene.specs.Scene as scripts

@@ -1,5 +1,5 @@
 -- The scene that a script sets up.
-use Rattle.std.specs.Prelude.{ℕ, false, List, [], map, codes, get_or, IsTrue}
+use Rattle.std.specs.Prelude.{ℕ, List, [], map, codes, get_or, IsTrue}
 use Rattle.hash_algos.specs.declared.digest.Digest.{Digest}
 use Rattle.ima_templates.specs.Entries.{entry_of}
 use Rattle.ima_templates.specs.declared.entry.Entry.{Entry}
@@ -9,7 +9,7 @@ use Rattle.inode_events.specs.declared.image.Image.{Image}
 use Rattle.inode_events.specs.declared.settings.Settings.{Settings}
 use Rattle.policy_text.specs.RuleValue.{is_named_template}
 use Rattle.policy_text.specs.declared.access.Super.{Super}
-use Rattle.run_model.specs.Scene.{Program, Scene, Station}
+use Rattle.run_model.specs.Scene.{Program, Scene, Station, no_super}
 use Rattle.script_text.specs.Files.{setup_of}
 use Rattle.script_text.specs.ScriptValue.{ScriptValue}
 use Rattle.script_text.specs.declared.blocks.FileBlock.{FileBlock}
@@ -40,9 +40,6 @@ file_of b = (b.path, b.image)
 
 abbrev pub fs_of : FileBlock → ℕ
 fs_of b = b.fs
-
-abbrev pub no_super : Super
-no_super = record { magic = 0; uuid = 0; name = []; versions = false }
 
 abbrev pub station_of : List Super → FileBlock → Station
 station_of supers b =

@@ -18,11 +18,11 @@ use Rattle.policy_cell.specs.declared.cell.RuleEntry.{RuleEntry}
 use Rattle.policy_text.specs.RuleValue.{RuleValue}
 use Rattle.policy_text.specs.declared.access.Super.{Super}
 use Rattle.rule_laws.specs.Stations.{CountsAll}
-use Rattle.run_model.specs.Scene.{rules_with}
+use Rattle.run_model.specs.Scene.{no_super, rules_with}
 use Rattle.run_model.specs.Turns.{State}
 use Rattle.task_core.proofs.Seen.{PassSees, same_twice, sees_alone, sees_more}
 use Rattle.task_deeds.specs.declared.listed.Checks.{Checks}
-use Rattle.task_frame.specs.Frame.{Frame, Site, inode_in, no_super, scene_of, super_at}
+use Rattle.task_frame.specs.Frame.{Frame, Site, inode_in, scene_of, super_at}
 use Rattle.task_frame.specs.Tasks.{PassesValue}
 use Rattle.task_frame.specs.World.{StationValue, journal_of, site_of}
 use Rattle.task_frame.specs.declared.gathered.Gathered.{Gathered}

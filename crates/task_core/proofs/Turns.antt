@@ -203,7 +203,7 @@ module _ (frame : Frame) (t : Tasked) (old new : State) (passes : PassesValue) (
       (signals_reach frame t d old new passes st r
       (subst (λ (y : Who). SignalsOn old new t.passes passes y d (told_in r)) w_is e) said)
 
-  -- a rule that was appended, and one for which memory was wanting
+  -- a rule that was appended, and one that ran out of memory
   pub appends_turn : (rule : RuleValue) (a : Answered) → asks ≡ Some (Appends rule)
       → AppendsTo old new t.passes passes (record { who = w; rule = rule })
       → (a.place ≡ length old.added) × (a.told ≡ told.Done) × (a.action ≡ None)

@@ -3,12 +3,11 @@
 ghost use Rattle.inode_events.specs.declared.deed.Deed.TheVariants as Deed;
 ghost use Rattle.std.specs.Prelude.{◌≡◌, ◌+◌, List, length, Some, IfOk};
 ghost use Rattle.inode_cell.specs.Acts.{MayBy};
-ghost use Rattle.inode_cell.specs.Checking.{access_of};
 ghost use Rattle.inode_events.specs.Asked.{outcome};
 ghost use Rattle.inode_events.specs.Checks.{no_action};
 ghost use Rattle.inode_events.specs.Past.{past};
 ghost use Rattle.inode_events.specs.State.{metadata};
-ghost use Rattle.rule_match.specs.Decision.{decide_of};
+ghost use Rattle.rule_match.specs.Decision.{access_of, decide_of};
 ghost use Rattle.ima_templates.specs.declared.entry.Entry.{Entry as AnyEntry};
 ghost use Rattle.task_deeds.specs.Hashed.{IsAloneDeed, goes_on};
 ghost use Rattle.task_frame.specs.Tasks.{HashesBefore};

@@ -3,11 +3,10 @@
 ghost use Rattle.inode_events.specs.declared.deed.Deed.TheVariants as Deed;
 ghost use Rattle.std.specs.Prelude.{◌≡◌, ℕ, ◌+◌, List, length, Some, IfOk, OnErr};
 ghost use Rattle.inode_cell.specs.Acts.{Acts, MayBy, Stays};
-ghost use Rattle.inode_cell.specs.Checking.{access_of};
 ghost use Rattle.inode_events.specs.Checks.{no_action};
 ghost use Rattle.inode_events.specs.Past.{past};
 ghost use Rattle.inode_events.specs.State.{metadata};
-ghost use Rattle.rule_match.specs.Decision.{decide_of};
+ghost use Rattle.rule_match.specs.Decision.{access_of, decide_of};
 ghost use Rattle.task_laws.specs.Due.{HashesTold};
 ghost use Rattle.task_frame.specs.Tasks.{HashesBefore};
 ghost use Rattle.task_laws.specs.Ready.{AsksBy};

@@ -11,7 +11,7 @@ use Rattle.inode_events.specs.declared.image.Image.{Image}
 use Rattle.inode_events.specs.declared.settings.Settings.{Settings}
 use Rattle.policy_text.specs.RuleValue.{RuleValue}
 use Rattle.policy_text.specs.declared.access.Super.{Super}
-use Rattle.run_model.specs.Scene.{Program, Scene, Station}
+use Rattle.run_model.specs.Scene.{Program, Scene, Station, no_super}
 
 -- of an inode: its path, the image with which it came into being, the number of its file system,
 -- and the name of its journal
@@ -38,10 +38,6 @@ pub record Frame : Type 0 where
   pub tasks : ℕ
 
 -- ---- the scene of a run
-
--- no file system
-abbrev pub no_super : Super
-no_super = record { magic = 0; uuid = 0; name = []; versions = false }
 
 abbrev pub super_at : Frame → ℕ → Super
 super_at frame place = get_or frame.supers place no_super

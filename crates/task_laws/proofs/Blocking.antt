@@ -1,4 +1,4 @@
--- A deed that was blocked, or for which memory was wanting, leaves its task's history.
+-- A deed that was blocked or ran out of memory leaves its task's history.
 use Rattle.std.proofs.Common.{◌≡◌, ◌≢◌, ℕ, ◌+◌, ◌<◌, ◌≤◌, List, length, Option, Some, None, refl, sym, ◌∙◌, ap, subst, arith, inl, inr}
 use Rattle.std.specs.Prelude.{◌⊎◌, All, slice_get}
 use Rattle.std.proofs.lemmas.List.{append-nil, length-set}

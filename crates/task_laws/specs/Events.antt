@@ -15,7 +15,7 @@ use Rattle.task_laws.specs.Due.{HashesTold}
 use Rattle.task_laws.specs.Ready.{HasLooked}
 use Rattle.task_laws.specs.Steps.{Adds}
 
--- the deed on this inode, which was told so: None where it was blocked, or where memory was wanting
+-- the deed on this inode, which was told so: None where it was blocked or ran out of memory
 pub record EventOn (frame : Frame) (i : ℕ) (s : Site) (who : Who) (d : Deed) (old new : State)
     (passes passes2 : PassesValue) (g g2 : Gathered) (o : Option Told) : Type 0 where
   pub journal : List Event

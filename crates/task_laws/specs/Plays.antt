@@ -77,7 +77,7 @@ IsStepFor i d (Some (Does j e)) = (j ≡ i) × (e ≡ d)
 IsStepFor i d (Some (Checks j file func mask)) = j ≡ i
 IsStepFor i d _ = ⊥
 
--- a deed that was blocked, or for which memory was wanting, leaves the history
+-- a deed that was blocked or ran out of memory leaves the history
 abbrev pub NoneIsPlayed : Type 0
 NoneIsPlayed = (frame : Frame) (t : Tasked) (h : List Answer) (i : ℕ) (s : Site) (d : Deed)
     (old new : State) (passes : PassesValue) (g : Gathered) → HasPlayed frame t h

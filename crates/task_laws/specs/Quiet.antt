@@ -40,7 +40,7 @@ QuietIsPlayed = (frame : Frame) (t : Tasked) (h : List Answer) (a : Answer) (pas
     → HasHeard frame t a mind
     → HasPlayed frame (task_after t mind passes t.gathered) (a ∷ h)
 
--- where it was blocked, or memory was wanting, the passes have perhaps seen more
+-- where it was blocked, or memory ran out, the passes have perhaps seen more
 pub record QuietLeft (t : Tasked) (passes : PassesValue) : Type 0 where
   pub inodes : passes.inodes ≡ t.passes.inodes
   pub book : passes.book ≡ t.passes.book

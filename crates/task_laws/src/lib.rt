@@ -35,7 +35,7 @@ pub fn check_is_played()
     ensures { CheckIsPlayed }
 {}
 
-/// A deed that was blocked, or for which memory was wanting, leaves the history.
+/// A deed that was blocked or ran out of memory leaves the history.
 pub fn none_is_played()
     ensures { NoneIsPlayed }
 {}
@@ -45,7 +45,7 @@ pub fn quiet_is_played()
     ensures { QuietIsPlayed }
 {}
 
-/// Where such a step was blocked, or memory was wanting, the history stays.
+/// Where such a step was blocked, or memory ran out, the history stays.
 pub fn quiet_is_left()
     ensures { QuietIsLeft }
 {}

@@ -36,8 +36,8 @@ fn round<G: Gate>(world: &mut World, tasks: &mut Vec<Task>, gate: &G) -> Result<
     Ok(moved)
 }
 
-/// Rounds of all tasks, until one moves none. After want of memory the tasks have made some of
-/// their turns. A run of 2^64 rounds counts as want of memory.
+/// Rounds of all tasks, until one moves none. Where memory runs out, the tasks have made some
+/// of their turns. A run of 2^64 rounds counts as out of memory.
 pub fn run_rounds<G: Gate>(
     world: &mut World,
     tasks: &mut Vec<Task>,

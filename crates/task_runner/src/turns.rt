@@ -33,8 +33,8 @@ pub fn turn_at<G: Gate>(
     task.step(world)
 }
 
-/// One turn of each task that is named, in order. After want of memory the tasks have made some of
-/// their turns.
+/// One turn of each task that is named, in order. Where memory runs out, the tasks have
+/// made some of their turns.
 pub fn run_schedule<G: Gate>(
     world: &mut World,
     tasks: &mut Vec<Task>,

@@ -7,8 +7,8 @@ use Rattle.task_frame.specs.Tasks.{Tasked}
 use Rattle.task_frame.specs.World.{WorldValue}
 use Rattle.turn_laws.specs.Runs.{GoesTo, HasRounded, HasTurned, IsInRound, IsRound, IsTurn, KeepsTask, StillRuns, moment_in, scene_in}
 
--- a step of one of the tasks is a turn of all; without one, as where memory was wanting, they are
--- the tasks of their world still
+-- a step of one of the tasks is a turn of all; without one, as where memory ran out, they are
+-- still the tasks of their world
 abbrev pub StepIsTurn : Type 0
 StepIsTurn = (world world2 : WorldValue) (tasks : List Tasked) (k : ℕ) (t t2 : Tasked)
     → AreTasks world.frame tasks → slice_get tasks k ≡ Some t → KeepsTask world world2 t t2

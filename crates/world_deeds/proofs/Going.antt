@@ -73,7 +73,7 @@ module _ (frame : Frame) (t : Tasked) (i : ℕ) (s : Site) (d : Deed) (old new :
       (get_map (station_of frame) frame.sites i s there)
       ∙ goes_event programs no_action 0
 
--- ---- a deed that was told, blocked, or for which memory was wanting
+-- ---- a deed that was told, blocked, or ran out of memory
 
 pub answer_same : (a : Answered) (place : ℕ) → a.place ≡ place → a.action ≡ None
     → plain_answer place a.told ≡ answer_of a 0

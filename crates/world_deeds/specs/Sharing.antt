@@ -10,7 +10,7 @@ use Rattle.run_model.specs.Turns.{State}
 use Rattle.task_frame.specs.Tasks.{PassesValue}
 use Rattle.task_laws.specs.Steps.{Adds}
 
--- a post or a wait, which was told so: None where it was blocked, or where memory was wanting
+-- a post or a wait, which was told so: None where it was blocked or ran out of memory
 pub record SignalsOn (old new : State) (passes passes2 : PassesValue) (who : Who) (d : Deed)
     (o : Option Told) : Type 0 where
   pub state : new ≡ record old { signals = old.signals ++ made who d o }

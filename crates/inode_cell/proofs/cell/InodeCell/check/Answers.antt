@@ -1,7 +1,6 @@
 use Rattle.std.proofs.Common.{ap, ◌∙◌}
 use Rattle.inode_meta.specs.declared.identity.Meta.{Meta}
-use Rattle.rule_match.specs.Decision.{decide_of}
-use Rattle.inode_cell.specs.Checking.{access_of}
+use Rattle.rule_match.specs.Decision.{access_of, decide_of}
 use Rattle.inode_cell.proofs.cell.InodeCell.check.Goals as goal
 
 pub returns-clause-action : goal.returns-clause-action
