@@ -1,0 +1,268 @@
+#!/usr/bin/env python3
+"""bench/run.py [RUNS]: what `run` and `gen` cost beside the hashes that they have to compute.
+
+It needs the two programs crates/imakern/out/imakern and crates/kit_hashes/out/kit_hashes, which
+`rt ci` leaves there (`./imakern` builds the first, `rt run </dev/null` in crates/kit_hashes the
+second). Each time is the least user time of RUNS runs (7), in which the program and the hashes take
+turns, so that other work on the machine slows both. It prints a line for each measurement, and ends
+with status 1 where one is above its limit. bench/README.md says what is measured and why.
+"""
+import os, re, resource, select, subprocess, sys, tempfile, time
+from collections import Counter
+
+TOP = os.path.dirname(os.path.dirname(os.path.abspath(__file__)))
+IMAKERN = os.path.join(TOP, 'crates', 'imakern', 'out', 'imakern')
+HASHES = os.path.join(TOP, 'crates', 'kit_hashes', 'out', 'kit_hashes')
+RUNS = int(sys.argv[1]) if len(sys.argv) > 1 else 7
+EXT4 = 'fs magic=0xef53 uuid=00000000-0000-0000-0000-000000000001 name=ext4 versions'
+HEAD = ['imakern 1', EXT4]
+FILE = 'file /f%d fs=0 ino=%d gen=1 uid=0 gid=0 mode=100644 content=fill:%d:%02x'
+TASK = 'task uid=0 euid=0 gid=0 egid=0'
+RULE = 'rule measure func=FILE_CHECK mask=MAY_READ'
+PIECE = 4096  # a collection reads a file by so many bytes
+failed = []
+
+
+# ---- scripts
+
+def files(count, size):
+    return [FILE % (k, 100 + k, size, k % 256) for k in range(count)]
+
+
+def text(*parts):
+    return ('\n'.join(line for part in parts for line in part) + '\n').encode()
+
+
+def large_files():
+    """64 files of 262,144 bytes, each opened, read whole and closed once."""
+    calls = []
+    for k in range(64):
+        calls += ['open 0 /f%d r' % k, 'read 0 0 262144', 'close 0']
+    return text(HEAD, files(64, 262144), [RULE, TASK], calls, ['rounds'])
+
+
+def small_calls(calls, count, rules=(RULE,)):
+    """So many calls by 16 tasks that open, read and close small files in turn, and post."""
+    tasks, each = [], calls // 16
+    for t in range(16):
+        tasks.append(TASK)
+        for n in range(each // 3):
+            tasks += ['open 0 /f%d r' % ((n * 16 + t) % count), 'read 0 0 4096', 'close 0']
+        tasks += ['post 0'] * (each % 3)
+    return text(HEAD, files(count, 100), rules, tasks, ['rounds'])
+
+
+def generated(number):
+    """The script that `gen NUMBER` runs, after docs/FORMATS.md."""
+    x = number
+
+    def draw(k):
+        nonlocal x
+        x = (x * 6364136223846793005 + 1442695040888963407) % 2 ** 64
+        return (x >> 33) % k
+
+    lines = ['imakern 1', 'hash sha256', 'template ima-ng', 'appraise enforce', 'evm fill:32:5a']
+    lines.append(EXT4)
+    for i in range(64):
+        lines += [FILE % (i, 100 + i, draw(20000), i), 'seal']
+    lines += [RULE, 'rule appraise func=FILE_CHECK fowner=0']
+    for t in range(16):
+        lines.append(TASK + ' admin')
+        for _ in range(64):
+            f, g = draw(64), draw(4)
+            if g < 3:
+                lines += ['open 0 /f%d r' % f, 'read 0 0 4096', 'close 0']
+            else:
+                at, size = draw(1000), 1 + draw(100)
+                lines += ['open 0 /f%d w' % f, 'write 0 %d fill:%d:%02x' % (at, size, t), 'close 0']
+    return text(lines, ['rounds'])
+
+
+# ---- what a run has to hash, from its script and its report
+
+def hmac(needs, message):
+    needs['sha1', 64 + message] += 1
+    needs['sha1', 84] += 1
+
+
+def needed(script, report):
+    """The hashes of a run under the default settings: the times of each (algorithm, bytes).
+
+    Each collection is hashed by SHA-256 and SHA-1, each read by SHA-256. An entry that is added is
+    hashed by both and extends both banks; one that is there already is found by its SHA-256. Where
+    there is a key, a seal, a label that a close writes and a verdict that ends a collection cost
+    an HMAC of the label's 34 bytes and 24 of metadata.
+    """
+    needs, keyed = Counter(), '\nevm ' in script
+    sizes = []
+    for line in script.split('\n'):
+        if line.startswith('file '):
+            sizes.append(int(re.search(r'fill:(\d+):', line)[1]))
+        elif line == 'seal':
+            needs['sha256', sizes[-1]] += 1
+            hmac(needs, 34 + 24)
+    size = collected = chunk = name = 0
+
+    def entry(told):
+        if 'already' in told or 'added' in told:
+            needs['sha256', name] += 1
+        if 'added' in told:
+            needs['sha1', name] += 1
+            needs['sha1', 40] += 1
+            needs['sha256', 64] += 1
+        elif 'tomtou' in told or 'open-writers' in told:
+            needs['sha1', 40] += 1
+            needs['sha256', 64] += 1
+
+    entry('added')
+    for line in report.split('\n'):
+        words = line.split(' ')
+        if line.startswith('inode '):
+            size, name = sizes[int(words[1])], 49 + len(words[2])
+        if ' = ' not in line:
+            continue
+        deed, told = words[2], line.split(' = ')[1]
+        if told == 'begun':
+            collected = chunk = 0
+        elif deed in ('chunk', 'close-chunk'):
+            collected += max(0, min(PIECE, size - PIECE * chunk))
+            chunk += 1
+        elif deed in ('finish', 'close-finish'):
+            needs['sha256', collected] += 1
+            needs['sha1', collected] += 1
+            if keyed and ('pass' in told or 'deny' in told or 'labelled' in told):
+                hmac(needs, 34 + 24)
+        elif deed == 'read':
+            needs['sha256', int(told)] += 1
+        elif deed == 'write':
+            size = max(size, int(words[4]) + int(words[5]))
+        entry(told)
+    return needs
+
+
+def events_of(report):
+    return sum(int(n) for n in re.findall(r'(?m)^events (\d+)$', report))
+
+
+# ---- measuring
+
+def once(words, data):
+    """The output of one run, and its user time in seconds."""
+    with tempfile.TemporaryFile() as given, tempfile.TemporaryFile() as taken:
+        given.write(data)
+        given.seek(0)
+        before = resource.getrusage(resource.RUSAGE_CHILDREN).ru_utime
+        subprocess.run(words, stdin=given, stdout=taken, stderr=subprocess.DEVNULL, check=True)
+        spent = resource.getrusage(resource.RUSAGE_CHILDREN).ru_utime - before
+        taken.seek(0)
+        return taken.read(), spent
+
+
+def least(*jobs):
+    """The least user time of each job, over RUNS rounds of all of them."""
+    times = [[] for _ in jobs]
+    for _ in range(RUNS):
+        for at, (words, data) in enumerate(jobs):
+            times[at].append(once(words, data)[1])
+    return [min(t) for t in times]
+
+
+def peak(words, data):
+    """The most memory that the run held, in bytes. Its output is whole before it is written, and is
+    longer than a pipe holds, so the program waits in its first write and can be looked at."""
+    with tempfile.TemporaryFile() as given:
+        given.write(data)
+        given.seek(0)
+        run = subprocess.Popen(words, stdin=given, stdout=subprocess.PIPE)
+        select.select([run.stdout], [], [])
+        time.sleep(0.05)
+        with open('/proc/%d/status' % run.pid) as status:
+            held = int(re.search(r'VmHWM:\s+(\d+) kB', status.read())[1]) * 1024
+        run.stdout.read()
+        run.wait()
+        return held
+
+
+def judge(name, value, limit, shown):
+    over = value > limit
+    if over:
+        failed.append(name)
+    print('%-52s %s (limit %s)%s' % (name, shown, limit, '  ABOVE' if over else ''), flush=True)
+
+
+def against_hashes(name, words, data, script, report):
+    """The user time of a run against that of its hashes and a microsecond for each event."""
+    needs = needed(script.decode(), report)
+    orders = ''.join('%s %d %d\n' % (algo, size, n) for (algo, size), n in sorted(needs.items()))
+    ours, theirs, idle = least((words, data), ([HASHES], orders.encode()), ([HASHES], b''))
+    hashes, events = theirs - idle, events_of(report)
+    times = ours / (hashes + events * 1e-6)
+    judge(name, times, 1.2, '%.2f times: %.1f ms for %.1f ms of hashes and %d events' % (
+        times, ours * 1e3, hashes * 1e3, events))
+
+
+def memory(name, script, contents):
+    report = once([IMAKERN, 'run'], script)[0]
+    held, given = peak([IMAKERN, 'run'], script), len(script) + contents + len(report)
+    judge(name, held / given, 3, '%.2f times: %.1f MB for %.1f MB' % (
+        held / given, held / 1e6, given / 1e6))
+
+
+def knows_gen():
+    tried = subprocess.run([IMAKERN, 'gen', '1'], stdin=subprocess.DEVNULL, capture_output=True)
+    return tried.returncode == 0
+
+
+def step(script):
+    """The user time of a run for each of its events, and how many they are."""
+    events = events_of(once([IMAKERN, 'run'], script)[0].decode())
+    return least(([IMAKERN, 'run'], script))[0] / events * 1e6, events
+
+
+def steps():
+    """A step's cost at growing lengths of the journals, of the program and of the rules."""
+    for kind, count in (('one file', 1), ('256 files', 256)):
+        costs = []
+        for calls in (1024, 10240, 32768):
+            cost, events = step(small_calls(calls, count))
+            costs.append(cost)
+            print('  %s, %d calls, %d events: %.2f us a step' % (kind, calls, events, cost))
+        judge('a step of %s, 32,768 calls to 1,024' % kind, costs[2] / costs[0], 1.5,
+              '%.2f times' % (costs[2] / costs[0]))
+    other = ['rule dont_measure func=MODULE_CHECK uid=%d' % k for k in range(999)]
+    few, most = other[:9] + [RULE], other + [RULE]
+    costs = [step(small_calls(32768, 64, rules))[0] for rules in (few, most)]
+    judge('a step under 1,000 rules to one under 10', costs[1] / costs[0], 1.5,
+          '%.2f times: %.2f and %.2f us' % (costs[1] / costs[0], costs[1], costs[0]))
+
+
+def main():
+    for program in (IMAKERN, HASHES):
+        if not os.path.exists(program):
+            sys.exit('%s is not built: run `rt ci` first' % os.path.relpath(program, TOP))
+    run = [IMAKERN, 'run']
+    made, large = generated(1), large_files()
+    small, half = small_calls(32768, 64), small_calls(16384, 64)
+    scripts = {'the script of gen 1': made, '64 files of 262,144 bytes, read once': large,
+               '32,768 calls of small files': small}
+    for name, script in scripts.items():
+        report = once(run, script)[0].decode()
+        against_hashes(name, run, script, script, report)
+        if script is made and knows_gen():
+            against_hashes('gen 1', [IMAKERN, 'gen', '1'], b'', script, report)
+    rest = text(HEAD, ['rounds'])
+    comment = b'#' * (4194304 - len(rest) - 1) + b'\n' + rest
+    comments = b'# a comment\n' * 349500 + rest
+    for name, script in (('4 MiB of one comment', comment), ('4 MiB of short comments', comments)):
+        spent = least((run, script))[0]
+        judge(name, spent, 0.2, '%.3f s' % spent)
+    whole, part = least((run, small), (run, half))
+    judge('32,768 calls to 16,384', whole / part, 2.2, '%.2f times: %.1f and %.1f ms' % (
+        whole / part, whole * 1e3, part * 1e3))
+    memory('memory of 64 files of 262,144 bytes', large, 64 * 262144)
+    memory('memory of 32,768 calls', small, 64 * 100)
+    steps()
+    sys.exit('above the limit: ' + '; '.join(failed) if failed else 0)
+
+
+main()
