@@ -1,0 +1,70 @@
+// A case, and whether what came meets it.
+use crate::outcome::Outcome;
+
+/// One case, as its text gives it:
+///
+/// ```text
+/// >>> the case's name
+/// the words of the command line
+/// the input, any number of lines
+/// --- writes 0
+/// the whole output; the number is the status
+/// --- notes
+/// what is told on the note; without this part nothing is
+/// ```
+///
+/// In place of `writes` stands `has`, where of a long output only some lines are to be looked at:
+/// each of them stands in it, in this order.
+#[derive(Clone, Copy, Debug)]
+pub struct Case<'a> {
+    pub name: &'a str,
+    pub words: &'a str,
+    pub input: &'a str,
+    pub status: u8,
+    pub whole: bool,
+    pub out: &'a str,
+    pub note: &'a str,
+}
+
+impl<'a> Case<'a> {
+    /// The case of this text, without the mark before its name.
+    pub fn of(text: &'a str) -> Option<Case<'a>> {
+        let (name, rest) = text.split_once('\n')?;
+        let (words, rest) = rest.split_once('\n')?;
+        let (input, rest) = rest.split_once("--- ")?;
+        let (head, rest) = rest.split_once('\n')?;
+        let (form, status) = head.split_once(' ')?;
+        let (out, note) = rest.split_once("--- notes\n").unwrap_or((rest, ""));
+        Some(Case {
+            name,
+            words,
+            input,
+            status: status.parse().ok()?,
+            whole: form == "writes",
+            out,
+            note,
+        })
+    }
+
+    /// Whether the outcome is what the case demands.
+    pub fn holds(&self, got: &Outcome) -> bool {
+        let out = if self.whole {
+            got.out.as_slice() == self.out.as_bytes()
+        } else {
+            has_lines(&got.out, self.out)
+        };
+        out && got.status == self.status && got.note.as_slice() == self.note.as_bytes()
+    }
+}
+
+// Whether each of these lines stands in the output, in this order.
+fn has_lines(out: &[u8], lines: &str) -> bool {
+    let mut wanted = lines.lines();
+    let mut next = wanted.next();
+    for line in out.split(|b| *b == b'\n') {
+        if next.is_some_and(|want| want.as_bytes() == line) {
+            next = wanted.next();
+        }
+    }
+    next.is_none()
+}

@@ -1,0 +1,174 @@
+// Faults of reading, writing and telling, and scripts that are cut short or too long.
+ghost use Rattle.std.specs.Prelude.{◌<◌};
+
+use crate::cases::Case;
+use crate::outcome::{Outcome, answer, none, served};
+use ima_io::{MemSink, MemSource};
+use ima_top::{DONE, MOST_INPUT, READ_FAULT, REFUSED, TOO_LONG, USAGE, WRITE_FAULT};
+use std::alloc::{AllocError, Global};
+
+/// Of each kind of fault, whether every try ended as it has to.
+#[derive(Clone, Copy, Debug)]
+pub struct Tried {
+    pub reads: bool,
+    pub writes: bool,
+    pub rooms: bool,
+    pub notes: bool,
+    pub cuts: bool,
+    pub limits: bool,
+    pub words: bool,
+}
+
+impl Tried {
+    /// Tries all of them on the case, which is a script that runs to its end.
+    pub fn of(alloc: Global, case: &Case<'_>) -> Result<Tried, AllocError> {
+        Ok(Tried {
+            reads: reads_fail(alloc, case)?,
+            writes: writes_fail(alloc, case)?,
+            rooms: rooms_end(alloc, case)?,
+            notes: notes_fail(alloc, case)?,
+            cuts: cuts_are_refused(alloc, case)?,
+            limits: limits_hold(alloc, case)?,
+            words: words_are_usage(alloc, case)?,
+        })
+    }
+}
+
+// The script over a source that gives 32 bytes a call and fails at this one.
+fn failing_read(alloc: Global, case: &Case<'_>, call: u64) -> Result<Outcome, AllocError> {
+    let input = case.input.as_bytes().to_vec(alloc)?;
+    let mut script = MemSource::new(input, 32, vec![in alloc; call]?);
+    let out = MemSink::new(alloc, case.out.len(), 4096, none(alloc))?;
+    let note = MemSink::new(alloc, 200, 200, none(alloc))?;
+    served(alloc, case.words, &mut script, out, note)
+}
+
+// A fault at any call up to the one that tells the end; no call is made after that.
+fn reads_fail(alloc: Global, case: &Case<'_>) -> Result<bool, AllocError> {
+    let last = case.input.len().div_ceil(32) as u64;
+    for call in 0..=last {
+        if !failing_read(alloc, case, call)?.is(READ_FAULT, b"", "read fault\n") {
+            return Ok(false);
+        }
+    }
+    let after = failing_read(alloc, case, last.saturating_add(1))?;
+    Ok(after.is(DONE, case.out.as_bytes(), ""))
+}
+
+// The script over an output with this room, that takes so many bytes a call and fails at this one.
+fn failing_write(
+    alloc: Global,
+    case: &Case<'_>,
+    room: usize,
+    piece: usize,
+    call: u64,
+) -> Result<Outcome, AllocError>
+    requires { 0 < piece }
+{
+    let input = case.input.as_bytes().to_vec(alloc)?;
+    let mut script = MemSource::new(input, 4096, none(alloc));
+    let out = MemSink::new(alloc, room, piece, vec![in alloc; call]?)?;
+    let note = MemSink::new(alloc, 200, 200, none(alloc))?;
+    served(alloc, case.words, &mut script, out, note)
+}
+
+// A fault at any call of those that are made: what was taken before stays taken.
+fn writes_fail(alloc: Global, case: &Case<'_>) -> Result<bool, AllocError> {
+    let whole = case.out.as_bytes();
+    let mut call = 0;
+    for taken in (0..whole.len()).step_by(50) {
+        let got = failing_write(alloc, case, whole.len(), 50, call)?;
+        let holds = whole
+            .get(..taken)
+            .is_some_and(|front| got.is(WRITE_FAULT, front, "write fault\n"));
+        if !holds {
+            return Ok(false);
+        }
+        call = call.saturating_add(1);
+    }
+    let after = failing_write(alloc, case, whole.len(), 50, call)?;
+    Ok(after.is(DONE, whole, ""))
+}
+
+// An output that is full after 30 bytes, and one whose fourth call of 10 bytes fails.
+fn rooms_end(alloc: Global, case: &Case<'_>) -> Result<bool, AllocError> {
+    let whole = case.out.as_bytes();
+    let Some(front) = whole.get(..30) else {
+        return Ok(false);
+    };
+    let full = failing_write(alloc, case, 30, 10, u64::MAX)?;
+    let fourth = failing_write(alloc, case, whole.len(), 10, 3)?;
+    Ok(
+        full.is(WRITE_FAULT, front, "write fault\n")
+            && fourth.is(WRITE_FAULT, front, "write fault\n"),
+    )
+}
+
+// A note that fails at once, on a script without its last line.
+fn notes_fail(alloc: Global, case: &Case<'_>) -> Result<bool, AllocError> {
+    let Some((front, _)) = case.input.trim_end().rsplit_once('\n') else {
+        return Ok(false);
+    };
+    let input = format!(in alloc; "{front}\n")?;
+    let mut script = MemSource::new(input.into_bytes(), 4096, none(alloc));
+    let out = MemSink::new(alloc, 200, 200, none(alloc))?;
+    let note = MemSink::new(alloc, 200, 200, vec![in alloc; 0]?)?;
+    Ok(served(alloc, case.words, &mut script, out, note)?.is(REFUSED, b"", ""))
+}
+
+// Every beginning of the script: the line that isn't there is the first bad one.
+fn cuts_are_refused(alloc: Global, case: &Case<'_>) -> Result<bool, AllocError> {
+    let script = case.input.as_bytes();
+    let mut line = 1u64;
+    for at in 0..script.len() {
+        let told = format!(in alloc; "line {line}: no-end\n")?;
+        if !answer(alloc, case.words, &script[..at])?.is(REFUSED, b"", told.as_str()) {
+            return Ok(false);
+        }
+        if script[at] == b'\n' {
+            line = line.saturating_add(1);
+        }
+    }
+    Ok(answer(alloc, case.words, script)?.is(DONE, case.out.as_bytes(), ""))
+}
+
+// The script behind a comment line of so many bytes.
+fn behind_a_comment(alloc: Global, case: &Case<'_>, bytes: usize) -> Result<Outcome, AllocError> {
+    let mut input = vec![in alloc; b'#'; bytes]?;
+    input.push(b'\n')?;
+    input.extend_from_slice(case.input.as_bytes())?;
+    let mut script = MemSource::new(input, usize::MAX, none(alloc));
+    let out = MemSink::new(alloc, case.out.len(), 4096, none(alloc))?;
+    let note = MemSink::new(alloc, 200, 200, none(alloc))?;
+    served(alloc, case.words, &mut script, out, note)
+}
+
+// An input of as many bytes as there may be, of one byte more, and of far more.
+fn limits_hold(alloc: Global, case: &Case<'_>) -> Result<bool, AllocError> {
+    let comment = MOST_INPUT
+        .saturating_sub(case.input.len())
+        .saturating_sub(1);
+    let most = behind_a_comment(alloc, case, comment)?;
+    let more = behind_a_comment(alloc, case, comment.saturating_add(1))?;
+    let far = behind_a_comment(alloc, case, MOST_INPUT)?;
+    Ok(
+        most.is(DONE, case.out.as_bytes(), "")
+            && more.is(TOO_LONG, b"", "input too long\n")
+            && far.is(TOO_LONG, b"", "input too long\n"),
+    )
+}
+
+fn words_are_usage(alloc: Global, case: &Case<'_>) -> Result<bool, AllocError> {
+    let none_of_them = [
+        "", "run x", "x run", "-run", "--help", "help", "gen", "gen 0", "gen 01", "gen x",
+        "gen 1 1",
+    ];
+    for words in none_of_them {
+        let got = answer(alloc, words, case.input.as_bytes())?;
+        let told = got.note.starts_with(b"usage: imakern list | run | ");
+        if got.status != USAGE || !got.out.is_empty() || !told {
+            return Ok(false);
+        }
+    }
+    Ok(true)
+}

@@ -1,0 +1,54 @@
+// What `serve` does with words and an input in memory.
+use ima_io::{FreeGate, MemSink, MemSource};
+use ima_top::serve;
+use std::alloc::{AllocError, Global};
+
+/// What a command did: its status, its output and its note.
+#[derive(Drop)]
+pub struct Outcome {
+    pub status: u8,
+    pub out: Vec<u8>,
+    pub note: Vec<u8>,
+}
+
+impl Outcome {
+    /// Whether it is this status, this output and this note.
+    pub fn is(&self, status: u8, out: &[u8], note: &str) -> bool {
+        self.status == status
+            && self.out.as_slice() == out
+            && self.note.as_slice() == note.as_bytes()
+    }
+}
+
+/// No call's number.
+pub fn none(alloc: Global) -> Vec<u64> {
+    Vec::new(alloc)
+}
+
+/// The outcome of the words over this input, where nothing fails.
+pub fn answer(alloc: Global, words: &str, input: &[u8]) -> Result<Outcome, AllocError> {
+    let mut script = MemSource::new(input.to_vec(alloc)?, 4096, none(alloc));
+    let out = MemSink::new(alloc, 1_000_000, 4096, none(alloc))?;
+    let note = MemSink::new(alloc, 200, 200, none(alloc))?;
+    served(alloc, words, &mut script, out, note)
+}
+
+/// The outcome of the words, parted by spaces, over this source and these sinks.
+pub fn served(
+    alloc: Global,
+    words: &str,
+    script: &mut MemSource,
+    mut out: MemSink,
+    mut note: MemSink,
+) -> Result<Outcome, AllocError> {
+    let mut list = Vec::new(alloc);
+    for word in words.split(' ').filter(|word| !word.is_empty()) {
+        list.push(String::from_str(alloc, word)?)?;
+    }
+    let status = serve(alloc, &list, script, &mut out, &mut note, &FreeGate);
+    Ok(Outcome {
+        status,
+        out: out.taken().to_vec(alloc)?,
+        note: note.taken().to_vec(alloc)?,
+    })
+}
