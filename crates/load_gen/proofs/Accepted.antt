@@ -33,7 +33,13 @@ end_read n d h =
     by_line (codes "rounds") [] head.Rounds d (over d) IsWhole refl refl refl refl
     (above 13 d.at 12 false h.at (omega arith)) refl (record {
       over = refl;
-      script = record { files = h.files; rules = h.rules; tasks = h.tasks; ending = refl };
+      script = record {
+        files = h.files;
+        rules = h.rules;
+        tasks = h.tasks;
+        ending = refl;
+        free = h.free;
+      };
     })
 
 module _ (number : ℕ) where

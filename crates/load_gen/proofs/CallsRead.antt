@@ -1,11 +1,12 @@
 -- The lines of calls are read: groups of three, which open a file, read or write it, and close it.
-use Rattle.std.proofs.Common.{◌≡◌, ℕ, zero, suc, ◌+◌, ◌*◌, ◌<◌, ◌≤◌, ◌==◌, true, false, nat_lt, List, [], ◌∷◌, ◌++◌, length, take, Option, Some, Ok, refl, ◌∙◌, inl, inr, arith}
+use Rattle.std.proofs.Common.{◌≡◌, ℕ, zero, suc, ◌+◌, ◌*◌, ◌<◌, ◌≤◌, ◌==◌, true, false, not, nat_lt, List, [], ◌∷◌, ◌++◌, length, take, Option, Some, Ok, refl, ◌∙◌, inl, inr, arith}
 use Rattle.std.specs.Prelude.{codes, replicate}
 use Rattle.std.specs.Fmt.{decimal}
 use Rattle.std.specs.List.{list_all}
 use Rattle.std.proofs.lemmas.Bool.{cases_Bool}
 use Rattle.std.proofs.lemmas.Bool.Decides.{nat_tests}
 use Rattle.std.proofs.lemmas.List.{length-replicate}
+use Rattle.std.proofs.lemmas.List.Folds.{list_all-append}
 use Rattle.call_steps.specs.declared.call.Call.{Call}
 use Rattle.call_steps.specs.declared.call.Call.TheVariants as call
 use Rattle.hex.specs.Hex.{encode_lower}
@@ -22,10 +23,12 @@ use Rattle.script_text.specs.Tasks.{appends, call_bytes, called, task_with, with
 use Rattle.script_text.specs.declared.head.CallWord.{CallWord}
 use Rattle.script_text.specs.declared.head.CallWord.TheVariants as word
 use Rattle.script_text.specs.declared.head.Head.TheVariants as head
-use Rattle.script_text.proofs.Lasts.{length_changed}
+use Rattle.script_text.specs.declared.blocks.TaskBlock.{TaskBlock}
+use Rattle.script_text.proofs.Lasts.{all_changed, length_changed}
 use Rattle.script_print.specs.Lines.{Line, begins_line, is_plain, line_text}
 use Rattle.script_print.proofs.Lines.{text_behind}
 use Rattle.script_print.proofs.Words.{id_back, id_plain, path_plain}
+use Rattle.load_gen.specs.Accepted.{never_waits, waits}
 use Rattle.load_gen.specs.Draws.{drawn, next}
 use Rattle.load_gen.specs.Script.{group, group_by, groups, read_text, write_text}
 use Rattle.load_gen.proofs.Fills.{digits_plain, fill_text, fill_value_back}
@@ -52,6 +55,7 @@ pub record InTask (t n : ℕ) (d : Draft) : Type 0 where
   pub tasks : length d.script.tasks ≡ t
   pub calls : d.calls ≤ n
   pub sum : d.sum ≤ 1280000 + 100 * n
+  pub free : list_all never_waits d.script.tasks ≡ true
 
 more_calls : (tasks n m : ℕ) → n ≤ m → (d : Draft) → InTask tasks n d → InTask tasks m d
 more_calls tasks n m le d h = record {
@@ -62,14 +66,22 @@ more_calls tasks n m le d h = record {
   tasks = h.tasks;
   calls = omega (arith, h.calls, le);
   sum = omega (arith, h.sum, le);
+  free = h.free;
 }
 
 -- ---- one call
 
--- a call that appends no rule and has few bytes
+-- a call that appends no rule, has few bytes and never waits
 pub record IsLight (c : Call) : Type 0 where
   pub appends : appends c ≡ false
   pub bytes : call_bytes c ≤ 100
+  pub free : waits c ≡ false
+
+-- a task with such a call more never waits
+free_with : (c : Call) → IsLight c → (t : TaskBlock) → never_waits t ≡ true
+    → never_waits (task_with c t) ≡ true
+free_with c light t h =
+    rw (list_all-append (λ x. not (waits x)) t.calls (c ∷ []), h, light.free) refl
 
 module _ (tasks n : ℕ) (d : Draft) (h : InTask tasks n d) (few : n < 3072) where
   abbrev behind : Call → Draft
@@ -99,6 +111,7 @@ module _ (tasks n : ℕ) (d : Draft) (h : InTask tasks n d) (few : n < 3072) whe
     tasks = length_changed (task_with c) d.script.tasks ∙ h.tasks;
     calls = omega (arith, h.calls);
     sum = omega (arith, h.sum, light.bytes);
+    free = all_changed (task_with c) never_waits (free_with c light) d.script.tasks h.free;
   }
 
   one_call : (w : List ℕ) (ws : Line) (k : CallWord) (c : Call) → IsLight c
@@ -118,7 +131,7 @@ module _ (tasks n : ℕ) (d : Draft) (h : InTask tasks n d) (few : n < 3072) whe
       (InTask tasks (n + 1))
   open_line f way how lt plain is =
       one_call (codes "open") (codes "0" ∷ path_of f ∷ way ∷ []) word.Open (call.Open 0 f how false)
-      (record { appends = refl; bytes = omega arith }) refl refl
+      (record { appends = refl; bytes = omega arith; free = refl }) refl refl
       (rw (path_plain (path_of f) (path_is f lt), plain) refl) refl is
 
   open_read : (f : ℕ) → f < 64
@@ -141,13 +154,14 @@ module _ (tasks n : ℕ) (d : Draft) (h : InTask tasks n d) (few : n < 3072) whe
   unfolding call_of
   read_line =
       one_call (codes "read") (codes "0" ∷ codes "0" ∷ codes "4096" ∷ []) word.Read
-      (call.Read 0 0 4096) (record { appends = refl; bytes = omega arith }) refl refl refl refl refl
+      (call.Read 0 0 4096) (record { appends = refl; bytes = omega arith; free = refl }) refl refl
+      refl refl refl
 
   close_line : Makes d (line_text (codes "close" ∷ codes "0" ∷ [])) (InTask tasks (n + 1))
   unfolding call_of
   close_line =
       one_call (codes "close") (codes "0" ∷ []) word.Close (call.Close 0)
-      (record { appends = refl; bytes = omega arith }) refl refl refl refl refl
+      (record { appends = refl; bytes = omega arith; free = refl }) refl refl refl refl refl
 
   -- bytes are written
   write_line : (from len b : ℕ) → from < 1000 → 1 ≤ len → len ≤ 100 → b < 64
@@ -158,7 +172,8 @@ module _ (tasks n : ℕ) (d : Draft) (h : InTask tasks n d) (few : n < 3072) whe
       let id : is_id from ≡ true = grind (arith, nat_tests) in
       one_call (codes "write") (codes "0" ∷ decimal from ∷ fill_text len b ∷ []) word.Write
       (call.Write 0 from (replicate len b))
-      (record { appends = refl; bytes = omega (arith, length-replicate len b) }) refl refl
+      (record { appends = refl; bytes = omega (arith, length-replicate len b); free = refl }) refl
+      refl
       (rw (id_plain from id, digits_plain len b (omega arith) lt) refl) refl
       (rw (
         id_back from id,

@@ -2,6 +2,7 @@ pub mod Accepted
 pub mod CallsRead
 pub mod FilesRead
 pub mod Fills
+pub mod Lengths
 pub mod Loops
 pub mod Makes
 pub mod Numbered

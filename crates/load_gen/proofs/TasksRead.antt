@@ -1,9 +1,11 @@
 -- The lines of rules and tasks are read.
 use Rattle.std.proofs.Common.{◌≡◌, ℕ, zero, suc, ◌+◌, ◌*◌, ◌<◌, ◌≤◌, ◌==◌, true, nat_lt, List, [], ◌∷◌, ◌++◌, length, Some, Result, Ok, Err, refl, ap, ◌∙◌, subst, arith, length-append}
 use Rattle.std.specs.Prelude.{codes}
+use Rattle.std.specs.List.{list_all}
 use Rattle.std.specs.Result.{is_ok}
 use Rattle.std.proofs.lemmas.Bool.{false≢true}
 use Rattle.std.proofs.lemmas.Bool.Decides.{nat_tests}
+use Rattle.std.proofs.lemmas.List.Folds.{list_all-append}
 use Rattle.inode_meta.specs.declared.identity.Cred.{Cred}
 use Rattle.policy_text.specs.Grammar.{rule_of}
 use Rattle.policy_text.specs.RuleValue.{RuleValue}
@@ -12,9 +14,11 @@ use Rattle.script_text.specs.Grammar.{with_head}
 use Rattle.script_text.specs.Limits.{most_rules, most_tasks}
 use Rattle.script_text.specs.Places.{place_in}
 use Rattle.script_text.specs.Tasks.{with_cred, with_rule, with_task}
+use Rattle.script_text.specs.declared.blocks.TaskBlock.{TaskBlock}
 use Rattle.script_text.specs.declared.head.Head.TheVariants as head
 use Rattle.script_print.specs.Lines.{Line, line_text, words_text}
 use Rattle.script_print.proofs.Many.{IsAt, again_at}
+use Rattle.load_gen.specs.Accepted.{never_waits}
 use Rattle.load_gen.specs.Script.{groups, rules_text, tasks}
 use Rattle.load_gen.proofs.CallsRead.{Finds, InTask, groups_read}
 use Rattle.load_gen.proofs.FilesRead.{HasFiles}
@@ -126,6 +130,7 @@ pub record HasTasks (t n : ℕ) (d : Draft) : Type 0 where
   pub tasks : length d.script.tasks ≡ t
   pub calls : d.calls ≤ n
   pub sum : d.sum ≤ 1280000 + 100 * n
+  pub free : list_all never_waits d.script.tasks ≡ true
 
 pub no_tasks : (d : Draft) → HasRules 2 d → HasTasks 0 0 d
 no_tasks d h = record {
@@ -136,6 +141,7 @@ no_tasks d h = record {
   tasks = rw h.tasks refl;
   calls = omega (arith, h.calls);
   sum = omega (arith, h.sum);
+  free = rw h.tasks refl;
 }
 
 is_12 : (n : ℕ) → (n == 12) ≡ true → n ≡ 12
@@ -153,6 +159,7 @@ left t n m same d h =
       tasks = h.tasks;
       calls = omega (arith, h.calls, same);
       sum = omega (arith, h.sum, same);
+      free = h.free;
     }
 
 abbrev root : Cred
@@ -165,9 +172,13 @@ task_words =
 abbrev task_text : List ℕ
 task_text = line_text (codes "task" ∷ task_words)
 
+-- a task without calls
+abbrev new_task : TaskBlock
+new_task = record { cred = root; calls = [] }
+
 abbrev begun : Draft → Draft
 begun d = record d {
-  script = record d.script { tasks = d.script.tasks ++ record { cred = root; calls = [] } ∷ [] };
+  script = record d.script { tasks = d.script.tasks ++ new_task ∷ [] };
   at = 12;
 }
 
@@ -185,13 +196,10 @@ module _ (t n : ℕ) (few : t < 16) (d : Draft) (h : HasTasks t n d) where
     files = h.files;
     finds = h.finds;
     rules = h.rules;
-    tasks = omega (
-      arith,
-      length-append d.script.tasks (record { cred = root; calls = [] } ∷ []),
-      h.tasks,
-    );
+    tasks = omega (arith, length-append d.script.tasks (new_task ∷ []), h.tasks);
     calls = h.calls;
     sum = h.sum;
+    free = rw (list_all-append never_waits d.script.tasks (new_task ∷ []), h.free) refl;
   }
 
   task_line : Makes d task_text (InTask (t + 1) n)

@@ -7,4 +7,4 @@ mod draws;
 mod tests;
 mod text;
 
-pub use text::script;
+pub use text::{MOST_BYTES, script};

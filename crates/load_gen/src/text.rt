@@ -1,7 +1,8 @@
 // The text of a script.
 
-ghost use Rattle.std.specs.Prelude.{◌≡◌, ◌<◌, ◌≤◌, ◌++◌, IfOk, OnOk, codes};
+ghost use Rattle.std.specs.Prelude.{◌≡◌, ◌<◌, ◌≤◌, ◌++◌, IfOk, OnOk, codes, length};
 ghost use Rattle.load_gen.specs.Accepted.{IsAccepted};
+ghost use Rattle.load_gen.specs.declared.text.TheConstants.{MOST_BYTES};
 ghost use Rattle.load_gen.specs.Script.{file_text, files, group, groups, read_text, rules_text, script_text, settings_text, tasks, write_text};
 
 use crate::draws::Draws;
@@ -10,12 +11,16 @@ use list_format::append_hex;
 use std::alloc::{AllocError, Global};
 use std::io::Write;
 
+/// The most bytes of a script of a number.
+pub const MOST_BYTES: usize = 80_000;
+
 /// The script of a number from 1 to 1,000,000: 3,225 lines with 3,072 calls, which end in `rounds`.
-/// The grammar accepts the text, as a script of 64 files, 2 rules and 16 tasks.
+/// The grammar accepts the text, as a script of 64 files, 2 rules and 16 tasks of which none waits.
 pub fn script(alloc: Global, number: u32) -> Result<Vec<u8>, OutOfMemory>
     ensures text { IfOk result (λ text. text.items ≡ script_text number) }
     // The grammar of scripts accepts it.
     ensures accepted { IfOk result (λ text. IsAccepted text.items) }
+    ensures short { IfOk result (λ text. length text.items ≤ MOST_BYTES) }
 {
     let mut out = Vec::new(alloc);
     let mut draws = Draws {

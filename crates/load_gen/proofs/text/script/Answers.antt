@@ -1,6 +1,7 @@
-use Rattle.std.proofs.Common.{ℕ, List, sym, subst}
+use Rattle.std.proofs.Common.{ℕ, ◌≤◌, List, length, sym, subst}
 use Rattle.load_gen.specs.Accepted.{IsAccepted}
 use Rattle.load_gen.proofs.Accepted.{accepted}
+use Rattle.load_gen.proofs.Lengths.{short}
 use Rattle.load_gen.proofs.text.script.Goals as goal
 
 pub returns-clause-text : goal.returns-clause-text
@@ -20,3 +21,7 @@ pub returns-clause-accepted : goal.returns-clause-accepted
 returns-clause-accepted c =
     let P : List ℕ → Type 0 = λ t. IsAccepted t in
     subst P (sym (returns-clause-text c)) (accepted c.args.number)
+
+pub returns-clause-short : goal.returns-clause-short
+returns-clause-short c =
+    subst (λ (t : List ℕ). length t ≤ 80000) (sym (returns-clause-text c)) (short c.args.number)
