@@ -6,7 +6,7 @@ use Rattle.std.specs.Str.{bytes_eq}
 use Rattle.clap.specs.Kinds.{Kinds, or_else}
 use Rattle.clap.specs.declared.error.kind.ErrorKind.{ErrorKind}
 use Rattle.clap.specs.Lexer.{long_of, long_of_rest, short_of, short_of_rest, strip_byte}
-use Rattle.clap.specs.Walk.{Held, Names, Rule, Step, Text, arg_by_index, finished, long_or_other, nothing_held, settled, short_or_plain, subcommand_met, subcommand_or_other, walk, walk_from, walked, word_met}
+use Rattle.clap.specs.Walk.{Held, Names, Rule, Step, Text, arg_by_index, finished, long_or_other, nothing_held, settled, short_or_plain, subcommand_met, subcommand_or_other, walk, walk_from, walked, word_met, Walk, after_step}
 use Rattle.clap.specs.Walk.Waiting.{idle}
 use Rattle.clap.specs.Walk.Step.{trailing, value}
 use Rattle.clap.specs.Simple.{Shape}
@@ -51,17 +51,37 @@ is_no_flag s word h e =
     ∙ ap (λ o. option_map_or (λ flags. bundle_fault s.rules s.args_override_self flags h) o [])
     (no_short word e)
 
+-- a walk between two words, with nothing that waits
+abbrev pub walk_at : Held → ℕ → Walk
+walk_at h position =
+    record { held = h; waiting = idle; position = position; is_trailing = false; stopped = None }
+
+-- its turn is that of a positional
+pub value_turn : (s : Shape) (names : Names) (word : Text) (position : ℕ) (h : Held)
+    → is_option word ≡ false → subcommand_met names idle word ≡ None
+    → turn_fault s names (walk_at h position) word ≡ step_fault s position h value
+value_turn s names word position h e none =
+    let met = word_met s.rules names false idle position word h in
+    ap (λ (k : Kinds). or_else k (step_fault s position met.0 met.1))
+    (ap (λ (m : Option Text). other_fault s m word h) none ∙ is_no_flag s word h e)
+    ∙ ap (λ (m : Held × Step). step_fault s position m.0 m.1)
+    (is_value s.rules names word position h e none)
+
+-- and so the walk goes on
+pub value_walked : (c : List Rule) (names : Names) (word : Text) (position : ℕ) (h : Held)
+    → is_option word ≡ false → subcommand_met names idle word ≡ None
+    → walked c names (walk_at h position) word ≡ after_step c word (walk_at h position) h value
+unfolding walked
+value_walked c names word position h e none =
+    ap (λ (m : Held × Step). after_step c word (walk_at h position) m.0 m.1)
+    (is_value c names word position h e none)
+
 -- a command without arguments has no place for it
 stray_turn : (s : Shape) (names : Names) (word : Text) → s.rules ≡ [] → is_option word ≡ false
     → subcommand_met names idle word ≡ None
     → turn_fault s names (walk_from nothing_held) word ≡ stray_fault s
 stray_turn s names word bare e none =
-    let met = word_met s.rules names false idle 1 word nothing_held in
-    ap (λ (k : Kinds). or_else k (step_fault s 1 met.0 met.1))
-    (ap (λ (m : Option Text). other_fault s m word nothing_held) none
-    ∙ is_no_flag s word nothing_held e)
-    ∙ ap (λ (m : Held × Step). step_fault s 1 m.0 m.1)
-    (is_value s.rules names word 1 nothing_held e none)
+    value_turn s names word 1 nothing_held e none
     ∙ ap (λ (rules : List Rule). option_map_or
     (λ a. positional_fault s.rules s.args_override_self a nothing_held) (arg_by_index rules 1)
     (stray_fault s)) bare

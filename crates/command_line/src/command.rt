@@ -1,6 +1,8 @@
 // The commands and their words.
-ghost use Rattle.std.specs.Prelude.{◌≡◌};
-ghost use Rattle.command_line.specs.Words.{command_named};
+ghost use Rattle.std.specs.Prelude.{◌≡◌, ◌≤◌, IfSome, option_map};
+ghost use Rattle.command_line.specs.Words.{command_by, command_named, command_numbered, script_number};
+
+use text_forms::short_number_of;
 
 /// A command.
 #[derive(Clone, Copy, Debug, PartialEq, Eq)]
@@ -13,19 +15,51 @@ pub enum Command {
     Label,
     /// The report of the run of a script.
     Run,
+    /// The summary of the run of the script of a number, from 1 to 1,000,000.
+    Gen(u32),
 }
 
 impl Command {
-    /// The command that a lone word names.
-    pub fn named(word: &str) -> Option<Command>
-        ensures { result ≡ command_named word.now }
+    /// The command that a word names, with the number behind it where there is one.
+    pub fn by(word: &str, number: Option<&str>) -> Option<Command>
+        ensures { result ≡ command_by word.now (option_map (λ n. n.now) number.entry) }
     {
-        match word {
-            "list" => Some(Command::List),
-            "policy" => Some(Command::Policy),
-            "label" => Some(Command::Label),
-            "run" => Some(Command::Run),
-            _ => None,
+        match number {
+            None => named(word),
+            Some(number) => numbered(word, number),
         }
+    }
+}
+
+fn named(word: &str) -> Option<Command>
+    ensures { result ≡ command_named word.now }
+{
+    match word {
+        "list" => Some(Command::List),
+        "policy" => Some(Command::Policy),
+        "label" => Some(Command::Label),
+        "run" => Some(Command::Run),
+        _ => None,
+    }
+}
+
+fn numbered(word: &str, number: &str) -> Option<Command>
+    ensures { result ≡ command_numbered word.now number.now }
+{
+    match word {
+        "gen" => match script_number(number) {
+            Some(number) => Some(Command::Gen(number)),
+            None => None,
+        },
+        _ => None,
+    }
+}
+
+fn script_number(text: &str) -> Option<u32>
+    ensures { result ≡ script_number text.now }
+{
+    match short_number_of(text.as_bytes(), 10, 1_000_000) {
+        Some(number) if number > 0 => Some(number as u32),
+        _ => None,
     }
 }

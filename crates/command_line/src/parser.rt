@@ -4,7 +4,7 @@ ghost use Rattle.std.specs.List.{list_any};
 ghost use Rattle.clap.specs.Words.{app_of};
 ghost use Rattle.clap.specs.Simple.{new_shape, with_subcommand};
 ghost use Rattle.command_line.specs.Words.{command_of, is_option};
-ghost use Rattle.command_line.specs.Program.{bare, program};
+ghost use Rattle.command_line.specs.Program.{bare, numbered, program};
 
 use crate::command::Command;
 use clap::error::ErrorKind;
@@ -12,8 +12,8 @@ use std::alloc::{AllocError, Global};
 
 /// The command that the words are. They don't hold the program's name.
 ///
-/// Words of which one begins with a hyphen aren't parsed: the program has no options, so they aren't
-/// a command.
+/// Words of which one begins with a hyphen aren't parsed: the program has no options, so they
+/// aren't a command.
 pub fn command_of(alloc: Global, words: &[String]) -> Result<Option<Command>, AllocError>
     ensures { IfOk result (λ command. command ≡ command_of (map string_bytes words.now)) }
 {
@@ -22,8 +22,8 @@ pub fn command_of(alloc: Global, words: &[String]) -> Result<Option<Command>, Al
     }
     let program = program(alloc)?;
     match program.try_get_matches_from(words) {
-        Ok(matches) => match matches.subcommand_name() {
-            Some(name) => Ok(Command::named(name)),
+        Ok(matches) => match matches.subcommand() {
+            Some((name, rest)) => Ok(Command::by(name, rest.get_str("number"))),
             None => Ok(None),
         },
         Err(error) => match error.kind() {
@@ -55,7 +55,8 @@ fn program<'a>(alloc: Global) -> Result<clap::Command<'a>, AllocError>
     let program = with_command(alloc, program, "list")?;
     let program = with_command(alloc, program, "policy")?;
     let program = with_command(alloc, program, "label")?;
-    with_command(alloc, program, "run")
+    let program = with_command(alloc, program, "run")?;
+    with_numbered(alloc, program, "gen")
 }
 
 fn bare<'a>(alloc: Global) -> clap::Command<'a>
@@ -78,5 +79,19 @@ fn with_command<'a>(
         ≡ with_subcommand (app_of program.entry) (new_shape name.entry.now)) }
 {
     let command = clap::Command::new(alloc, name);
+    program.subcommand(command)
+}
+
+// A command with a number behind it.
+fn with_numbered<'a>(
+    alloc: Global,
+    program: clap::Command<'a>,
+    name: &'a str,
+) -> Result<clap::Command<'a>, AllocError>
+    ensures { IfOk result (λ p. app_of p
+        ≡ with_subcommand (app_of program.entry) (numbered name.entry.now)) }
+{
+    let number = clap::Arg::new(alloc, "number").required(true);
+    let command = clap::Command::new(alloc, name).arg(number)?;
     program.subcommand(command)
 }

@@ -1,5 +1,5 @@
 -- Texts and words, each with what it is.
-use Rattle.std.proofs.Common.{◌≡◌, ℕ, true, List, [], ◌∷◌, Option, Some, None, Ok, refl}
+use Rattle.std.proofs.Common.{◌≡◌, ℕ, true, false, List, [], ◌∷◌, Option, Some, None, Ok, refl}
 use Rattle.std.specs.Prelude.{codes}
 use Rattle.call_steps.specs.declared.ending.Ending.TheVariants as ending
 use Rattle.command_line.specs.declared.command.Command.TheVariants as command
@@ -11,7 +11,7 @@ use Rattle.script_text.specs.ListGrammar.{list_of}
 use Rattle.ima_top.specs.commands.Policy.{policy_refusal}
 use Rattle.ima_top.specs.commands.Run.{not_built, run_refusal, unbuilt}
 use Rattle.ima_top.specs.Served.{Serves}
-use Rattle.ima_top.specs.commands.Table.{IsOutput, reads}
+use Rattle.ima_top.specs.commands.Table.{IsOutput, reads, refusal}
 use Rattle.command_line.specs.declared.command.Command.{Command}
 use Rattle.ima_top.specs.declared.status.TheConstants.{DONE, USAGE, REFUSED, STUCK, READ_FAULT, WRITE_FAULT, TOO_LONG, OUT_OF_MEMORY}
 use Rattle.ima_top.specs.declared.top.TheConstants.{MOST_INPUT}
@@ -49,6 +49,15 @@ all_read : (reads command.List ≡ true) × (reads command.Policy ≡ true)
 unfolding reads
 all_read = (refl, refl, refl, refl)
 
+-- but `gen` doesn't, and nothing refuses it
+gen_reads_nothing : (number : ℕ) → reads (command.Gen number) ≡ false
+unfolding reads
+gen_reads_nothing number = refl
+
+gen_is_never_refused : (number : ℕ) (input : List ℕ) → refusal (command.Gen number) input ≡ None
+unfolding refusal
+gen_is_never_refused number input = refl
+
 -- ---- the limit and the statuses, which the contracts cite by name
 
 limit : MOST_INPUT ≡ 4194304
@@ -74,6 +83,10 @@ policy_is_never_stuck input output h = absurd (cc (h.0))
 label_is_never_stuck : IsNeverStuck command.Label
 unfolding IsOutput
 label_is_never_stuck input output h = absurd (cc (h.0))
+
+gen_is_never_stuck : (number : ℕ) → IsNeverStuck (command.Gen number)
+unfolding IsOutput
+gen_is_never_stuck number input output h = absurd (cc (h.0))
 
 -- so its status doesn't come by such a command
 no_stuck_status : (command : Command) → IsNeverStuck command → (input : List ℕ) (status : ℕ)

@@ -6,7 +6,7 @@ use Rattle.ima_top.specs.Line.{with_newline}
 
 -- the line that is told where the words aren't a command
 abbrev pub usage_line : List ℕ
-usage_line = with_newline (codes "usage: imakern list | run | policy | label")
+usage_line = with_newline (codes "usage: imakern list | run | policy | label | gen N")
 
 -- the words are a command that reads its input
 abbrev pub reads_input : Option Command → Bool

@@ -1,5 +1,6 @@
 -- The commands: what is said of all of them, and each in its own file.
 pub mod BadLine
+pub mod Gen
 pub mod Label
 pub mod List
 pub mod Policy

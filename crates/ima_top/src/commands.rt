@@ -5,6 +5,7 @@ ghost use Rattle.ima_top.specs.commands.Table.{reads, refusal, IsOutput};
 ghost use Rattle.ima_top.specs.declared.top.TheConstants.{MOST_INPUT};
 
 mod bad_line;
+mod gen_;
 mod label;
 mod list;
 mod policy;
@@ -16,7 +17,7 @@ use ima_io::Gate;
 use std::alloc::Global;
 
 /// The line that is told where the words aren't a command.
-pub const USAGE_LINE: &[u8] = b"usage: imakern list | run | policy | label\n";
+pub const USAGE_LINE: &[u8] = b"usage: imakern list | run | policy | label | gen N\n";
 
 /// Whether the command reads its input. One that doesn't is answered as if it had read nothing.
 #[tactic(auto, unfolding(crate::specs::commands::Table::reads))]
@@ -25,6 +26,7 @@ pub fn reads(command: Command) -> bool
 {
     match command {
         Command::List | Command::Policy | Command::Label | Command::Run => true,
+        Command::Gen(_) => false,
     }
 }
 
@@ -55,6 +57,10 @@ pub fn answer_input<G: Gate>(
             stuck: false,
         }),
         Command::Run => run::answer(alloc, input, gate),
+        Command::Gen(number) => Ok(Answer {
+            output: gen_::answer(alloc, number, gate)?,
+            stuck: false,
+        }),
     }
 }
 
@@ -63,6 +69,7 @@ pub fn answer_input<G: Gate>(
 pub struct Answer {
     /// The whole output.
     pub output: Vec<u8>,
-    /// Whether the run behind it is stuck. Commands that run no tasks are never stuck.
+    /// Whether the run behind it is stuck. Commands without tasks, or whose tasks never wait, never
+    /// are.
     pub stuck: bool,
 }

@@ -9,8 +9,7 @@ pub const USAGE: u8 = 1;
 /// The input isn't in the command's grammar. Nothing was written.
 pub const REFUSED: u8 = 2;
 
-/// The output was written whole, but the run that it reports is stuck. No command of today runs
-/// tasks.
+/// The output was written whole, but the run that it reports is stuck.
 pub const STUCK: u8 = 3;
 
 /// The source of the input failed. Nothing was written.

@@ -45,9 +45,20 @@ fn served(
     note: usize,
 ) -> Result<Outcome, AllocError> {
     let words = vec![in alloc; String::from_str(alloc, word)?]?;
+    served_words(alloc, &words, script, out, note)
+}
+
+// The same of a list of words.
+fn served_words(
+    alloc: Global,
+    words: &[String],
+    script: &mut MemSource,
+    out: usize,
+    note: usize,
+) -> Result<Outcome, AllocError> {
     let mut out = MemSink::new(alloc, out, 7, no_calls(alloc))?;
     let mut note = MemSink::new(alloc, note, 100, no_calls(alloc))?;
-    let status = serve(alloc, &words, script, &mut out, &mut note, &FreeGate);
+    let status = serve(alloc, words, script, &mut out, &mut note, &FreeGate);
     Ok(Outcome {
         status,
         out: out.taken().to_vec(alloc)?,
@@ -291,6 +302,23 @@ fn runs_end_done_stuck_or_refused(rt: HostRuntime) -> Result<(), Fail> {
         };
         assert!(rt; got.is(status, out.as_str(), note), "at {calls}");
     }
+    Ok(())
+}
+
+// The summary comes from a second program. Every call of the source would fail.
+#[test]
+fn the_run_of_a_number_is_summed_up(rt: HostRuntime) -> Result<(), Fail> {
+    let alloc = rt.alloc();
+    let words = vec![in alloc;
+        String::from_str(alloc, "gen")?,
+        String::from_str(alloc, "2")?,
+    ]?;
+    let mut script = MemSource::new(Vec::new(alloc), 1, vec![in alloc; 0]?);
+    let got = served_words(alloc, &words, &mut script, 1000, 100)?;
+    let summary = "gen 2\nscript 44848\nlist 316 violations 86\nevents 7447\n\
+        replies ok 3072 refused 0\npcr sha1 10 0d95cf787ad86f61f3155830bfafa79328555d55\n\
+        pcr sha256 10 3d921c411f92374773bddba17dea50fa7d09eaf5248db7407934faad92f669fb\n";
+    assert!(rt; got.is(0, summary, ""));
     Ok(())
 }
 

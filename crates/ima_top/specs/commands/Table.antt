@@ -1,8 +1,9 @@
 -- The commands: which of them read, what refuses an input, and what is an output for it. Each
 -- command is a row of each table, and what the row says stands in the command's own file.
-use Rattle.std.specs.Prelude.{◌≡◌, ℕ, Bool, true, false, List, Option}
+use Rattle.std.specs.Prelude.{◌≡◌, ℕ, Bool, true, false, List, Option, None}
 use Rattle.command_line.specs.declared.command.Command.{Command}
 use Rattle.command_line.specs.declared.command.Command.TheVariants as command
+use Rattle.ima_top.specs.commands.Gen.{IsGenOutput}
 use Rattle.ima_top.specs.commands.Label.{label_refusal, IsLabelOutput}
 use Rattle.ima_top.specs.commands.List.{list_refusal, IsListOutput}
 use Rattle.ima_top.specs.commands.Policy.{policy_refusal, IsPolicyOutput}
@@ -14,6 +15,7 @@ reads command.List = true
 reads command.Policy = true
 reads command.Label = true
 reads command.Run = true
+reads (command.Gen number) = false
 
 -- the line that is told of an input outside the command's grammar
 unfoldable pub refusal : Command → List ℕ → Option (List ℕ)
@@ -21,12 +23,14 @@ refusal command.List input = list_refusal input
 refusal command.Policy input = policy_refusal input
 refusal command.Label input = label_refusal input
 refusal command.Run input = run_refusal input
+refusal (command.Gen number) input = None
 
 -- The bytes are an output for the input, of a run that is stuck or isn't. This is a relation, not a
--- function, since an input whose tasks run on threads has several outputs. A command without tasks
--- is never stuck.
+-- function, since an input whose tasks run on threads has several outputs. A command without tasks,
+-- or whose tasks never wait, is never stuck.
 unfoldable pub IsOutput : Command → List ℕ → Bool → List ℕ → Type 0
 IsOutput command.List input stuck output = (stuck ≡ false) × IsListOutput input output
 IsOutput command.Policy input stuck output = (stuck ≡ false) × IsPolicyOutput input output
 IsOutput command.Label input stuck output = (stuck ≡ false) × IsLabelOutput input output
 IsOutput command.Run input stuck output = IsRunOutput input stuck output
+IsOutput (command.Gen number) input stuck output = (stuck ≡ false) × IsGenOutput number output

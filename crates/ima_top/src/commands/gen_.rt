@@ -1,0 +1,15 @@
+// The command `gen`: the summary of the run of the script that is made of a number.
+ghost use Rattle.std.specs.Prelude.{IfOk};
+ghost use Rattle.ima_top.specs.commands.Gen.{IsGenOutput};
+
+use ima_io::{Gate, OutOfMemory};
+use load_run::summarize;
+use std::alloc::Global;
+
+/// The summary of the run of the number's script. Nothing refuses it.
+#[tactic(auto, unfolding(crate::specs::commands::Gen::IsGenOutput))]
+pub fn answer<G: Gate>(alloc: Global, number: u32, gate: &G) -> Result<Vec<u8>, OutOfMemory>
+    ensures { IfOk result (λ output. IsGenOutput number output.items) }
+{
+    summarize(alloc, number, gate)
+}
