@@ -17,7 +17,7 @@ pub is_loaded : (number : ℕ) (text : List ℕ) (s : ScriptValue) (size : ℕ)
 is_loaded number text s size is accepted read long = record {
   read = ap (λ (t : List ℕ). script_of t) (sym is) ∙ read;
   load = subst IsRead read accepted;
-  size = long ∙ ap length is;
+  counted = long ∙ ap length is;
 }
 
 -- it isn't refused

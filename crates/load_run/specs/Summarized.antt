@@ -12,7 +12,7 @@ use Rattle.script_text.specs.ScriptValue.{ScriptValue}
 pub record IsLoaded (number : ℕ) (s : ScriptValue) (size : ℕ) : Type 0 where
   pub read : script_of (script_text number) ≡ Ok s
   pub load : IsLoad s
-  pub size : size ≡ length (script_text number)
+  pub counted : size ≡ length (script_text number)
 
 -- the bytes are the summary of what the run of the script of this number leaves
 pub record IsSummary (number : ℕ) (output : List ℕ) : Type 0 where
