@@ -1,5 +1,5 @@
 -- The text of a number's script is read as that script.
-use Rattle.std.proofs.Common.{◌≡◌, ℕ, List, length, MatchResult, Ok, Err, Result, sym, ap, ◌∙◌, subst}
+use Rattle.std.proofs.Common.{◌≡◌, ℕ, List, length, MatchResult, Ok, Result, sym, ap, ◌∙◌, subst}
 use Rattle.load_gen.specs.Accepted.{IsAccepted, IsLoad}
 use Rattle.load_gen.specs.Script.{script_text}
 use Rattle.load_run.specs.Summarized.{IsLoaded}
@@ -19,7 +19,3 @@ is_loaded number text s size is accepted read long = record {
   load = subst IsRead read accepted;
   counted = long ∙ ap length is;
 }
-
--- it isn't refused
-pub never_refused : (text : List ℕ) (f : Fault) → IsAccepted text → script_of text ≡ Err f → ⊥
-never_refused text f accepted read = subst IsRead read accepted

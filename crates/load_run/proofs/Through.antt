@@ -1,5 +1,5 @@
 -- Tasks that never wait are never stuck.
-use Rattle.std.proofs.Common.{◌≡◌, ℕ, zero, suc, ◌&&◌, ◌||◌, Bool, true, false, not, List, [], ◌∷◌, length, map, Some, refl, sym, ap, ◌∙◌}
+use Rattle.std.proofs.Common.{◌≡◌, ℕ, zero, suc, ◌&&◌, Bool, true, false, not, List, [], ◌∷◌, length, map, Some, refl, ap, ◌∙◌}
 use Rattle.std.specs.Prelude.{slice_get}
 use Rattle.std.specs.List.{list_all}
 use Rattle.std.proofs.Math.Bool.{or-false}
@@ -8,11 +8,11 @@ use Rattle.call_steps.specs.declared.call.Call.{Call}
 use Rattle.call_steps.specs.declared.call.Call.TheVariants as call
 use Rattle.load_gen.specs.Accepted.{IsLoad, never_waits, waits}
 use Rattle.run_model.specs.Ended.{all_done, all_wait, is_done, is_stuck, left, waits_in_vain}
-use Rattle.run_model.specs.EndedValue.{EndedValue, ended_of}
+use Rattle.run_model.specs.EndedValue.{EndedValue}
 use Rattle.run_model.specs.History.{Thought}
 use Rattle.run_model.specs.Scene.{Program}
 use Rattle.script_run.specs.Run.{HasRun}
-use Rattle.script_scene.specs.Scene.{program_of, scene_of}
+use Rattle.script_scene.specs.Scene.{program_of}
 use Rattle.script_text.specs.ScriptValue.{ScriptValue}
 use Rattle.script_text.specs.declared.blocks.TaskBlock.{TaskBlock}
 use Rattle.script_text.proofs.Holding.{left_true, right_true}

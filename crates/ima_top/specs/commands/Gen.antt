@@ -1,6 +1,5 @@
 -- The command `gen`: the summary of the run of the script that is made of a number. It reads
--- nothing,
--- and nothing refuses it.
+-- nothing, and nothing refuses it.
 use Rattle.std.specs.Prelude.{ℕ, List}
 use Rattle.load_run.specs.Summarized.{IsSummary}
 
