@@ -2,7 +2,5 @@
 #![tactic(auto)]
 
 mod run;
-#[cfg(test)]
-mod tests;
 
 pub use run::summarize;

@@ -15,7 +15,7 @@ use crate::cases::Case;
 use anyhow::{Context, Result, ensure};
 use std::fs;
 
-const FAMILIES: [&str; 7] = [
+const FAMILIES: [&str; 10] = [
     "measuring",
     "violations",
     "appraisal",
@@ -23,6 +23,9 @@ const FAMILIES: [&str; 7] = [
     "calls",
     "growing",
     "labels",
+    "lists",
+    "policies",
+    "summaries",
 ];
 
 fn main(rt: HostRuntime) -> Result<()> {
