@@ -36,7 +36,10 @@ fn an_output_or_a_note_may_end_early(rt: HostRuntime) -> Result<(), Fail> {
     ] {
         let (got, out, said) = listed(rt.alloc(), room, note)?;
         assert_eq!(rt; got, status);
-        assert!(rt; ONE_FILE.as_bytes().starts_with(out.as_slice()), "room {room}");
+        assert!(rt;
+            ONE_FILE.as_bytes().starts_with(out.as_slice()),
+            "room {room}"
+        );
         assert_eq!(rt; out.len(), if status == 0 { ONE_FILE.len() } else { room });
         assert_eq!(rt; said.as_slice(), told.as_bytes());
     }
