@@ -199,7 +199,8 @@ IsComplete s source sink =
 not_refused : (command : Command) (input left line : List ℕ) → IsAnswerable command left
     → input ≡ left → refusal command input ≡ Some line → ⊥
 not_refused command input left line a same h =
-    let is : refusal command left ≡ Some line = ap (λ (l : List ℕ). refusal command l) (sym same) ∙ h
+    let is : refusal command left ≡ Some line =
+    ap (λ (l : List ℕ). refusal command l) (sym same) ∙ h
     in absurd (cc (a.kept, is))
 
 complete : (command : Command) (before after old new : Option (List ℕ)) (left : List ℕ)
@@ -212,7 +213,8 @@ complete : (command : Command) (before after old new : Option (List ℕ)) (left 
     → IsComplete (not_done_status w) source sink
 complete command before after old new left why.Usage source sink usage at read write i e a =
     absurd (not_none command (usage refl))
-complete command before after old new left (why.Refused line) source sink usage at read write i e a =
+complete command before after old new left (why.Refused line) source sink usage at read write i e
+    a =
     let same = input_whole (reads command) before after i.input left i.given i.unread
     (λ is. at is (inr (inl refl))) e in
     absurd (not_refused command i.input left line.items a same i.holds.2)

@@ -83,7 +83,8 @@ invariant_of-self c =
     (subst (λ (v : Event). IsKnown i (past list) v c.args.known.now) (sym same) known) k.state) in
     rw (birth c) (kept_on i c.self.inside.journal c.push-place.new.self c.self.inside.own
     c.self.inside.state c.advance.new.self e c.args.pass.now.number k f by c.requires.number
-    c.push-place.ensures.kept.0 c.push-place.ensures.kept.1 (subst (λ (n : ℕ). n < c.push-place.new.self.callers)
+    c.push-place.ensures.kept.0 c.push-place.ensures.kept.1 (subst
+    (λ (n : ℕ). n < c.push-place.new.self.callers)
     c.push-place.ensures.same_pass.1 c.push-place.ensures.number) c.push-place.ensures.list
     c.push-place.ensures.numbers state)
 
