@@ -3,9 +3,9 @@
 
 It needs the two programs crates/imakern/out/imakern and crates/kit_hashes/out/kit_hashes, which
 `rt ci` leaves there (`./imakern` builds the first, `rt run </dev/null` in crates/kit_hashes the
-second). Each time is the least user time of RUNS runs (7), in which the program and the hashes take
-turns, so that other work on the machine slows both. It prints a line for each measurement, and ends
-with status 1 where one is above its limit. bench/README.md says what is measured and why.
+second). Each time is the mean user time over RUNS rounds (7), in which the program and the hashes
+take turns, so that other work on the machine slows both. It prints a line for each measurement, and
+ends with status 1 where one is above its limit. bench/README.md says what is measured and why.
 """
 import os, re, resource, select, subprocess, sys, tempfile, time
 from collections import Counter
@@ -147,24 +147,30 @@ def events_of(report):
 # ---- measuring
 
 def once(words, data):
-    """The output of one run, and its user time in seconds."""
+    """The output of one run, its user time, and its user and system time, in seconds."""
     with tempfile.TemporaryFile() as given, tempfile.TemporaryFile() as taken:
         given.write(data)
         given.seek(0)
-        before = resource.getrusage(resource.RUSAGE_CHILDREN).ru_utime
+        before = resource.getrusage(resource.RUSAGE_CHILDREN)
         subprocess.run(words, stdin=given, stdout=taken, stderr=subprocess.DEVNULL, check=True)
-        spent = resource.getrusage(resource.RUSAGE_CHILDREN).ru_utime - before
+        after = resource.getrusage(resource.RUSAGE_CHILDREN)
+        user, system = after.ru_utime - before.ru_utime, after.ru_stime - before.ru_stime
         taken.seek(0)
-        return taken.read(), spent
+        return taken.read(), user, user + system
 
 
-def least(*jobs):
-    """The least user time of each job, over RUNS rounds of all of them."""
-    times = [[] for _ in jobs]
+def users(*jobs):
+    """The mean user time of each job, over RUNS rounds of all of them.
+
+    A kernel may know how much of a run was user time only from samples, one in some milliseconds.
+    So a job is run as often in each round as it takes to fill a fifth of a second.
+    """
+    often = [max(1, round(0.2 / max(once(*job)[2], 0.001))) for job in jobs]
+    spent = [0.0 for _ in jobs]
     for _ in range(RUNS):
-        for at, (words, data) in enumerate(jobs):
-            times[at].append(once(words, data)[1])
-    return [min(t) for t in times]
+        for at, job in enumerate(jobs):
+            spent[at] += sum(once(*job)[1] for _ in range(often[at]))
+    return [s / RUNS / n for s, n in zip(spent, often)]
 
 
 def peak(words, data):
@@ -194,7 +200,7 @@ def against_hashes(name, words, data, script, report):
     """The user time of a run against that of its hashes and a microsecond for each event."""
     needs = needed(script.decode(), report)
     orders = ''.join('%s %d %d\n' % (algo, size, n) for (algo, size), n in sorted(needs.items()))
-    ours, theirs, idle = least((words, data), ([HASHES], orders.encode()), ([HASHES], b''))
+    ours, theirs, idle = users((words, data), ([HASHES], orders.encode()), ([HASHES], b''))
     hashes, events = theirs - idle, events_of(report)
     times = ours / (hashes + events * 1e-6)
     judge(name, times, 1.2, '%.2f times: %.1f ms for %.1f ms of hashes and %d events' % (
@@ -216,7 +222,7 @@ def knows_gen():
 def step(script):
     """The user time of a run for each of its events, and how many they are."""
     events = events_of(once([IMAKERN, 'run'], script)[0].decode())
-    return least(([IMAKERN, 'run'], script))[0] / events * 1e6, events
+    return users(([IMAKERN, 'run'], script))[0] / events * 1e6, events
 
 
 def steps():
@@ -254,9 +260,9 @@ def main():
     comment = b'#' * (4194304 - len(rest) - 1) + b'\n' + rest
     comments = b'# a comment\n' * 349500 + rest
     for name, script in (('4 MiB of one comment', comment), ('4 MiB of short comments', comments)):
-        spent = least((run, script))[0]
+        spent = users((run, script))[0]
         judge(name, spent, 0.2, '%.3f s' % spent)
-    whole, part = least((run, small), (run, half))
+    whole, part = users((run, small), (run, half))
     judge('32,768 calls to 16,384', whole / part, 2.2, '%.2f times: %.1f and %.1f ms' % (
         whole / part, whole * 1e3, part * 1e3))
     memory('memory of 64 files of 262,144 bytes', large, 64 * 262144)
