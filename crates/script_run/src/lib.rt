@@ -3,5 +3,7 @@
 
 mod members;
 mod running;
+#[cfg(test)]
+mod tests;
 
 pub use running::run;

@@ -6,6 +6,7 @@ mod limits;
 mod lists;
 mod settings;
 mod tasks;
+mod words;
 
 use crate::{ScriptErr, parse};
 use std::alloc::Global;
@@ -54,13 +55,19 @@ fn wanted(alloc: Global, text: &[u8], cause: &str) -> Result<String, Fail> {
     })
 }
 
-// Rows of lines, and what is answered of their last behind the front.
-fn see(rt: &impl Abort, alloc: Global, front: &str, rows: &[(&str, &str)]) -> Result<(), Fail> {
-    for (lines, cause) in rows {
-        let text = format!(in alloc; "{front}{lines}\n")?;
-        let got = answer(alloc, text.as_bytes())?;
-        let want = wanted(alloc, text.as_bytes(), cause)?;
-        assert_eq!(rt; got.as_str(), want.as_str(), "at {lines}");
+// Rows: lines, and behind `=` what is answered of the last of them behind the front.
+fn see(rt: &impl Abort, alloc: Global, front: &str, rows: &str) -> Result<(), Fail> {
+    let mut text = String::from_str(alloc, front)?;
+    for line in rows.lines() {
+        if let Some(cause) = line.strip_prefix('=') {
+            let got = answer(alloc, text.as_bytes())?;
+            let want = wanted(alloc, text.as_bytes(), cause.trim())?;
+            assert_eq!(rt; got.as_str(), want.as_str(), "at {text}");
+            text = String::from_str(alloc, front)?;
+        } else {
+            text.push_str(line)?;
+            text.push_str("\n")?;
+        }
     }
     Ok(())
 }

@@ -2,10 +2,9 @@
 
 use call_steps::Reply;
 use hash_algos::{Algo, Digest, digest_of};
-use ima_templates::{Entry, Placed, build, can_show, violation};
+use ima_templates::{Entry, Placed, build, can_show};
 use inode_events::{Deed, EndedInode, Event, Grant, How, Told};
 use inode_meta::{Template, Who};
-use label_values::Verdict;
 use pcr_bank::Banks;
 use policy_text::{Action, Func};
 use run_model::{Ended, EndedTask};
@@ -34,11 +33,6 @@ pub fn count(how: How) -> Deed {
 }
 
 pub const READS: How = How::Read { create: false };
-
-pub const WRITES: How = How::Write {
-    read: false,
-    create: false,
-};
 
 pub fn check(file: u64, func: Func, action: Action) -> Deed {
     Deed::Check {
@@ -76,13 +70,9 @@ pub fn reply_abc() -> Reply {
 }
 
 pub fn measured(placed: Placed) -> Told {
-    grant(Some(placed), None)
-}
-
-pub fn grant(placed: Option<Placed>, verdict: Option<Verdict>) -> Told {
     Told::Grant(Grant {
-        placed,
-        verdict,
+        placed: Some(placed),
+        verdict: None,
         admitted: true,
         labelled: false,
     })
@@ -121,17 +111,6 @@ pub fn add_a(
     assert!(rt; pcr < 24 && sha1.algo() == Algo::Sha1 && can_show(Template::ImaNg, b"/a"));
     let sha256 = abc(Algo::Sha256);
     list.push(build(alloc, pcr, Template::ImaNg, &sha256, &sha1, b"/a", b"")?)?;
-    Ok(())
-}
-
-// A violation of `/a`.
-pub fn add_violation(
-    rt: &impl Abort,
-    alloc: Global,
-    list: &mut Vec<Entry>,
-) -> Result<(), AllocError> {
-    assert!(rt; can_show(Template::ImaNg, b"/a"));
-    list.push(violation(alloc, Template::ImaNg, Algo::Sha256, b"/a")?)?;
     Ok(())
 }
 

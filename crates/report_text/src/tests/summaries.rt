@@ -1,9 +1,8 @@
-// Summaries of the runs of the other tests.
+// The summary of the same run.
 
 use crate::summary;
 use crate::tests::files::measured_read;
-use crate::tests::labels::attributes;
-use crate::tests::texts::{SUMMARY_OF_ATTRIBUTES, SUMMARY_OF_READ};
+use crate::tests::texts::SUMMARY_OF_READ;
 use std::test::Fail;
 
 #[test]
@@ -12,8 +11,5 @@ fn a_run_is_summed_up(rt: HostRuntime) -> Result<(), Fail> {
     let read = measured_read(&rt, alloc)?;
     let text = summary(alloc, 7, 45_011, &read)?;
     assert_eq!(rt; text.as_slice(), SUMMARY_OF_READ.as_bytes());
-    let changes = attributes(&rt, alloc)?;
-    let text = summary(alloc, 1_000_000, 44_805, &changes)?;
-    assert_eq!(rt; text.as_slice(), SUMMARY_OF_ATTRIBUTES.as_bytes());
     Ok(())
 }

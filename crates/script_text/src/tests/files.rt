@@ -4,363 +4,287 @@ use super::{FILE, HEAD, see};
 use std::test::Fail;
 
 // Files.
-const FILES: [(&str, &str); 70] = [
-    (
-        "file /b fs=0 ino=1 gen=1 uid=0 gid=0 mode=644 content=txt:",
-        "",
-    ),
-    (
-        "file / fs=0 ino=1 gen=1 uid=0 gid=0 mode=644 content=txt:",
-        "bad-field",
-    ),
-    (
-        "file b fs=0 ino=1 gen=1 uid=0 gid=0 mode=644 content=txt:",
-        "bad-field",
-    ),
-    (
-        "file /b/ fs=0 ino=1 gen=1 uid=0 gid=0 mode=644 content=txt:",
-        "bad-field",
-    ),
-    (
-        "file //b fs=0 ino=1 gen=1 uid=0 gid=0 mode=644 content=txt:",
-        "bad-field",
-    ),
-    (
-        "file /b//c fs=0 ino=1 gen=1 uid=0 gid=0 mode=644 content=txt:",
-        "bad-field",
-    ),
-    (
-        "file /b/c fs=0 ino=1 gen=1 uid=0 gid=0 mode=644 content=txt:",
-        "",
-    ),
-    (
-        "file /~!# fs=0 ino=1 gen=1 uid=0 gid=0 mode=644 content=txt:",
-        "",
-    ),
-    (
-        "file /\x7f fs=0 ino=1 gen=1 uid=0 gid=0 mode=644 content=txt:",
-        "bad-field",
-    ),
-    (
-        "file /b fs=1 ino=1 gen=1 uid=0 gid=0 mode=644 content=txt:",
-        "unknown",
-    ),
-    (
-        "file /b fs=00 ino=1 gen=1 uid=0 gid=0 mode=644 content=txt:",
-        "bad-field",
-    ),
-    (
-        "file /b fs=x ino=1 gen=1 uid=0 gid=0 mode=644 content=txt:",
-        "bad-field",
-    ),
-    (
-        "file /b fs= ino=1 gen=1 uid=0 gid=0 mode=644 content=txt:",
-        "bad-field",
-    ),
-    (
-        "file /b fs=18446744073709551616 ino=1 gen=1 uid=0 gid=0 mode=644 content=txt:",
-        "unknown",
-    ),
-    (
-        "file /a fs=1 ino=1 gen=1 uid=0 gid=0 mode=644 content=txt:",
-        "unknown",
-    ),
-    (
-        "file /a fs=x ino=1 gen=1 uid=0 gid=0 mode=644 content=txt:",
-        "bad-field",
-    ),
-    (
-        "file /a fs=0 ino=1 gen=1 uid=0 gid=0 mode=644 content=txt:",
-        "twice",
-    ),
-    (
-        "file /b fs=0 ino=0 gen=1 uid=0 gid=0 mode=644 content=txt:",
-        "",
-    ),
-    (
-        "file /b fs=0 ino=18446744073709551615 gen=1 uid=0 gid=0 mode=644 content=txt:",
-        "",
-    ),
-    (
-        "file /b fs=0 ino=18446744073709551616 gen=1 uid=0 gid=0 mode=644 content=txt:",
-        "bad-field",
-    ),
-    (
-        "file /b fs=0 ino=01 gen=1 uid=0 gid=0 mode=644 content=txt:",
-        "bad-field",
-    ),
-    (
-        "file /b fs=0 ino=1 gen=4294967295 uid=0 gid=0 mode=644 content=txt:",
-        "",
-    ),
-    (
-        "file /b fs=0 ino=1 gen=4294967296 uid=0 gid=0 mode=644 content=txt:",
-        "bad-field",
-    ),
-    (
-        "file /b fs=0 ino=1 gen=1 uid=4294967295 gid=0 mode=644 content=txt:",
-        "",
-    ),
-    (
-        "file /b fs=0 ino=1 gen=1 uid=4294967296 gid=0 mode=644 content=txt:",
-        "bad-field",
-    ),
-    (
-        "file /b fs=0 ino=1 gen=1 uid=0 gid=4294967295 mode=644 content=txt:",
-        "",
-    ),
-    (
-        "file /b fs=0 ino=1 gen=1 uid=0 gid=4294967296 mode=644 content=txt:",
-        "bad-field",
-    ),
-    (
-        "file /b fs=0 ino=1 gen=1 uid=0 gid=-1 mode=644 content=txt:",
-        "bad-field",
-    ),
-    (
-        "file /b fs=0 ino=1 gen=1 uid=0 gid=+1 mode=644 content=txt:",
-        "bad-field",
-    ),
-    (
-        "file /b fs=0 ino=1 gen=1 uid=0 gid=0 mode=0 content=txt:",
-        "",
-    ),
-    (
-        "file /b fs=0 ino=1 gen=1 uid=0 gid=0 mode=177777 content=txt:",
-        "",
-    ),
-    (
-        "file /b fs=0 ino=1 gen=1 uid=0 gid=0 mode=200000 content=txt:",
-        "bad-field",
-    ),
-    (
-        "file /b fs=0 ino=1 gen=1 uid=0 gid=0 mode=1000000 content=txt:",
-        "bad-field",
-    ),
-    (
-        "file /b fs=0 ino=1 gen=1 uid=0 gid=0 mode=0644 content=txt:",
-        "bad-field",
-    ),
-    (
-        "file /b fs=0 ino=1 gen=1 uid=0 gid=0 mode=648 content=txt:",
-        "bad-field",
-    ),
-    (
-        "file /b fs=0 ino=1 gen=1 uid=0 gid=0 mode= content=txt:",
-        "bad-field",
-    ),
-    (
-        "file /b fs=0 ino=1 gen=1 uid=0 gid=0 mode=644 content=hex:",
-        "",
-    ),
-    (
-        "file /b fs=0 ino=1 gen=1 uid=0 gid=0 mode=644 content=hex:0",
-        "bad-field",
-    ),
-    (
-        "file /b fs=0 ino=1 gen=1 uid=0 gid=0 mode=644 content=hex:0g",
-        "bad-field",
-    ),
-    (
-        "file /b fs=0 ino=1 gen=1 uid=0 gid=0 mode=644 content=hex:aBcD",
-        "",
-    ),
-    (
-        "file /b fs=0 ino=1 gen=1 uid=0 gid=0 mode=644 content=HEX:00",
-        "bad-field",
-    ),
-    (
-        "file /b fs=0 ino=1 gen=1 uid=0 gid=0 mode=644 content=txt:~",
-        "",
-    ),
-    (
-        "file /b fs=0 ino=1 gen=1 uid=0 gid=0 mode=644 content=txt:\x7f",
-        "bad-field",
-    ),
-    (
-        "file /b fs=0 ino=1 gen=1 uid=0 gid=0 mode=644 content=abc",
-        "bad-field",
-    ),
-    (
-        "file /b fs=0 ino=1 gen=1 uid=0 gid=0 mode=644 content=",
-        "bad-field",
-    ),
-    (
-        "file /b fs=0 ino=1 gen=1 uid=0 gid=0 mode=644 content=fill:0:00",
-        "",
-    ),
-    (
-        "file /b fs=0 ino=1 gen=1 uid=0 gid=0 mode=644 content=fill:262144:ff",
-        "",
-    ),
-    (
-        "file /b fs=0 ino=1 gen=1 uid=0 gid=0 mode=644 content=fill:262145:ff",
-        "bad-field",
-    ),
-    (
-        "file /b fs=0 ino=1 gen=1 uid=0 gid=0 mode=644 content=fill:01:ff",
-        "bad-field",
-    ),
-    (
-        "file /b fs=0 ino=1 gen=1 uid=0 gid=0 mode=644 content=fill::ff",
-        "bad-field",
-    ),
-    (
-        "file /b fs=0 ino=1 gen=1 uid=0 gid=0 mode=644 content=fill:1",
-        "bad-field",
-    ),
-    (
-        "file /b fs=0 ino=1 gen=1 uid=0 gid=0 mode=644 content=fill:1:f",
-        "bad-field",
-    ),
-    (
-        "file /b fs=0 ino=1 gen=1 uid=0 gid=0 mode=644 content=fill:1:fff",
-        "bad-field",
-    ),
-    (
-        "file /b fs=0 ino=1 gen=1 uid=0 gid=0 mode=644 content=fill:1:FG",
-        "bad-field",
-    ),
-    (
-        "file /b fs=0 ino=1 gen=1 uid=0 gid=0 mode=644 content=fill:18446744073709551616:00",
-        "bad-field",
-    ),
-    (
-        "file /b fs=0 ino=1 gen=1 uid=0 gid=0 mode=644 content=txt: x",
-        "bad-field",
-    ),
-    ("file /b", "bad-field"),
-    ("file", "bad-field"),
-    (
-        "file fs=0 /b ino=1 gen=1 uid=0 gid=0 mode=644 content=txt:",
-        "bad-field",
-    ),
-    ("absent /b fs=0 ino=1 gen=1 uid=0 gid=0 mode=644", ""),
-    ("absent /a fs=0 ino=1 gen=1 uid=0 gid=0 mode=644", "twice"),
-    ("absent /b fs=1 ino=1 gen=1 uid=0 gid=0 mode=644", "unknown"),
-    (
-        "absent /b fs=0 ino=1 gen=1 uid=0 gid=0 mode=644 content=txt:",
-        "bad-field",
-    ),
-    (
-        "absent /b fs=0 ino=1 gen=1 uid=0 gid=0 mode=644 x",
-        "bad-field",
-    ),
-    ("absent", "bad-field"),
-    (
-        "absent /b fs=0 ino=1 gen=1 uid=0 gid=0 mode=644\nattr user.x txt:",
-        "out-of-place",
-    ),
-    (
-        "absent /b fs=0 ino=1 gen=1 uid=0 gid=0 mode=644\nseal",
-        "out-of-place",
-    ),
-    (
-        "absent /b fs=0 ino=1 gen=1 uid=0 gid=0 mode=644\nattr",
-        "out-of-place",
-    ),
-    (
-        "file /b fs=0 ino=1 gen=1 uid=0 gid=0 mode=644 content=txt:\nabsent /c fs=0 ino=1 gen=1 uid=0 gid=0 mode=644\nfile /b fs=0 ino=1 gen=1 uid=0 gid=0 mode=644 content=txt:",
-        "twice",
-    ),
-    (
-        "fs magic=1 uuid=00000000-0000-0000-0000-000000000001 name=x versions",
-        "out-of-place",
-    ),
-];
+const FILES: &str = "\
+    file /b fs=0 ino=1 gen=1 uid=0 gid=0 mode=644 content=txt:\n\
+    =\n\
+    file / fs=0 ino=1 gen=1 uid=0 gid=0 mode=644 content=txt:\n\
+    = bad-field\n\
+    file b fs=0 ino=1 gen=1 uid=0 gid=0 mode=644 content=txt:\n\
+    = bad-field\n\
+    file /b/ fs=0 ino=1 gen=1 uid=0 gid=0 mode=644 content=txt:\n\
+    = bad-field\n\
+    file //b fs=0 ino=1 gen=1 uid=0 gid=0 mode=644 content=txt:\n\
+    = bad-field\n\
+    file /b//c fs=0 ino=1 gen=1 uid=0 gid=0 mode=644 content=txt:\n\
+    = bad-field\n\
+    file /b/c fs=0 ino=1 gen=1 uid=0 gid=0 mode=644 content=txt:\n\
+    =\n\
+    file /~!# fs=0 ino=1 gen=1 uid=0 gid=0 mode=644 content=txt:\n\
+    =\n\
+    file /\x7f fs=0 ino=1 gen=1 uid=0 gid=0 mode=644 content=txt:\n\
+    = bad-field\n\
+    file /b fs=1 ino=1 gen=1 uid=0 gid=0 mode=644 content=txt:\n\
+    = unknown\n\
+    file /b fs=00 ino=1 gen=1 uid=0 gid=0 mode=644 content=txt:\n\
+    = bad-field\n\
+    file /b fs=x ino=1 gen=1 uid=0 gid=0 mode=644 content=txt:\n\
+    = bad-field\n\
+    file /b fs= ino=1 gen=1 uid=0 gid=0 mode=644 content=txt:\n\
+    = bad-field\n\
+    file /b fs=18446744073709551616 ino=1 gen=1 uid=0 gid=0 mode=644 content=txt:\n\
+    = unknown\n\
+    file /a fs=1 ino=1 gen=1 uid=0 gid=0 mode=644 content=txt:\n\
+    = unknown\n\
+    file /a fs=x ino=1 gen=1 uid=0 gid=0 mode=644 content=txt:\n\
+    = bad-field\n\
+    file /a fs=0 ino=1 gen=1 uid=0 gid=0 mode=644 content=txt:\n\
+    = twice\n\
+    file /b fs=0 ino=0 gen=1 uid=0 gid=0 mode=644 content=txt:\n\
+    =\n\
+    file /b fs=0 ino=18446744073709551615 gen=1 uid=0 gid=0 mode=644 content=txt:\n\
+    =\n\
+    file /b fs=0 ino=18446744073709551616 gen=1 uid=0 gid=0 mode=644 content=txt:\n\
+    = bad-field\n\
+    file /b fs=0 ino=01 gen=1 uid=0 gid=0 mode=644 content=txt:\n\
+    = bad-field\n\
+    file /b fs=0 ino=1 gen=4294967295 uid=0 gid=0 mode=644 content=txt:\n\
+    =\n\
+    file /b fs=0 ino=1 gen=4294967296 uid=0 gid=0 mode=644 content=txt:\n\
+    = bad-field\n\
+    file /b fs=0 ino=1 gen=1 uid=4294967295 gid=0 mode=644 content=txt:\n\
+    =\n\
+    file /b fs=0 ino=1 gen=1 uid=4294967296 gid=0 mode=644 content=txt:\n\
+    = bad-field\n\
+    file /b fs=0 ino=1 gen=1 uid=0 gid=4294967295 mode=644 content=txt:\n\
+    =\n\
+    file /b fs=0 ino=1 gen=1 uid=0 gid=4294967296 mode=644 content=txt:\n\
+    = bad-field\n\
+    file /b fs=0 ino=1 gen=1 uid=0 gid=-1 mode=644 content=txt:\n\
+    = bad-field\n\
+    file /b fs=0 ino=1 gen=1 uid=0 gid=+1 mode=644 content=txt:\n\
+    = bad-field\n\
+    file /b fs=0 ino=1 gen=1 uid=0 gid=0 mode=0 content=txt:\n\
+    =\n\
+    file /b fs=0 ino=1 gen=1 uid=0 gid=0 mode=177777 content=txt:\n\
+    =\n\
+    file /b fs=0 ino=1 gen=1 uid=0 gid=0 mode=200000 content=txt:\n\
+    = bad-field\n\
+    file /b fs=0 ino=1 gen=1 uid=0 gid=0 mode=1000000 content=txt:\n\
+    = bad-field\n\
+    file /b fs=0 ino=1 gen=1 uid=0 gid=0 mode=0644 content=txt:\n\
+    = bad-field\n\
+    file /b fs=0 ino=1 gen=1 uid=0 gid=0 mode=648 content=txt:\n\
+    = bad-field\n\
+    file /b fs=0 ino=1 gen=1 uid=0 gid=0 mode= content=txt:\n\
+    = bad-field\n\
+    file /b fs=0 ino=1 gen=1 uid=0 gid=0 mode=644 content=hex:\n\
+    =\n\
+    file /b fs=0 ino=1 gen=1 uid=0 gid=0 mode=644 content=hex:0\n\
+    = bad-field\n\
+    file /b fs=0 ino=1 gen=1 uid=0 gid=0 mode=644 content=hex:0g\n\
+    = bad-field\n\
+    file /b fs=0 ino=1 gen=1 uid=0 gid=0 mode=644 content=hex:aBcD\n\
+    =\n\
+    file /b fs=0 ino=1 gen=1 uid=0 gid=0 mode=644 content=HEX:00\n\
+    = bad-field\n\
+    file /b fs=0 ino=1 gen=1 uid=0 gid=0 mode=644 content=txt:~\n\
+    =\n\
+    file /b fs=0 ino=1 gen=1 uid=0 gid=0 mode=644 content=txt:\x7f\n\
+    = bad-field\n\
+    file /b fs=0 ino=1 gen=1 uid=0 gid=0 mode=644 content=abc\n\
+    = bad-field\n\
+    file /b fs=0 ino=1 gen=1 uid=0 gid=0 mode=644 content=\n\
+    = bad-field\n\
+    file /b fs=0 ino=1 gen=1 uid=0 gid=0 mode=644 content=fill:0:00\n\
+    =\n\
+    file /b fs=0 ino=1 gen=1 uid=0 gid=0 mode=644 content=fill:262144:ff\n\
+    =\n\
+    file /b fs=0 ino=1 gen=1 uid=0 gid=0 mode=644 content=fill:262145:ff\n\
+    = bad-field\n\
+    file /b fs=0 ino=1 gen=1 uid=0 gid=0 mode=644 content=fill:01:ff\n\
+    = bad-field\n\
+    file /b fs=0 ino=1 gen=1 uid=0 gid=0 mode=644 content=fill::ff\n\
+    = bad-field\n\
+    file /b fs=0 ino=1 gen=1 uid=0 gid=0 mode=644 content=fill:1\n\
+    = bad-field\n\
+    file /b fs=0 ino=1 gen=1 uid=0 gid=0 mode=644 content=fill:1:f\n\
+    = bad-field\n\
+    file /b fs=0 ino=1 gen=1 uid=0 gid=0 mode=644 content=fill:1:fff\n\
+    = bad-field\n\
+    file /b fs=0 ino=1 gen=1 uid=0 gid=0 mode=644 content=fill:1:FG\n\
+    = bad-field\n\
+    file /b fs=0 ino=1 gen=1 uid=0 gid=0 mode=644 content=fill:18446744073709551616:00\n\
+    = bad-field\n\
+    file /b fs=0 ino=1 gen=1 uid=0 gid=0 mode=644 content=txt: x\n\
+    = bad-field\n\
+    file /b\n\
+    = bad-field\n\
+    file\n\
+    = bad-field\n\
+    file fs=0 /b ino=1 gen=1 uid=0 gid=0 mode=644 content=txt:\n\
+    = bad-field\n\
+    absent /b fs=0 ino=1 gen=1 uid=0 gid=0 mode=644\n\
+    =\n\
+    absent /a fs=0 ino=1 gen=1 uid=0 gid=0 mode=644\n\
+    = twice\n\
+    absent /b fs=1 ino=1 gen=1 uid=0 gid=0 mode=644\n\
+    = unknown\n\
+    absent /b fs=0 ino=1 gen=1 uid=0 gid=0 mode=644 content=txt:\n\
+    = bad-field\n\
+    absent /b fs=0 ino=1 gen=1 uid=0 gid=0 mode=644 x\n\
+    = bad-field\n\
+    absent\n\
+    = bad-field\n\
+    absent /b fs=0 ino=1 gen=1 uid=0 gid=0 mode=644\n\
+    attr user.x txt:\n\
+    = out-of-place\n\
+    absent /b fs=0 ino=1 gen=1 uid=0 gid=0 mode=644\n\
+    seal\n\
+    = out-of-place\n\
+    absent /b fs=0 ino=1 gen=1 uid=0 gid=0 mode=644\n\
+    attr\n\
+    = out-of-place\n\
+    file /b fs=0 ino=1 gen=1 uid=0 gid=0 mode=644 content=txt:\n\
+    absent /c fs=0 ino=1 gen=1 uid=0 gid=0 mode=644\n\
+    file /b fs=0 ino=1 gen=1 uid=0 gid=0 mode=644 content=txt:\n\
+    = twice\n\
+    fs magic=1 uuid=00000000-0000-0000-0000-000000000001 name=x versions\n\
+    = out-of-place\n\
+";
 
 // Files behind no file system.
-const FILES_NOWHERE: [(&str, &str); 4] = [
-    (
-        "file /b fs=0 ino=1 gen=1 uid=0 gid=0 mode=644 content=txt:",
-        "unknown",
-    ),
-    (
-        "file /b fs=x ino=1 gen=1 uid=0 gid=0 mode=644 content=txt:",
-        "bad-field",
-    ),
-    ("attr user.x txt:", "out-of-place"),
-    ("seal", "out-of-place"),
-];
+const FILES_NOWHERE: &str = "\
+    file /b fs=0 ino=1 gen=1 uid=0 gid=0 mode=644 content=txt:\n\
+    = unknown\n\
+    file /b fs=x ino=1 gen=1 uid=0 gid=0 mode=644 content=txt:\n\
+    = bad-field\n\
+    attr user.x txt:\n\
+    = out-of-place\n\
+    seal\n\
+    = out-of-place\n\
+";
 
 // Attributes and seals.
-const ATTRS: [(&str, &str); 26] = [
-    ("attr user.x txt:", ""),
-    ("attr user.x fill:4096:00", ""),
-    ("attr user.x fill:4097:00", "bad-field"),
-    ("attr user.x", "bad-field"),
-    ("attr", "bad-field"),
-    ("attr user.x txt: x", "bad-field"),
-    ("attr  txt:", "bad-field"),
-    ("attr user.x x", "bad-field"),
-    ("attr user.x txt:\nattr user.x txt:", "twice"),
-    ("attr user.x txt:\nattr user.x x", "bad-field"),
-    ("attr user.x txt:\nattr user.xx txt:", ""),
-    ("attr security.ima hex:\nattr security.ima hex:", "twice"),
-    ("attr security.evm hex:\nattr security.evm hex:", "twice"),
-    (
-        "attr user.x txt:\nfile /b fs=0 ino=1 gen=1 uid=0 gid=0 mode=644 content=txt:\nattr user.x txt:",
-        "",
-    ),
-    ("seal", ""),
-    ("seal x", "bad-field"),
-    ("seal ", "bad-field"),
-    ("seal\nseal", "out-of-place"),
-    ("seal\nattr user.x txt:", "out-of-place"),
-    ("seal\nattr", "out-of-place"),
-    ("attr security.ima hex:00\nseal", ""),
-    (
-        "seal\nfile /b fs=0 ino=1 gen=1 uid=0 gid=0 mode=644 content=txt:\nseal",
-        "",
-    ),
-    ("seal\nabsent /b fs=0 ino=1 gen=1 uid=0 gid=0 mode=644", ""),
-    ("rule measure\nattr user.x txt:", "out-of-place"),
-    ("rule measure\nseal", "out-of-place"),
-    (
-        "rule measure\nfile /b fs=0 ino=1 gen=1 uid=0 gid=0 mode=644 content=txt:",
-        "out-of-place",
-    ),
-];
+const ATTRS: &str = "\
+    attr user.x txt:\n\
+    =\n\
+    attr user.x fill:4096:00\n\
+    =\n\
+    attr user.x fill:4097:00\n\
+    = bad-field\n\
+    attr user.x\n\
+    = bad-field\n\
+    attr\n\
+    = bad-field\n\
+    attr user.x txt: x\n\
+    = bad-field\n\
+    attr  txt:\n\
+    = bad-field\n\
+    attr user.x x\n\
+    = bad-field\n\
+    attr user.x txt:\n\
+    attr user.x txt:\n\
+    = twice\n\
+    attr user.x txt:\n\
+    attr user.x x\n\
+    = bad-field\n\
+    attr user.x txt:\n\
+    attr user.xx txt:\n\
+    =\n\
+    attr security.ima hex:\n\
+    attr security.ima hex:\n\
+    = twice\n\
+    attr security.evm hex:\n\
+    attr security.evm hex:\n\
+    = twice\n\
+    attr user.x txt:\n\
+    file /b fs=0 ino=1 gen=1 uid=0 gid=0 mode=644 content=txt:\n\
+    attr user.x txt:\n\
+    =\n\
+    seal\n\
+    =\n\
+    seal x\n\
+    = bad-field\n\
+    seal \n\
+    = bad-field\n\
+    seal\n\
+    seal\n\
+    = out-of-place\n\
+    seal\n\
+    attr user.x txt:\n\
+    = out-of-place\n\
+    seal\n\
+    attr\n\
+    = out-of-place\n\
+    attr security.ima hex:00\n\
+    seal\n\
+    =\n\
+    seal\n\
+    file /b fs=0 ino=1 gen=1 uid=0 gid=0 mode=644 content=txt:\n\
+    seal\n\
+    =\n\
+    seal\n\
+    absent /b fs=0 ino=1 gen=1 uid=0 gid=0 mode=644\n\
+    =\n\
+    rule measure\n\
+    attr user.x txt:\n\
+    = out-of-place\n\
+    rule measure\n\
+    seal\n\
+    = out-of-place\n\
+    rule measure\n\
+    file /b fs=0 ino=1 gen=1 uid=0 gid=0 mode=644 content=txt:\n\
+    = out-of-place\n\
+";
 
 // Rules.
-const RULES: [(&str, &str); 16] = [
-    ("rule measure", ""),
-    ("rule", "bad-field"),
-    ("rule ", "bad-rule bad-action"),
-    ("rule #", "bad-rule bad-action"),
-    ("rule # measure", "bad-rule bad-action"),
-    ("rule mesure", "bad-rule bad-action"),
-    ("rule measure foo=1", "bad-rule bad-key"),
-    ("rule measure uid=1 uid=1", "bad-rule twice"),
-    ("rule measure uid=x", "bad-rule bad-value"),
-    ("rule audit pcr=1", "bad-rule not-for-action"),
-    ("rule measure template=evm-sig", "bad-rule unsupported"),
-    ("rule  measure\tfunc=FILE_CHECK ", ""),
-    ("rule measure\nrule measure", ""),
-    ("rules measure", "bad-word"),
-    (
-        "task uid=0 euid=0 gid=0 egid=0\nrule measure",
-        "out-of-place",
-    ),
-    ("task uid=0 euid=0 gid=0 egid=0\nrule x", "out-of-place"),
-];
+const RULES: &str = "\
+    rule measure\n\
+    =\n\
+    rule\n\
+    = bad-field\n\
+    rule \n\
+    = bad-rule bad-action\n\
+    rule #\n\
+    = bad-rule bad-action\n\
+    rule # measure\n\
+    = bad-rule bad-action\n\
+    rule mesure\n\
+    = bad-rule bad-action\n\
+    rule measure foo=1\n\
+    = bad-rule bad-key\n\
+    rule measure uid=1 uid=1\n\
+    = bad-rule twice\n\
+    rule measure uid=x\n\
+    = bad-rule bad-value\n\
+    rule audit pcr=1\n\
+    = bad-rule not-for-action\n\
+    rule measure template=evm-sig\n\
+    = bad-rule unsupported\n\
+    rule  measure\tfunc=FILE_CHECK \n\
+    =\n\
+    rule measure\n\
+    rule measure\n\
+    =\n\
+    rules measure\n\
+    = bad-word\n\
+    task uid=0 euid=0 gid=0 egid=0\n\
+    rule measure\n\
+    = out-of-place\n\
+    task uid=0 euid=0 gid=0 egid=0\n\
+    rule x\n\
+    = out-of-place\n\
+";
 
 #[test]
-fn files(rt: HostRuntime) -> Result<(), Fail> {
-    see(&rt, rt.alloc(), FILE, &FILES)
-}
-
-#[test]
-fn files_on_no_file_system(rt: HostRuntime) -> Result<(), Fail> {
-    see(&rt, rt.alloc(), HEAD, &FILES_NOWHERE)
-}
-
-#[test]
-fn attributes_and_seals(rt: HostRuntime) -> Result<(), Fail> {
-    see(&rt, rt.alloc(), FILE, &ATTRS)
-}
-
-#[test]
-fn rules(rt: HostRuntime) -> Result<(), Fail> {
-    see(&rt, rt.alloc(), FILE, &RULES)
+fn files_attributes_and_rules(rt: HostRuntime) -> Result<(), Fail> {
+    for (front, rows) in [
+        (FILE, FILES),
+        (HEAD, FILES_NOWHERE),
+        (FILE, ATTRS),
+        (FILE, RULES),
+    ] {
+        see(&rt, rt.alloc(), front, rows)?;
+    }
+    Ok(())
 }
