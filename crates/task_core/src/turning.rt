@@ -90,8 +90,8 @@ impl World {
 }
 
 impl Task {
-    /// One step of the task, as a turn on plain lists has it. After `Blocked` and after want of
-    /// memory the lists and the task are as before, but for what its passes have seen.
+    /// One step of the task, as a turn on plain lists has it. After `Blocked`, and where memory ran
+    /// out, the lists and the task are as before, but for what its passes have seen.
     pub fn step(&mut self, world: &mut World) -> Result<Turn, OutOfMemory>
         requires { IsTask world.old.frame self.old }
         ensures go { IfOk result (λ r. (programs : List Program)
