@@ -1,0 +1,5 @@
+pub mod Readying
+pub mod Pieces
+pub mod Scanning
+pub mod Keeping
+pub mod Seating
