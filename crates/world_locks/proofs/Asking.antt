@@ -1,0 +1,140 @@
+-- A check under its locks, behind two looks at the appended rules.
+use Rattle.std.proofs.Common.{◌≡◌, ℕ, ◌+◌, ◌<◌, List, [], ◌++◌, length, get_or, Option, sym, ◌∙◌, ap, subst}
+use Rattle.std.specs.Prelude.{Result}
+use Rattle.std.proofs.lemmas.List.{append-nil}
+use Rattle.std.proofs.lemmas.Option.{get_or_from_slice_get}
+use mathlib.Core.List.{IsPrefix}
+use Rattle.grow_list.specs.Shown.{Grown, IsSameList, Passed}
+use Rattle.ima_templates.specs.declared.entry.Entry.{Entry}
+use Rattle.inode_meta.specs.declared.identity.Cred.{Cred}
+use Rattle.inode_meta.specs.declared.step.Who.{Who}
+use Rattle.inode_events.specs.Past.{past}
+use Rattle.inode_events.specs.State.{metadata}
+use Rattle.inode_events.specs.declared.deed.Deed.{Deed}
+use Rattle.inode_events.specs.declared.told.Event.{Event}
+use Rattle.policy_cell.specs.Policy.{PolicyValue, in_force, rules_in}
+use Rattle.policy_cell.specs.declared.cell.RuleEntry.{RuleEntry}
+use Rattle.policy_text.specs.RuleValue.{RuleValue}
+use Rattle.policy_text.specs.declared.access.Super.{Super}
+use Rattle.rule_laws.specs.Stations.{CountsAll}
+use Rattle.run_model.specs.Scene.{no_super, rules_with}
+use Rattle.task_deeds.specs.declared.listed.Checks.{Checks}
+use Rattle.task_frame.specs.Frame.{Frame, scene_of, super_at}
+use Rattle.task_frame.specs.World.{AreRulesOf, IsBookOf, IsStation, StationValue}
+use Rattle.task_frame.specs.declared.gathered.Gathered.{Gathered}
+use Rattle.task_frame.specs.declared.gathered.Gathered.TheVariants as gathered
+use Rattle.world_deeds.proofs.Looked.{force_count}
+use Rattle.world_deeds.proofs.Looks.{at_index}
+use Rattle.world_deeds.specs.Acting.{StationDid, told_in}
+use Rattle.world_deeds.specs.Checking.{IsChecked, check_by}
+use Rattle.world_deeds.specs.declared.answers.Answered.{Answered}
+use Rattle.world_locks.proofs.Lists.{book_still, rules_still}
+use Rattle.world_locks.proofs.Stations.{station_looked, station_still}
+use Rattle.world_locks.specs.Kept.{AskMet}
+
+-- a look of a pass at the appended rules, which leaves the others as they were
+pub record LooksAt (rules rules2 : PolicyValue) (q q2 : Passed RuleEntry) : Type 0 where
+  pub base : rules2.base ≡ rules.base
+  pub list : IsSameList rules.appended rules2.appended
+  pub before : IsPrefix q.seen rules.appended.list
+  pub seen : q2.seen ≡ rules2.appended.list
+  pub mine : q2.mine ≡ q.mine
+  pub same : (q2.name ≡ q.name) × (q2.number ≡ q.number)
+
+-- it has seen no less
+looks_more : (rules rules2 : PolicyValue) (q q2 : Passed RuleEntry) → LooksAt rules rules2 q q2
+    → IsPrefix q.seen q2.seen
+looks_more rules rules2 q q2 x =
+    subst (λ (xs : List RuleEntry). IsPrefix q.seen xs) (sym (x.seen ∙ x.list.list)) x.before
+
+-- what the file system of a place is
+super_is : (supers : List Super) (k : ℕ) (x : Super) → k < length supers → x ≡ get_or supers k x
+    → x ≡ get_or supers k no_super
+super_is supers k x l e =
+    sym (get_or_from_slice_get supers k x no_super (at_index supers k x x l e))
+
+module _ {E : Type 0} (frame : Frame) (i : ℕ) (st st2 : StationValue) (is : IsStation frame i st)
+    (rules between rules2 : PolicyValue) (are : AreRulesOf frame rules)
+    (q own own2 : Passed RuleEntry) (first : LooksAt rules between st.rules q)
+    (second : LooksAt between rules2 own own2) (supers : List Super)
+    (supers_are : supers ≡ frame.supers) (place : Super) (within : st.place < length supers)
+    (place_is : place ≡ get_or supers st.place place) (index : List RuleValue)
+    (index_is : index ≡ in_force rules2) (book book2 : Grown Entry) (pass pass2 : Passed Event)
+    (listed listed2 : Passed Entry) (who : Who) (cred : Cred) (asked : Checks)
+    (r : Result (Option Answered) E)
+    (did : (g : Gathered) → StationDid (record st { rules = q }) st2 book book2 pass pass2 listed
+    listed2 who (check_by index cred place (metadata (past st.cell.list)) asked) g g (told_in r))
+    (told : IsChecked st.cell.inode st.cell.list book.list index cred place asked r) where
+  -- the inode whose pass has looked
+  abbrev st1 : StationValue
+  st1 = record st { rules = q }
+
+  is1 : IsStation frame i st1
+  is1 = station_looked frame i st is q first.same first.mine
+      (looks_more rules between st.rules q first)
+
+  pub rules_kept : AreRulesOf frame rules2
+  rules_kept =
+      rules_still frame between rules2 second.base second.list
+      (rules_still frame rules between first.base first.list are)
+
+  seen : q.seen ≡ rules2.appended.list
+  seen = first.seen ∙ sym second.list.list
+
+  -- the check counts all rules that the inode's pass has seen
+  counts : CountsAll (length frame.base + length q.seen)
+      (check_by index cred place (metadata (past st.cell.list)) asked)
+  counts =
+      ap length index_is ∙ force_count rules2
+      ∙ ap (λ (xs : List RuleEntry). length rules2.base + length xs) (sym seen)
+      ∙ ap (λ (xs : List RuleValue). length xs + length q.seen) rules_kept.base
+
+  pub asked_station : IsStation frame i st2
+  asked_station =
+      station_still frame i st1 is1 st2 book book2 pass pass2 listed listed2 who
+      (check_by index cred place (metadata (past st.cell.list)) asked) gathered.Nothing
+      gathered.Nothing (told_in r) (did gathered.Nothing) counts
+
+  pub asked_book : IsBookOf frame book → IsBookOf frame book2
+  asked_book =
+      book_still frame st1 st2 book book2 pass pass2 listed listed2 who
+      (check_by index cred place (metadata (past st.cell.list)) asked) gathered.Nothing
+      gathered.Nothing (told_in r) (did gathered.Nothing)
+
+  -- the rules are all in force, and the file system is the inode's
+  all_rules : index ≡ rules_with (scene_of frame []) rules2.appended.list
+  all_rules =
+      index_is
+      ∙ ap (λ (xs : List RuleValue). xs ++ rules_in rules2.appended.list) rules_kept.base
+
+  its_super : place ≡ super_at frame st.place
+  its_super =
+      super_is supers st.place place within place_is
+      ∙ ap (λ (xs : List Super). get_or xs st.place no_super) supers_are
+
+  pub asks : AskMet frame i pass pass2 own own2 listed listed2 who cred asked r
+  asks = record {
+    station = st1;
+    station2 = st2;
+    book = book;
+    book2 = book2;
+    added = rules2.appended.list;
+    is = is1;
+    did = λ g. subst (λ (d : Deed). StationDid st1 st2 book book2 pass pass2 listed listed2 who d g
+        g (told_in r))
+        (ap (λ (xs : List RuleValue). check_by xs cred place (metadata (past st.cell.list)) asked)
+        all_rules
+        ∙ ap (λ (x : Super). check_by (rules_with (scene_of frame []) rules2.appended.list) cred x
+        (metadata (past st.cell.list)) asked) its_super) (did g);
+    told = subst (λ (x : Super). IsChecked st.cell.inode st.cell.list book.list
+        (rules_with (scene_of frame []) rules2.appended.list) cred x asked r) its_super
+        (subst (λ (xs : List RuleValue). IsChecked st.cell.inode st.cell.list book.list xs cred
+        place asked r) all_rules told);
+    adds = record {
+      name = second.same.0;
+      number = second.same.1;
+      mine = second.mine ∙ sym (append-nil own.mine);
+    };
+    before = looks_more between rules2 own own2 second;
+    seen = second.seen;
+  }

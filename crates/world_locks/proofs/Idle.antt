@@ -1,0 +1,94 @@
+-- A step that was told nothing added nothing of its task.
+use Rattle.std.proofs.Common.{◌≡◌, ℕ, List, [], map, Option, Some, None, ◌∙◌, ap, subst}
+use Rattle.std.specs.Prelude.{Result, slice_get}
+use Rattle.std.proofs.lemmas.List.{append-nil}
+use Rattle.grow_list.specs.Shown.{Passed}
+use Rattle.inode_meta.specs.declared.identity.Cred.{Cred}
+use Rattle.inode_meta.specs.declared.step.Who.{Who}
+use Rattle.inode_events.specs.Past.{past}
+use Rattle.inode_events.specs.State.{metadata}
+use Rattle.inode_events.specs.declared.deed.Deed.{Deed}
+use Rattle.inode_events.specs.declared.told.Event.{Event}
+use Rattle.inode_events.specs.declared.told.Told.{Told}
+use Rattle.run_model.specs.Scene.{rules_with}
+use Rattle.run_model.specs.Turns.{State}
+use Rattle.task_deeds.specs.declared.listed.Checks.{Checks}
+use Rattle.task_frame.specs.Frame.{Frame, Site, scene_of, super_at}
+use Rattle.task_frame.specs.Tasks.{PassesValue}
+use Rattle.task_frame.specs.declared.gathered.Gathered.{Gathered}
+use Rattle.task_frame.specs.declared.gathered.Gathered.TheVariants as gathered
+use Rattle.task_laws.specs.Events.{EventOn}
+use Rattle.world_deeds.proofs.Worlds.{map_same}
+use Rattle.world_deeds.specs.Acting.{EventIn, told_in}
+use Rattle.world_deeds.specs.Checking.{CheckIn, check_by}
+use Rattle.world_deeds.specs.Sharing.{SignalsOn}
+use Rattle.world_deeds.specs.declared.answers.Answered.{Answered}
+use Rattle.world_locks.specs.Met.{CheckMet, EventMet, SignalsMet, mine_of, mines_of, state_seen}
+
+event_on_idle : (frame : Frame) (i : ℕ) (s : Site) (who : Who) (d : Deed) (old new : State)
+    (passes passes2 : PassesValue) (g g2 : Gathered)
+    → EventOn frame i s who d old new passes passes2 g g2 None
+    → mines_of passes2 ≡ mines_of passes
+event_on_idle frame i s who d old new passes passes2 g g2 e =
+    let journals : map mine_of passes2.inodes ≡ map mine_of passes.inodes =
+    ap (λ (qs : List (Passed Event)). map mine_of qs) e.inodes
+    ∙ map_same mine_of passes.inodes i e.pass e.pass2 e.pass_at
+    (e.mine ∙ append-nil e.pass.mine) in
+    λ k. record {
+      journals = journals k;
+      list = (e.book.mine ∙ append-nil passes.book.mine) k;
+      signals = ap (λ (q : Passed Event). q.mine) e.sems k;
+      added = (e.rules.mine ∙ append-nil passes.rules.mine) k;
+    }
+
+event_in_idle : (frame : Frame) (i : ℕ) (x : Option Site) (who : Who) (d : Deed)
+    (old new : State) (passes passes2 : PassesValue) (g g2 : Gathered)
+    → EventIn frame i x who d old new passes passes2 g g2 None
+    → mines_of passes2 ≡ mines_of passes
+event_in_idle frame i None who d old new passes passes2 g g2 e =
+    ap (λ (p : PassesValue). mines_of p) e.left
+event_in_idle frame i (Some s) who d old new passes passes2 g g2 e =
+    event_on_idle frame i s who d old new passes passes2 g g2 e
+
+pub event_idle : {E : Type 0} (frame : Frame) (i : ℕ) (who : Who) (d : Deed)
+    (passes passes2 : PassesValue) (g g2 : Gathered) (r : Result (Option Answered) E)
+    → EventMet frame i who d passes passes2 g g2 r → told_in r ≡ None
+    → mines_of passes2 ≡ mines_of passes
+event_idle frame i who d passes passes2 g g2 r m e =
+    event_in_idle frame i (slice_get frame.sites i) who d m.old (state_seen passes2) passes passes2
+    g g2
+    (subst (λ (o : Option Told). EventIn frame i (slice_get frame.sites i) who d m.old
+    (state_seen passes2) passes passes2 g g2 o) e m.event)
+
+check_in_idle : {E : Type 0} (frame : Frame) (i : ℕ) (x : Option Site) (who : Who) (cred : Cred)
+    (asked : Checks) (old new : State) (passes passes2 : PassesValue) (g : Gathered)
+    (r : Result (Option Answered) E) → CheckIn frame i x who cred asked old new passes passes2 g r
+    → told_in r ≡ None → mines_of passes2 ≡ mines_of passes
+check_in_idle frame i None who cred asked old new passes passes2 g r c e =
+    ap (λ (p : PassesValue). mines_of p) c.left
+check_in_idle frame i (Some s) who cred asked old new passes passes2 g r c e =
+    let d : Deed =
+    check_by (rules_with (scene_of frame []) old.added) cred (super_at frame s.place)
+    (metadata (past c.journal)) asked in
+    event_on_idle frame i s who d old new passes passes2 g g
+    (subst (λ (o : Option Told). EventOn frame i s who d old new passes passes2 g g o) e c.event)
+
+pub check_idle : {E : Type 0} (frame : Frame) (i : ℕ) (who : Who) (cred : Cred) (asked : Checks)
+    (passes passes2 : PassesValue) (r : Result (Option Answered) E)
+    → CheckMet frame i who cred asked passes passes2 r → told_in r ≡ None
+    → mines_of passes2 ≡ mines_of passes
+check_idle frame i who cred asked passes passes2 r m e =
+    check_in_idle frame i (slice_get frame.sites i) who cred asked m.old (state_seen passes2) passes
+    passes2
+    gathered.Nothing r (m.check gathered.Nothing) e
+
+pub signals_idle : {E : Type 0} (passes passes2 : PassesValue) (who : Who) (d : Deed)
+    (r : Result (Option Answered) E) → SignalsMet passes passes2 who d r → told_in r ≡ None
+    → mines_of passes2 ≡ mines_of passes
+signals_idle passes passes2 who d r m e =
+    let x : SignalsOn m.old (state_seen passes2) passes passes2 who d None =
+    subst (λ (o : Option Told). SignalsOn m.old (state_seen passes2) passes passes2 who d o) e
+    m.signals in
+    ap (λ (p : PassesValue). mines_of p) x.others
+    ∙ ap (λ (xs : List (ℕ × Event)). record (mines_of passes) { signals = xs })
+    (x.sems.mine ∙ append-nil passes.sems.mine)

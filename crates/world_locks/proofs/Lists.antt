@@ -1,0 +1,82 @@
+-- The measurement list and the rules under their locks are those of the constants, behind each
+-- step.
+use Rattle.std.proofs.Common.{◌≡◌, ℕ, List, [], ◌∷◌, ◌++◌, map, Option, Some, None, refl, sym, ◌∙◌, ap}
+use Rattle.std.specs.Prelude.{slice_get}
+use Rattle.std.proofs.lemmas.List.{map-append}
+use Rattle.grow_list.specs.Shown.{Grown, IsSameList, Passed}
+use Rattle.ima_templates.specs.Same.{add, add_by, place_of_same}
+use Rattle.ima_templates.specs.declared.entry.Entry.{Entry}
+use Rattle.inode_meta.specs.declared.step.Who.{Who}
+use Rattle.inode_events.specs.Asked.{asked, list_after}
+use Rattle.inode_events.specs.Past.{past}
+use Rattle.inode_events.specs.declared.deed.Deed.{Deed}
+use Rattle.inode_events.specs.declared.told.Event.{Event}
+use Rattle.inode_events.specs.declared.told.Told.{Told}
+use Rattle.policy_cell.specs.Policy.{PolicyValue}
+use Rattle.policy_cell.specs.declared.cell.RuleEntry.{RuleEntry}
+use Rattle.task_frame.specs.Frame.{Frame}
+use Rattle.task_frame.specs.World.{AreRulesOf, IsBookOf, StationValue}
+use Rattle.task_frame.specs.declared.gathered.Gathered.{Gathered}
+use Rattle.world_deeds.specs.Acting.{StationDid}
+
+-- ---- the measurement list
+
+-- an addition leaves the first entry
+added_first : (x : Entry) (xs : List Entry) (e : Entry)
+    → slice_get (add (x ∷ xs) e) 0 ≡ Some x
+added_first x xs e = at (place_of_same (x ∷ xs) e) where
+  at : (o : Option ℕ) → slice_get (add_by o (x ∷ xs) e) 0 ≡ Some x
+  at None = refl
+  at (Some k) = refl
+
+-- so does each deed
+first_stays : (list : List Entry) (b : Entry) (e : Option Entry) (o : Option Told)
+    → slice_get list 0 ≡ Some b → slice_get (list_after list e o) 0 ≡ Some b
+first_stays [] b e o h = absurd (cc)
+first_stays (x ∷ xs) b e None h = h
+first_stays (x ∷ xs) b None (Some t) h = h
+first_stays (x ∷ xs) b (Some e) (Some t) h = added_first x xs e ∙ h
+
+pub book_still : (frame : Frame) (st st2 : StationValue) (book book2 : Grown Entry)
+    (pass pass2 : Passed Event) (listed listed2 : Passed Entry) (who : Who) (d : Deed)
+    (g g2 : Gathered) (o : Option Told)
+    → StationDid st st2 book book2 pass pass2 listed listed2 who d g g2 o
+    → IsBookOf frame book → IsBookOf frame book2
+book_still frame st st2 book book2 pass pass2 listed listed2 who d g g2 o did is = record {
+  name = did.book_name ∙ is.name;
+  boot = ap (λ (xs : List Entry). slice_get xs 0) did.leaves.book
+      ∙ first_stays book.list frame.boot (asked st.cell.inode d (past st.cell.list)) o is.boot;
+  callers = did.book_callers ∙ is.callers;
+}
+
+-- ---- the rules
+
+-- a look leaves them
+pub rules_still : (frame : Frame) (rules rules2 : PolicyValue) → rules2.base ≡ rules.base
+    → IsSameList rules.appended rules2.appended → AreRulesOf frame rules
+    → AreRulesOf frame rules2
+rules_still frame rules rules2 base list is = record {
+  name = list.name ∙ is.name;
+  base = base ∙ is.base;
+  callers = list.callers ∙ is.callers;
+  numbers = list.numbers ∙ is.numbers
+      ∙ ap (λ (xs : List RuleEntry). map (λ (r : RuleEntry). r.who.task) xs) (sym list.list);
+}
+
+-- a rule that is appended by the task of its Who is one more
+pub rules_more : (frame : Frame) (rules rules2 : PolicyValue) (e : RuleEntry) (n : ℕ)
+    → (rules2.base ≡ rules.base) × (rules2.appended.name ≡ rules.appended.name)
+    × (rules2.appended.callers ≡ rules.appended.callers)
+    → rules2.appended.list ≡ rules.appended.list ++ e ∷ []
+    → rules2.appended.numbers ≡ rules.appended.numbers ++ n ∷ [] → n ≡ e.who.task
+    → AreRulesOf frame rules → AreRulesOf frame rules2
+rules_more frame rules rules2 e n kept list numbers by is = record {
+  name = kept.1 ∙ is.name;
+  base = kept.0 ∙ is.base;
+  callers = kept.2 ∙ is.callers;
+  numbers = numbers
+      ∙ ap (λ (ns : List ℕ). ns ++ n ∷ []) is.numbers
+      ∙ ap (λ (m : ℕ). map (λ (r : RuleEntry). r.who.task) rules.appended.list ++ m ∷ []) by
+      ∙ sym (map-append (λ (r : RuleEntry). r.who.task) rules.appended.list (e ∷ []))
+      ∙ ap (λ (xs : List RuleEntry). map (λ (r : RuleEntry). r.who.task) xs) (sym list);
+}

@@ -1,0 +1,82 @@
+-- The lists that come out of their locks are those of the constants.
+use Rattle.std.proofs.Common.{◌≡◌, ℕ, zero, suc, ◌+◌, List, [], ◌∷◌, ◌++◌, length, map, Some, refl, sym, ◌∙◌, ap, subst, arith, inl, inr}
+use Rattle.std.specs.Prelude.{slice_get}
+use Rattle.std.proofs.lemmas.List.{length-map}
+use Rattle.std.proofs.lemmas.Option.{same_Some}
+use Rattle.ima_templates.specs.declared.entry.Entry.{Entry}
+use Rattle.task_frame.specs.Frame.{Frame, Site, boot_in}
+use Rattle.task_frame.specs.World.{IsStation, StationValue, site_of}
+use Rattle.world_close.proofs.Gets.{get_last, get_left, get_map, get_parts}
+use Rattle.world_close.specs.Closed.{AreStations}
+use Rattle.world_locks.specs.Parts.{AreEach, KeepFrame, frame_of_parts}
+use Rattle.world_locks.specs.declared.parts.Parts.{Parts}
+
+-- those in front of the last are each the one of its number
+pub each_before : (frame : Frame) (all left : List StationValue) (s : StationValue)
+    → all ≡ left ++ s ∷ [] → AreEach frame all → AreEach frame left
+each_before frame all left s e each i x at =
+    each i x (ap (λ (xs : List StationValue). slice_get xs i) e ∙ get_left left (s ∷ []) i x at)
+
+-- the last is that of the number behind them
+pub last_is : (frame : Frame) (all left : List StationValue) (s : StationValue)
+    → all ≡ left ++ s ∷ [] → AreEach frame all → IsStation frame (length left) s
+last_is frame all left s e each =
+    each (length left) s
+    (ap (λ (xs : List StationValue). slice_get xs (length left)) e ∙ get_last left s)
+
+-- with the next one there is one more
+pub each_more : (frame : Frame) (stations all : List StationValue) (n : ℕ) (s : StationValue)
+    → all ≡ stations ++ s ∷ [] → n ≡ length stations → IsStation frame n s
+    → AreEach frame stations → AreEach frame all
+each_more frame stations all n s e number is each i x at =
+    elim (get_parts stations (s ∷ []) i x (ap (λ (xs : List StationValue). slice_get xs i) (sym e)
+    ∙ at)) [
+      | inl w ↦ each i x w
+      | inr w ↦ last w.0 w.1.0 w.1.1
+    ] where
+      last : (j : ℕ) → i ≡ length stations + j → slice_get (s ∷ []) j ≡ Some x → IsStation frame i x
+      last zero k h =
+          subst (λ (m : ℕ). IsStation frame m x)
+          (let l : n ≡ i = omega arith in l)
+          (subst (λ (y : StationValue). IsStation frame n y) (same_Some s x h) is)
+      last (suc j) k h = absurd (cc)
+
+-- ---- the constants
+
+-- two lists of one length with the same elements at each place are the same
+same_lists : {A : Type 0} (xs ys : List A) → length xs ≡ length ys
+    → ((k : ℕ) (x : A) → slice_get xs k ≡ Some x → slice_get ys k ≡ Some x) → xs ≡ ys
+same_lists [] [] e f = refl
+same_lists [] (y ∷ ys) e f = absurd (omega arith)
+same_lists (x ∷ xs) [] e f = absurd (omega arith)
+same_lists (x ∷ xs) (y ∷ ys) e f =
+    let first : y ≡ x = same_Some y x (f zero x refl) in
+    let rest : xs ≡ ys = same_lists xs ys (omega arith) (λ k z h. f (suc k) z h) in
+    λ i. sym first i ∷ rest i
+
+sites_are : (frame : Frame) (stations : List StationValue) → AreStations frame stations
+    → map site_of stations ≡ frame.sites
+sites_are frame stations are =
+    same_lists (map site_of stations) frame.sites (length-map stations site_of ∙ are.even)
+    (λ k x h.
+    let s = get_map site_of stations k x h in
+    (are.each k s.0 s.1.0).site ∙ ap (λ (y : Site). Some y) s.1.1)
+
+boot_is : (list : List Entry) (boot : Entry) → slice_get list 0 ≡ Some boot
+    → boot_in list ≡ boot
+boot_is [] boot h = absurd (cc)
+boot_is (e ∷ es) boot h = same_Some e boot h
+
+-- lists that keep the constants have them
+pub frame_kept : (frame : Frame) (p : Parts) → KeepFrame frame p → frame_of_parts p ≡ frame
+frame_kept frame p keep = λ i. record {
+  settings = keep.settings i;
+  boot = boot_is p.book.list frame.boot keep.book.boot i;
+  sites = sites_are frame p.stations.items keep.stations i;
+  supers = keep.supers i;
+  base = keep.rules.base i;
+  book = keep.book.name i;
+  signals = keep.sems.name i;
+  rules = keep.rules.name i;
+  tasks = keep.tasks i;
+}

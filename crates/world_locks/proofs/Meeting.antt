@@ -1,0 +1,243 @@
+-- A deed under locks, as its task sees it: it met some lists, and left those that the passes of the
+-- task have seen.
+use Rattle.std.proofs.Common.{◌≡◌, ℕ, zero, suc, ◌+◌, ◌≤◌, List, [], ◌∷◌, ◌++◌, length, map, get_or, Option, Some, None, refl, sym, ◌∙◌, ap, subst, arith}
+use Rattle.std.specs.Prelude.{IfOk, Result, Ok, Err, slice_get, slice_set}
+use Rattle.std.proofs.lemmas.Option.{get_or_from_slice_get, same_Some}
+use mathlib.Core.List.{IsPrefix}
+use Rattle.grow_list.proofs.Prefixes.{prefix_refl}
+use Rattle.grow_list.specs.Shown.{Grown, Passed}
+use Rattle.ima_templates.specs.declared.entry.Entry.{Entry}
+use Rattle.inode_meta.specs.declared.identity.Cred.{Cred}
+use Rattle.inode_meta.specs.declared.step.Who.{Who}
+use Rattle.inode_events.specs.Asked.{asked, list_after, made, outcome}
+use Rattle.inode_events.specs.Inode.{Inode}
+use Rattle.inode_events.specs.Past.{past}
+use Rattle.inode_events.specs.State.{metadata}
+use Rattle.inode_events.specs.declared.deed.Deed.{Deed}
+use Rattle.inode_events.specs.declared.told.Event.{Event}
+use Rattle.inode_events.specs.declared.told.Told.{Told}
+use Rattle.policy_cell.specs.declared.cell.RuleEntry.{RuleEntry}
+use Rattle.run_model.specs.Scene.{rules_with}
+use Rattle.run_model.specs.Turns.{State, state_on}
+use Rattle.task_deeds.specs.declared.listed.Checks.{Checks}
+use Rattle.task_frame.specs.Frame.{Frame, Site, inode_in, scene_of, super_at}
+use Rattle.task_frame.specs.Tasks.{PassesValue}
+use Rattle.task_frame.specs.World.{IsStation, StationValue, site_of}
+use Rattle.task_frame.specs.declared.gathered.Gathered.{Gathered}
+use Rattle.task_laws.proofs.Eventing.{adds_none, get_map, get_set}
+use Rattle.task_laws.specs.Due.{HashesTold}
+use Rattle.task_laws.specs.Events.{EventOn}
+use Rattle.task_laws.specs.Ready.{HasLooked}
+use Rattle.task_laws.specs.Steps.{Adds}
+use Rattle.world_deeds.proofs.Worlds.{map_set}
+use Rattle.world_deeds.specs.Acting.{EventIn, IsPlacedAt, IsSaid, StationDid, told_in, told_of}
+use Rattle.world_deeds.specs.Checking.{CheckIn, IsChecked, check_by}
+use Rattle.world_deeds.specs.declared.answers.Answered.{Answered}
+use Rattle.world_locks.proofs.Stations.{inode_same}
+use Rattle.world_locks.specs.Kept.{AskMet, DeedMet}
+use Rattle.world_locks.specs.Met.{CheckMet, EventMet, seen_of, state_met, state_seen}
+
+-- of two elements that are put at one place the second stands there
+set_set : {A : Type 0} (xs : List A) (i : ℕ) (a b : A)
+    → slice_set (slice_set xs i a) i b ≡ slice_set xs i b
+set_set [] i a b = refl
+set_set (x ∷ xs) zero a b = refl
+set_set (x ∷ xs) (suc i) a b = ap (λ ys. x ∷ ys) (set_set xs i a b)
+
+-- behind its end a list has nothing
+pub nothing_behind : {A : Type 0} (xs : List A) (i : ℕ) → length xs ≤ i → slice_get xs i ≡ None
+nothing_behind [] i h = refl
+nothing_behind (x ∷ xs) zero h = absurd (omega arith)
+nothing_behind (x ∷ xs) (suc i) h = nothing_behind xs i (omega arith)
+
+-- ---- a step on an inode that is there
+
+module _ (frame : Frame) (i : ℕ) (passes passes2 : PassesValue) (who : Who) (d : Deed)
+    (g g2 : Gathered) (o : Option Told) (pass pass2 : Passed Event) (st st2 : StationValue)
+    (book book2 : Grown Entry) (added : List RuleEntry) (is : IsStation frame i st)
+    (did : StationDid st st2 book book2 pass pass2 passes.book passes2.book who d g g2 o)
+    (at : slice_get passes.inodes i ≡ Some pass) (number : pass.number ≡ who.task + 1)
+    (inodes : passes2.inodes ≡ slice_set passes.inodes i pass2)
+    (semaphores : passes2.sems ≡ passes.sems) (adds : Adds passes.rules passes2.rules [])
+    (more : IsPrefix passes.rules.seen passes2.rules.seen)
+    (rules : passes2.rules.seen ≡ added) where
+  abbrev Old : State
+  Old = state_met passes i st.cell.list book.list added
+
+  -- the journal that it met
+  pub journal_met : slice_get Old.journals i ≡ Some st.cell.list
+  journal_met =
+      get_set (map seen_of passes.inodes) i st.cell.list pass.seen
+      (get_map seen_of passes.inodes i pass at)
+
+  here : get_or Old.journals i [] ≡ st.cell.list
+  here = get_or_from_slice_get Old.journals i st.cell.list [] journal_met
+
+  journals_are : map seen_of passes2.inodes
+      ≡ slice_set Old.journals i (get_or Old.journals i [] ++ made who d o)
+  journals_are =
+      ap (λ (qs : List (Passed Event)). map seen_of qs) inodes
+      ∙ map_set seen_of passes.inodes i pass2
+      ∙ ap (λ (xs : List Event). slice_set (map seen_of passes.inodes) i xs)
+      (did.leaves.seen ∙ did.leaves.journal
+      ∙ ap (λ (xs : List Event). xs ++ made who d o) (sym here))
+      ∙ sym (set_set (map seen_of passes.inodes) i st.cell.list
+      (get_or Old.journals i [] ++ made who d o))
+
+  list_is : passes2.book.seen
+      ≡ list_after book.list (asked st.cell.inode d (past (get_or Old.journals i []))) o
+  list_is =
+      did.seen ∙ did.leaves.book
+      ∙ ap (λ (xs : List Event). list_after book.list (asked st.cell.inode d (past xs)) o)
+      (sym here)
+
+  -- behind it the passes have seen what it left
+  state_is : state_seen passes2 ≡ state_on Old i st.cell.inode who d o
+  state_is = λ k. record {
+    journals = journals_are k;
+    list = list_is k;
+    signals = ap (λ (q : Passed Event). q.seen) semaphores k;
+    added = rules k;
+  }
+
+  -- the event, as its task sees it
+  pub event_met : EventOn frame i (site_of st) who d Old (state_seen passes2) passes passes2 g g2 o
+  event_met = record {
+    journal = st.cell.list;
+    journal_at = journal_met;
+    pass = pass;
+    pass_at = at;
+    pass2 = pass2;
+    inodes = inodes;
+    looked = subst (λ (x : Inode). HasLooked x (who.task + 1) pass.seen st.cell.list pass.mine)
+        (sym (inode_same frame i st is))
+        (subst (λ (n : ℕ). HasLooked st.cell.inode n pass.seen st.cell.list pass.mine) number
+        did.looked);
+    name = did.leaves.pass_name;
+    number = did.leaves.pass_number;
+    seen = did.leaves.seen ∙ did.leaves.journal;
+    mine = did.leaves.mine;
+    state = state_is
+        ∙ ap (λ (x : Inode). state_on Old i x who d o) (sym (inode_same frame i st is));
+    sems = semaphores;
+    rules = adds;
+    rules_seen = more;
+    book = did.book_pass;
+    book_before = did.before;
+    book_seen = refl;
+    hashes = subst (λ (x : Inode). HashesTold x (st.cell.list ++ made who d o) g g2 d o)
+        (sym (inode_same frame i st is))
+        (subst (λ (xs : List Event). HashesTold st.cell.inode xs g g2 d o) did.leaves.journal
+        did.hashes);
+  }
+
+  -- what it was told is said of the lists that it met
+  pub said_met : (a : Option Answered)
+      → told_of a ≡ outcome st.cell.inode book.list d (past st.cell.list)
+      → IsPlacedAt (length st.cell.list) a → IsSaid frame i d Old a
+  said_met a told place s journal there journal_at =
+      let site : site_of st ≡ s = same_Some (site_of st) s (sym is.site ∙ there) in
+      let list : st.cell.list ≡ journal =
+      same_Some st.cell.list journal (sym journal_met ∙ journal_at) in (
+        told
+            ∙ ap (λ (x : Inode). outcome x book.list d (past st.cell.list))
+            (sym (inode_same frame i st is) ∙ ap (inode_in frame) site)
+            ∙ ap (λ (xs : List Event). outcome (inode_in frame s) book.list d (past xs)) list,
+        subst (λ (xs : List Event). IsPlacedAt (length xs) a) list place,
+      )
+
+-- ---- the steps
+
+-- where the inode isn't there nothing is done
+pub none_met : {E : Type 0} (frame : Frame) (i : ℕ) (passes : PassesValue) (who : Who) (d : Deed)
+    (g : Gathered) → length frame.sites ≤ i
+    → EventMet {E = E} frame i who d passes passes g g (Ok None)
+none_met frame i passes who d g h =
+    let none : slice_get frame.sites i ≡ None = nothing_behind frame.sites i h in
+    record {
+      old = state_seen passes;
+      event = subst (λ (x : Option Site). EventIn frame i x who d (state_seen passes)
+          (state_seen passes) passes passes g g None) (sym none)
+          (record { state = refl; left = refl; gathered = refl; told = refl });
+      told = λ s journal there journal_at. absurd (no_site s (sym none ∙ there));
+    } where
+      no_site : (s : Site) → None ≡ Some s → ⊥
+      no_site s e = cc
+
+pub deed_met : {E : Type 0} (frame : Frame) (i : ℕ) (passes passes2 : PassesValue) (who : Who)
+    (d : Deed) (g g2 : Gathered) (pass pass2 : Passed Event) (r : Result (Option Answered) E)
+    → DeedMet frame i pass pass2 passes.book passes2.book who d g g2 r
+    → slice_get passes.inodes i ≡ Some pass → pass.number ≡ who.task + 1
+    → passes2.inodes ≡ slice_set passes.inodes i pass2 → passes2.sems ≡ passes.sems
+    → passes2.rules ≡ passes.rules
+    → EventMet frame i who d passes passes2 g g2 r
+deed_met {E} frame i passes passes2 who d g g2 pass pass2 r m at number inodes semaphores rules =
+    record {
+      old = state_met passes i m.station.cell.list m.book.list passes.rules.seen;
+      event = subst (λ (x : Option Site). EventIn frame i x who d
+          (state_met passes i m.station.cell.list m.book.list passes.rules.seen)
+          (state_seen passes2) passes passes2 g g2 (told_in r)) (sym m.is.site)
+          (event_met frame i passes passes2 who d g g2 (told_in r) pass pass2 m.station m.station2
+          m.book m.book2 passes.rules.seen m.is m.did at number inodes semaphores
+          (adds_none passes.rules passes2.rules rules)
+          (subst (λ (q : Passed RuleEntry). IsPrefix passes.rules.seen q.seen) (sym rules)
+          (prefix_refl passes.rules.seen))
+          (ap (λ (q : Passed RuleEntry). q.seen) rules));
+      told = said r m.told m.place;
+    } where
+      said : (x : Result (Option Answered) E)
+          → IfOk x (λ o. told_of o
+          ≡ outcome m.station.cell.inode m.book.list d (past m.station.cell.list))
+          → IfOk x (λ o. IsPlacedAt (length m.station.cell.list) o)
+          → IfOk x (λ o. IsSaid frame i d
+          (state_met passes i m.station.cell.list m.book.list passes.rules.seen) o)
+      said (Ok a) told place =
+          said_met frame i passes passes2 who d g g2 (told_in r) pass pass2 m.station m.station2
+          m.book m.book2 passes.rules.seen m.is m.did at number inodes semaphores
+          (adds_none passes.rules passes2.rules rules)
+          (subst (λ (q : Passed RuleEntry). IsPrefix passes.rules.seen q.seen) (sym rules)
+          (prefix_refl passes.rules.seen))
+          (ap (λ (q : Passed RuleEntry). q.seen) rules) a told place
+      said (Err e) told place = tt
+
+-- a check of an inode that isn't there
+pub unasked_met : {E : Type 0} (frame : Frame) (i : ℕ) (passes : PassesValue) (who : Who)
+    (cred : Cred) (asked : Checks) → length frame.sites ≤ i
+    → CheckMet {E = E} frame i who cred asked passes passes (Ok None)
+unasked_met {E} frame i passes who cred asked h = record {
+  old = state_seen passes;
+  check = λ g. subst (λ (x : Option Site). CheckIn {E = E} frame i x who cred asked
+      (state_seen passes) (state_seen passes) passes passes g (Ok None))
+      (sym (nothing_behind frame.sites i h))
+      (record { state = refl; left = refl; gathered = refl; told = refl });
+}
+
+pub ask_met : {E : Type 0} (frame : Frame) (i : ℕ) (passes passes2 : PassesValue) (who : Who)
+    (cred : Cred) (asked : Checks) (pass pass2 : Passed Event) (r : Result (Option Answered) E)
+    → AskMet frame i pass pass2 passes.rules passes2.rules passes.book passes2.book who cred asked
+    r → slice_get passes.inodes i ≡ Some pass → pass.number ≡ who.task + 1
+    → passes2.inodes ≡ slice_set passes.inodes i pass2 → passes2.sems ≡ passes.sems
+    → CheckMet frame i who cred asked passes passes2 r
+ask_met {E} frame i passes passes2 who cred asked pass pass2 r m at number inodes semaphores =
+    let old : State = state_met passes i m.station.cell.list m.book.list m.added in
+    let found : Deed =
+    check_by (rules_with (scene_of frame []) m.added) cred (super_at frame m.station.place)
+    (metadata (past m.station.cell.list)) asked in
+    record {
+      old = old;
+      check = λ g. subst (λ (x : Option Site). CheckIn frame i x who cred asked old
+          (state_seen passes2) passes passes2 g r) (sym m.is.site)
+          (record {
+            journal = m.station.cell.list;
+            journal_at = journal_met frame i passes passes2 who found g g (told_in r) pass pass2
+                m.station m.station2 m.book m.book2 m.added m.is (m.did g) at number inodes
+                semaphores m.adds m.before m.seen;
+            event = event_met frame i passes passes2 who found g g (told_in r) pass pass2 m.station
+                m.station2 m.book m.book2 m.added m.is (m.did g) at number inodes semaphores m.adds
+                m.before m.seen;
+            seen = m.seen;
+            told = subst (λ (x : Inode). IsChecked x m.station.cell.list m.book.list
+                (rules_with (scene_of frame []) m.added) cred (super_at frame m.station.place)
+                asked r) (sym (inode_same frame i m.station m.is)) m.told;
+          });
+    }

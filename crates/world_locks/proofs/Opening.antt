@@ -1,0 +1,117 @@
+-- The passes of a task, opened for a step under locks.
+use Rattle.std.proofs.Common.{◌≡◌, ℕ, ◌+◌, ◌<◌, List, length, get_or, Option, Some, refl, sym, ◌∙◌, ap, subst, arith}
+use Rattle.std.specs.Prelude.{IfOk, Result, Ok, Err, slice_get, slice_set}
+use Rattle.grow_list.specs.Shown.{Passed}
+use Rattle.ima_templates.specs.declared.entry.Entry.{Entry}
+use Rattle.inode_meta.specs.declared.appraisal.Slot.{Slot}
+use Rattle.inode_meta.specs.declared.identity.Cred.{Cred}
+use Rattle.inode_meta.specs.declared.step.Who.{Who}
+use Rattle.inode_events.specs.declared.deed.Deed.{Deed}
+use Rattle.inode_events.specs.declared.told.Event.{Event}
+use Rattle.policy_cell.specs.declared.cell.RuleEntry.{RuleEntry}
+use Rattle.policy_text.specs.ActionValue.{ActionValue}
+use Rattle.task_deeds.specs.declared.listed.Checks.{Checks}
+use Rattle.task_frame.specs.Frame.{Frame}
+use Rattle.task_frame.specs.Tasks.{ArePassesOf, PassesValue}
+use Rattle.task_frame.specs.declared.gathered.Gathered.{Gathered}
+use Rattle.world_close.proofs.Gets.{got}
+use Rattle.world_close.specs.Closed.{no_site}
+use Rattle.world_deeds.proofs.Looks.{at_index}
+use Rattle.world_deeds.specs.Acting.{ReadyAt}
+use Rattle.world_deeds.specs.declared.answers.Answered.{Answered}
+use Rattle.world_locks.proofs.Meeting.{ask_met, deed_met}
+use Rattle.world_locks.proofs.Signals.{appends_met, signals_met}
+use Rattle.world_locks.specs.Kept.{AppendMet, AskMet, DeedMet, IsPassAt, IsReadyBy, SignalMet}
+use Rattle.world_locks.specs.Met.{AppendsMet, CheckMet, EventMet, SignalsMet}
+
+module _ (inodes : List (Passed Event)) (sems : Passed Event) (book : Passed Entry)
+    (rules : Passed RuleEntry) (p : PassesValue)
+    (view : ◌≡◌ {A = PassesValue} (record {
+      inodes = inodes;
+      sems = sems;
+      book = book;
+      rules = rules;
+    }) p) (who : Who) where
+  abbrev opened : PassesValue
+  opened = record { inodes = inodes; sems = sems; book = book; rules = rules }
+
+  -- a post or a wait by the pass of the semaphores
+  pub signals_opened : {E : Type 0} (sems2 : Passed Event) (d : Deed)
+      (r : Result (Option Answered) E) → SignalMet sems sems2 who d r
+      → SignalsMet p (record opened { sems = sems2 }) who d r
+  signals_opened sems2 d r m =
+      subst (λ (x : PassesValue). SignalsMet x (record opened { sems = sems2 }) who d r) view
+      (signals_met opened (record opened { sems = sems2 }) who d r refl m)
+
+  -- a rule that was appended by the pass of the rules
+  pub appends_opened : {E : Type 0} (rules2 : Passed RuleEntry) (entry : RuleEntry)
+      (r : Result Answered E) → IfOk r (λ a. AppendMet rules rules2 entry a)
+      → IfOk r (λ a. AppendsMet p (record opened { rules = rules2 }) entry a)
+  appends_opened rules2 entry (Ok a) m =
+      subst (λ (x : PassesValue). AppendsMet x (record opened { rules = rules2 }) entry a) view
+      (appends_met opened (record opened { rules = rules2 }) entry a refl m)
+  appends_opened rules2 entry (Err e) m = tt
+
+  -- ---- at the inode of a number, which is there
+
+  module _ (frame : Frame) (are : ArePassesOf frame who.task p) (i k : ℕ) (taken : k ≡ i)
+      (below : i < length frame.sites) (pass : Passed Event)
+      (pass_is : pass ≡ get_or inodes i pass) where
+    -- the pass of its journal stands there
+    pass_at : slice_get p.inodes i ≡ Some pass
+    pass_at =
+        let within : i < length p.inodes = omega (arith, are.even) in
+        at_index p.inodes i pass pass within
+        (subst (λ (x : PassesValue). pass ≡ get_or x.inodes i pass) view pass_is)
+
+    its_number : pass.number ≡ who.task + 1
+    its_number =
+        (are.inodes i (get_or frame.sites i no_site) pass (got frame.sites i no_site below)
+        pass_at).1
+
+    -- it is the task's
+    pub pass_of : IsPassAt frame k who.task pass
+    pass_of s at =
+        are.inodes i s pass (ap (λ (n : ℕ). slice_get frame.sites n) (sym taken) ∙ at) pass_at
+
+    -- after a look by it the deed is ready
+    pub ready_of : (g : Gathered) (action : ActionValue) (slot : Slot) (d : Deed)
+        → ReadyAt frame i p.inodes who.task g action slot d
+        → IsReadyBy frame k who.task pass g action slot d
+    ready_of g action slot d ready s list at looked =
+        ready s pass list (ap (λ (n : ℕ). slice_get frame.sites n) (sym taken) ∙ at) pass_at looked
+
+    opened_at : slice_get inodes i ≡ Some pass
+    opened_at = subst (λ (x : PassesValue). slice_get x.inodes i ≡ Some pass) (sym view) pass_at
+
+    -- a deed on it
+    pub deed_opened : {E : Type 0} (pass2 : Passed Event) (book2 : Passed Entry) (d : Deed)
+        (g g2 : Gathered) (r : Result (Option Answered) E)
+        → DeedMet frame k pass pass2 book book2 who d g g2 r
+        → EventMet frame i who d p
+        (record opened { inodes = slice_set inodes i pass2; book = book2 }) g g2 r
+    deed_opened pass2 book2 d g g2 r m =
+        let after : PassesValue =
+        record opened { inodes = slice_set inodes i pass2; book = book2 } in
+        subst (λ (x : PassesValue). EventMet frame i who d x after g g2 r) view
+        (deed_met frame i opened after who d g g2 pass pass2 r
+        (subst (λ (n : ℕ). DeedMet frame n pass pass2 book book2 who d g g2 r) taken m) opened_at
+        its_number refl refl refl)
+
+    -- a check of it
+    pub ask_opened : {E : Type 0} (pass2 : Passed Event) (book2 : Passed Entry)
+        (rules2 : Passed RuleEntry) (cred : Cred) (asked : Checks)
+        (r : Result (Option Answered) E)
+        → AskMet frame k pass pass2 rules rules2 book book2 who cred asked r
+        → CheckMet frame i who cred asked p (record opened {
+          inodes = slice_set inodes i pass2;
+          book = book2;
+          rules = rules2;
+        }) r
+    ask_opened pass2 book2 rules2 cred asked r m =
+        let after : PassesValue =
+        record opened { inodes = slice_set inodes i pass2; book = book2; rules = rules2 } in
+        subst (λ (x : PassesValue). CheckMet frame i who cred asked x after r) view
+        (ask_met frame i opened after who cred asked pass pass2 r
+        (subst (λ (n : ℕ). AskMet frame n pass pass2 rules rules2 book book2 who cred asked r)
+        taken m) opened_at its_number refl refl)

@@ -1,0 +1,102 @@
+-- A post, a wait or an appended rule under its lock, as its task sees it.
+use Rattle.std.proofs.Common.{◌≡◌, ℕ, List, ◌++◌, length, Option, Some, None, refl, sym, ◌∙◌, ap, subst}
+use Rattle.std.specs.Prelude.{IfSome, Result, Ok, Err, option_map}
+use Rattle.std.proofs.lemmas.List.{append-nil}
+use Rattle.grow_list.specs.Shown.{Passed}
+use Rattle.inode_meta.specs.declared.step.Who.{Who}
+use Rattle.inode_events.specs.Asked.{entered, made}
+use Rattle.inode_events.specs.Past.{past}
+use Rattle.inode_events.specs.Semaphores.{semaphore_says}
+use Rattle.inode_events.specs.declared.deed.Deed.{Deed}
+use Rattle.inode_events.specs.declared.told.Event.{Event}
+use Rattle.inode_events.specs.declared.told.Told.{Told}
+use Rattle.inode_events.specs.declared.told.Told.TheVariants as told
+use Rattle.policy_cell.specs.declared.cell.RuleEntry.{RuleEntry}
+use Rattle.task_frame.specs.Tasks.{PassesValue}
+use Rattle.task_laws.proofs.Eventing.{adds_none}
+use Rattle.world_deeds.specs.Acting.{IsPlacedAt, told_of}
+use Rattle.world_deeds.specs.declared.answers.Answered.{Answered}
+use Rattle.world_locks.specs.Kept.{AppendMet, SignalMet, signalled_at}
+use Rattle.world_locks.specs.Met.{AppendsMet, SignalsMet, state_seen}
+
+-- out of memory, a pass is as it was
+pub signal_fails : {E : Type 0} (pass : Passed Event) (who : Who) (d : Deed) (e : E)
+    → SignalMet pass pass who d (Err e)
+signal_fails pass who d e = record {
+  journal = pass.seen;
+  seen = sym (append-nil pass.seen);
+  adds = adds_none pass pass refl;
+  told = tt;
+}
+
+-- it was told that it was done, or nothing
+told_signalled : (place : Option ℕ)
+    → told_of (signalled_at place) ≡ option_map (λ (k : ℕ). told.Done) place
+told_signalled None = refl
+told_signalled (Some k) = refl
+
+-- its event stands where it was put
+placed_signalled : (place : Option ℕ) (n : ℕ) → IfSome place (λ k. k ≡ n)
+    → IsPlacedAt n (signalled_at place)
+placed_signalled None n h = tt
+placed_signalled (Some k) n h = (h, refl)
+
+-- with memory, the post or wait met the journal behind which its event stands
+pub signal_met : {E : Type 0} (pass pass2 : Passed Event) (who : Who) (d : Deed)
+    (journal : List Event) (place : Option ℕ) (o : Option Answered) → o ≡ signalled_at place
+    → option_map (λ (k : ℕ). told.Done) place ≡ semaphore_says (past journal) d
+    → IfSome place (λ k. k ≡ length journal)
+    → pass2.seen ≡ journal ++ made who d (semaphore_says (past journal) d)
+    → pass2.mine ≡ pass.mine ++ entered (length journal) who d (semaphore_says (past journal) d)
+    → (pass2.name ≡ pass.name) × (pass2.number ≡ pass.number)
+    → SignalMet {E = E} pass pass2 who d (Ok o)
+signal_met {E} pass pass2 who d journal place o is says at seen mine same =
+    let said : told_of o ≡ semaphore_says (past journal) d =
+    ap (λ (x : Option Answered). told_of x) is ∙ told_signalled place ∙ says in
+    record {
+      journal = journal;
+      seen = seen ∙ ap (λ (x : Option Told). journal ++ made who d x) (sym said);
+      adds = record {
+        name = same.0;
+        number = same.1;
+        mine = mine
+            ∙ ap (λ (x : Option Told). pass.mine ++ entered (length journal) who d x) (sym said);
+      };
+      told = (
+        said,
+        subst (λ (x : Option Answered). IsPlacedAt (length journal) x) (sym is)
+            (placed_signalled place (length journal) at),
+      );
+    }
+
+-- its task's passes have seen the journal of the semaphores as it left it
+pub signals_met : {E : Type 0} (passes passes2 : PassesValue) (who : Who) (d : Deed)
+    (r : Result (Option Answered) E) → passes2 ≡ record passes { sems = passes2.sems }
+    → SignalMet passes.sems passes2.sems who d r → SignalsMet passes passes2 who d r
+signals_met passes passes2 who d r others m = record {
+  old = record (state_seen passes) { signals = m.journal };
+  signals = record {
+    state = ap (λ (p : PassesValue). state_seen p) others
+        ∙ ap (λ (xs : List Event). record (state_seen passes) { signals = xs }) m.seen;
+    sems = m.adds;
+    others = others;
+  };
+  told = m.told;
+}
+
+-- a rule that was appended is one more of those that its task's pass has seen
+pub appends_met : (passes passes2 : PassesValue) (entry : RuleEntry) (a : Answered)
+    → passes2 ≡ record passes { rules = passes2.rules }
+    → AppendMet passes.rules passes2.rules entry a → AppendsMet passes passes2 entry a
+appends_met passes passes2 entry a others m = record {
+  old = record (state_seen passes) { added = m.added };
+  appends = record {
+    state = ap (λ (p : PassesValue). state_seen p) others
+        ∙ ap (λ (xs : List RuleEntry). record (state_seen passes) { added = xs }) m.seen;
+    rules = m.adds;
+    before = m.before;
+    seen = refl;
+    others = others;
+  };
+  told = m.told;
+}

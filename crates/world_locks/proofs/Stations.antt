@@ -1,0 +1,142 @@
+-- An inode under its lock is the one of its number, before a step on it and behind it.
+use Rattle.std.proofs.Common.{◌≡◌, ℕ, ◌+◌, ◌<◌, List, ◌++◌, length, Option, Some, sym, ◌∙◌, ap, subst}
+use mathlib.Core.List.{IsPrefix}
+use Rattle.grow_list.proofs.Prefixes.{prefix_refl}
+use Rattle.grow_list.specs.Shown.{Grown, ListName, Passed}
+use Rattle.ima_templates.specs.declared.entry.Entry.{Entry}
+use Rattle.inode_cell.specs.Acts.{MayBy}
+use Rattle.inode_meta.specs.declared.appraisal.Slot.{Slot}
+use Rattle.inode_meta.specs.declared.step.Who.{Who}
+use Rattle.inode_events.specs.Asked.{made}
+use Rattle.inode_events.specs.Inode.{Inode}
+use Rattle.inode_events.specs.declared.deed.Deed.{Deed}
+use Rattle.inode_events.specs.declared.settings.Settings.{Settings}
+use Rattle.inode_events.specs.declared.told.Event.{Event}
+use Rattle.inode_events.specs.declared.told.Told.{Told}
+use Rattle.policy_cell.specs.declared.cell.RuleEntry.{RuleEntry}
+use Rattle.policy_text.specs.ActionValue.{ActionValue}
+use Rattle.rule_laws.proofs.Risen.{law_rise_by_look, law_rise_by_outcome}
+use Rattle.rule_laws.specs.Stations.{CountsAll, StationRules}
+use Rattle.task_frame.specs.Frame.{Frame, Site, inode_in}
+use Rattle.task_frame.specs.World.{IsStation, StationValue, site_of}
+use Rattle.task_frame.specs.declared.gathered.Gathered.{Gathered}
+use Rattle.task_laws.specs.Ready.{HasLooked, IsReady}
+use Rattle.world_deeds.specs.Acting.{StationDid}
+use Rattle.world_locks.specs.Kept.{IsPassAt, IsReadyBy, NumberedStation}
+
+module _ (frame : Frame) (i : ℕ) (st : StationValue) (is : IsStation frame i st) where
+  -- the inode of the site is its own
+  pub inode_same : inode_in frame (site_of st) ≡ st.cell.inode
+  inode_same =
+      ap (λ (x : Settings). record {
+        path = st.cell.inode.path;
+        settings = x;
+        birth = st.cell.inode.birth;
+      }) (sym is.settings)
+
+  -- a task's pass of this number is of its journal
+  pub its_pass : (n : ℕ) (q : Passed Event) → IsPassAt frame i n q
+      → (q.name ≡ st.cell.journal) × (q.number ≡ n + 1)
+  its_pass n q at = at (site_of st) is.site
+
+  -- after a look the deed is ready
+  pub its_ready : (n : ℕ) (q : Passed Event) (g : Gathered) (action : ActionValue) (slot : Slot)
+      (d : Deed) → IsPassAt frame i n q → IsReadyBy frame i n q g action slot d
+      → HasLooked st.cell.inode q.number q.seen st.cell.list q.mine
+      → IsReady st.cell.inode q.number st.cell.list g action slot d
+  its_ready n q g action slot d at ready looked =
+      let number : q.number ≡ n + 1 = (its_pass n q at).1 in
+      subst (λ (k : ℕ). IsReady st.cell.inode k st.cell.list g action slot d) (sym number)
+      (subst (λ (x : Inode). IsReady x (n + 1) st.cell.list g action slot d) inode_same
+      (ready (site_of st) st.cell.list is.site
+      (subst (λ (x : Inode). HasLooked x (n + 1) q.seen st.cell.list q.mine) (sym inode_same)
+      (subst (λ (k : ℕ). HasLooked st.cell.inode k q.seen st.cell.list q.mine) number looked))))
+
+  -- and may be done
+  pub its_may : (n : ℕ) (q : Passed Event) (g : Gathered) (action : ActionValue) (slot : Slot)
+      (d : Deed) → IsPassAt frame i n q → IsReadyBy frame i n q g action slot d
+      → HasLooked st.cell.inode q.number q.seen st.cell.list q.mine
+      → MayBy st.cell q.number d
+  its_may n q g action slot d at ready looked =
+      let x = its_ready n q g action slot d at ready looked in
+      record { may = x.may; by = x.by }
+
+  -- with a pass of the appended rules that has seen more it is the same inode
+  pub station_looked : (q : Passed RuleEntry)
+      → (q.name ≡ st.rules.name) × (q.number ≡ st.rules.number) → q.mine ≡ st.rules.mine
+      → IsPrefix st.rules.seen q.seen → IsStation frame i (record st { rules = q })
+  station_looked q same mine more = record {
+    site = is.site;
+    settings = is.settings;
+    place = is.place;
+    callers = is.callers;
+    book = is.book;
+    booked = is.booked;
+    rules_name = same.0 ∙ is.rules_name;
+    rules_number = same.1 ∙ is.rules_number;
+    rules_mine = mine ∙ is.rules_mine;
+    rise = law_rise_by_look (length frame.base) st.cell.list st.rules.seen q.seen more is.rise;
+  }
+
+  -- behind a deed
+  module _ (st2 : StationValue) (book book2 : Grown Entry) (pass pass2 : Passed Event)
+      (listed listed2 : Passed Entry) (who : Who) (d : Deed) (g g2 : Gathered) (o : Option Told)
+      (did : StationDid st st2 book book2 pass pass2 listed listed2 who d g g2 o) where
+    site_same : site_of st2 ≡ site_of st
+    site_same =
+        ap (λ (x : Inode). record {
+          path = x.path;
+          birth = x.birth;
+          place = st2.place;
+          journal = st2.cell.journal;
+        }) did.leaves.same.inode
+        ∙ ap (λ (k : ℕ). record {
+          path = st.cell.inode.path;
+          birth = st.cell.inode.birth;
+          place = k;
+          journal = st2.cell.journal;
+        }) did.place
+        ∙ ap (λ (x : ListName). record {
+          path = st.cell.inode.path;
+          birth = st.cell.inode.birth;
+          place = st.place;
+          journal = x;
+        }) did.leaves.same.journal
+
+    -- it is still the inode of its number
+    pub station_still : CountsAll (length frame.base + length st.rules.seen) d
+        → IsStation frame i st2
+    station_still counts =
+        let rise : StationRules (length frame.base) (st.cell.list ++ made who d o) st.rules.seen =
+        law_rise_by_outcome (length frame.base) st.cell.list st.rules.seen st.rules.seen who d o
+        (prefix_refl st.rules.seen) is.rise counts in
+        record {
+          site = is.site ∙ ap (λ (x : Site). Some x) (sym site_same);
+          settings = ap (λ (x : Inode). x.settings) did.leaves.same.inode ∙ is.settings;
+          place = subst (λ (k : ℕ). k < length frame.supers) (sym did.place) is.place;
+          callers = did.leaves.same.callers ∙ is.callers;
+          book = did.leaves.same.book ∙ is.book;
+          booked = did.leaves.same.booked ∙ is.booked;
+          rules_name = ap (λ (q : Passed RuleEntry). q.name) did.rules ∙ is.rules_name;
+          rules_number = ap (λ (q : Passed RuleEntry). q.number) did.rules ∙ is.rules_number;
+          rules_mine = ap (λ (q : Passed RuleEntry). q.mine) did.rules ∙ is.rules_mine;
+          rise = subst (λ (q : Passed RuleEntry).
+              StationRules (length frame.base) st2.cell.list q.seen) (sym did.rules)
+              (subst (λ (xs : List Event). StationRules (length frame.base) xs st.rules.seen)
+              (sym did.leaves.journal) rise);
+        }
+
+-- the inode under the lock, by the number that its value shows
+pub station_at : (frame : Frame) (n : ℕ) (st : StationValue) (v : NumberedStation)
+    → ◌≡◌ {A = NumberedStation} (record { number = n; station = st }) v → IsStation frame n st
+    → IsStation frame v.number st
+station_at frame n st v view is =
+    subst (λ (x : NumberedStation). IsStation frame x.number st) view is
+
+-- the same as it is opened
+pub station_opened : (frame : Frame) (n : ℕ) (opened st : StationValue) (v : NumberedStation)
+    → opened ≡ st → ◌≡◌ {A = NumberedStation} (record { number = n; station = st }) v
+    → IsStation frame n st → IsStation frame v.number opened
+station_opened frame n opened st v same view is =
+    subst (λ (x : StationValue). IsStation frame v.number x) (sym same)
+    (station_at frame n st v view is)

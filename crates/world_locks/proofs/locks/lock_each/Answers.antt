@@ -1,0 +1,25 @@
+-- The last inode comes under its lock, and those in front of it are left.
+use Rattle.std.proofs.Common.{◌≡◌, ℕ, ap, arith, length, length-append, subst}
+use Rattle.task_frame.specs.World.{IsStation}
+use Rattle.world_locks.proofs.Locking.{each_before, last_is}
+use Rattle.world_locks.proofs.locks.lock_each.Goals as goal
+
+pub lock_at-requires-after_bounds : goal.lock_at-requires-after_bounds
+lock_at-requires-after_bounds g c κs within =
+    let left = c.pop.new.self in
+    let place : length left.items ≡ c.len.result = omega (arith, c.len.ensures, left.ok.0) in
+    subst (λ (n : ℕ). IsStation g.N.Name.frame n c.in-Some.station) place
+    (last_is g.N.Name.frame c.loop-station.left.items left.items c.in-Some.station
+    c.in-Some.ensures.items c.loop-station.invariant.each)
+
+pub loop-station-preserved : goal.loop-station-preserved
+loop-station-preserved g c = record {
+  all = omega (
+    arith,
+    simp length-append at (ap length c.in-Some.ensures.items),
+    simp length-append at (ap length c.in_ok-push.ensures.items),
+    c.loop-station.invariant.all,
+  );
+  each = each_before g.N.Name.frame c.loop-station.left.items c.pop.new.self.items
+      c.in-Some.station c.in-Some.ensures.items c.loop-station.invariant.each;
+}

@@ -1,0 +1,10 @@
+-- The number under the lock is the place.
+use Rattle.std.proofs.Common.{◌≡◌, ℕ, arith, subst}
+use Rattle.task_frame.specs.World.{IsStation}
+use Rattle.world_locks.proofs.locks.unlock_at.Goals as goal
+
+pub returns : goal.returns
+returns g c =
+    let place : c.open-number.result.0 ≡ c.args.place = omega arith in
+    subst (λ (n : ℕ). IsStation g.N.Name.frame n c.open-number.result.1) place
+    c.open-number.ensures

@@ -1,0 +1,19 @@
+-- One inode more comes out of its lock.
+use Rattle.std.proofs.Common.{ap, arith, length, length-append}
+use Rattle.std.proofs.lemmas.List.{length_push}
+use Rattle.world_locks.proofs.Locking.{each_more}
+use Rattle.world_locks.proofs.locks.unlock_each.Goals as goal
+
+pub loop-mutex-preserved : goal.loop-mutex-preserved
+loop-mutex-preserved g c = record {
+  all = omega (
+    arith,
+    simp length-append at (ap length c.in_ok-push.ensures.items),
+    length_push c.loop-mutex.yielded c.in-Some.mutex,
+    c.loop-mutex.invariant.all,
+  );
+  each = each_more g.N.Name.frame c.loop-mutex.stations.items c.push.new.self.items c.len.result
+      c.in_ok-station.station c.in_ok-push.ensures.items
+      (omega (arith, c.len.ensures, c.loop-mutex.stations.ok.0)) c.in_ok-station.ensures
+      c.loop-mutex.invariant.each;
+}

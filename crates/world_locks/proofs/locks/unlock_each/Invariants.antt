@@ -1,0 +1,9 @@
+use Rattle.std.proofs.Common.{◌≡◌, length}
+use Rattle.world_locks.specs.Parts.{AreEach}
+use Rattle.world_locks.proofs.locks.unlock_each.Given as goal
+
+abbrev pub invariant-loop-mutex : goal.invariant-loop-mutex
+invariant-loop-mutex g l = record {
+  all : length l.stations.items ≡ length l.yielded;
+  each : AreEach g.N.Name.frame l.stations.items;
+}

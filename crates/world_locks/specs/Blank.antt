@@ -1,0 +1,30 @@
+-- The constants of no world.
+use Rattle.std.specs.Prelude.{[], None, refl}
+use Rattle.grow_list.specs.Shown.{no_name}
+use Rattle.hash_algos.specs.declared.algo.Algo.TheVariants.{Sha1}
+use Rattle.inode_meta.specs.declared.appraisal.Mode.TheVariants.{Log}
+use Rattle.inode_meta.specs.declared.measurement.Template.TheVariants.{Ima}
+use Rattle.inode_events.specs.declared.settings.Settings.{Settings}
+use Rattle.task_frame.specs.Frame.{Frame, no_entry}
+
+abbrev pub no_settings : Settings
+no_settings = record {
+  hash = Sha1;
+  template = Ima;
+  mode = Log;
+  evm = record { key = None; added = []; format = 0 };
+  for_files = refl;
+}
+
+abbrev pub no_frame : Frame
+no_frame = record {
+  settings = no_settings;
+  boot = no_entry;
+  sites = [];
+  supers = [];
+  base = [];
+  book = no_name;
+  signals = no_name;
+  rules = no_name;
+  tasks = 0;
+}

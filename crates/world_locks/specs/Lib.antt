@@ -1,0 +1,4 @@
+pub mod Blank
+pub mod Parts
+pub mod Kept
+pub mod Met

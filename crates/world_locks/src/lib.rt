@@ -1,0 +1,22 @@
+//! The lists of a world under locks, and the steps of tasks on them.
+//!
+//! Each inode lies under a lock of its own, as do the measurement list, the semaphores and the
+//! rules. A step takes those that it needs in the order inode, rules, measurement list. A post, a
+//! wait and a rule that is appended take one lock alone.
+#![tactic(auto)]
+
+mod acting;
+mod kept;
+mod locks;
+mod name;
+mod parts;
+mod sharing;
+mod station;
+
+pub use grow_list::OutOfMemory;
+pub use locks::Locks;
+pub use name::Name;
+pub use parts::Parts;
+
+#[cfg(test)]
+mod tests;

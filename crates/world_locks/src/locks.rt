@@ -1,0 +1,185 @@
+//! The locks of a world: how its lists come under them and out again.
+
+ghost use Rattle.std.specs.Prelude.{◌≡◌, ◌<◌, IfOk, length};
+ghost use Rattle.std.specs.Sync.Mutex.{mutex_guard_value};
+ghost use Rattle.task_frame.specs.World.{IsStation};
+ghost use Rattle.world_close.specs.Closed.{AreStations};
+ghost use Rattle.world_locks.specs.Parts.{KeepFrame, frame_of_parts};
+
+use crate::kept::{KeptBook, KeptRules, KeptSemaphores};
+use crate::name::Name;
+use crate::parts::Parts;
+use crate::station::KeptStation;
+use grow_list::OutOfMemory;
+use inode_events::Settings;
+use inode_meta::Mode;
+use policy_text::Super;
+use std::alloc::{AllocError, Global};
+use std::sync::{Mutex, MutexGuard, Wait};
+use task_frame::Station;
+
+/// The lists of a world, each inode under a lock of its own, and one lock each for the measurement
+/// list, the semaphores and the rules. They are those of the constants that `N` names.
+#[derive(Drop)]
+pub struct Locks<N: Name> {
+    pub(crate) stations: Vec<Mutex<KeptStation<N>>>,
+    pub(crate) book: Mutex<KeptBook<N>>,
+    pub(crate) sems: Mutex<KeptSemaphores<N>>,
+    pub(crate) rules: Mutex<KeptRules<N>>,
+    pub(crate) supers: Vec<Super>,
+    settings: Settings,
+    tasks: u32,
+    pub(crate) alloc: Global,
+    ghost count: { length stations.items ≡ length N.frame.sites },
+    ghost supers_are: { supers.items ≡ N.frame.supers },
+    ghost settings_are: { settings ≡ N.frame.settings },
+    ghost tasks_are: { tasks ≡ N.frame.tasks },
+}
+
+// The inode of this place under a lock.
+fn lock_at<N: Name>(place: usize, station: Station) -> Result<Mutex<KeptStation<N>>, OutOfMemory>
+    requires { IsStation N.frame place station }
+{
+    let Ok(number) = u32::try_from(place) else {
+        return Err(AllocError);
+    };
+    Ok(Mutex::new(KeptStation::<N>::new(number, station)))
+}
+
+// The inodes, each under a lock.
+fn lock_each<N: Name>(
+    alloc: Global,
+    stations: Vec<Station>,
+) -> Result<Vec<Mutex<KeptStation<N>>>, OutOfMemory>
+    requires { AreStations N.frame stations.items }
+    ensures { IfOk result (λ locked. length locked.items ≡ length N.frame.sites) }
+{
+    let mut left = stations;
+    let mut locked = Vec::new(alloc);
+    while let Some(station) = left.pop() {
+        let mutex = lock_at::<N>(left.len(), station)?;
+        locked.push(mutex)?;
+    }
+    locked.reverse();
+    Ok(locked)
+}
+
+// The inode of this place, out of its lock.
+fn unlock_at<N: Name>(place: usize, mutex: Mutex<KeptStation<N>>) -> Result<Station, OutOfMemory>
+    ensures { IfOk result (λ station. IsStation N.frame place station) }
+{
+    let (number, station) = mutex.into_inner().open();
+    // It stands in its place, but the type of a lock doesn't tell it.
+    if number as usize != place {
+        return Err(AllocError);
+    }
+    Ok(station)
+}
+
+// The inodes, out of their locks, in order.
+fn unlock_each<N: Name>(
+    alloc: Global,
+    locked: Vec<Mutex<KeptStation<N>>>,
+) -> Result<Vec<Station>, OutOfMemory>
+    requires { length locked.items ≡ length N.frame.sites }
+    ensures { IfOk result (λ stations. AreStations N.frame stations.items) }
+{
+    let mut stations = Vec::new(alloc);
+    for mutex in locked {
+        let station = unlock_at(stations.len(), mutex)?;
+        stations.push(station)?;
+    }
+    Ok(stations)
+}
+
+impl<N: Name> Locks<N> {
+    /// Puts the lists under locks. There are at most 4,294,967,295 inodes.
+    pub fn new(parts: Parts) -> Result<Locks<N>, OutOfMemory>
+        requires { KeepFrame N.frame parts }
+    {
+        let Parts {
+            stations,
+            book,
+            sems,
+            rules,
+            idle,
+            supers,
+            settings,
+            tasks,
+            alloc,
+        } = parts;
+        let stations = lock_each::<N>(alloc, stations)?;
+        Ok(Locks {
+            stations,
+            book: Mutex::new(KeptBook::new(book)),
+            sems: Mutex::new(KeptSemaphores::new(sems)),
+            rules: Mutex::new(KeptRules::new(rules, idle)),
+            supers,
+            settings,
+            tasks,
+            alloc,
+        })
+    }
+
+    /// Gives the lists back, which have the same constants.
+    pub fn into_parts(self) -> Result<Parts, OutOfMemory>
+        ensures keep { IfOk result (λ parts. KeepFrame N.frame parts) }
+        ensures frame { IfOk result (λ parts. frame_of_parts parts ≡ N.frame) }
+    {
+        let Locks {
+            stations,
+            book,
+            sems,
+            rules,
+            supers,
+            settings,
+            tasks,
+            alloc,
+        } = self;
+        let stations = unlock_each(alloc, stations)?;
+        let book = book.into_inner().open();
+        let sems = sems.into_inner().open();
+        let (rules, idle) = rules.into_inner().open();
+        Ok(Parts {
+            stations,
+            book,
+            sems,
+            rules,
+            idle,
+            supers,
+            settings,
+            tasks,
+            alloc,
+        })
+    }
+
+    /// The appraisal mode.
+    pub fn mode(&self) -> Mode
+        ensures { result ≡ N.frame.settings.mode }
+    {
+        self.settings.mode
+    }
+
+    // The inode of this number, whose lock is held.
+    pub(crate) fn take<'a, R: Wait>(&'a self, rt: &R, inode: u32) -> MutexGuard<'a, KeptStation<N>>
+        requires { inode < length N.frame.sites }
+        ensures { (mutex_guard_value result).number ≡ inode }
+    {
+        for _ in rt.forever() {
+            let station = self.stations[inode as usize].lock(rt);
+            if station.number() == inode {
+                return station;
+            }
+        }
+        unreachable!()
+    }
+
+    /// Takes the lock of the inode of this number, calls `f` once, and lets go.
+    pub fn hold<R: Wait, F: FnOnce()>(&self, rt: &R, inode: u32, f: F)
+        requires below { inode < length N.frame.sites }
+        requires call { F.IsAlwaysCallable f }
+    {
+        let _held = self.stations[inode as usize].lock(rt);
+        f();
+    }
+}

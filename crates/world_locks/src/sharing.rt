@@ -1,0 +1,49 @@
+//! The steps of a task on the semaphores and the rules, each under its lock alone.
+
+ghost use Rattle.std.specs.Prelude.{◌≡◌, IfOk, OnErr};
+ghost use Rattle.task_frame.specs.Tasks.{ArePassesOf};
+ghost use Rattle.world_locks.specs.Met.{AppendsMet, SignalsMet};
+
+use crate::locks::Locks;
+use crate::name::Name;
+use grow_list::OutOfMemory;
+use inode_events::Deed;
+use inode_meta::Who;
+use policy_text::Rule;
+use std::sync::Wait;
+use task_frame::Passes;
+use world_deeds::Answered;
+
+impl<N: Name> Locks<N> {
+    /// Posts to a semaphore or waits for one. `None` is blocked.
+    pub fn signals<R: Wait>(
+        &self,
+        rt: &R,
+        passes: &mut Passes,
+        who: Who,
+        deed: Deed,
+    ) -> Result<Option<Answered>, OutOfMemory>
+        requires { ArePassesOf N.frame who.task passes.old }
+        ensures { SignalsMet passes.old passes.new who deed result }
+    {
+        self.sems.lock(rt).signal(&mut passes.sems, who, deed)
+    }
+
+    /// Appends a copy of the rule to those in force.
+    pub fn appends<R: Wait>(
+        &self,
+        rt: &R,
+        passes: &mut Passes,
+        who: Who,
+        rule: &Rule,
+    ) -> Result<Answered, OutOfMemory>
+        requires { ArePassesOf N.frame who.task passes.old }
+        ensures appends { IfOk result (λ a. AppendsMet passes.old passes.new
+            (record { who = who; rule = rule.now }) a) }
+        ensures err { OnErr result (passes.new ≡ passes.old) }
+    {
+        self.rules
+            .lock(rt)
+            .append(self.alloc, &mut passes.rules, who, rule)
+    }
+}

@@ -1,0 +1,143 @@
+//! An inode that keeps that it is the one of its number, and the steps on it.
+
+ghost use Rattle.inode_events.specs.declared.deed.Deed.TheVariants as Deed;
+ghost use Rattle.std.specs.Prelude.{◌≡◌, ◌+◌};
+ghost use Rattle.inode_events.specs.Checks.{no_action};
+ghost use Rattle.task_frame.specs.World.{IsStation};
+ghost use Rattle.task_frame.specs.declared.gathered.Gathered.{Gathered as AnyGathered};
+ghost use Rattle.task_mind.specs.Steps.{deed_in};
+ghost use Rattle.world_locks.specs.Kept.{AskMet, DeedMet, IsPassAt, IsReadyBy};
+
+use crate::kept::{KeptBook, KeptRules};
+use crate::name::Name;
+use grow_list::{OutOfMemory, Pass};
+use ima_templates::Entry;
+use inode_events::Event;
+use policy_cell::RuleEntry;
+use policy_text::Super;
+use std::marker::{Model, PhantomData};
+use task_deeds::{Actor, Checks};
+use task_frame::{Gathered, Station};
+use task_mind::Doing;
+use world_deeds::{Answered, act_at, check_at};
+
+/// An inode with its number.
+#[derive(Drop)]
+pub struct KeptStation<N: Name> {
+    number: u32,
+    station: Station,
+    of: PhantomData<N>,
+}
+
+impl<N: Name> Model for KeptStation<N> {
+    ghost use Rattle.task_frame.specs.World.{IsStation};
+    ghost use Rattle.world_locks.specs.Kept.{NumberedStation};
+
+    ghost Value = { NumberedStation };
+
+    ghost view = { λ s. record { number = s.number; station = s.station } };
+
+    ghost invariant = { λ s. IsStation N.frame s.number s.station };
+}
+
+impl<N: Name> KeptStation<N> {
+    /// The inode of this number.
+    pub fn new(number: u32, station: Station) -> KeptStation<N>
+        requires { IsStation N.frame number station }
+        ensures { result.number ≡ number }
+    {
+        KeptStation {
+            number,
+            station,
+            of: PhantomData,
+        }
+    }
+
+    /// Its number.
+    pub fn number(&self) -> u32
+        ensures { result ≡ self.now.number }
+    {
+        self.number
+    }
+
+    /// Gives it back.
+    pub fn open(self) -> (u32, Station)
+        ensures { IsStation N.frame result.0 result.1 }
+    {
+        let KeptStation {
+            number,
+            station,
+            of: _,
+        } = self;
+        (number, station)
+    }
+
+    /// Does the deed, by the task's passes of the journal and of the measurement list. `None` is
+    /// blocked.
+    pub fn act(
+        &mut self,
+        pass: &mut Pass<Event>,
+        book: &mut KeptBook<N>,
+        listed: &mut Pass<Entry>,
+        actor: &Actor<'_>,
+        doing: Doing<'_>,
+        gathered: &mut Gathered,
+    ) -> Result<Option<Answered>, OutOfMemory>
+        requires pass { IsPassAt N.frame self.old.number actor.now.who.task pass.old }
+        requires listed { listed.old.name ≡ N.frame.book }
+        requires ready { IsReadyBy N.frame self.old.number actor.now.who.task pass.old gathered.old
+            actor.now.action actor.now.slot (deed_in doing) }
+        ensures number { self.new.number ≡ self.old.number }
+        ensures met { DeedMet N.frame self.old.number pass.old pass.new listed.old listed.new
+            actor.now.who (deed_in doing.entry) gathered.old gathered.new result }
+    {
+        act_at(
+            &mut self.station,
+            pass,
+            &mut book.book,
+            listed,
+            actor,
+            doing,
+            gathered,
+        )
+    }
+
+    /// Checks it by all rules in force, at which the task's pass and the inode's look first.
+    pub fn check(
+        &mut self,
+        pass: &mut Pass<Event>,
+        rules: &mut KeptRules<N>,
+        own: &mut Pass<RuleEntry>,
+        book: &mut KeptBook<N>,
+        listed: &mut Pass<Entry>,
+        actor: &Actor<'_>,
+        asked: Checks,
+        supers: &[Super],
+    ) -> Result<Option<Answered>, OutOfMemory>
+        requires pass { IsPassAt N.frame self.old.number actor.now.who.task pass.old }
+        requires own { own.old.name ≡ N.frame.rules }
+        requires listed { listed.old.name ≡ N.frame.book }
+        requires supers { supers.now ≡ N.frame.supers }
+        requires ready { (g : AnyGathered) → IsReadyBy N.frame self.old.number actor.now.who.task
+            pass.old g actor.now.action actor.now.slot
+            (Deed.Check asked.file asked.func no_action 0) }
+        ensures number { self.new.number ≡ self.old.number }
+        ensures met { AskMet N.frame self.old.number pass.old pass.new own.old own.new listed.old
+            listed.new actor.now.who actor.now.cred.now asked result }
+    {
+        let station = &mut self.station;
+        rules.rules.look(&mut station.rules);
+        rules.rules.look(own);
+        let place = &supers[station.place as usize];
+        check_at(
+            station,
+            pass,
+            &mut book.book,
+            listed,
+            actor,
+            asked,
+            rules.rules.rules(),
+            place,
+        )
+    }
+}
