@@ -1,7 +1,6 @@
 -- Texts and words, each with what it is.
 use Rattle.std.proofs.Common.{◌≡◌, ℕ, true, false, List, [], ◌∷◌, Option, Some, None, Ok, refl}
 use Rattle.std.specs.Prelude.{codes}
-use Rattle.call_steps.specs.declared.ending.Ending.TheVariants as ending
 use Rattle.command_line.specs.declared.command.Command.TheVariants as command
 use Rattle.script_words.specs.declared.fault.LineCause.TheVariants.{NoEnd}
 use Rattle.ima_top.specs.commands.BadLine.{bad_line}
@@ -9,7 +8,7 @@ use Rattle.ima_top.specs.commands.Label.{label_refusal}
 use Rattle.ima_top.specs.commands.List.{boot_entry, list_refusal, measured}
 use Rattle.script_text.specs.ListGrammar.{list_of}
 use Rattle.ima_top.specs.commands.Policy.{policy_refusal}
-use Rattle.ima_top.specs.commands.Run.{not_built, run_refusal, unbuilt}
+use Rattle.ima_top.specs.commands.Run.{run_refusal}
 use Rattle.ima_top.specs.Served.{Serves}
 use Rattle.ima_top.specs.commands.Table.{IsOutput, reads, refusal}
 use Rattle.command_line.specs.declared.command.Command.{Command}
@@ -35,10 +34,6 @@ no_script = refl
 no_run : run_refusal [] ≡ Some (bad_line (record { line = 1; cause = NoEnd }))
 unfolding run_refusal
 no_run = refl
-
--- threads aren't built
-no_threads : (n : ℕ) → unbuilt (ending.Threads n) ≡ Some not_built
-no_threads n = refl
 
 no_rule : policy_refusal [] ≡ None
 unfolding policy_refusal

@@ -15,6 +15,8 @@ use crate::not_done::NotDone;
 use command_line::Command;
 use ima_io::Gate;
 use std::alloc::Global;
+use std::sync::Wait;
+use std::thread::Threads;
 
 /// The line that is told where the words aren't a command.
 pub const USAGE_LINE: &[u8] = b"usage: imakern list | run | policy | label | gen N\n";
@@ -33,7 +35,8 @@ pub fn reads(command: Command) -> bool
 /// What the command answers to the input, whose run has each turn of a task behind the gate:
 /// `Refused` where the input isn't in its grammar, or `OutOfMemory`.
 #[tactic(auto, unfolding(crate::specs::commands::Table::refusal, crate::specs::commands::Table::IsOutput))]
-pub fn answer_input<G: Gate>(
+pub fn answer_input<G: Gate + Sync, R: Threads + Wait + Sync>(
+    rt: &R,
     alloc: Global,
     command: Command,
     input: &[u8],
@@ -56,9 +59,9 @@ pub fn answer_input<G: Gate>(
             output: label::answer(alloc, input)?,
             stuck: false,
         }),
-        Command::Run => run::answer(alloc, input, gate),
+        Command::Run => run::answer(rt, alloc, input, gate),
         Command::Gen(number) => Ok(Answer {
-            output: gen_::answer(alloc, number, gate)?,
+            output: gen_::answer(rt, alloc, number, gate)?,
             stuck: false,
         }),
     }

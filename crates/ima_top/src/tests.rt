@@ -3,7 +3,9 @@
 use crate::serve;
 use ima_io::{FreeGate, MemSink, MemSource};
 use std::alloc::{AllocError, Global};
+use std::sync::Wait;
 use std::test::Fail;
+use std::thread::Threads;
 
 const ONE_FILE: &str =
     "10 0adefe762c149c7cec19da62f0da1297fcfbffff ima-ng sha256:0000000000000000000000000000000000000000000000000000000000000000 boot_aggregate\n10 760e8bce1babb2102a26353db8318441da8a08df ima-ng sha256:ba7816bf8f01cfea414140de5dae2223b00361a396177a9cb410ff61f20015ad /a\npcr sha1 10 4f631986c6d974b0556328cf142852f28335705c\npcr sha256 10 7389b173d583f863ccf2ca7bf4f39a7efa203fb6474ee698fd1fa9c081ce4d44\n";
@@ -11,7 +13,8 @@ const ONE_FILE: &str =
 const ONE_FILE_LIST: &[u8] = b"imalist 1\nfile /a txt:abc\nend\n";
 
 // The status, the output and the note of the list of one file, with rooms for both.
-fn listed(
+fn listed<R: Threads + Wait + Sync>(
+    rt: &R,
     alloc: Global,
     room: usize,
     note_room: usize,
@@ -20,7 +23,15 @@ fn listed(
     let mut script = MemSource::new(ONE_FILE_LIST.to_vec(alloc)?, 20, Vec::new(alloc));
     let mut out = MemSink::new(alloc, room, 7, Vec::new(alloc))?;
     let mut note = MemSink::new(alloc, note_room, 100, Vec::new(alloc))?;
-    let status = serve(alloc, &words, &mut script, &mut out, &mut note, &FreeGate);
+    let status = serve(
+        rt,
+        alloc,
+        &words,
+        &mut script,
+        &mut out,
+        &mut note,
+        &FreeGate,
+    );
     let out = out.taken().to_vec(alloc)?;
     Ok((status, out, note.taken().to_vec(alloc)?))
 }
@@ -34,7 +45,7 @@ fn an_output_or_a_note_may_end_early(rt: HostRuntime) -> Result<(), Fail> {
         (5, 0, 5, "write"),
         (5, 0, 0, ""),
     ] {
-        let (got, out, said) = listed(rt.alloc(), room, note)?;
+        let (got, out, said) = listed(&rt, rt.alloc(), room, note)?;
         assert_eq!(rt; got, status);
         assert!(rt;
             ONE_FILE.as_bytes().starts_with(out.as_slice()),

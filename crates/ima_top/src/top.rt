@@ -16,6 +16,8 @@ use crate::status::{
 use command_line::{Command, command_of};
 use ima_io::{Gate, Sink, Source, read_all, write_all};
 use std::alloc::Global;
+use std::sync::Wait;
+use std::thread::Threads;
 
 /// The most bytes of an input.
 pub const MOST_INPUT: usize = 4_194_304;
@@ -45,7 +47,8 @@ fn read_input<S: Source>(
 }
 
 // Reads the input whole, answers it, and writes the output whole.
-fn perform<S: Source, K: Sink, G: Gate>(
+fn perform<S: Source, K: Sink, G: Gate + Sync, R: Threads + Wait + Sync>(
+    rt: &R,
     alloc: Global,
     command: Command,
     script: &mut S,
@@ -68,7 +71,7 @@ fn perform<S: Source, K: Sink, G: Gate>(
         → Rose (K.faults out.old) (K.faults out.new) }
 {
     let input = read_input(alloc, command, script)?;
-    let answer = answer_input(alloc, command, &input, gate)?;
+    let answer = answer_input(rt, alloc, command, &input, gate)?;
     write_all(out, &answer.output)?;
     if answer.stuck {
         Err(NotDone::Stuck)
@@ -79,7 +82,8 @@ fn perform<S: Source, K: Sink, G: Gate>(
 
 // Finds the command in the words and performs it. Where memory runs out over the words, nothing is
 // read.
-fn answer_words<S: Source, K: Sink, G: Gate>(
+fn answer_words<S: Source, K: Sink, G: Gate + Sync, R: Threads + Wait + Sync>(
+    rt: &R,
     alloc: Global,
     words: &[String],
     script: &mut S,
@@ -106,7 +110,7 @@ fn answer_words<S: Source, K: Sink, G: Gate>(
         → Rose (K.faults out.old) (K.faults out.new) }
 {
     match command_of(alloc, words)? {
-        Some(command) => perform(alloc, command, script, out, gate),
+        Some(command) => perform(rt, alloc, command, script, out, gate),
         None => Err(NotDone::Usage),
     }
 }
@@ -123,8 +127,10 @@ fn tell<N: Sink>(note: &mut N, line: &[u8])
 /// `out`, and gives the exit status. What went wrong is told in one line on `note`; a fault of
 /// `note` changes no status.
 ///
-/// The words don't hold the program's name. `gate` is passed before each turn of a task.
-pub fn serve<S: Source, K: Sink, N: Sink, G: Gate + Sync>(
+/// The words don't hold the program's name. `gate` is passed before each step of a task. A script
+/// that ends in `threads` has its tasks run on threads of `rt`.
+pub fn serve<S: Source, K: Sink, N: Sink, G: Gate + Sync, R: Threads + Wait + Sync>(
+    rt: &R,
     alloc: Global,
     words: &[String],
     script: &mut S,
@@ -135,8 +141,7 @@ pub fn serve<S: Source, K: Sink, N: Sink, G: Gate + Sync>(
     ensures statuses { IsStatus result }
 
     // The words: `USAGE` comes exactly where they aren't a command, unless memory runs out while
-    // they
-    // are read. Then, and by a command that doesn't read, nothing is read.
+    // they are read. Then, and by a command that doesn't read, nothing is read.
     ensures usage { (result ≡ USAGE → IsNone (command_of (map string_bytes words.now)))
         × (IsNone (command_of (map string_bytes words.now))
         → (result ≡ USAGE) ⊎ (result ≡ OUT_OF_MEMORY)) }
@@ -174,7 +179,7 @@ pub fn serve<S: Source, K: Sink, N: Sink, G: Gate + Sync>(
         ⊎ Rose (S.faults script.old) (S.faults script.new)
         ⊎ Rose (K.faults out.old) (K.faults out.new))) }
 {
-    match answer_words(alloc, words, script, out, gate) {
+    match answer_words(rt, alloc, words, script, out, gate) {
         Ok(()) => DONE,
         Err(why) => {
             tell(note, why.line());

@@ -21,6 +21,7 @@ fn main(rt: HostRuntime) -> ExitCode {
         Err(_) => Vec::new(rt.alloc()),
     };
     let status = serve(
+        &rt,
         rt.alloc(),
         &words,
         &mut script,

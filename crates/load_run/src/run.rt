@@ -9,14 +9,21 @@ use report_text::summary;
 use script_run::run;
 use script_text::{Script, ScriptErr, parse};
 use std::alloc::{AllocError, Global};
+use std::sync::Wait;
+use std::thread::Threads;
 
 /// Runs the script that is made of a number from 1 to 1,000,000, each step behind the gate, and
 /// gives the summary of what the run leaves.
-pub fn summarize<G: Gate>(alloc: Global, number: u32, gate: &G) -> Result<Vec<u8>, OutOfMemory>
+pub fn summarize<G: Gate + Sync, R: Threads + Wait + Sync>(
+    rt: &R,
+    alloc: Global,
+    number: u32,
+    gate: &G,
+) -> Result<Vec<u8>, OutOfMemory>
     ensures { IfOk result (λ output. IsSummary number output.items) }
 {
     let (script, size) = loaded(alloc, number)?;
-    let ended = run(alloc, script, gate)?;
+    let ended = run(rt, alloc, script, gate)?;
     let output = summary(alloc, number, size, &ended)?;
     Ok(output)
 }

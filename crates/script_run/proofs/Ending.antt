@@ -19,7 +19,7 @@ use Rattle.run_model.specs.Served.{Run}
 use Rattle.run_model.specs.Shown.{IsShown}
 use Rattle.run_model.specs.Turns.{Moment, run_at, start_of, turns_of}
 use Rattle.script_text.specs.Forms.{IsFile, IsScript, is_ending}
-use Rattle.script_text.specs.Limits.{most_turns}
+use Rattle.script_text.specs.Limits.{most_threads, most_turns}
 use Rattle.script_text.proofs.Holding.{left_true, right_true}
 use Rattle.script_text.specs.ScriptValue.{ScriptValue}
 use Rattle.script_text.specs.declared.blocks.FileBlock.{FileBlock}
@@ -36,7 +36,7 @@ use Rattle.world_ended.specs.Settled.{is_over}
 use Rattle.script_scene.specs.Scene.{IsForFiles, scene_of, station_of}
 use Rattle.script_scene.proofs.Paths.{measured_path}
 use Rattle.script_run.specs.Run.{AreWithin, HasRun, HasStarted, LeadsTo, Promised}
-use Rattle.script_run.proofs.Fits.{below}
+use Rattle.script_run.proofs.Fits.{at_most, below}
 
 -- the paths of a script's files can be shown by each template
 paths_shown : (supers : List Super) (files : List FileBlock)
@@ -53,7 +53,7 @@ through : (scene : Scene) (count : ℕ) (way : Ending) (m end : Moment)
     → IsThrough way (is_over scene end)
 through scene count (ending.Schedule turns) m end leads ends = tt
 through scene count ending.Rounds m end leads ends = ends leads.1
-through scene count (ending.Threads n) m end leads ends = ends leads.1
+through scene count (ending.Threads n) m end leads ends = ends leads
 
 -- and it is the run of its scene
 own : (scene : Scene) (count : ℕ) (way : Ending) (end : Moment)
@@ -108,7 +108,8 @@ ending_within n (ending.Schedule turns) h =
     All-from_recursion (λ k. k < n) turns (turns_within n turns
     (left_true (list_all (λ t. nat_lt t n) turns) (nat_le (length turns) most_turns) h))
 ending_within n ending.Rounds h = tt
-ending_within n (ending.Threads m) h = tt
+ending_within n (ending.Threads m) h =
+    at_most 1 m (left_true (nat_le 1 m) (nat_le m most_threads) h)
 
 pub within : (s : ScriptValue) (world : WorldValue) (tasks : List Tasked) (way : Ending)
     → IsScript s → HasStarted s world tasks way → AreWithin (length tasks) way

@@ -25,7 +25,7 @@ use Rattle.script_scene.proofs.Paths.{measured_path}
 pub below : (n m : ℕ) → nat_lt n m ≡ true → n < m
 below n m h = grind (arith, nat_tests)
 
-at_most : (n m : ℕ) → nat_le n m ≡ true → n ≤ m
+pub at_most : (n m : ℕ) → nat_le n m ≡ true → n ≤ m
 at_most n m h = grind (arith, nat_tests)
 
 or_false : (b : Bool) → (b || false) ≡ true → b ≡ true

@@ -1,5 +1,5 @@
 -- The run of a script, what it leaves, and what holds of it.
-use Rattle.std.specs.Prelude.{◌≡◌, ℕ, ◌<◌, false, All, List, length}
+use Rattle.std.specs.Prelude.{◌≡◌, ℕ, ◌<◌, ◌≤◌, false, All, List, length}
 use Rattle.ima_templates.specs.Replay.{banks_of}
 use Rattle.run_model.specs.EndedValue.{EndedValue, ended_of}
 use Rattle.run_model.specs.Rounds.{IsRunOf, RoundsTo, moves}
@@ -60,14 +60,16 @@ pub record HasStarted (s : ScriptValue) (world : WorldValue) (tasks : List Taske
   pub all : length tasks ≡ length s.tasks
   pub ending : way ≡ s.ending
 
--- a schedule names tasks below this number
+-- a schedule names tasks below this number, and there is a thread
 abbrev pub AreWithin : ℕ → Ending → Type 0
 AreWithin count (ending.Schedule turns) = All (λ k. k < count) turns
-AreWithin count _ = Unit {0}
+AreWithin count ending.Rounds = Unit {0}
+AreWithin count (ending.Threads n) = 1 ≤ n
 
--- the turns of an ending lead from the one moment to the other: those of the schedule, or rounds
--- until none of so many tasks moves
+-- the turns of an ending lead from the one moment to the other: those of the schedule; rounds until
+-- none of so many tasks moves; or with threads any steps, until none of them moves
 abbrev pub LeadsTo : Scene → ℕ → Ending → Moment → Moment → Type 0
 LeadsTo scene count (ending.Schedule turns) m end = end ≡ turns_of scene m turns
-LeadsTo scene count _ m end =
+LeadsTo scene count ending.Rounds m end =
     RoundsTo scene m end × ((k : ℕ) → k < count → moves scene end k ≡ false)
+LeadsTo scene count (ending.Threads n) m end = (k : ℕ) → k < count → moves scene end k ≡ false

@@ -1,4 +1,4 @@
-//! The run of a script on one thread: its world and its tasks from their start to what they leave.
+//! The run of a script: its world and its tasks from their start to what they leave.
 #![tactic(auto)]
 
 mod members;

@@ -1,6 +1,6 @@
 //! The run of a script.
 
-ghost use Rattle.std.specs.Prelude.{◌≡◌, ◌<◌, All, IfOk, OnOk, length};
+ghost use Rattle.std.specs.Prelude.{◌≡◌, ◌<◌, All, IfOk, length};
 ghost use Rattle.script_run.specs.Run.{AreWithin, HasRun, HasStarted, LeadsTo};
 ghost use Rattle.task_frame.specs.Runs.{AreTasks};
 ghost use Rattle.turn_laws.specs.Runs.{StillRuns, moment_in, scene_in};
@@ -13,8 +13,12 @@ use run_model::Ended;
 use script_scene::{ScriptParts, parts_of};
 use script_text::Script;
 use std::alloc::Global;
+use std::marker::Brand;
+use std::sync::Wait;
+use std::thread::Threads;
 use task_core::{Task, World};
 use task_runner::{run_rounds, run_schedule};
+use thread_runner::run_threads;
 
 // The world and the tasks of a script before their first turn, and how they are run.
 fn started(alloc: Global, script: Script) -> Result<(World, Vec<Task>, Ending), OutOfMemory>
@@ -40,35 +44,49 @@ fn started(alloc: Global, script: Script) -> Result<(World, Vec<Task>, Ending), 
 }
 
 // Turns of the tasks, as their ending says.
-fn turn_all<G: Gate>(
-    world: &mut World,
+fn turn_all<G: Gate + Sync, R: Threads + Wait + Sync>(
+    rt: &R,
+    world: World,
     tasks: &mut Vec<Task>,
     ending: &Ending,
     gate: &G,
-) -> Result<(), OutOfMemory>
-    requires tasks { AreTasks world.old.frame tasks.old.items }
+) -> Result<World, OutOfMemory>
+    requires tasks { AreTasks world.frame tasks.old.items }
     requires turns { AreWithin (length tasks.old.items) ending.now }
-    ensures run { OnOk result (LeadsTo (scene_in world.old tasks.old.items)
-        (length tasks.old.items) ending.now
-        (moment_in world.old tasks.old.items) (moment_in world.new tasks.new.items)) }
-    ensures still { StillRuns world.old world.new tasks.old.items tasks.new.items }
+    ensures run { IfOk result (λ w. LeadsTo (scene_in world tasks.old.items)
+        (length tasks.old.items) ending.now (moment_in world tasks.old.items)
+        (moment_in w tasks.new.items)) }
+    ensures still { IfOk result (λ w. StillRuns world w tasks.old.items tasks.new.items) }
 {
     match ending {
-        Ending::Schedule(turns) => run_schedule(world, tasks, turns.as_slice(), gate),
-        Ending::Rounds | Ending::Threads(_) => run_rounds(world, tasks, gate),
+        Ending::Schedule(turns) => {
+            let mut after = world;
+            run_schedule(&mut after, tasks, turns.as_slice(), gate)?;
+            Ok(after)
+        }
+        Ending::Rounds => {
+            let mut after = world;
+            run_rounds(&mut after, tasks, gate)?;
+            Ok(after)
+        }
+        Ending::Threads(n) => run_threads::<Brand, G, R>(rt, world, tasks, *n, gate),
     }
 }
 
 /// What the run of the script leaves, each step behind the gate. Its turns are those of its
-/// schedule, or rounds of all tasks until one moves none; with `threads` they are such rounds too,
-/// which is one of the ways in which threads can fall.
-pub fn run<G: Gate>(alloc: Global, script: Script, gate: &G) -> Result<Ended, OutOfMemory>
+/// schedule, or rounds of all tasks until one moves none; with `threads` its tasks run on so many
+/// threads, however their steps fall, and then in rounds until none moves.
+pub fn run<G: Gate + Sync, R: Threads + Wait + Sync>(
+    rt: &R,
+    alloc: Global,
+    script: Script,
+    gate: &G,
+) -> Result<Ended, OutOfMemory>
     ensures { IfOk result (HasRun script) }
 {
     script.keeps();
     let (world, tasks, ending) = started(alloc, script)?;
-    let mut world = world;
     let mut tasks = tasks;
-    turn_all(&mut world, &mut tasks, &ending, gate)?;
-    world.close(tasks)
+    let after = turn_all(rt, world, &mut tasks, &ending, gate)?;
+    after.close(tasks)
 }

@@ -1,5 +1,4 @@
-// A script of threads. Its tasks take turns in rounds, which is one of the ways in which threads can
-// fall.
+// A script whose tasks run on two threads.
 
 use crate::run;
 use ima_io::FreeGate;
@@ -25,7 +24,7 @@ const SCRIPT: &str = "imakern 1\n\
 #[test]
 fn a_writer_waits_for_the_reader(rt: HostRuntime) -> Result<(), Fail> {
     let alloc = rt.alloc();
-    let ended = run(alloc, parse(alloc, SCRIPT.as_bytes())?, &FreeGate)?;
+    let ended = run(&rt, alloc, parse(alloc, SCRIPT.as_bytes())?, &FreeGate)?;
     let wanted = [("boot_aggregate", false), ("/a", false), ("/a", true)];
     assert_eq!(rt; ended.list.len(), wanted.len());
     for (entry, (name, violation)) in ended.list.iter().zip(wanted) {

@@ -7,3 +7,4 @@ pub mod Opens
 pub mod Fresh
 pub mod Inspects
 pub mod Closing
+pub mod SharedSteps

@@ -1,2 +1,3 @@
 pub mod WorldFields
 pub mod TaskFields
+pub mod Shared

@@ -29,8 +29,9 @@ use task_frame::Passes;
 use world_close::{Lists, close_lists};
 use world_ended::rests;
 
-// Each task looks at all lists.
-fn settle(world: &mut World, tasks: &mut Vec<Task>)
+/// Each task looks at all lists of the world. Afterwards the entries of its number in each list are
+/// those that it has made.
+pub fn settle(world: &mut World, tasks: &mut Vec<Task>)
     requires { AreTasks world.old.frame tasks.old.items }
     ensures frame { world.new.frame ≡ world.old.frame }
     ensures state { world.new.state ≡ world.old.state }

@@ -1,17 +1,22 @@
-//! Tasks and the world in which they run, on one thread.
+//! Tasks and the world in which they run, on one thread or on several.
 #![tactic(auto)]
 
 mod acting;
 mod close;
+mod live;
 mod looking;
+mod shared;
 mod sharing;
 mod start;
 mod task;
 mod turning;
 mod world;
 
+pub use close::settle;
 pub use grow_list::OutOfMemory;
+pub use live::Live;
 pub use run_model::Turn;
 pub use task::Task;
 pub use task_frame::Passes;
 pub use world::World;
+pub use world_locks::Name;

@@ -22,7 +22,7 @@ use task_mind::{Step, TaskMind};
 use world_deeds::{Answered, Reached, became};
 
 // The slot of a take that is due.
-fn slot_due(mind: &TaskMind) -> Slot
+pub(crate) fn slot_due(mind: &TaskMind) -> Slot
     ensures { result ≡ slot_in (due_at mind.now.program mind.now.thought.mind) }
 {
     match mind.due() {

@@ -6,6 +6,8 @@ use crate::outcome::{Outcome, answer, none, served};
 use ima_io::{MemSink, MemSource};
 use ima_top::{DONE, MOST_INPUT, READ_FAULT, REFUSED, TOO_LONG, USAGE, WRITE_FAULT};
 use std::alloc::{AllocError, Global};
+use std::sync::Wait;
+use std::thread::Threads;
 
 /// Of each kind of fault, whether every try ended as it has to.
 #[derive(Clone, Copy, Debug)]
@@ -21,42 +23,56 @@ pub struct Tried {
 
 impl Tried {
     /// Tries all of them on the case, which is a script that runs to its end.
-    pub fn of(alloc: Global, case: &Case<'_>) -> Result<Tried, AllocError> {
+    pub fn of<R: Threads + Wait + Sync>(
+        rt: &R,
+        alloc: Global,
+        case: &Case<'_>,
+    ) -> Result<Tried, AllocError> {
         Ok(Tried {
-            reads: reads_fail(alloc, case)?,
-            writes: writes_fail(alloc, case)?,
-            rooms: rooms_end(alloc, case)?,
-            notes: notes_fail(alloc, case)?,
-            cuts: cuts_are_refused(alloc, case)?,
-            limits: limits_hold(alloc, case)?,
-            words: words_are_usage(alloc, case)?,
+            reads: reads_fail(rt, alloc, case)?,
+            writes: writes_fail(rt, alloc, case)?,
+            rooms: rooms_end(rt, alloc, case)?,
+            notes: notes_fail(rt, alloc, case)?,
+            cuts: cuts_are_refused(rt, alloc, case)?,
+            limits: limits_hold(rt, alloc, case)?,
+            words: words_are_usage(rt, alloc, case)?,
         })
     }
 }
 
 // The script over a source that gives 32 bytes a call and fails at this one.
-fn failing_read(alloc: Global, case: &Case<'_>, call: u64) -> Result<Outcome, AllocError> {
+fn failing_read<R: Threads + Wait + Sync>(
+    rt: &R,
+    alloc: Global,
+    case: &Case<'_>,
+    call: u64,
+) -> Result<Outcome, AllocError> {
     let input = case.input.as_bytes().to_vec(alloc)?;
     let mut script = MemSource::new(input, 32, vec![in alloc; call]?);
     let out = MemSink::new(alloc, case.out.len(), 4096, none(alloc))?;
     let note = MemSink::new(alloc, 200, 200, none(alloc))?;
-    served(alloc, case.words, &mut script, out, note)
+    served(rt, alloc, case.words, &mut script, out, note)
 }
 
 // A fault at any call up to the one that tells the end; no call is made after that.
-fn reads_fail(alloc: Global, case: &Case<'_>) -> Result<bool, AllocError> {
+fn reads_fail<R: Threads + Wait + Sync>(
+    rt: &R,
+    alloc: Global,
+    case: &Case<'_>,
+) -> Result<bool, AllocError> {
     let last = case.input.len().div_ceil(32) as u64;
     for call in 0..=last {
-        if !failing_read(alloc, case, call)?.is(READ_FAULT, b"", "read fault\n") {
+        if !failing_read(rt, alloc, case, call)?.is(READ_FAULT, b"", "read fault\n") {
             return Ok(false);
         }
     }
-    let after = failing_read(alloc, case, last.saturating_add(1))?;
+    let after = failing_read(rt, alloc, case, last.saturating_add(1))?;
     Ok(after.is(DONE, case.out.as_bytes(), ""))
 }
 
 // The script over an output with this room, that takes so many bytes a call and fails at this one.
-fn failing_write(
+fn failing_write<R: Threads + Wait + Sync>(
+    rt: &R,
     alloc: Global,
     case: &Case<'_>,
     room: usize,
@@ -69,15 +85,19 @@ fn failing_write(
     let mut script = MemSource::new(input, 4096, none(alloc));
     let out = MemSink::new(alloc, room, piece, vec![in alloc; call]?)?;
     let note = MemSink::new(alloc, 200, 200, none(alloc))?;
-    served(alloc, case.words, &mut script, out, note)
+    served(rt, alloc, case.words, &mut script, out, note)
 }
 
 // A fault at any call of those that are made: what was taken before stays taken.
-fn writes_fail(alloc: Global, case: &Case<'_>) -> Result<bool, AllocError> {
+fn writes_fail<R: Threads + Wait + Sync>(
+    rt: &R,
+    alloc: Global,
+    case: &Case<'_>,
+) -> Result<bool, AllocError> {
     let whole = case.out.as_bytes();
     let mut call = 0;
     for taken in (0..whole.len()).step_by(50) {
-        let got = failing_write(alloc, case, whole.len(), 50, call)?;
+        let got = failing_write(rt, alloc, case, whole.len(), 50, call)?;
         let holds = whole
             .get(..taken)
             .is_some_and(|front| got.is(WRITE_FAULT, front, "write fault\n"));
@@ -86,18 +106,22 @@ fn writes_fail(alloc: Global, case: &Case<'_>) -> Result<bool, AllocError> {
         }
         call = call.saturating_add(1);
     }
-    let after = failing_write(alloc, case, whole.len(), 50, call)?;
+    let after = failing_write(rt, alloc, case, whole.len(), 50, call)?;
     Ok(after.is(DONE, whole, ""))
 }
 
 // An output that is full after 30 bytes, and one whose fourth call of 10 bytes fails.
-fn rooms_end(alloc: Global, case: &Case<'_>) -> Result<bool, AllocError> {
+fn rooms_end<R: Threads + Wait + Sync>(
+    rt: &R,
+    alloc: Global,
+    case: &Case<'_>,
+) -> Result<bool, AllocError> {
     let whole = case.out.as_bytes();
     let Some(front) = whole.get(..30) else {
         return Ok(false);
     };
-    let full = failing_write(alloc, case, 30, 10, u64::MAX)?;
-    let fourth = failing_write(alloc, case, whole.len(), 10, 3)?;
+    let full = failing_write(rt, alloc, case, 30, 10, u64::MAX)?;
+    let fourth = failing_write(rt, alloc, case, whole.len(), 10, 3)?;
     Ok(
         full.is(WRITE_FAULT, front, "write fault\n")
             && fourth.is(WRITE_FAULT, front, "write fault\n"),
@@ -105,7 +129,11 @@ fn rooms_end(alloc: Global, case: &Case<'_>) -> Result<bool, AllocError> {
 }
 
 // A note that fails at once, on a script without its last line.
-fn notes_fail(alloc: Global, case: &Case<'_>) -> Result<bool, AllocError> {
+fn notes_fail<R: Threads + Wait + Sync>(
+    rt: &R,
+    alloc: Global,
+    case: &Case<'_>,
+) -> Result<bool, AllocError> {
     let Some((front, _)) = case.input.trim_end().rsplit_once('\n') else {
         return Ok(false);
     };
@@ -113,44 +141,57 @@ fn notes_fail(alloc: Global, case: &Case<'_>) -> Result<bool, AllocError> {
     let mut script = MemSource::new(input.into_bytes(), 4096, none(alloc));
     let out = MemSink::new(alloc, 200, 200, none(alloc))?;
     let note = MemSink::new(alloc, 200, 200, vec![in alloc; 0]?)?;
-    Ok(served(alloc, case.words, &mut script, out, note)?.is(REFUSED, b"", ""))
+    Ok(served(rt, alloc, case.words, &mut script, out, note)?.is(REFUSED, b"", ""))
 }
 
 // Every beginning of the script: the line that isn't there is the first bad one.
-fn cuts_are_refused(alloc: Global, case: &Case<'_>) -> Result<bool, AllocError> {
+fn cuts_are_refused<R: Threads + Wait + Sync>(
+    rt: &R,
+    alloc: Global,
+    case: &Case<'_>,
+) -> Result<bool, AllocError> {
     let script = case.input.as_bytes();
     let mut line = 1u64;
     for at in 0..script.len() {
         let told = format!(in alloc; "line {line}: no-end\n")?;
-        if !answer(alloc, case.words, &script[..at])?.is(REFUSED, b"", told.as_str()) {
+        if !answer(rt, alloc, case.words, &script[..at])?.is(REFUSED, b"", told.as_str()) {
             return Ok(false);
         }
         if script[at] == b'\n' {
             line = line.saturating_add(1);
         }
     }
-    Ok(answer(alloc, case.words, script)?.is(DONE, case.out.as_bytes(), ""))
+    Ok(answer(rt, alloc, case.words, script)?.is(DONE, case.out.as_bytes(), ""))
 }
 
 // The script behind a comment line of so many bytes.
-fn behind_a_comment(alloc: Global, case: &Case<'_>, bytes: usize) -> Result<Outcome, AllocError> {
+fn behind_a_comment<R: Threads + Wait + Sync>(
+    rt: &R,
+    alloc: Global,
+    case: &Case<'_>,
+    bytes: usize,
+) -> Result<Outcome, AllocError> {
     let mut input = vec![in alloc; b'#'; bytes]?;
     input.push(b'\n')?;
     input.extend_from_slice(case.input.as_bytes())?;
     let mut script = MemSource::new(input, usize::MAX, none(alloc));
     let out = MemSink::new(alloc, case.out.len(), 4096, none(alloc))?;
     let note = MemSink::new(alloc, 200, 200, none(alloc))?;
-    served(alloc, case.words, &mut script, out, note)
+    served(rt, alloc, case.words, &mut script, out, note)
 }
 
 // An input of as many bytes as there may be, of one byte more, and of far more.
-fn limits_hold(alloc: Global, case: &Case<'_>) -> Result<bool, AllocError> {
+fn limits_hold<R: Threads + Wait + Sync>(
+    rt: &R,
+    alloc: Global,
+    case: &Case<'_>,
+) -> Result<bool, AllocError> {
     let comment = MOST_INPUT
         .saturating_sub(case.input.len())
         .saturating_sub(1);
-    let most = behind_a_comment(alloc, case, comment)?;
-    let more = behind_a_comment(alloc, case, comment.saturating_add(1))?;
-    let far = behind_a_comment(alloc, case, MOST_INPUT)?;
+    let most = behind_a_comment(rt, alloc, case, comment)?;
+    let more = behind_a_comment(rt, alloc, case, comment.saturating_add(1))?;
+    let far = behind_a_comment(rt, alloc, case, MOST_INPUT)?;
     Ok(
         most.is(DONE, case.out.as_bytes(), "")
             && more.is(TOO_LONG, b"", "input too long\n")
@@ -158,13 +199,17 @@ fn limits_hold(alloc: Global, case: &Case<'_>) -> Result<bool, AllocError> {
     )
 }
 
-fn words_are_usage(alloc: Global, case: &Case<'_>) -> Result<bool, AllocError> {
+fn words_are_usage<R: Threads + Wait + Sync>(
+    rt: &R,
+    alloc: Global,
+    case: &Case<'_>,
+) -> Result<bool, AllocError> {
     let none_of_them = [
         "", "run x", "x run", "-run", "--help", "help", "gen", "gen 0", "gen 01", "gen x",
         "gen 1 1",
     ];
     for words in none_of_them {
-        let got = answer(alloc, words, case.input.as_bytes())?;
+        let got = answer(rt, alloc, words, case.input.as_bytes())?;
         let told = got.note.starts_with(b"usage: imakern list | run | ");
         if got.status != USAGE || !got.out.is_empty() || !told {
             return Ok(false);

@@ -13,9 +13,12 @@ mod outcome;
 
 use crate::cases::Case;
 use anyhow::{Context, Result, ensure};
+use std::alloc::Global;
 use std::fs;
+use std::sync::Wait;
+use std::thread::Threads;
 
-const FAMILIES: [&str; 10] = [
+const FAMILIES: [&str; 11] = [
     "measuring",
     "violations",
     "appraisal",
@@ -26,6 +29,7 @@ const FAMILIES: [&str; 10] = [
     "lists",
     "policies",
     "summaries",
+    "threads",
 ];
 
 fn main(rt: HostRuntime) -> Result<()> {
@@ -33,21 +37,26 @@ fn main(rt: HostRuntime) -> Result<()> {
     for family in FAMILIES {
         let name = format!(in rt.alloc(); "{family}.cases")?;
         let text = fs::read_to_string(&rt, name.as_str()).context(family)?;
-        let well = family_holds(&rt, family, text.as_str())?;
+        let well = family_holds(&rt, rt.alloc(), family, text.as_str())?;
         differ = differ || !well;
     }
     let text = fs::read_to_string(&rt, "measuring.cases")?;
-    let well = faults_hold(&rt, text.as_str())?;
+    let well = faults_hold(&rt, rt.alloc(), text.as_str())?;
     ensure!(well && !differ, "not as it should be");
     Ok(())
 }
 
 // Tries each case of the family, and tells whether all hold.
-fn family_holds(rt: &HostRuntime, family: &str, text: &str) -> Result<bool> {
+fn family_holds<R: Print + Threads + Wait + Sync>(
+    rt: &R,
+    alloc: Global,
+    family: &str,
+    text: &str,
+) -> Result<bool> {
     let mut all = true;
     for part in text.split(">>> ").skip(1) {
         let case = Case::of(part).context("a case is not in its form")?;
-        let got = outcome::answer(rt.alloc(), case.words, case.input.as_bytes())?;
+        let got = outcome::answer(rt, alloc, case.words, case.input.as_bytes())?;
         if case.holds(&got) {
             println!(rt; "{family}: {}", case.name)?;
         } else {
@@ -64,10 +73,14 @@ fn text_of(bytes: &[u8]) -> &str {
 }
 
 // Tries the faults over the first case of the family.
-fn faults_hold(rt: &HostRuntime, text: &str) -> Result<bool> {
+fn faults_hold<R: Print + Threads + Wait + Sync>(
+    rt: &R,
+    alloc: Global,
+    text: &str,
+) -> Result<bool> {
     let first = text.split(">>> ").nth(1).context("no case")?;
     let case = Case::of(first).context("a case is not in its form")?;
-    let tried = faults::Tried::of(rt.alloc(), &case)?;
+    let tried = faults::Tried::of(rt, alloc, &case)?;
     let rows = [
         ("a read that fails", tried.reads),
         ("a write that fails", tried.writes),

@@ -2,6 +2,8 @@
 use ima_io::{FreeGate, MemSink, MemSource};
 use ima_top::serve;
 use std::alloc::{AllocError, Global};
+use std::sync::Wait;
+use std::thread::Threads;
 
 /// What a command did: its status, its output and its note.
 #[derive(Drop)]
@@ -26,15 +28,21 @@ pub fn none(alloc: Global) -> Vec<u64> {
 }
 
 /// The outcome of the words over this input, where nothing fails.
-pub fn answer(alloc: Global, words: &str, input: &[u8]) -> Result<Outcome, AllocError> {
+pub fn answer<R: Threads + Wait + Sync>(
+    rt: &R,
+    alloc: Global,
+    words: &str,
+    input: &[u8],
+) -> Result<Outcome, AllocError> {
     let mut script = MemSource::new(input.to_vec(alloc)?, 4096, none(alloc));
     let out = MemSink::new(alloc, 1_000_000, 4096, none(alloc))?;
     let note = MemSink::new(alloc, 200, 200, none(alloc))?;
-    served(alloc, words, &mut script, out, note)
+    served(rt, alloc, words, &mut script, out, note)
 }
 
 /// The outcome of the words, parted by spaces, over this source and these sinks.
-pub fn served(
+pub fn served<R: Threads + Wait + Sync>(
+    rt: &R,
     alloc: Global,
     words: &str,
     script: &mut MemSource,
@@ -45,7 +53,7 @@ pub fn served(
     for word in words.split(' ').filter(|word| !word.is_empty()) {
         list.push(String::from_str(alloc, word)?)?;
     }
-    let status = serve(alloc, &list, script, &mut out, &mut note, &FreeGate);
+    let status = serve(rt, alloc, &list, script, &mut out, &mut note, &FreeGate);
     Ok(Outcome {
         status,
         out: out.taken().to_vec(alloc)?,

@@ -5,11 +5,18 @@ ghost use Rattle.ima_top.specs.commands.Gen.{IsGenOutput};
 use ima_io::{Gate, OutOfMemory};
 use load_run::summarize;
 use std::alloc::Global;
+use std::sync::Wait;
+use std::thread::Threads;
 
 /// The summary of the run of the number's script. Nothing refuses it.
 #[tactic(auto, unfolding(crate::specs::commands::Gen::IsGenOutput))]
-pub fn answer<G: Gate>(alloc: Global, number: u32, gate: &G) -> Result<Vec<u8>, OutOfMemory>
+pub fn answer<G: Gate + Sync, R: Threads + Wait + Sync>(
+    rt: &R,
+    alloc: Global,
+    number: u32,
+    gate: &G,
+) -> Result<Vec<u8>, OutOfMemory>
     ensures { IfOk result (λ output. IsGenOutput number output.items) }
 {
-    summarize(alloc, number, gate)
+    summarize(rt, alloc, number, gate)
 }

@@ -3,17 +3,18 @@ use Rattle.script_run.proofs.running.run.Goals as goal
 
 pub turn_all-requires-clause-turns : goal.turn_all-requires-clause-turns
 turn_all-requires-clause-turns g c =
-    within c.args.script c.in_ok-world.world c.in_ok-world.tasks.items c.in_ok-world.ending
+    λ κs out. within c.args.script c.in_ok-world.world c.in_ok-world.tasks.items c.in_ok-world.ending
     c.keeps.ensures c.in_ok-world.ensures
 
 pub close-requires-clause-count : goal.close-requires-clause-count
 close-requires-clause-count g c =
-    still_all c.args.script c.in_ok-world.world c.turn_all.new.world c.in_ok-world.tasks.items
-    c.turn_all.new.tasks.items c.in_ok-world.ending c.in_ok-world.ensures c.turn_all.ensures.still
+    still_all c.args.script c.in_ok-world.world c.in_ok-after.after c.in_ok-world.tasks.items
+    c.turn_all.new.tasks.items c.in_ok-world.ending c.in_ok-world.ensures
+    c.in_ok-after.ensures.still
 
 pub returns : goal.returns
 returns g c =
-    run_is c.args.script c.keeps.ensures c.in_ok-world.world c.turn_all.new.world
+    run_is c.args.script c.keeps.ensures c.in_ok-world.world c.in_ok-after.after
     c.in_ok-world.tasks.items c.turn_all.new.tasks.items c.in_ok-world.ending
-    c.in_ok-world.ensures c.turn_all.ensures.still c.in_ok-turn_all.ensures.run c.close.result
+    c.in_ok-world.ensures c.in_ok-after.ensures.still c.in_ok-after.ensures.run c.close.result
     c.close.ensures.ended c.close.ensures.entries c.close.ensures.ends c.close.ensures.shown

@@ -1,0 +1,225 @@
+-- What became of a turn on a world that threads share.
+use Rattle.std.proofs.Common.{◌≡◌, ℕ, Option, Some, None, refl, sym, ◌∙◌, ap, subst}
+use Rattle.std.specs.Prelude.{IfOk, OnErr, Result, Ok, Err}
+use Rattle.call_steps.specs.Mind.{Step}
+use Rattle.call_steps.specs.Mind.{Appends, Checks, Does, Nothing, Signals}
+use Rattle.inode_events.specs.declared.deed.Deed.{Deed}
+use Rattle.inode_events.specs.declared.told.Told.TheVariants as told
+use Rattle.inode_meta.specs.declared.identity.Cred.{Cred}
+use Rattle.inode_meta.specs.declared.step.Who.{Who}
+use Rattle.inode_meta.specs.declared.appraisal.Mode.{Mode}
+use Rattle.call_steps.specs.Steps.{given}
+use Rattle.policy_text.specs.ActionValue.{ActionValue}
+use Rattle.policy_text.specs.RuleValue.{RuleValue}
+use Rattle.run_model.specs.History.{Thought, hear, step_at, who_at}
+use Rattle.run_model.specs.Turns.{State, go, go_step}
+use Rattle.run_model.specs.declared.turn.Turn.{Turn}
+use Rattle.run_model.specs.declared.turn.Turn.TheVariants as turns
+use Rattle.task_core.proofs.Turns.{appends_fail, appends_turn, check_turn, does_turn, signals_turn}
+use Rattle.task_core.specs.Shared.{IsIdle, ReachesMet, StepsTo}
+use Rattle.task_deeds.specs.declared.listed.Checks.{Checks as Asked}
+use Rattle.task_frame.specs.Frame.{Frame, mode_in, scene_of}
+use Rattle.task_frame.specs.Tasks.{PassesValue, Tasked}
+use Rattle.task_frame.specs.declared.gathered.Gathered.{Gathered}
+use Rattle.task_laws.specs.Plays.{task_after, task_left}
+use Rattle.task_mind.specs.Value.{TaskValue}
+use Rattle.world_deeds.proofs.Sharing.{nothing_tells}
+use Rattle.world_deeds.specs.Acting.{told_in}
+use Rattle.world_deeds.specs.Turning.{Goes, Reaches, Stops, Tells, answer_of, reached_by, turned_to}
+use Rattle.world_deeds.specs.declared.answers.Answered.{Answered}
+use Rattle.world_deeds.specs.declared.answers.Reached.{Reached}
+use Rattle.world_deeds.specs.declared.answers.Reached.TheVariants as reached
+use Rattle.world_locks.proofs.Idle.{check_idle, event_idle, signals_idle}
+use Rattle.world_locks.specs.Met.{AppendsMet, CheckMet, EventMet, SignalsMet, mines_of, state_seen}
+
+-- a turn that was told nothing had no answer
+idle_told : {E : Type 0} (r : Result (Option Answered) E) (x : Result Reached E)
+    → x ≡ reached_by r → IsIdle x → told_in r ≡ None
+idle_told {E} r x is idle = at r (subst (λ (z : Result Reached E). IsIdle z) is idle) where
+  at : (y : Result (Option Answered) E) → IsIdle (reached_by y) → told_in y ≡ None
+  at (Ok (Some a)) i = absurd i
+  at (Ok None) i = refl
+  at (Err e) i = refl
+
+module _ (frame : Frame) (t : Tasked) (passes : PassesValue) (w : Who)
+    (w_is : w ≡ who_at t.number t.mind.program t.mind.thought.mind) where
+  abbrev asks : Option Step
+  asks = step_at t.mind.program t.mind.thought.mind
+
+  -- a deed on an inode
+  pub does_met : {E : Type 0} (i : ℕ) (d : Deed) (g : Gathered) (r : Result (Option Answered) E)
+      (x : Result Reached E) → asks ≡ Some (Does i d)
+      → EventMet frame i w d t.passes passes t.gathered g r → x ≡ reached_by r
+      → ReachesMet frame t passes g x
+  does_met i d g r x st m is = record {
+    old = m.old;
+    reaches = does_turn frame t m.old (state_seen passes) passes w w_is i d g r x st m.event m.told
+        is;
+    idle = λ idle. event_idle frame i w d t.passes passes t.gathered g r m (idle_told r x is idle);
+  }
+
+  -- a check
+  pub checks_met : {E : Type 0} (i : ℕ) (asked : Asked) (cred : Cred)
+      (r : Result (Option Answered) E) (x : Result Reached E)
+      → asks ≡ Some (Checks i asked.file asked.func asked.mask) → cred ≡ t.mind.program.cred
+      → CheckMet frame i w cred asked t.passes passes r → x ≡ reached_by r
+      → ReachesMet frame t passes t.gathered x
+  checks_met i asked cred r x st c m is = record {
+    old = m.old;
+    reaches = check_turn frame t m.old (state_seen passes) passes w w_is i asked cred r x st c
+        m.check is;
+    idle = λ idle. check_idle frame i w cred asked t.passes passes r m (idle_told r x is idle);
+  }
+
+  -- a post or a wait
+  pub signals_met : {E : Type 0} (d : Deed) (r : Result (Option Answered) E)
+      (x : Result Reached E) → asks ≡ Some (Signals d)
+      → SignalsMet t.passes passes w d r → x ≡ reached_by r
+      → ReachesMet frame t passes t.gathered x
+  signals_met d r x st m is = record {
+    old = m.old;
+    reaches = signals_turn frame t m.old (state_seen passes) passes w w_is d r x st m.signals m.told
+        is;
+    idle = λ idle. signals_idle t.passes passes w d r m (idle_told r x is idle);
+  }
+
+  -- a rule that was appended
+  pub appends_told : {E : Type 0} (rule : RuleValue) (a : Answered) → asks ≡ Some (Appends rule)
+      → AppendsMet t.passes passes (record { who = w; rule = rule }) a
+      → ReachesMet {E = E} frame t passes t.gathered (Ok (reached.Told a))
+  appends_told rule a st m = record {
+    old = m.old;
+    reaches = appends_turn frame t m.old (state_seen passes) passes w w_is rule a st m.appends
+        m.told;
+    idle = λ idle. absurd idle;
+  }
+
+  -- one that ran out of memory
+  pub appends_failed : {E : Type 0} (e : E) → passes ≡ t.passes
+      → ReachesMet frame t passes t.gathered (Err e)
+  appends_failed e same = record {
+    old = state_seen passes;
+    reaches = appends_fail frame t (state_seen passes) (state_seen passes) passes w w_is
+        (refl, same);
+    idle = λ idle. ap (λ (p : PassesValue). mines_of p) same;
+  }
+
+-- a step that does nothing
+pub nothing_met : {E : Type 0} (frame : Frame) (t : Tasked) (a : Answered)
+    → step_at t.mind.program t.mind.thought.mind ≡ Some Nothing → a.place ≡ 0
+    → a.told ≡ told.Nothing → a.action ≡ None
+    → ReachesMet {E = E} frame t t.passes t.gathered (Ok (reached.Told a))
+nothing_met frame t a st e k f = record {
+  old = state_seen t.passes;
+  reaches = nothing_tells frame t (state_seen t.passes) a st e k f;
+  idle = λ idle. absurd idle;
+}
+
+-- a program that is over
+pub over_met : {E : Type 0} (frame : Frame) (t : Tasked)
+    → None ≡ step_at t.mind.program t.mind.thought.mind
+    → ReachesMet {E = E} frame t t.passes t.gathered (Ok reached.Over)
+over_met frame t st = record {
+  old = state_seen t.passes;
+  reaches = record {
+    plays = λ h x. x;
+    goes = λ programs. ap (go_step (scene_of frame programs) t.number t.mind.program
+        (state_seen t.passes) t.mind.thought) (sym st);
+  };
+  idle = λ idle. refl;
+}
+
+-- ---- behind the turn
+
+module _ (frame : Frame) (t t2 : Tasked) (passes : PassesValue) (g : Gathered) where
+  -- its program was over
+  pub over_steps : {E : Type 0} (r : Result Reached E) (x : Reached) → r ≡ Ok x
+      → x ≡ reached.Over → ReachesMet frame t passes g r → t2 ≡ task_left t passes g
+      → StepsTo frame t t2 turns.Done
+  over_steps {E} r x e f m k =
+      let stops : Stops frame t m.old (state_seen passes) passes g turns.Done =
+      subst (λ (z : Result Reached E). Reaches frame t m.old (state_seen passes) passes g z)
+      (e ∙ ap (λ (z : Reached). Ok z) f) m.reaches in
+      record {
+        old = m.old;
+        goes = subst (λ (z : Tasked). Goes frame t m.old
+            (turned_to (state_seen z.passes) z.mind.thought turns.Done)) (sym k) stops.goes;
+      }
+
+  -- it was blocked
+  pub blocked_steps : {E : Type 0} (r : Result Reached E) (x : Reached) → r ≡ Ok x
+      → x ≡ reached.Blocked → ReachesMet frame t passes g r → t2 ≡ task_left t passes g
+      → StepsTo frame t t2 turns.Blocked
+  blocked_steps {E} r x e f m k =
+      let stops : Stops frame t m.old (state_seen passes) passes g turns.Blocked =
+      subst (λ (z : Result Reached E). Reaches frame t m.old (state_seen passes) passes g z)
+      (e ∙ ap (λ (z : Reached). Ok z) f) m.reaches in
+      record {
+        old = m.old;
+        goes = subst (λ (z : Tasked). Goes frame t m.old
+            (turned_to (state_seen z.passes) z.mind.thought turns.Blocked)) (sym k) stops.goes;
+      }
+
+  -- it moved
+  pub moved_steps : {E : Type 0} (r : Result Reached E) (x : Reached) (a : Answered) (mode : Mode)
+      (action : Option ActionValue) (mind : TaskValue) → r ≡ Ok x → x ≡ reached.Told a
+      → ReachesMet frame t passes g r → t2 ≡ task_after t mind passes g → mode ≡ mode_in frame
+      → action ≡ a.action
+      → ((rules : ℕ) → mind.thought ≡ hear mode t.mind.program t.mind.thought
+      (record { place = a.place; told = a.told; action = given action; rules = rules }))
+      → StepsTo frame t t2 turns.Moved
+  moved_steps {E} r x a mode action mind e f m k same same_action thought =
+      let tells : Tells frame t m.old (state_seen passes) passes g a =
+      subst (λ (z : Result Reached E). Reaches frame t m.old (state_seen passes) passes g z)
+      (e ∙ ap (λ (z : Reached). Ok z) f) m.reaches in
+      let heard : hear (mode_in frame) t.mind.program t.mind.thought (answer_of a tells.rules)
+      ≡ mind.thought =
+      sym (thought tells.rules
+      ∙ ap (λ (y : Mode). hear y t.mind.program t.mind.thought
+      (record { place = a.place; told = a.told; action = given action; rules = tells.rules })) same
+      ∙ ap (λ (y : Option ActionValue). hear (mode_in frame) t.mind.program t.mind.thought
+      (record { place = a.place; told = a.told; action = given y; rules = tells.rules }))
+      same_action) in
+      record {
+        old = m.old;
+        goes = subst (λ (z : Tasked). Goes frame t m.old
+            (turned_to (state_seen z.passes) z.mind.thought turns.Moved)) (sym k)
+            (subst (λ (u : Thought). Goes frame t m.old (turned_to (state_seen passes) u turns.Moved))
+            heard tells.goes);
+      }
+
+-- ---- the task whose step it is
+
+-- the task with another room for its replies
+pub record HasRoom (t0 t : Tasked) : Type 0 where
+  pub number : t.number ≡ t0.number
+  pub program : t.mind.program ≡ t0.mind.program
+  pub thought : t.mind.thought ≡ t0.mind.thought
+  pub passes : t.passes ≡ t0.passes
+
+module _ (frame : Frame) (t0 t t2 : Tasked) (room : HasRoom t0 t) where
+  -- it makes the turn that it would have made with the room that it had
+  pub steps_with : (turn : Turn) → StepsTo frame t t2 turn → StepsTo frame t0 t2 turn
+  steps_with turn s = record {
+    old = s.old;
+    goes = λ programs.
+        let same : go (scene_of frame programs) t0.number t0.mind.program s.old t0.mind.thought
+        ≡ go (scene_of frame programs) t.number t.mind.program s.old t.mind.thought =
+        λ i. go (scene_of frame programs) (sym room.number i) (sym room.program i) s.old
+        (sym room.thought i) in
+        same ∙ s.goes programs;
+  }
+
+  -- where it made none its passes have no entry more
+  pub idle_adds : {E : Type 0} (passes : PassesValue) (g : Gathered) (y : Result Reached E)
+      (x : Reached) → y ≡ Ok x → ReachesMet frame t passes g y → IsIdle {E = E} (Ok x)
+      → t2 ≡ task_left t passes g → mines_of t2.passes ≡ mines_of t0.passes
+  idle_adds {E} passes g y x f m i k =
+      ap (λ (z : Tasked). mines_of z.passes) k
+      ∙ m.idle (subst (λ (z : Result Reached E). IsIdle z) (sym f) i)
+      ∙ ap (λ (p : PassesValue). mines_of p) room.passes
+
+-- what holds anyhow holds of a refusal
+pub on_err : {A E : Type 0} (r : Result A E) (P : Type 0) → P → OnErr r P
+on_err (Ok x) P p = tt
+on_err (Err e) P p = p

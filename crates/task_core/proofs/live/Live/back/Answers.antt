@@ -1,0 +1,22 @@
+-- The lists that come out of their locks make a world of the same constants.
+use Rattle.std.proofs.Common.{sym, subst}
+use Rattle.task_frame.specs.Frame.{Frame}
+use Rattle.world_close.specs.Closed.{AreIdle}
+use Rattle.world_deeds.specs.Parts.{AreParts}
+use Rattle.task_core.proofs.live.Live.back.Goals as goal
+
+pub invariant_of-world : goal.invariant_of-world
+invariant_of-world g c =
+    let p = c.in_ok-parts.parts in
+    let keep = c.in_ok-parts.ensures.keep in
+    let is = sym c.in_ok-parts.ensures.frame in
+    record {
+      parts = subst (λ (f : Frame). AreParts f p.stations.items p.book p.sems p.rules) is
+          (record {
+            stations = keep.stations.each;
+            book = keep.book;
+            sems = keep.sems;
+            rules = keep.rules;
+          });
+      idle = subst (λ (f : Frame). AreIdle f p.idle.items) is keep.idle;
+    }

@@ -1,0 +1,179 @@
+-- The step that is due is ready, and what became of it is a turn on the lists that it met.
+use Rattle.std.proofs.Common.{None, refl}
+use Rattle.inode_events.specs.declared.deed.Deed.TheVariants as deed
+use Rattle.inode_events.specs.declared.told.Told.TheVariants as told
+use Rattle.run_model.specs.History.{step_at}
+use Rattle.task_frame.specs.Tasks.{Tasked}
+use Rattle.task_mind.specs.Steps.{deed_in}
+use Rattle.task_mind.specs.declared.step.Step.TheVariants as step
+use Rattle.task_core.proofs.SharedSteps.{appends_failed, appends_told, checks_met, does_met, nothing_met, over_met, signals_met}
+use Rattle.task_core.proofs.Turns.{checks_ready, does_ready, due_is}
+use Rattle.task_core.proofs.live.Live.reach.Goals as goal
+
+pub does-requires-clause-ready : goal.does-requires-clause-ready
+does-requires-clause-ready g c =
+    let t : Tasked =
+    record {
+      number = c.args.number;
+      mind = c.args.mind.now;
+      gathered = c.args.gathered.now;
+      passes = c.args.passes.now;
+    } in
+    let st = due_is (step_at t.mind.program t.mind.thought.mind) c.in-Some-Does.field-0
+    (step.Does c.in-Some-Does.inode c.in-Some-Does.doing) c.in-Some-Does.field-0-is
+    c.in-Some-Does.ensures in
+    λ κs out. does_ready g.N.Name.frame t c.requires c.who-who.result c.checked.result
+    c.slot_due.result c.in-Some-Does.inode (deed_in c.in-Some-Does.doing) c.who-who.ensures
+    c.checked.ensures
+    c.slot_due.ensures st
+
+pub checks-requires-clause-ready : goal.checks-requires-clause-ready
+checks-requires-clause-ready g c =
+    let t : Tasked =
+    record {
+      number = c.args.number;
+      mind = c.args.mind.now;
+      gathered = c.args.gathered.now;
+      passes = c.args.passes.now;
+    } in
+    let st = due_is (step_at t.mind.program t.mind.thought.mind) c.in-Some-Checks.field-0
+    (step.Checks c.in-Some-Checks.inode c.in-Some-Checks.file c.in-Some-Checks.func
+    c.in-Some-Checks.mask) c.in-Some-Checks.field-0-is
+    c.in-Some-Checks.ensures in
+    λ κs out. checks_ready g.N.Name.frame t c.requires c.who-who.result c.checked.result
+    c.slot_due.result c.in-Some-Checks.inode c.in-Some-Checks.file c.in-Some-Checks.func
+    c.in-Some-Checks.mask c.who-who.ensures c.checked.ensures
+    c.slot_due.ensures st
+
+pub returns-in-None : goal.returns-in-None
+returns-in-None g c =
+    let t : Tasked =
+    record {
+      number = c.args.number;
+      mind = c.args.mind.now;
+      gathered = c.args.gathered.now;
+      passes = c.args.passes.now;
+    } in
+    over_met g.N.Name.frame t c.in-None.ensures
+
+pub returns-in-Some-Nothing : goal.returns-in-Some-Nothing
+returns-in-Some-Nothing g c =
+    let t : Tasked =
+    record {
+      number = c.args.number;
+      mind = c.args.mind.now;
+      gathered = c.args.gathered.now;
+      passes = c.args.passes.now;
+    } in
+    let st = due_is (step_at t.mind.program t.mind.thought.mind) c.in-Some-Nothing.field-0
+    step.Nothing c.in-Some-Nothing.field-0-is
+    c.in-Some-Nothing.ensures in
+    nothing_met g.N.Name.frame t
+    (record { place = 0; told = told.Nothing; action = None }) st refl refl refl
+
+pub returns-in-Some-Does : goal.returns-in-Some-Does
+returns-in-Some-Does g c =
+    let t : Tasked =
+    record {
+      number = c.args.number;
+      mind = c.args.mind.now;
+      gathered = c.args.gathered.now;
+      passes = c.args.passes.now;
+    } in
+    let st = due_is (step_at t.mind.program t.mind.thought.mind) c.in-Some-Does.field-0
+    (step.Does c.in-Some-Does.inode c.in-Some-Does.doing) c.in-Some-Does.field-0-is
+    c.in-Some-Does.ensures in
+    does_met g.N.Name.frame t c.does.new.passes c.who-who.result c.who-who.ensures
+    c.in-Some-Does.inode
+    (deed_in c.in-Some-Does.doing)
+    c.does.new.gathered c.does.result c.became.result st c.does.ensures
+    c.became.ensures
+
+pub returns-in-Some-Checks : goal.returns-in-Some-Checks
+returns-in-Some-Checks g c =
+    let t : Tasked =
+    record {
+      number = c.args.number;
+      mind = c.args.mind.now;
+      gathered = c.args.gathered.now;
+      passes = c.args.passes.now;
+    } in
+    let st = due_is (step_at t.mind.program t.mind.thought.mind) c.in-Some-Checks.field-0
+    (step.Checks c.in-Some-Checks.inode c.in-Some-Checks.file c.in-Some-Checks.func
+    c.in-Some-Checks.mask) c.in-Some-Checks.field-0-is
+    c.in-Some-Checks.ensures in
+    checks_met g.N.Name.frame t c.checks.new.passes c.who-who.result c.who-who.ensures
+    c.in-Some-Checks.inode
+    (record {
+      file = c.in-Some-Checks.file;
+      func = c.in-Some-Checks.func;
+      mask =
+          c.in-Some-Checks.mask;
+    }) c.cred.result.now
+    c.checks.result c.became-in-Some-Checks.result st c.cred.ensures c.checks.ensures
+    c.became-in-Some-Checks.ensures
+
+pub returns-in-Some-Posts : goal.returns-in-Some-Posts
+returns-in-Some-Posts g c =
+    let t : Tasked =
+    record {
+      number = c.args.number;
+      mind = c.args.mind.now;
+      gathered = c.args.gathered.now;
+      passes = c.args.passes.now;
+    } in
+    let st = due_is (step_at t.mind.program t.mind.thought.mind) c.in-Some-Posts.field-0
+    (step.Posts c.in-Some-Posts.sem) c.in-Some-Posts.field-0-is
+    c.in-Some-Posts.ensures in
+    signals_met g.N.Name.frame t c.signals.new.passes c.who-who.result c.who-who.ensures
+    (deed.Post c.in-Some-Posts.sem)
+    c.signals.result
+    c.became-in-Some-Posts.result st c.signals.ensures
+    c.became-in-Some-Posts.ensures
+
+pub returns-in-Some-Waits : goal.returns-in-Some-Waits
+returns-in-Some-Waits g c =
+    let t : Tasked =
+    record {
+      number = c.args.number;
+      mind = c.args.mind.now;
+      gathered = c.args.gathered.now;
+      passes = c.args.passes.now;
+    } in
+    let st = due_is (step_at t.mind.program t.mind.thought.mind) c.in-Some-Waits.field-0
+    (step.Waits c.in-Some-Waits.sem) c.in-Some-Waits.field-0-is
+    c.in-Some-Waits.ensures in
+    signals_met g.N.Name.frame t
+    c.signals-in-Some-Waits.new.passes c.who-who.result c.who-who.ensures
+    (deed.Wait c.in-Some-Waits.sem) c.signals-in-Some-Waits.result
+    c.became-in-Some-Waits.result st c.signals-in-Some-Waits.ensures
+    c.became-in-Some-Waits.ensures
+
+pub returns-in-Ok : goal.returns-in-Ok
+returns-in-Ok g c =
+    let t : Tasked =
+    record {
+      number = c.args.number;
+      mind = c.args.mind.now;
+      gathered = c.args.gathered.now;
+      passes = c.args.passes.now;
+    } in
+    let st = due_is (step_at t.mind.program t.mind.thought.mind) c.in-Some-Appends.field-0
+    (step.Appends c.in-Some-Appends.rule) c.in-Some-Appends.field-0-is
+    c.in-Some-Appends.ensures in
+    appends_told g.N.Name.frame t
+    c.appends.new.passes c.who-who.result c.who-who.ensures c.in-Some-Appends.rule.now
+    c.in-Ok.answered st
+    c.in-Ok.ensures.appends
+
+pub returns-in-Err : goal.returns-in-Err
+returns-in-Err g c =
+    let t : Tasked =
+    record {
+      number = c.args.number;
+      mind = c.args.mind.now;
+      gathered = c.args.gathered.now;
+      passes = c.args.passes.now;
+    } in
+    appends_failed g.N.Name.frame t
+    c.appends.new.passes c.who-who.result c.who-who.ensures c.in-Err.err c.in-Err.ensures.err

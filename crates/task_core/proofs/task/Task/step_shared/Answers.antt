@@ -1,0 +1,251 @@
+-- Behind its turn the task is one of the world still, and the turn was one on the lists that it met.
+use Rattle.std.proofs.Common.{◌≡◌, ◌∙◌, ap, refl, sym, subst}
+use Rattle.std.specs.Prelude.{Ok}
+use Rattle.std.specs.Option.{option_copied}
+use Rattle.run_model.specs.declared.turn.Turn.TheVariants as turns
+use Rattle.task_core.proofs.SharedSteps.{HasRoom, blocked_steps, idle_adds, moved_steps, on_err, over_steps, steps_with}
+use Rattle.task_core.proofs.Turns.{blocked_still, left_still, moved_still, over_still, task_same}
+use Rattle.task_frame.specs.Tasks.{IsTask, Tasked}
+use Rattle.task_laws.specs.Plays.{task_after, task_left}
+use Rattle.world_deeds.specs.declared.answers.Reached.{Reached}
+use Rattle.world_deeds.specs.declared.answers.Reached.TheVariants as reached
+use Rattle.world_locks.specs.Met.{mines_of, state_seen}
+use Rattle.task_core.proofs.task.Task.step_shared.Goals as goal
+use Rattle.task_core.proofs.task.Task.step_shared.Goals.{in-Image-1, in-Held-1}
+
+pub returns-in_err-reserve-clause-still : goal.returns-in_err-reserve-clause-still
+returns-in_err-reserve-clause-still g c =
+    let t = c.self.inside in
+    task_same g.N.Name.frame t.number t.mind c.reserve.new.self t.gathered t.passes
+    c.reserve.ensures.same
+    (subst (λ (x : Tasked). IsTask g.N.Name.frame x) (sym c.self.view_is) c.requires)
+
+pub returns-in_err-reserve-clause-err : goal.returns-in_err-reserve-clause-err
+returns-in_err-reserve-clause-err g c =
+    on_err c.from_residual.result
+    ((c.reserve.new.self.thought ≡ c.args.self.now.mind.thought)
+    × (mines_of c.self.inside.passes ≡ mines_of c.args.self.now.passes)) (
+      c.reserve.ensures.same.thought ∙ ap (λ (x : Tasked). x.mind.thought) c.self.view_is,
+      ap (λ (x : Tasked). mines_of x.passes) c.self.view_is,
+    )
+
+pub reach-requires-after_bounds : goal.reach-requires-after_bounds
+reach-requires-after_bounds g c =
+    λ κs out.
+    let t = c.self.inside in
+    task_same g.N.Name.frame t.number t.mind c.reserve.new.self t.gathered t.passes
+    c.reserve.ensures.same
+    (subst (λ (x : Tasked). IsTask g.N.Name.frame x) (sym c.self.view_is) c.requires)
+
+pub returns-in_err-reach-clause-still : goal.returns-in_err-reach-clause-still
+returns-in_err-reach-clause-still g c =
+    let s = c.self.inside in
+    let t : Tasked =
+    record {
+      number = s.number;
+      mind = c.reserve.new.self;
+      gathered = s.gathered;
+      passes = s.passes;
+    } in
+    let is : IsTask g.N.Name.frame t =
+    task_same g.N.Name.frame s.number s.mind c.reserve.new.self s.gathered s.passes
+    c.reserve.ensures.same
+    (subst (λ (x : Tasked). IsTask g.N.Name.frame x) (sym c.self.view_is) c.requires) in
+    left_still g.N.Name.frame g.N.Name.frame t c.in_err-reach.ensures.old
+    (state_seen c.reach.new.passes) c.reach.new.passes c.reach.new.gathered refl is
+    c.in_err-reach.ensures.reaches.plays
+
+pub returns-in_err-reach-clause-err : goal.returns-in_err-reach-clause-err
+returns-in_err-reach-clause-err g c =
+    on_err c.from_residual-in_err-reach.result
+    ((c.reserve.new.self.thought ≡ c.args.self.now.mind.thought)
+    × (mines_of c.reach.new.passes ≡ mines_of c.args.self.now.passes)) (
+      c.reserve.ensures.same.thought ∙ ap (λ (x : Tasked). x.mind.thought) c.self.view_is,
+      c.in_err-reach.ensures.idle tt ∙ ap (λ (x : Tasked). mines_of x.passes) c.self.view_is,
+    )
+
+pub returns-in-Over-clause-still : goal.returns-in-Over-clause-still
+returns-in-Over-clause-still g c =
+    let s = c.self.inside in
+    let t : Tasked =
+    record {
+      number = s.number;
+      mind = c.reserve.new.self;
+      gathered = s.gathered;
+      passes = s.passes;
+    } in
+    let is : IsTask g.N.Name.frame t =
+    task_same g.N.Name.frame s.number s.mind c.reserve.new.self s.gathered s.passes
+    c.reserve.ensures.same
+    (subst (λ (x : Tasked). IsTask g.N.Name.frame x) (sym c.self.view_is) c.requires) in
+    over_still g.N.Name.frame g.N.Name.frame t c.reach.ensures.old
+    (state_seen c.reach.new.passes) c.reach.new.passes c.reach.new.gathered refl is
+    c.reach.result c.in_ok-reach.field-0 (task_left t c.reach.new.passes c.reach.new.gathered)
+    c.in_ok-reach.was c.in-Over.is c.reach.ensures.reaches refl
+
+pub returns-in-Over-clause-go : goal.returns-in-Over-clause-go
+returns-in-Over-clause-go g c =
+    let s = c.self.inside in
+    let t : Tasked =
+    record {
+      number = s.number;
+      mind = c.reserve.new.self;
+      gathered = s.gathered;
+      passes = s.passes;
+    } in
+    let room : HasRoom c.args.self.now t =
+    record {
+      number = ap (λ (x : Tasked). x.number) c.self.view_is;
+      program = c.reserve.ensures.same.program
+          ∙ ap (λ (x : Tasked). x.mind.program) c.self.view_is;
+      thought = c.reserve.ensures.same.thought
+          ∙ ap (λ (x : Tasked). x.mind.thought) c.self.view_is;
+      passes = ap (λ (x : Tasked). x.passes) c.self.view_is;
+    } in
+    let t2 : Tasked = task_left t c.reach.new.passes c.reach.new.gathered in
+    steps_with g.N.Name.frame c.args.self.now t t2 room turns.Done
+    (over_steps g.N.Name.frame t t2 c.reach.new.passes c.reach.new.gathered c.reach.result
+    c.in_ok-reach.field-0 c.in_ok-reach.was c.in-Over.is c.reach.ensures refl)
+
+pub returns-in-Over-clause-idle : goal.returns-in-Over-clause-idle
+returns-in-Over-clause-idle g c =
+    let s = c.self.inside in
+    let t : Tasked =
+    record {
+      number = s.number;
+      mind = c.reserve.new.self;
+      gathered = s.gathered;
+      passes = s.passes;
+    } in
+    let room : HasRoom c.args.self.now t =
+    record {
+      number = ap (λ (x : Tasked). x.number) c.self.view_is;
+      program = c.reserve.ensures.same.program
+          ∙ ap (λ (x : Tasked). x.mind.program) c.self.view_is;
+      thought = c.reserve.ensures.same.thought
+          ∙ ap (λ (x : Tasked). x.mind.thought) c.self.view_is;
+      passes = ap (λ (x : Tasked). x.passes) c.self.view_is;
+    } in
+    let t2 : Tasked = task_left t c.reach.new.passes c.reach.new.gathered in
+    λ still. idle_adds g.N.Name.frame c.args.self.now t t2 room c.reach.new.passes
+    c.reach.new.gathered c.reach.result reached.Over
+    (c.in_ok-reach.was ∙ ap (λ (z : Reached). Ok z) c.in-Over.is) c.reach.ensures tt refl
+
+pub returns-in-Blocked-clause-still : goal.returns-in-Blocked-clause-still
+returns-in-Blocked-clause-still g c =
+    let s = c.self.inside in
+    let t : Tasked =
+    record {
+      number = s.number;
+      mind = c.reserve.new.self;
+      gathered = s.gathered;
+      passes = s.passes;
+    } in
+    let is : IsTask g.N.Name.frame t =
+    task_same g.N.Name.frame s.number s.mind c.reserve.new.self s.gathered s.passes
+    c.reserve.ensures.same
+    (subst (λ (x : Tasked). IsTask g.N.Name.frame x) (sym c.self.view_is) c.requires) in
+    blocked_still g.N.Name.frame g.N.Name.frame t c.reach.ensures.old
+    (state_seen c.reach.new.passes) c.reach.new.passes c.reach.new.gathered refl is
+    c.reach.result c.in_ok-reach.field-0 (task_left t c.reach.new.passes c.reach.new.gathered)
+    c.in_ok-reach.was c.in-Blocked.is c.reach.ensures.reaches refl
+
+pub returns-in-Blocked-clause-go : goal.returns-in-Blocked-clause-go
+returns-in-Blocked-clause-go g c =
+    let s = c.self.inside in
+    let t : Tasked =
+    record {
+      number = s.number;
+      mind = c.reserve.new.self;
+      gathered = s.gathered;
+      passes = s.passes;
+    } in
+    let room : HasRoom c.args.self.now t =
+    record {
+      number = ap (λ (x : Tasked). x.number) c.self.view_is;
+      program = c.reserve.ensures.same.program
+          ∙ ap (λ (x : Tasked). x.mind.program) c.self.view_is;
+      thought = c.reserve.ensures.same.thought
+          ∙ ap (λ (x : Tasked). x.mind.thought) c.self.view_is;
+      passes = ap (λ (x : Tasked). x.passes) c.self.view_is;
+    } in
+    let t2 : Tasked = task_left t c.reach.new.passes c.reach.new.gathered in
+    steps_with g.N.Name.frame c.args.self.now t t2 room turns.Blocked
+    (blocked_steps g.N.Name.frame t t2 c.reach.new.passes c.reach.new.gathered c.reach.result
+    c.in_ok-reach.field-0 c.in_ok-reach.was c.in-Blocked.is c.reach.ensures refl)
+
+pub returns-in-Blocked-clause-idle : goal.returns-in-Blocked-clause-idle
+returns-in-Blocked-clause-idle g c =
+    let s = c.self.inside in
+    let t : Tasked =
+    record {
+      number = s.number;
+      mind = c.reserve.new.self;
+      gathered = s.gathered;
+      passes = s.passes;
+    } in
+    let room : HasRoom c.args.self.now t =
+    record {
+      number = ap (λ (x : Tasked). x.number) c.self.view_is;
+      program = c.reserve.ensures.same.program
+          ∙ ap (λ (x : Tasked). x.mind.program) c.self.view_is;
+      thought = c.reserve.ensures.same.thought
+          ∙ ap (λ (x : Tasked). x.mind.thought) c.self.view_is;
+      passes = ap (λ (x : Tasked). x.passes) c.self.view_is;
+    } in
+    let t2 : Tasked = task_left t c.reach.new.passes c.reach.new.gathered in
+    λ still. idle_adds g.N.Name.frame c.args.self.now t t2 room c.reach.new.passes
+    c.reach.new.gathered c.reach.result reached.Blocked
+    (c.in_ok-reach.was ∙ ap (λ (z : Reached). Ok z) c.in-Blocked.is) c.reach.ensures tt refl
+
+pub returns-in-Told-clause-still : goal.returns-in-Told-clause-still
+returns-in-Told-clause-still g c =
+    let s = c.self.inside in
+    let t : Tasked =
+    record {
+      number = s.number;
+      mind = c.reserve.new.self;
+      gathered = s.gathered;
+      passes = s.passes;
+    } in
+    let is : IsTask g.N.Name.frame t =
+    task_same g.N.Name.frame s.number s.mind c.reserve.new.self s.gathered s.passes
+    c.reserve.ensures.same
+    (subst (λ (x : Tasked). IsTask g.N.Name.frame x) (sym c.self.view_is) c.requires) in
+    let same : c.match-answered.self
+    ≡ task_after t c.hear.new.self c.reach.new.passes c.reach.new.gathered =
+    elim c.match-answered.branch [ in-Image-1 w ↦ w.self-is | in-Held-1 w ↦ w.self-is ] in
+    moved_still g.N.Name.frame g.N.Name.frame t c.reach.ensures.old
+    (state_seen c.reach.new.passes) c.reach.new.passes c.reach.new.gathered refl is
+    c.reach.result c.in_ok-reach.field-0 c.match-answered.self c.in-Told.answered c.mode.result
+    (option_copied c.as_ref.result) c.hear.new.self
+    c.in_ok-reach.was c.in-Told.is c.reach.ensures.reaches same c.mode.ensures
+    c.as_ref.ensures.value c.hear.ensures.program c.hear.ensures.thought c.hear.ensures.checked
+
+pub returns-in-Told-clause-go : goal.returns-in-Told-clause-go
+returns-in-Told-clause-go g c =
+    let s = c.self.inside in
+    let t : Tasked =
+    record {
+      number = s.number;
+      mind = c.reserve.new.self;
+      gathered = s.gathered;
+      passes = s.passes;
+    } in
+    let room : HasRoom c.args.self.now t =
+    record {
+      number = ap (λ (x : Tasked). x.number) c.self.view_is;
+      program = c.reserve.ensures.same.program
+          ∙ ap (λ (x : Tasked). x.mind.program) c.self.view_is;
+      thought = c.reserve.ensures.same.thought
+          ∙ ap (λ (x : Tasked). x.mind.thought) c.self.view_is;
+      passes = ap (λ (x : Tasked). x.passes) c.self.view_is;
+    } in
+    let same : c.match-answered.self
+    ≡ task_after t c.hear.new.self c.reach.new.passes c.reach.new.gathered =
+    elim c.match-answered.branch [ in-Image-1 w ↦ w.self-is | in-Held-1 w ↦ w.self-is ] in
+    steps_with g.N.Name.frame c.args.self.now t c.match-answered.self room turns.Moved
+    (moved_steps g.N.Name.frame t c.match-answered.self c.reach.new.passes c.reach.new.gathered c.reach.result
+    c.in_ok-reach.field-0 c.in-Told.answered c.mode.result (option_copied c.as_ref.result)
+    c.hear.new.self c.in_ok-reach.was c.in-Told.is c.reach.ensures same c.mode.ensures
+    c.as_ref.ensures.value c.hear.ensures.thought)

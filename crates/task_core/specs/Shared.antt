@@ -1,0 +1,28 @@
+-- What a step on a world that threads share leaves of its task.
+use Rattle.std.specs.Prelude.{◌≡◌, Option, Result, Ok, Err}
+use Rattle.run_model.specs.Turns.{State}
+use Rattle.run_model.specs.declared.turn.Turn.{Turn}
+use Rattle.task_frame.specs.Frame.{Frame}
+use Rattle.task_frame.specs.Tasks.{PassesValue, Tasked}
+use Rattle.task_frame.specs.declared.gathered.Gathered.{Gathered}
+use Rattle.world_deeds.specs.Turning.{Goes, Reaches, turned_to}
+use Rattle.world_deeds.specs.declared.answers.Reached.{Reached}
+use Rattle.world_deeds.specs.declared.answers.Reached.TheVariants as reached
+use Rattle.world_locks.specs.Met.{mines_of, state_seen}
+
+-- it was told nothing
+abbrev pub IsIdle : {E : Type 0} → Result Reached E → Type 0
+IsIdle (Ok (reached.Told a)) = ⊥
+IsIdle _ = Unit {0}
+
+-- what became of its turn, which met some lists, and left what the passes have seen
+pub record ReachesMet {E : Type 0} (frame : Frame) (t : Tasked) (passes : PassesValue)
+    (g : Gathered) (r : Result Reached E) : Type 0 where
+  pub old : State
+  pub reaches : Reaches frame t old (state_seen passes) passes g r
+  pub idle : IsIdle r → mines_of passes ≡ mines_of t.passes
+
+-- it made its turn on some lists, and its passes have seen what the turn left of these
+pub record StepsTo (frame : Frame) (t t2 : Tasked) (r : Turn) : Type 0 where
+  pub old : State
+  pub goes : Goes frame t old (turned_to (state_seen t2.passes) t2.mind.thought r)

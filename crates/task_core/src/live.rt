@@ -1,0 +1,87 @@
+//! A world that threads share.
+
+ghost use Rattle.std.specs.Prelude.{◌≡◌, ◌<◌, IfOk, length};
+
+use crate::world::World;
+use grow_list::OutOfMemory;
+use std::sync::Wait;
+use world_locks::{Locks, Name, Parts};
+
+/// A world that threads share: each inode lies under a lock of its own, and one lock each keeps the
+/// measurement list, the semaphores and the rules. Its constants are those that `N` names.
+#[derive(Drop)]
+pub struct Live<N: Name> {
+    pub(crate) locks: Locks<N>,
+}
+
+impl World {
+    /// The same world, whose lists lie under locks.
+    pub fn share<N: Name>(self) -> Result<Live<N>, OutOfMemory>
+        requires { self.frame ≡ N.frame }
+    {
+        let World {
+            stations,
+            book,
+            sems,
+            rules,
+            idle,
+            supers,
+            settings,
+            tasks,
+            alloc,
+        } = self;
+        let locks = Locks::new(Parts {
+            stations,
+            book,
+            sems,
+            rules,
+            idle,
+            supers,
+            settings,
+            tasks,
+            alloc,
+        })?;
+        Ok(Live { locks })
+    }
+}
+
+impl<N: Name> Live<N> {
+    /// The world, which has the same constants.
+    pub fn back(self) -> Result<World, OutOfMemory>
+        ensures { IfOk result (λ world. world.frame ≡ N.frame) }
+    {
+        let Live { locks } = self;
+        let parts = locks.into_parts()?;
+        let Parts {
+            stations,
+            book,
+            sems,
+            rules,
+            idle,
+            supers,
+            settings,
+            tasks,
+            alloc,
+        } = parts;
+        let world = World {
+            stations,
+            book,
+            sems,
+            rules,
+            idle,
+            supers,
+            settings,
+            tasks,
+            alloc,
+        };
+        Ok(world)
+    }
+
+    /// Takes the lock of the inode of this number, calls `f` once, and lets go.
+    pub fn hold<R: Wait, F: FnOnce()>(&self, rt: &R, inode: u32, f: F)
+        requires below { inode < length N.frame.sites }
+        requires call { F.IsAlwaysCallable f }
+    {
+        self.locks.hold(rt, inode, f);
+    }
+}

@@ -1,0 +1,122 @@
+//! The step of a task on a world that threads share.
+
+ghost use Rattle.std.specs.Prelude.{◌≡◌, false, IfOk, OnErr};
+ghost use Rattle.run_model.specs.Rounds.{is_moved};
+ghost use Rattle.task_core.specs.Shared.{ReachesMet, StepsTo};
+ghost use Rattle.task_frame.specs.Tasks.{IsTask};
+ghost use Rattle.world_locks.specs.Met.{mines_of};
+
+use crate::live::Live;
+use crate::task::Task;
+use crate::turning::slot_due;
+use grow_list::OutOfMemory;
+use inode_events::{Deed, Told};
+use run_model::Turn;
+use std::sync::Wait;
+use task_deeds::{Actor, Checks};
+use task_frame::{Gathered, Passes};
+use task_mind::{Step, TaskMind};
+use world_deeds::{Answered, Reached, became};
+use world_locks::Name;
+
+impl<N: Name> Live<N> {
+    /// The step that is due for the task, whose passes and hashes these are.
+    fn reach<R: Wait>(
+        &self,
+        rt: &R,
+        mind: &TaskMind,
+        number: u32,
+        passes: &mut Passes,
+        gathered: &mut Gathered,
+    ) -> Result<Reached, OutOfMemory>
+        requires { IsTask N.frame (record {
+          number = number;
+          mind = mind.now;
+          gathered = gathered.old;
+          passes = passes.old;
+        }) }
+        ensures { ReachesMet N.frame (record {
+          number = number;
+          mind = mind.now;
+          gathered = gathered.old;
+          passes = passes.old;
+        }) passes.new gathered.new result }
+    {
+        let who = mind.who(number);
+        let actor = Actor {
+            who,
+            cred: mind.cred(),
+            action: mind.checked(),
+            slot: slot_due(mind),
+        };
+        let locks = &self.locks;
+        match mind.next() {
+            None => Ok(Reached::Over),
+            Some(Step::Nothing) => Ok(Reached::Told(Answered {
+                place: 0,
+                told: Told::Nothing,
+                action: None,
+            })),
+            Some(Step::Does { inode, doing }) => {
+                became(locks.does(rt, inode, passes, &actor, doing, gathered))
+            }
+            Some(
+                Step::Checks {
+                    inode,
+                    file,
+                    func,
+                    mask,
+                },
+            ) => became(locks.checks(rt, inode, passes, &actor, Checks { file, func, mask })),
+            Some(Step::Posts(sem)) => became(locks.signals(rt, passes, who, Deed::Post(sem))),
+            Some(Step::Waits(sem)) => became(locks.signals(rt, passes, who, Deed::Wait(sem))),
+            Some(Step::Appends(rule)) => match locks.appends(rt, passes, who, rule) {
+                Ok(answered) => Ok(Reached::Told(answered)),
+                Err(err) => Err(err),
+            },
+        }
+    }
+}
+
+impl Task {
+    /// One step of the task on a world that threads share. It is a turn on the lists that the step
+    /// met, and what the task's passes have seen behind it is what the turn left of these. After
+    /// `Blocked`, and where memory ran out, no entry of the task was added, and the task is as
+    /// before, but for what its passes have seen.
+    pub fn step_shared<N: Name, R: Wait>(
+        &mut self,
+        rt: &R,
+        world: &Live<N>,
+    ) -> Result<Turn, OutOfMemory>
+        requires { IsTask N.frame self.old }
+        ensures go { IfOk result (λ r. StepsTo N.frame self.old self.new r) }
+        ensures still { IsTask N.frame self.new }
+        ensures number { self.new.number ≡ self.old.number }
+        ensures program { self.new.mind.program ≡ self.old.mind.program }
+        ensures idle { IfOk result (λ r. is_moved r ≡ false
+            → mines_of self.new.passes ≡ mines_of self.old.passes) }
+        ensures err { OnErr result ((self.new.mind.thought ≡ self.old.mind.thought)
+            × (mines_of self.new.passes ≡ mines_of self.old.passes)) }
+    {
+        self.mind.reserve()?;
+        match world.reach(
+            rt,
+            &self.mind,
+            self.number,
+            &mut self.passes,
+            &mut self.gathered,
+        )? {
+            Reached::Over => Ok(Turn::Done),
+            Reached::Blocked => Ok(Turn::Blocked),
+            Reached::Told(answered) => {
+                self.mind.hear(
+                    world.locks.mode(),
+                    &answered.told,
+                    answered.place,
+                    answered.action.as_ref(),
+                );
+                Ok(Turn::Moved)
+            }
+        }
+    }
+}
