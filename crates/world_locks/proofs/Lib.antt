@@ -3,6 +3,8 @@ pub mod Lists
 pub mod Asking
 pub mod Meeting
 pub mod Signals
+pub mod Alone
+pub mod Paging
 pub mod Opening
 pub mod Locking
 pub mod Idle

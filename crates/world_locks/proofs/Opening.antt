@@ -22,6 +22,7 @@ use Rattle.world_deeds.specs.declared.answers.Answered.{Answered}
 use Rattle.world_locks.proofs.Meeting.{ask_met, deed_met}
 use Rattle.world_locks.proofs.Signals.{appends_met, signals_met}
 use Rattle.world_locks.specs.Kept.{AppendMet, AskMet, DeedMet, IsPassAt, IsReadyBy, SignalMet}
+use Rattle.world_locks.specs.Pages.{MayAt, MayByLook}
 use Rattle.world_locks.specs.Met.{AppendsMet, CheckMet, EventMet, SignalsMet}
 
 module _ (inodes : List (Passed Event)) (sems : Passed Event) (book : Passed Entry)
@@ -81,6 +82,12 @@ module _ (inodes : List (Passed Event)) (sems : Passed Event) (book : Passed Ent
     ready_of g action slot d ready s list at looked =
         ready s pass list (ap (λ (n : ℕ). slice_get frame.sites n) (sym taken) ∙ at) pass_at looked
 
+    -- after a look by it the deed may be done
+    pub look_of : (d : Deed) → MayAt frame i p.inodes who.task d
+        → MayByLook frame k who.task pass d
+    look_of d may s list at looked =
+        may s pass list (ap (λ (n : ℕ). slice_get frame.sites n) (sym taken) ∙ at) pass_at looked
+
     opened_at : slice_get inodes i ≡ Some pass
     opened_at = subst (λ (x : PassesValue). slice_get x.inodes i ≡ Some pass) (sym view) pass_at
 
@@ -115,3 +122,10 @@ module _ (inodes : List (Passed Event)) (sems : Passed Event) (book : Passed Ent
         (ask_met frame i opened after who cred asked pass pass2 r
         (subst (λ (n : ℕ). AskMet frame n pass pass2 rules rules2 book book2 who cred asked r)
         taken m) opened_at its_number refl refl)
+
+-- a deed that is ready may be done
+pub may_of : (frame : Frame) (i : ℕ) (passes : List (Passed Event)) (n : ℕ) (g : Gathered)
+    (action : ActionValue) (slot : Slot) (d : Deed) → ReadyAt frame i passes n g action slot d
+    → MayAt frame i passes n d
+may_of frame i passes n g action slot d ready s q list at there looked =
+    let x = ready s q list at there looked in (x.may, x.by)

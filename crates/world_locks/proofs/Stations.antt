@@ -1,5 +1,6 @@
 -- An inode under its lock is the one of its number, before a step on it and behind it.
-use Rattle.std.proofs.Common.{◌≡◌, ℕ, ◌+◌, ◌<◌, List, ◌++◌, length, Option, Some, sym, ◌∙◌, ap, subst}
+use Rattle.std.proofs.Common.{◌≡◌, ℕ, ◌+◌, ◌<◌, List, [], ◌∷◌, ◌++◌, length, Option, Some, sym, ◌∙◌, ap, subst}
+use Rattle.std.specs.Prelude.{slice_get}
 use mathlib.Core.List.{IsPrefix}
 use Rattle.grow_list.proofs.Prefixes.{prefix_refl}
 use Rattle.grow_list.specs.Shown.{Grown, ListName, Passed}
@@ -19,6 +20,7 @@ use Rattle.rule_laws.proofs.Risen.{law_rise_by_look, law_rise_by_outcome}
 use Rattle.rule_laws.specs.Stations.{CountsAll, StationRules}
 use Rattle.task_frame.specs.Frame.{Frame, Site, inode_in}
 use Rattle.task_frame.specs.World.{IsStation, StationValue, site_of}
+use Rattle.task_deeds.specs.Leaving.{Leaves}
 use Rattle.task_frame.specs.declared.gathered.Gathered.{Gathered}
 use Rattle.task_laws.specs.Ready.{HasLooked, IsReady}
 use Rattle.world_deeds.specs.Acting.{StationDid}
@@ -78,10 +80,11 @@ module _ (frame : Frame) (i : ℕ) (st : StationValue) (is : IsStation frame i s
     rise = law_rise_by_look (length frame.base) st.cell.list st.rules.seen q.seen more is.rise;
   }
 
-  -- behind a deed
-  module _ (st2 : StationValue) (book book2 : Grown Entry) (pass pass2 : Passed Event)
-      (listed listed2 : Passed Entry) (who : Who) (d : Deed) (g g2 : Gathered) (o : Option Told)
-      (did : StationDid st st2 book book2 pass pass2 listed listed2 who d g g2 o) where
+  -- behind a deed that leaves its pass of the rules and its place
+  module _ (st2 : StationValue) (list list2 : List Entry) (pass pass2 : Passed Event) (who : Who)
+      (d : Deed) (o : Option Told)
+      (leaves : Leaves st.cell st2.cell list list2 pass pass2 who d o)
+      (rules : st2.rules ≡ st.rules) (place : st2.place ≡ st.place) where
     site_same : site_of st2 ≡ site_of st
     site_same =
         ap (λ (x : Inode). record {
@@ -89,42 +92,50 @@ module _ (frame : Frame) (i : ℕ) (st : StationValue) (is : IsStation frame i s
           birth = x.birth;
           place = st2.place;
           journal = st2.cell.journal;
-        }) did.leaves.same.inode
+        }) leaves.same.inode
         ∙ ap (λ (k : ℕ). record {
           path = st.cell.inode.path;
           birth = st.cell.inode.birth;
           place = k;
           journal = st2.cell.journal;
-        }) did.place
+        }) place
         ∙ ap (λ (x : ListName). record {
           path = st.cell.inode.path;
           birth = st.cell.inode.birth;
           place = st.place;
           journal = x;
-        }) did.leaves.same.journal
+        }) leaves.same.journal
 
     -- it is still the inode of its number
-    pub station_still : CountsAll (length frame.base + length st.rules.seen) d
+    pub station_left : CountsAll (length frame.base + length st.rules.seen) d
         → IsStation frame i st2
-    station_still counts =
+    station_left counts =
         let rise : StationRules (length frame.base) (st.cell.list ++ made who d o) st.rules.seen =
         law_rise_by_outcome (length frame.base) st.cell.list st.rules.seen st.rules.seen who d o
         (prefix_refl st.rules.seen) is.rise counts in
         record {
           site = is.site ∙ ap (λ (x : Site). Some x) (sym site_same);
-          settings = ap (λ (x : Inode). x.settings) did.leaves.same.inode ∙ is.settings;
-          place = subst (λ (k : ℕ). k < length frame.supers) (sym did.place) is.place;
-          callers = did.leaves.same.callers ∙ is.callers;
-          book = did.leaves.same.book ∙ is.book;
-          booked = did.leaves.same.booked ∙ is.booked;
-          rules_name = ap (λ (q : Passed RuleEntry). q.name) did.rules ∙ is.rules_name;
-          rules_number = ap (λ (q : Passed RuleEntry). q.number) did.rules ∙ is.rules_number;
-          rules_mine = ap (λ (q : Passed RuleEntry). q.mine) did.rules ∙ is.rules_mine;
+          settings = ap (λ (x : Inode). x.settings) leaves.same.inode ∙ is.settings;
+          place = subst (λ (k : ℕ). k < length frame.supers) (sym place) is.place;
+          callers = leaves.same.callers ∙ is.callers;
+          book = leaves.same.book ∙ is.book;
+          booked = leaves.same.booked ∙ is.booked;
+          rules_name = ap (λ (q : Passed RuleEntry). q.name) rules ∙ is.rules_name;
+          rules_number = ap (λ (q : Passed RuleEntry). q.number) rules ∙ is.rules_number;
+          rules_mine = ap (λ (q : Passed RuleEntry). q.mine) rules ∙ is.rules_mine;
           rise = subst (λ (q : Passed RuleEntry).
-              StationRules (length frame.base) st2.cell.list q.seen) (sym did.rules)
+              StationRules (length frame.base) st2.cell.list q.seen) (sym rules)
               (subst (λ (xs : List Event). StationRules (length frame.base) xs st.rules.seen)
-              (sym did.leaves.journal) rise);
+              (sym leaves.journal) rise);
         }
+
+  -- behind a deed on it and on the measurement list
+  pub station_still : (st2 : StationValue) (book book2 : Grown Entry) (pass pass2 : Passed Event)
+      (listed listed2 : Passed Entry) (who : Who) (d : Deed) (g g2 : Gathered) (o : Option Told)
+      → StationDid st st2 book book2 pass pass2 listed listed2 who d g g2 o
+      → CountsAll (length frame.base + length st.rules.seen) d → IsStation frame i st2
+  station_still st2 book book2 pass pass2 listed listed2 who d g g2 o did counts =
+      station_left st2 book.list book2.list pass pass2 who d o did.leaves did.rules did.place counts
 
 -- the inode under the lock, by the number that its value shows
 pub station_at : (frame : Frame) (n : ℕ) (st : StationValue) (v : NumberedStation)

@@ -2,3 +2,4 @@ pub mod Blank
 pub mod Parts
 pub mod Kept
 pub mod Met
+pub mod Pages

@@ -1,17 +1,20 @@
 //! The steps of a task on one inode under its lock.
 
 ghost use Rattle.inode_events.specs.declared.deed.Deed.TheVariants as Deed;
-ghost use Rattle.std.specs.Prelude.{◌≡◌};
+ghost use Rattle.std.specs.Prelude.{◌≡◌, ◌<◌, length};
 ghost use Rattle.inode_events.specs.Checks.{no_action};
 ghost use Rattle.task_frame.specs.Tasks.{ArePassesOf};
 ghost use Rattle.task_frame.specs.declared.gathered.Gathered.{Gathered as AnyGathered};
 ghost use Rattle.task_mind.specs.Steps.{deed_in};
 ghost use Rattle.world_deeds.specs.Acting.{ReadyAt};
 ghost use Rattle.world_locks.specs.Met.{CheckMet, EventMet};
+ghost use Rattle.world_locks.specs.Pages.{IsPageDeed, MayAt};
 
 use crate::locks::Locks;
 use crate::name::Name;
+use crate::pages::{alone, gather, page_told};
 use grow_list::OutOfMemory;
+use inode_meta::Who;
 use std::sync::Wait;
 use task_deeds::{Actor, Checks};
 use task_frame::{Gathered, Passes};
@@ -38,6 +41,33 @@ impl<N: Name> Locks<N> {
         if i as usize >= self.stations.len() {
             return Ok(None);
         }
+        match doing {
+            Doing::Chunk(_) => self.hashes(rt, i, passes, actor, doing, gathered),
+            Doing::CloseChunk(_) => { self.hashes(rt, i, passes, actor, doing, gathered) }
+            Doing::Read { file, from, len } => {
+                self.reads(rt, i, passes, actor.who, file, from, len)
+            }
+            _ => self.acts(rt, i, passes, actor, doing, gathered),
+        }
+    }
+
+    // A deed for which the measurement list is locked too.
+    fn acts<R: Wait>(
+        &self,
+        rt: &R,
+        i: u32,
+        passes: &mut Passes,
+        actor: &Actor<'_>,
+        doing: Doing<'_>,
+        gathered: &mut Gathered,
+    ) -> Result<Option<Answered>, OutOfMemory>
+        requires below { i < length N.frame.sites }
+        requires passes { ArePassesOf N.frame actor.now.who.task passes.old }
+        requires ready { ReadyAt N.frame i passes.old.inodes actor.now.who.task gathered.old
+            actor.now.action actor.now.slot (deed_in doing) }
+        ensures { EventMet N.frame i actor.now.who (deed_in doing.entry) passes.old passes.new
+            gathered.old gathered.new result }
+    {
         let mut station = self.take(rt, i);
         let mut book = self.book.lock(rt);
         station.act(
@@ -48,6 +78,59 @@ impl<N: Name> Locks<N> {
             doing,
             gathered,
         )
+    }
+
+    // A page of a collection, which is hashed behind the lock.
+    fn hashes<R: Wait>(
+        &self,
+        rt: &R,
+        i: u32,
+        passes: &mut Passes,
+        actor: &Actor<'_>,
+        doing: Doing<'_>,
+        gathered: &mut Gathered,
+    ) -> Result<Option<Answered>, OutOfMemory>
+        requires below { i < length N.frame.sites }
+        requires passes { ArePassesOf N.frame actor.now.who.task passes.old }
+        requires ready { ReadyAt N.frame i passes.old.inodes actor.now.who.task gathered.old
+            actor.now.action actor.now.slot (deed_in doing) }
+        requires page { IsPageDeed (deed_in doing) }
+        ensures { EventMet N.frame i actor.now.who (deed_in doing.entry) passes.old passes.new
+            gathered.old gathered.new result }
+    {
+        let taken = self
+            .take(rt, i)
+            .take_page(&mut passes.inodes[i as usize], actor.who, doing)?;
+        gather(gathered, taken.piece, &taken.page);
+        let told = page_told(taken.piece);
+        Ok(Some(Answered {
+            place: taken.place,
+            told,
+            action: None,
+        }))
+    }
+
+    // Bytes that are read.
+    fn reads<R: Wait>(
+        &self,
+        rt: &R,
+        i: u32,
+        passes: &mut Passes,
+        who: Who,
+        file: u64,
+        from: u64,
+        len: u64,
+    ) -> Result<Option<Answered>, OutOfMemory>
+        requires below { i < length N.frame.sites }
+        requires passes { ArePassesOf N.frame who.task passes.old }
+        requires may { MayAt N.frame i passes.old.inodes who.task (Deed.Read file from len) }
+        ensures { (g : AnyGathered) → EventMet N.frame i who (Deed.Read file from len) passes.old
+            passes.new g g result }
+    {
+        let read = self
+            .take(rt, i)
+            .read(&mut passes.inodes[i as usize], who, file, from, len);
+        alone(read)
     }
 
     /// Checks the inode of this number by all rules in force, by the task's passes. `None` is

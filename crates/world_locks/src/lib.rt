@@ -2,13 +2,15 @@
 //!
 //! Each inode lies under a lock of its own, as do the measurement list, the semaphores and the
 //! rules. A step takes those that it needs in the order inode, rules, measurement list. A post, a
-//! wait and a rule that is appended take one lock alone.
+//! wait, a rule that is appended and a read take one lock alone. A page of a collection is taken
+//! under its inode's lock, and hashed when that is given back.
 #![tactic(auto)]
 
 mod acting;
 mod kept;
 mod locks;
 mod name;
+mod pages;
 mod parts;
 mod sharing;
 mod station;

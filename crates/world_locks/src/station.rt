@@ -7,12 +7,15 @@ ghost use Rattle.task_frame.specs.World.{IsStation};
 ghost use Rattle.task_frame.specs.declared.gathered.Gathered.{Gathered as AnyGathered};
 ghost use Rattle.task_mind.specs.Steps.{deed_in};
 ghost use Rattle.world_locks.specs.Kept.{AskMet, DeedMet, IsPassAt, IsReadyBy};
+ghost use Rattle.world_locks.specs.Pages.{IsPageDeed, MayByLook, PageMet, ReadMet};
 
 use crate::kept::{KeptBook, KeptRules};
 use crate::name::Name;
+use crate::pages::{TakenPage, read, read_at, take_page, taken_at};
 use grow_list::{OutOfMemory, Pass};
 use ima_templates::Entry;
 use inode_events::Event;
+use inode_meta::Who;
 use policy_cell::RuleEntry;
 use policy_text::Super;
 use std::marker::{Model, PhantomData};
@@ -100,6 +103,46 @@ impl<N: Name> KeptStation<N> {
             doing,
             gathered,
         )
+    }
+
+    /// Takes the next page of the collection with which the deed goes on.
+    pub fn take_page(
+        &mut self,
+        pass: &mut Pass<Event>,
+        who: Who,
+        doing: Doing<'_>,
+    ) -> Result<TakenPage, OutOfMemory>
+        requires pass { IsPassAt N.frame self.old.number who.task pass.old }
+        requires may { MayByLook N.frame self.old.number who.task pass.old (deed_in doing) }
+        requires page { IsPageDeed (deed_in doing) }
+        ensures number { self.new.number ≡ self.old.number }
+        ensures met { PageMet N.frame self.old.number pass.old pass.new who (deed_in doing.entry)
+            result }
+    {
+        let station = &mut self.station;
+        let place = station.cell.len();
+        taken_at(place, take_page(&mut station.cell, pass, who, doing))
+    }
+
+    /// Reads at most `len` bytes, from the byte `from` on.
+    pub fn read(
+        &mut self,
+        pass: &mut Pass<Event>,
+        who: Who,
+        file: u64,
+        from: u64,
+        len: u64,
+    ) -> Result<Answered, OutOfMemory>
+        requires pass { IsPassAt N.frame self.old.number who.task pass.old }
+        requires may { MayByLook N.frame self.old.number who.task pass.old
+            (Deed.Read file from len) }
+        ensures number { self.new.number ≡ self.old.number }
+        ensures met { ReadMet N.frame self.old.number pass.old pass.new who
+            (Deed.Read file from len) result }
+    {
+        let station = &mut self.station;
+        let place = station.cell.len();
+        read_at(place, read(&mut station.cell, pass, who, file, from, len))
     }
 
     /// Checks it by all rules in force, at which the task's pass and the inode's look first.

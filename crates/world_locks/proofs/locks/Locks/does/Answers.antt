@@ -1,9 +1,13 @@
--- A deed on the inode whose lock is held, or on none.
-use Rattle.std.proofs.Common.{◌≡◌, ◌<◌, ◌≤◌, ◌∙◌, ap, arith, length}
+-- A deed on the inode of the number, if there is one: which locks it takes, its kind says.
+use Rattle.std.proofs.Common.{◌≤◌, arith, length, subst, sym}
+use Rattle.inode_events.specs.declared.deed.Deed.TheVariants as deed
 use Rattle.task_mind.specs.Steps.{deed_in}
+use Rattle.task_mind.specs.declared.step.Doing.{Doing}
+use Rattle.world_deeds.specs.Acting.{ReadyAt}
 use Rattle.world_locks.proofs.Meeting.{none_met}
-use Rattle.world_locks.proofs.Opening.{deed_opened, pass_of, ready_of}
-use Rattle.world_locks.specs.Kept.{NumberedStation}
+use Rattle.world_locks.proofs.Opening.{may_of}
+use Rattle.world_locks.specs.Met.{EventMet}
+use Rattle.world_locks.specs.Pages.{IsPageDeed}
 use Rattle.world_locks.proofs.locks.Locks.does.Goals as goal
 
 pub returns-then-i-len : goal.returns-then-i-len
@@ -14,42 +18,25 @@ returns-then-i-len g c =
     none_met g.N.Name.frame c.args.i c.args.passes.now c.args.actor.now.who
     (deed_in c.args.doing) c.args.gathered.now none
 
-pub act-requires-clause-pass : goal.act-requires-clause-pass
-act-requires-clause-pass g c κs within =
-    let own = c.args.self.now in
-    let p = c.passes.inside in
-    let taken : c.deref_mut.result.now.number ≡ c.args.i =
-    ap (λ (s : NumberedStation). s.number) c.deref_mut.ensures.value ∙ c.take-station.ensures in
-    let below : c.args.i < length g.N.Name.frame.sites =
-    omega (arith, c.len.ensures, own.stations.ok.0, own.count) in
-    pass_of p.inodes.items p.sems p.book p.rules c.args.passes.now c.passes.view_is
-    c.args.actor.now.who g.N.Name.frame c.requires.passes c.args.i
-    c.deref_mut.result.now.number taken below c.index_mut.result.now c.index_mut.ensures.value
+pub hashes-requires-clause-page : goal.hashes-requires-clause-page
+hashes-requires-clause-page g c κs within =
+    subst (λ (x : Doing). IsPageDeed (deed_in x)) (sym c.in-Chunk.is) tt
 
-pub act-requires-clause-ready : goal.act-requires-clause-ready
-act-requires-clause-ready g c κs within =
-    let own = c.args.self.now in
-    let p = c.passes.inside in
-    let taken : c.deref_mut.result.now.number ≡ c.args.i =
-    ap (λ (s : NumberedStation). s.number) c.deref_mut.ensures.value ∙ c.take-station.ensures in
-    let below : c.args.i < length g.N.Name.frame.sites =
-    omega (arith, c.len.ensures, own.stations.ok.0, own.count) in
-    ready_of p.inodes.items p.sems p.book p.rules c.args.passes.now c.passes.view_is
-    c.args.actor.now.who g.N.Name.frame c.requires.passes c.args.i
-    c.deref_mut.result.now.number taken below c.index_mut.result.now c.index_mut.ensures.value
-    c.args.gathered.now c.args.actor.now.action c.args.actor.now.slot (deed_in c.args.doing)
-    c.requires.ready
+pub hashes-requires-in-CloseChunk-clause-page : goal.hashes-requires-in-CloseChunk-clause-page
+hashes-requires-in-CloseChunk-clause-page g c κs within =
+    subst (λ (x : Doing). IsPageDeed (deed_in x)) (sym c.in-CloseChunk.is) tt
 
-pub returns : goal.returns
-returns g c =
-    let own = c.args.self.now in
-    let p = c.passes.inside in
-    let taken : c.deref_mut.result.now.number ≡ c.args.i =
-    ap (λ (s : NumberedStation). s.number) c.deref_mut.ensures.value ∙ c.take-station.ensures in
-    let below : c.args.i < length g.N.Name.frame.sites =
-    omega (arith, c.len.ensures, own.stations.ok.0, own.count) in
-    deed_opened p.inodes.items p.sems p.book p.rules c.args.passes.now c.passes.view_is
-    c.args.actor.now.who g.N.Name.frame c.requires.passes c.args.i
-    c.deref_mut.result.now.number taken below c.index_mut.result.now c.index_mut.ensures.value
-    c.act.new.pass c.act.new.listed (deed_in c.args.doing) c.args.gathered.now
-    c.act.new.gathered c.act.result c.act.ensures.met
+pub reads-requires-clause-may : goal.reads-requires-clause-may
+reads-requires-clause-may g c κs within =
+    may_of g.N.Name.frame c.args.i c.args.passes.now.inodes c.args.actor.now.who.task
+    c.args.gathered.now c.args.actor.now.action c.args.actor.now.slot
+    (deed.Read c.in-Read.file c.in-Read.from c.in-Read.len)
+    (subst (λ (x : Doing). ReadyAt g.N.Name.frame c.args.i c.args.passes.now.inodes
+    c.args.actor.now.who.task c.args.gathered.now c.args.actor.now.action
+    c.args.actor.now.slot (deed_in x)) c.in-Read.is c.requires.ready)
+
+pub returns-in-Read : goal.returns-in-Read
+returns-in-Read g c =
+    subst (λ (x : Doing). EventMet g.N.Name.frame c.args.i c.args.actor.now.who (deed_in x)
+    c.args.passes.now c.reads.new.passes c.args.gathered.now c.args.gathered.now
+    c.reads.result) (sym c.in-Read.is) (c.reads.ensures c.args.gathered.now)

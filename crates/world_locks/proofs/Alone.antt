@@ -1,0 +1,116 @@
+-- A deed under the inode's lock alone: behind a look it may be done, and what it leaves.
+use Rattle.std.proofs.Common.{◌≡◌, ℕ, ◌+◌, List, ◌++◌, length, map, Option, Some, None, refl, sym, ◌∙◌, ap, subst}
+use Rattle.std.specs.Prelude.{IfOk, OnErr, Result, Ok, Err}
+use mathlib.Core.List.{IsPrefix}
+use Rattle.grow_list.specs.Entries.{entries_of}
+use Rattle.grow_list.specs.Shown.{Passed}
+use Rattle.ima_templates.specs.declared.entry.Entry.{Entry}
+use Rattle.inode_cell.specs.Acts.{Acts, MayBy, Stays}
+use Rattle.inode_cell.specs.Value.{CellValue, IsSameCell}
+use Rattle.inode_meta.specs.declared.step.Who.{Who}
+use Rattle.inode_events.specs.Asked.{asked, entered, list_after, made, outcome}
+use Rattle.inode_events.specs.Callers.{caller_of}
+use Rattle.inode_events.specs.Inode.{Inode}
+use Rattle.inode_events.specs.Legal.{Legal, May}
+use Rattle.inode_events.specs.Past.{past}
+use Rattle.inode_events.specs.declared.deed.Deed.{Deed}
+use Rattle.inode_events.specs.declared.told.Event.{Event}
+use Rattle.inode_events.specs.declared.told.Told.{Told}
+use Rattle.own_laws.specs.Laws.{TellsByMine}
+use Rattle.own_laws.specs.Own.{IsBy, IsOwned}
+use Rattle.task_deeds.proofs.Leaving.{acts_leave, stays_leave}
+use Rattle.task_deeds.specs.Leaving.{Leaves, told_by}
+use Rattle.task_laws.specs.Ready.{HasLooked}
+
+-- a look at the journal of a cell, which leaves the cell as it was
+pub record CellLooked (old new : CellValue) (pass pass2 : Passed Event) : Type 0 where
+  pub list : new.list ≡ old.list
+  pub same : IsSameCell old new
+  pub before : IsPrefix pass.seen old.list
+  pub seen : pass2.seen ≡ new.list
+  pub mine : pass2.mine ≡ pass.mine
+  pub same_pass : (pass2.name ≡ pass.name) × (pass2.number ≡ pass.number)
+  pub tells : TellsByMine old.inode pass2.number pass.seen old.list pass2.mine
+  pub own : entries_of pass2.number (map caller_of old.list) old.list ≡ pass2.mine
+  pub legal : Legal old.inode (past old.list)
+  pub owned : IsOwned (past old.list)
+
+module _ (old between : CellValue) (pass pass1 : Passed Event)
+    (look : CellLooked old between pass pass1) where
+  -- what it gives, by the pass before it
+  pub has_looked : HasLooked old.inode pass.number pass.seen old.list pass.mine
+  has_looked = record {
+    before = look.before;
+    own = ap (λ (n : ℕ). entries_of n (map caller_of old.list) old.list) (sym look.same_pass.1)
+        ∙ look.own ∙ look.mine;
+    legal = look.legal;
+    owned = look.owned;
+    tells = subst (λ (n : ℕ). TellsByMine old.inode n pass.seen old.list pass.mine) look.same_pass.1
+        (subst (λ (xs : List (ℕ × Event)). TellsByMine old.inode pass1.number pass.seen old.list
+        xs) look.mine look.tells);
+  }
+
+  -- behind it the deed may be done
+  pub may_behind : (d : Deed)
+      → (HasLooked old.inode pass.number pass.seen old.list pass.mine → MayBy old pass.number d)
+      → MayBy between pass1.number d
+  may_behind d may =
+      let x : MayBy old pass.number d = may has_looked in
+      record {
+        may = subst (λ (i : Inode). May i (past between.list) d) (sym look.same.inode)
+            (subst (λ (xs : List Event). May old.inode (past xs) d) (sym look.list) x.may);
+        by = subst (λ (n : ℕ). IsBy n d (past between.list)) (sym look.same_pass.1)
+            (subst (λ (xs : List Event). IsBy pass.number d (past xs)) (sym look.list) x.by);
+      }
+
+  -- what the deed leaves behind it is left of the cell before it
+  leaves_behind : (new : CellValue) (list list2 : List Entry) (pass2 : Passed Event) (who : Who)
+      (d : Deed) (o : Option Told) → Leaves between new list list2 pass1 pass2 who d o
+      → Leaves old new list list2 pass pass2 who d o
+  leaves_behind new list list2 pass2 who d o x = record {
+    journal = x.journal ∙ ap (λ (xs : List Event). xs ++ made who d o) look.list;
+    book = x.book
+        ∙ ap (λ (i : Inode). list_after list (asked i d (past between.list)) o) look.same.inode
+        ∙ ap (λ (xs : List Event). list_after list (asked old.inode d (past xs)) o) look.list;
+    seen = x.seen;
+    mine = x.mine
+        ∙ ap (λ (xs : List (ℕ × Event)). xs ++ entered (length between.list) who d o) look.mine
+        ∙ ap (λ (xs : List Event). pass.mine ++ entered (length xs) who d o) look.list;
+    pass_name = x.pass_name ∙ look.same_pass.0;
+    pass_number = x.pass_number ∙ look.same_pass.1;
+    same = record {
+      inode = x.same.inode ∙ look.same.inode;
+      journal = x.same.journal ∙ look.same.journal;
+      callers = x.same.callers ∙ look.same.callers;
+      book = x.same.book ∙ look.same.book;
+      booked = x.same.booked ∙ look.same.booked;
+    };
+  }
+
+  module _ {A E : Type 0} (f : A → Told) (new : CellValue) (pass2 : Passed Event) (who : Who)
+      (d : Deed) where
+    -- whatever the measurement list holds, the deed leaves it
+    pub leaves_alone : (r : Result A E)
+        → IfOk r (λ x. (list : List Entry)
+        → Acts between new list list pass1 pass2 who d (Some (f x)))
+        → OnErr r (Stays between new pass1 pass2) → (list : List Entry)
+        → Leaves old new list list pass pass2 who d (told_by f r)
+    leaves_alone (Ok x) a s list =
+        leaves_behind new list list pass2 who d (Some (f x))
+        (acts_leave between new list list pass1 pass2 who d (Some (f x)) (a list))
+    leaves_alone (Err e) a s list =
+        leaves_behind new list list pass2 who d None
+        (stays_leave between new list list pass1 pass2 who d s refl look.seen)
+
+    -- what it was told is said of the cell before the look
+    pub told_alone : (r : Result A E)
+        → IfOk r (λ x. (list : List Entry)
+        → Acts between new list list pass1 pass2 who d (Some (f x)))
+        → IfOk r (λ x. (list : List Entry)
+        → Some (f x) ≡ outcome old.inode list d (past old.list))
+    told_alone (Ok x) a =
+        λ list.
+        (a list).told
+        ∙ ap (λ (i : Inode). outcome i list d (past between.list)) look.same.inode
+        ∙ ap (λ (xs : List Event). outcome old.inode list d (past xs)) look.list
+    told_alone (Err e) a = tt

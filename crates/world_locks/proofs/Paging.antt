@@ -1,0 +1,235 @@
+-- A deed under the inode's lock alone, as one that met the measurement list as its task has seen
+-- it.
+use Rattle.std.proofs.Common.{◌≡◌, ℕ, ◌+◌, ◌++◌, List, [], ◌∷◌, length, Option, Some, None, refl, sym, ◌∙◌, ap, subst}
+use Rattle.std.specs.Prelude.{IfOk, Result, Ok, Err}
+use Rattle.grow_list.proofs.Prefixes.{prefix_refl}
+use Rattle.grow_list.specs.Shown.{Grown, Passed}
+use Rattle.ima_templates.specs.declared.entry.Entry.{Entry}
+use Rattle.inode_cell.specs.Acts.{MayBy}
+use Rattle.inode_cell.specs.Answers.{piece_told}
+use Rattle.inode_cell.specs.Value.{CellValue}
+use Rattle.inode_cell.specs.declared.answers.Piece.{Piece}
+use Rattle.inode_cell.specs.declared.writing.Got.{Got}
+use Rattle.inode_events.specs.Asked.{made, outcome}
+use Rattle.inode_events.specs.Inode.{Inode}
+use Rattle.inode_events.specs.Integrity.{Collection, collecting}
+use Rattle.inode_events.specs.Legal.{May}
+use Rattle.inode_events.specs.Past.{past}
+use Rattle.inode_events.specs.State.{content}
+use Rattle.inode_events.specs.declared.deed.Deed.{Deed}
+use Rattle.inode_events.specs.declared.deed.Deed.TheVariants as deed
+use Rattle.inode_events.specs.declared.told.Event.{Event}
+use Rattle.inode_events.specs.declared.told.Told.{Told}
+use Rattle.inode_events.specs.declared.told.Told.TheVariants as told
+use Rattle.inode_meta.specs.declared.step.Who.{Who}
+use Rattle.inode_pages.specs.Content.{piece_at}
+use Rattle.own_laws.specs.Own.{IsBy}
+use Rattle.task_deeds.proofs.Hashing.{close_piece_left, piece_left}
+use Rattle.task_deeds.specs.Hashed.{HasGathered}
+use Rattle.task_deeds.specs.Leaving.{Leaves, told_by}
+use Rattle.task_frame.specs.Frame.{Frame}
+use Rattle.task_frame.specs.Tasks.{HashesBefore, HasTakenIn}
+use Rattle.task_frame.specs.World.{IsStation, StationValue, site_of}
+use Rattle.task_frame.specs.declared.gathered.Gathered.{Gathered}
+use Rattle.task_laws.proofs.Eventing.{adds_none}
+use Rattle.task_laws.specs.Due.{HashesAfter, HashesTold}
+use Rattle.task_laws.specs.Ready.{HasLooked}
+use Rattle.world_deeds.specs.Acting.{StationDid}
+use Rattle.world_deeds.specs.declared.answers.Answered.{Answered}
+use Rattle.world_locks.proofs.Stations.{inode_same, its_pass}
+use Rattle.world_locks.specs.Kept.{DeedMet, IsPassAt}
+use Rattle.world_locks.specs.Pages.{AloneMet, IsPageDeed, MayByLook, PageMet, ReadMet, alone_in, read_in, taken_in}
+use Rattle.world_locks.specs.declared.pages.TakenPage.{TakenPage}
+
+-- ---- on the inode under its lock
+
+module _ (frame : Frame) (i : ℕ) (st : StationValue) (is : IsStation frame i st) where
+  -- after a look the deed may be done
+  pub may_alone : (n : ℕ) (q : Passed Event) (d : Deed) → IsPassAt frame i n q
+      → MayByLook frame i n q d
+      → HasLooked st.cell.inode q.number q.seen st.cell.list q.mine → MayBy st.cell q.number d
+  may_alone n q d at may looked =
+      let number : q.number ≡ n + 1 = (its_pass frame i st is n q at).1 in
+      let same = inode_same frame i st is in
+      let x : May st.cell.inode (past st.cell.list) d × IsBy (n + 1) d (past st.cell.list) =
+      subst (λ (y : Inode). May y (past st.cell.list) d × IsBy (n + 1) d (past st.cell.list)) same
+      (may (site_of st) st.cell.list is.site
+      (subst (λ (y : Inode). HasLooked y (n + 1) q.seen st.cell.list q.mine) (sym same)
+      (subst (λ (k : ℕ). HasLooked st.cell.inode k q.seen st.cell.list q.mine) number looked))) in
+      record {
+        may = x.0;
+        by = subst (λ (k : ℕ). IsBy k d (past st.cell.list)) (sym number) x.1;
+      }
+
+  module _ (cell2 : CellValue) (pass pass2 : Passed Event) (who : Who) (d : Deed)
+      (looked : HasLooked st.cell.inode pass.number pass.seen st.cell.list pass.mine)
+      (place : ℕ) (place_is : place ≡ length st.cell.list) where
+    alone : (o : Option Told)
+        → ((list : List Entry) → Leaves st.cell cell2 list list pass pass2 who d o)
+        → AloneMet frame i pass pass2 who d o st (record st { cell = cell2 })
+    alone o leaves = record {
+      is = is;
+      looked = looked;
+      leaves = leaves;
+      rules = refl;
+      place = refl;
+    }
+
+    -- the page that was taken
+    pub page_is_met : {E : Type 0} (r : Result (Piece × List ℕ) E)
+        → ((list : List Entry)
+        → Leaves st.cell cell2 list list pass pass2 who d (told_by (λ x. piece_told x.0) r))
+        → IfOk r (λ x. (list : List Entry)
+        → Some (piece_told x.0) ≡ outcome st.cell.inode list d (past st.cell.list))
+        → IfOk r (λ x. (c : Collection)
+        → collecting st.cell.inode (past st.cell.list) ≡ Some c
+        → x.1 ≡ piece_at (content (past st.cell.list)) c.pieces)
+        → PageMet frame i pass pass2 who d (taken_in place r)
+    page_is_met (Ok x) leaves told page = record {
+      station = st;
+      station2 = record st { cell = cell2 };
+      alone = alone (Some (piece_told x.0)) leaves;
+      told = told;
+      at = place_is;
+      page = page;
+    }
+    page_is_met (Err e) leaves told page = record {
+      station = st;
+      station2 = record st { cell = cell2 };
+      alone = alone None leaves;
+      told = tt;
+      at = tt;
+      page = tt;
+    }
+
+    -- the bytes that were read
+    pub read_is_met : {E : Type 0} (r : Result Got E)
+        → ((list : List Entry)
+        → Leaves st.cell cell2 list list pass pass2 who d (told_by (λ g. told.Read g.n g.digest) r))
+        → IfOk r (λ g. (list : List Entry)
+        → Some (told.Read g.n g.digest) ≡ outcome st.cell.inode list d (past st.cell.list))
+        → ReadMet frame i pass pass2 who d (read_in place r)
+    read_is_met (Ok x) leaves said = record {
+      station = st;
+      station2 = record st { cell = cell2 };
+      alone = alone (Some (told.Read x.n x.digest)) leaves;
+      told = said;
+      at = (place_is, refl);
+    }
+    read_is_met (Err e) leaves said = record {
+      station = st;
+      station2 = record st { cell = cell2 };
+      alone = alone None leaves;
+      told = tt;
+      at = tt;
+    }
+
+-- ---- as its task sees it
+
+-- the measurement list as the pass has seen it
+abbrev as_seen : Passed Entry → Grown Entry
+as_seen q = record { name = q.name; callers = 0; spare = 0; list = q.seen; numbers = [] }
+
+-- the deed left it
+did_alone : (frame : Frame) (i : ℕ) (pass pass2 : Passed Event) (listed : Passed Entry)
+    (who : Who) (d : Deed) (g g2 : Gathered) (o : Option Told) (st st2 : StationValue)
+    → AloneMet frame i pass pass2 who d o st st2
+    → HashesTold st.cell.inode st2.cell.list g g2 d o
+    → StationDid st st2 (as_seen listed) (as_seen listed) pass pass2 listed listed who d g g2 o
+did_alone frame i pass pass2 listed who d g g2 o st st2 m hashes = record {
+  looked = m.looked;
+  leaves = m.leaves listed.seen;
+  rules = m.rules;
+  place = m.place;
+  book_name = refl;
+  book_callers = refl;
+  book_pass = adds_none listed listed refl;
+  before = prefix_refl listed.seen;
+  seen = refl;
+  hashes = hashes;
+}
+
+-- bytes that were read
+pub read_met : {E : Type 0} (frame : Frame) (i : ℕ) (pass pass2 : Passed Event)
+    (listed : Passed Entry) (who : Who) (file from len : ℕ) (g : Gathered) (r : Result Answered E)
+    → ReadMet frame i pass pass2 who (deed.Read file from len) r
+    → DeedMet frame i pass pass2 listed listed who (deed.Read file from len) g g (alone_in r)
+read_met frame i pass pass2 listed who file from len g (Ok a) m = record {
+  station = m.station;
+  station2 = m.station2;
+  book = as_seen listed;
+  book2 = as_seen listed;
+  is = m.alone.is;
+  did = did_alone frame i pass pass2 listed who (deed.Read file from len) g g (Some a.told)
+      m.station m.station2 m.alone tt;
+  told = m.told listed.seen;
+  place = m.at;
+}
+read_met frame i pass pass2 listed who file from len g (Err e) m = record {
+  station = m.station;
+  station2 = m.station2;
+  book = as_seen listed;
+  book2 = as_seen listed;
+  is = m.alone.is;
+  did = did_alone frame i pass pass2 listed who (deed.Read file from len) g g None m.station
+      m.station2 m.alone refl;
+  told = tt;
+  place = tt;
+}
+
+page_hashes : (inode : Inode) (list list2 : List Event) (g g2 : Gathered) (page : List ℕ)
+    (who : Who) (p : Piece) (d : Deed) → IsPageDeed d → HashesBefore inode list g d
+    → ((c : Collection) → collecting inode (past list) ≡ Some c
+    → page ≡ piece_at (content (past list)) c.pieces)
+    → list2 ≡ list ++ made who d (Some (piece_told p))
+    → ((c : Collection) → HasTakenIn g c
+    → HasGathered p g2 (record c { bytes = c.bytes ++ page }))
+    → HashesAfter inode list2 g2 d (piece_told p)
+page_hashes inode list list2 g g2 page who p (deed.Chunk file) is before taken e h =
+    piece_left inode list g g2 page before taken file who list2 p e h
+page_hashes inode list list2 g g2 page who p (deed.CloseChunk file) is before taken e h =
+    close_piece_left inode list g g2 page before taken file who list2 p e h
+page_hashes inode list list2 g g2 page who p d is before taken e h = absurd is
+
+-- a page of a collection, which is hashed
+pub page_met : {E : Type 0} (frame : Frame) (i : ℕ) (pass pass2 : Passed Event)
+    (listed : Passed Entry) (who : Who) (d : Deed) (g g2 : Gathered) (t : TakenPage)
+    → IsPageDeed d → (m : PageMet {E = E} frame i pass pass2 who d (Ok t))
+    → HashesBefore m.station.cell.inode m.station.cell.list g d
+    → ((c : Collection) → HasTakenIn g c
+    → HasGathered t.piece g2 (record c { bytes = c.bytes ++ t.page }))
+    → (u : Told) → u ≡ piece_told t.piece
+    → DeedMet {E = E} frame i pass pass2 listed listed who d g g2
+    (Ok (Some (record { place = t.place; told = u; action = None })))
+page_met {E} frame i pass pass2 listed who d g g2 t is m before gathered u e =
+    subst (λ (x : Told). DeedMet {E = E} frame i pass pass2 listed listed who d g g2
+    (Ok (Some (record { place = t.place; told = x; action = None })))) (sym e)
+    (record {
+      station = m.station;
+      station2 = m.station2;
+      book = as_seen listed;
+      book2 = as_seen listed;
+      is = m.alone.is;
+      did = did_alone frame i pass pass2 listed who d g g2 (Some (piece_told t.piece)) m.station
+          m.station2 m.alone
+          (page_hashes m.station.cell.inode m.station.cell.list m.station2.cell.list g g2 t.page
+          who t.piece d is before m.page (m.alone.leaves listed.seen).journal gathered);
+      told = m.told listed.seen;
+      place = (m.at, refl);
+    })
+
+-- no page for want of memory
+pub page_failed : {E : Type 0} (frame : Frame) (i : ℕ) (pass pass2 : Passed Event)
+    (listed : Passed Entry) (who : Who) (d : Deed) (g : Gathered) (e e2 : E)
+    → PageMet {E = E} frame i pass pass2 who d (Err e)
+    → DeedMet {E = E} frame i pass pass2 listed listed who d g g (Err e2)
+page_failed frame i pass pass2 listed who d g e e2 m = record {
+  station = m.station;
+  station2 = m.station2;
+  book = as_seen listed;
+  book2 = as_seen listed;
+  is = m.alone.is;
+  did = did_alone frame i pass pass2 listed who d g g None m.station m.station2 m.alone refl;
+  told = tt;
+  place = tt;
+}

@@ -1,0 +1,97 @@
+-- What deeds under the inode's lock alone leave.
+use Rattle.std.specs.Prelude.{◌≡◌, ℕ, ◌+◌, length, List, Option, Some, None, IfOk, Result, Ok, Err, slice_get}
+use Rattle.grow_list.specs.Shown.{Passed}
+use Rattle.ima_templates.specs.declared.entry.Entry.{Entry}
+use Rattle.inode_cell.specs.Answers.{piece_told}
+use Rattle.inode_cell.specs.declared.answers.Piece.{Piece}
+use Rattle.inode_cell.specs.declared.writing.Got.{Got}
+use Rattle.inode_events.specs.Asked.{outcome}
+use Rattle.inode_events.specs.Integrity.{Collection, collecting}
+use Rattle.inode_events.specs.Legal.{May}
+use Rattle.inode_events.specs.Past.{past}
+use Rattle.inode_events.specs.State.{content}
+use Rattle.inode_events.specs.declared.deed.Deed.{Deed}
+use Rattle.inode_events.specs.declared.deed.Deed.TheVariants as deed
+use Rattle.inode_events.specs.declared.told.Event.{Event}
+use Rattle.inode_events.specs.declared.told.Told.{Told}
+use Rattle.inode_events.specs.declared.told.Told.TheVariants as told
+use Rattle.inode_meta.specs.declared.step.Who.{Who}
+use Rattle.inode_pages.specs.Content.{piece_at}
+use Rattle.own_laws.specs.Own.{IsBy}
+use Rattle.task_deeds.specs.Leaving.{Leaves, told_by}
+use Rattle.task_frame.specs.Frame.{Frame, Site, inode_in}
+use Rattle.task_frame.specs.World.{IsStation, StationValue}
+use Rattle.task_laws.specs.Ready.{HasLooked}
+use Rattle.world_deeds.specs.declared.answers.Answered.{Answered}
+use Rattle.world_locks.specs.declared.pages.TakenPage.{TakenPage}
+
+-- the deed goes on with a collection
+abbrev pub IsPageDeed : Deed → Type 0
+IsPageDeed (deed.Chunk file) = Unit {0}
+IsPageDeed (deed.CloseChunk file) = Unit {0}
+IsPageDeed _ = ⊥
+
+-- the page, with the place of its event
+abbrev pub taken_in : {E : Type 0} → ℕ → Result (Piece × List ℕ) E → Result TakenPage E
+taken_in place (Ok x) = Ok (record { place = place; piece = x.0; page = x.1 })
+taken_in place (Err e) = Err e
+
+-- what was read, with the place of its event
+abbrev pub read_in : {E : Type 0} → ℕ → Result Got E → Result Answered E
+read_in place (Ok x) =
+    Ok (record { place = place; told = told.Read x.n x.digest; action = None })
+read_in place (Err e) = Err e
+
+-- after a look by the pass the deed may be done
+abbrev pub MayByLook : Frame → ℕ → ℕ → Passed Event → Deed → Type 0
+MayByLook frame i task pass d =
+    (s : Site) (list : List Event) → slice_get frame.sites i ≡ Some s
+    → HasLooked (inode_in frame s) (task + 1) pass.seen list pass.mine
+    → May (inode_in frame s) (past list) d × IsBy (task + 1) d (past list)
+
+-- the same by each of a task's passes
+abbrev pub MayAt : Frame → ℕ → List (Passed Event) → ℕ → Deed → Type 0
+MayAt frame i passes task d =
+    (s : Site) (q : Passed Event) (list : List Event) → slice_get frame.sites i ≡ Some s
+    → slice_get passes i ≡ Some q
+    → HasLooked (inode_in frame s) (task + 1) q.seen list q.mine
+    → May (inode_in frame s) (past list) d × IsBy (task + 1) d (past list)
+
+-- the deed met some inode of this number, and asked nothing of the measurement list
+pub record AloneMet (frame : Frame) (i : ℕ) (pass pass2 : Passed Event) (who : Who) (d : Deed)
+    (o : Option Told) (station station2 : StationValue) : Type 0 where
+  pub is : IsStation frame i station
+  pub looked : HasLooked station.cell.inode pass.number pass.seen station.cell.list pass.mine
+  pub leaves : (list : List Entry) → Leaves station.cell station2.cell list list pass pass2 who d o
+  pub rules : station2.rules ≡ station.rules
+  pub place : station2.place ≡ station.place
+
+-- a page of a collection
+pub record PageMet {E : Type 0} (frame : Frame) (i : ℕ) (pass pass2 : Passed Event) (who : Who)
+    (d : Deed) (r : Result TakenPage E) : Type 0 where
+  pub station : StationValue
+  pub station2 : StationValue
+  pub alone : AloneMet frame i pass pass2 who d
+      (told_by (λ (t : TakenPage). piece_told t.piece) r) station station2
+  pub told : IfOk r (λ t. (list : List Entry)
+      → Some (piece_told t.piece) ≡ outcome station.cell.inode list d (past station.cell.list))
+  pub at : IfOk r (λ t. t.place ≡ length station.cell.list)
+  pub page : IfOk r (λ t. (c : Collection)
+      → collecting station.cell.inode (past station.cell.list) ≡ Some c
+      → t.page ≡ piece_at (content (past station.cell.list)) c.pieces)
+
+-- bytes that were read
+pub record ReadMet {E : Type 0} (frame : Frame) (i : ℕ) (pass pass2 : Passed Event) (who : Who)
+    (d : Deed) (r : Result Answered E) : Type 0 where
+  pub station : StationValue
+  pub station2 : StationValue
+  pub alone : AloneMet frame i pass pass2 who d (told_by (λ (a : Answered). a.told) r) station
+      station2
+  pub told : IfOk r (λ a. (list : List Entry)
+      → Some a.told ≡ outcome station.cell.inode list d (past station.cell.list))
+  pub at : IfOk r (λ a. (a.place ≡ length station.cell.list) × (a.action ≡ None))
+
+-- what it was told, which is something
+abbrev pub alone_in : {E : Type 0} → Result Answered E → Result (Option Answered) E
+alone_in (Ok a) = Ok (Some a)
+alone_in (Err e) = Err e

@@ -1,0 +1,191 @@
+//! Deeds that hash much take the inode's lock alone, and a page that a collection took is hashed
+//! when the lock is given back.
+
+ghost use Rattle.inode_events.specs.declared.deed.Deed.TheVariants as Deed;
+ghost use Rattle.std.specs.Prelude.{◌≡◌, ◌+◌, ◌++◌, List, Some, IfOk, OnErr, length};
+ghost use Rattle.ima_templates.specs.declared.entry.Entry.{Entry as AnyEntry};
+ghost use Rattle.inode_cell.specs.Acts.{Acts, MayBy, Stays};
+ghost use Rattle.inode_cell.specs.Answers.{piece_told};
+ghost use Rattle.inode_events.specs.Asked.{outcome};
+ghost use Rattle.inode_events.specs.Integrity.{Collection as AnyCollection, collecting};
+ghost use Rattle.inode_events.specs.Past.{past};
+ghost use Rattle.inode_events.specs.State.{content};
+ghost use Rattle.inode_pages.specs.Content.{piece_at};
+ghost use Rattle.task_deeds.specs.Hashed.{HasGathered};
+ghost use Rattle.task_deeds.specs.Leaving.{Leaves, told_by};
+ghost use Rattle.task_frame.specs.Tasks.{HasTakenIn};
+ghost use Rattle.task_laws.specs.Ready.{HasLooked};
+ghost use Rattle.task_mind.specs.Steps.{deed_in};
+ghost use Rattle.world_locks.specs.Pages.{IsPageDeed, alone_in, read_in, taken_in};
+
+use grow_list::{OutOfMemory, Pass};
+use inode_cell::{Got, InodeCell, Piece};
+use inode_events::{Event, Told};
+use inode_hashing::Hashing;
+use inode_meta::Who;
+use inode_pages::Page;
+use std::mem;
+use task_frame::Gathered;
+use task_mind::Doing;
+use world_deeds::Answered;
+
+/// A page that a collection took.
+#[derive(Drop)]
+pub struct TakenPage {
+    /// Where its event stands.
+    pub place: u64,
+    /// Whether it is the last.
+    pub piece: Piece,
+    /// Its bytes.
+    pub page: Page,
+}
+
+// The piece is hashed; after the last one the digests are computed.
+fn hashed(mut hashing: Hashing, piece: Piece, page: &Page) -> Gathered
+    ensures { (c : AnyCollection) → HasTakenIn (Gathered.Running hashing) c
+        → HasGathered piece result (record c { bytes = c.bytes ++ page.now }) }
+{
+    hashing.next_page(page);
+    match piece {
+        Piece::More => Gathered::Running(hashing),
+        Piece::Last => {
+            let (chosen, sha1) = hashing.finish();
+            Gathered::Sums(chosen, sha1)
+        }
+    }
+}
+
+// Hashes the page that the collection took.
+pub(crate) fn gather(gathered: &mut Gathered, piece: Piece, page: &Page)
+    ensures { (c : AnyCollection) → HasTakenIn gathered.old c
+        → HasGathered piece gathered.new (record c { bytes = c.bytes ++ page.now }) }
+{
+    if let Gathered::Running(hashing) = mem::replace(gathered, Gathered::Nothing) {
+        *gathered = hashed(hashing, piece, page);
+    }
+}
+
+// What the page is told as.
+pub(crate) fn page_told(piece: Piece) -> Told
+    ensures { result ≡ piece_told piece }
+{
+    match piece {
+        Piece::More => Told::More,
+        Piece::Last => Told::Last,
+    }
+}
+
+// The page, with the place of its event.
+pub(crate) fn taken_at(
+    place: u64,
+    taken: Result<(Piece, Page), OutOfMemory>,
+) -> Result<TakenPage, OutOfMemory>
+    ensures { result ≡ taken_in place taken }
+{
+    match taken {
+        Ok((piece, page)) => Ok(TakenPage { place, piece, page }),
+        Err(err) => Err(err),
+    }
+}
+
+// What was read, with the place of its event.
+pub(crate) fn read_at(place: u64, got: Result<Got, OutOfMemory>) -> Result<Answered, OutOfMemory>
+    ensures { result ≡ read_in place got }
+{
+    match got {
+        Ok(got) => Ok(Answered {
+            place,
+            told: Told::Read {
+                n: got.n,
+                digest: got.digest,
+            },
+            action: None,
+        }),
+        Err(err) => Err(err),
+    }
+}
+
+// The next page of the collection with which the deed goes on.
+fn next_page(
+    cell: &mut InodeCell,
+    pass: &mut Pass<Event>,
+    who: Who,
+    doing: Doing<'_>,
+) -> Result<(Piece, Page), OutOfMemory>
+    requires name { pass.old.name ≡ cell.old.journal }
+    requires number { pass.old.number ≡ who.task + 1 }
+    requires may { MayBy cell.old pass.old.number (deed_in doing) }
+    requires page { IsPageDeed (deed_in doing) }
+    ensures acts { IfOk result (λ r. (list : List AnyEntry) → Acts cell.old cell.new list list
+        pass.old pass.new who (deed_in doing.entry) (Some (piece_told r.0))) }
+    ensures page { IfOk result (λ r. (c : AnyCollection)
+        → collecting cell.old.inode (past cell.old.list) ≡ Some c
+        → r.1 ≡ piece_at (content (past cell.old.list)) c.pieces) }
+    ensures err { OnErr result (Stays cell.old cell.new pass.old pass.new) }
+{
+    match doing {
+        Doing::Chunk(file) => cell.chunk(pass, who, file),
+        Doing::CloseChunk(file) => cell.close_chunk(pass, who, file),
+        _ => unreachable!(),
+    }
+}
+
+// Looks at the journal, and takes the page.
+pub(crate) fn take_page(
+    cell: &mut InodeCell,
+    pass: &mut Pass<Event>,
+    who: Who,
+    doing: Doing<'_>,
+) -> Result<(Piece, Page), OutOfMemory>
+    requires name { pass.old.name ≡ cell.old.journal }
+    requires number { pass.old.number ≡ who.task + 1 }
+    requires may { HasLooked cell.old.inode pass.old.number pass.old.seen cell.old.list
+        pass.old.mine → MayBy cell.old pass.old.number (deed_in doing) }
+    requires page { IsPageDeed (deed_in doing) }
+    ensures looked { HasLooked cell.old.inode pass.old.number pass.old.seen cell.old.list
+        pass.old.mine }
+    ensures leaves { (list : List AnyEntry) → Leaves cell.old cell.new list list pass.old pass.new
+        who (deed_in doing.entry) (told_by (λ r. piece_told r.0) result) }
+    ensures told { IfOk result (λ r. (list : List AnyEntry) → Some (piece_told r.0)
+        ≡ outcome cell.old.inode list (deed_in doing.entry) (past cell.old.list)) }
+    ensures page { IfOk result (λ r. (c : AnyCollection)
+        → collecting cell.old.inode (past cell.old.list) ≡ Some c
+        → r.1 ≡ piece_at (content (past cell.old.list)) c.pieces) }
+{
+    cell.look(pass);
+    next_page(cell, pass, who, doing)
+}
+
+// Looks at the journal, and reads at most `len` bytes, from the byte `from` on.
+pub(crate) fn read(
+    cell: &mut InodeCell,
+    pass: &mut Pass<Event>,
+    who: Who,
+    file: u64,
+    from: u64,
+    len: u64,
+) -> Result<Got, OutOfMemory>
+    requires name { pass.old.name ≡ cell.old.journal }
+    requires number { pass.old.number ≡ who.task + 1 }
+    requires may { HasLooked cell.old.inode pass.old.number pass.old.seen cell.old.list
+        pass.old.mine → MayBy cell.old pass.old.number (Deed.Read file from len) }
+    ensures looked { HasLooked cell.old.inode pass.old.number pass.old.seen cell.old.list
+        pass.old.mine }
+    ensures leaves { (list : List AnyEntry) → Leaves cell.old cell.new list list pass.old pass.new
+        who (Deed.Read file from len) (told_by (λ g. Told.Read g.n g.digest) result) }
+    ensures told { IfOk result (λ g. (list : List AnyEntry) → Some (Told.Read g.n g.digest)
+        ≡ outcome cell.old.inode list (Deed.Read file from len) (past cell.old.list)) }
+{
+    cell.look(pass);
+    cell.read(pass, who, file, from, len)
+}
+
+// What was read, which is something.
+pub(crate) fn alone(read: Result<Answered, OutOfMemory>) -> Result<Option<Answered>, OutOfMemory>
+    ensures { result ≡ alone_in read }
+{
+    match read {
+        Ok(answered) => Ok(Some(answered)),
+        Err(err) => Err(err),
+    }
+}
