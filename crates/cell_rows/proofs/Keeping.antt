@@ -1,4 +1,4 @@
--- What a lab keeps over a look, a step and a want of memory.
+-- What a lab keeps over a look, a step and running out of memory.
 use Rattle.std.proofs.Common.{◌≡◌, ℕ, ◌∷◌, Bool, List, Option, Some, None, refl, sym, ◌∙◌, ap, subst, append-nil}
 use Rattle.grow_list.specs.Shown.{Grown, Passed}
 use Rattle.hash_algos.specs.declared.digest.Digest.{Digest}
@@ -98,7 +98,7 @@ act_keeps l new book list list2 p p2 who d o hashed h own b x hashes = record {
   };
 }
 
--- a want of memory
+-- what is kept when memory runs out
 pub stay_keeps : (l : Lab) (new : CellValue) (book : Grown Entry) (task : ℕ) (p p2 : Passed Event)
     → IsLab l → IsOwn l task p → IsBook l.book book → Stays l.cell new p p2
     → Keeps l (record l { cell = new; book = book }) task p2

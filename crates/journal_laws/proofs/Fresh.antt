@@ -170,7 +170,7 @@ last_told content (Some d) h c e = at (is_last_piece content d.pieces) refl h wh
       (sym (ap (λ (x : Collection). is_last_piece content x.pieces) s) ∙ q)
   at false q g = cc
 
--- pieces of n bytes join to a front of the content
+-- pieces of n bytes join to a prefix of the content
 pieces_join : (n k : ℕ) (xs bytes : List ℕ) → bytes ≡ take (n * k) xs
     → (bytes ++ take n (drop (n * k) xs)) ≡ take (n * (k + 1)) xs
 pieces_join n k xs bytes e =

@@ -184,7 +184,8 @@ module _ (frame : Frame) (t t2 : Tasked) (passes : PassesValue) (g : Gathered) w
         old = m.old;
         goes = subst (λ (z : Tasked). Goes frame t m.old
             (turned_to (state_seen z.passes) z.mind.thought turns.Moved)) (sym k)
-            (subst (λ (u : Thought). Goes frame t m.old (turned_to (state_seen passes) u turns.Moved))
+            (subst (λ (u : Thought).
+            Goes frame t m.old (turned_to (state_seen passes) u turns.Moved))
             heard tells.goes);
       }
 

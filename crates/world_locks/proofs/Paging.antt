@@ -218,7 +218,7 @@ page_met {E} frame i pass pass2 listed who d g g2 t is m before gathered u e =
       place = (m.at, refl);
     })
 
--- no page for want of memory
+-- no page, since memory ran out
 pub page_failed : {E : Type 0} (frame : Frame) (i : ℕ) (pass pass2 : Passed Event)
     (listed : Passed Entry) (who : Who) (d : Deed) (g : Gathered) (e e2 : E)
     → PageMet {E = E} frame i pass pass2 who d (Err e)

@@ -3,8 +3,8 @@ use Rattle.script_run.proofs.running.run.Goals as goal
 
 pub turn_all-requires-clause-turns : goal.turn_all-requires-clause-turns
 turn_all-requires-clause-turns g c =
-    λ κs out. within c.args.script c.in_ok-world.world c.in_ok-world.tasks.items c.in_ok-world.ending
-    c.keeps.ensures c.in_ok-world.ensures
+    λ κs out. within c.args.script c.in_ok-world.world c.in_ok-world.tasks.items
+    c.in_ok-world.ending c.keeps.ensures c.in_ok-world.ensures
 
 pub close-requires-clause-count : goal.close-requires-clause-count
 close-requires-clause-count g c =

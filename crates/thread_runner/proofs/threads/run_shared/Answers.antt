@@ -50,7 +50,8 @@ returns-clause-still g c =
     let is : back ≡ new =
     front_is new (drop (length new) old) c.args.tasks.now.len
     (c.run_parts.ensures.even ∙ c.as_mut_slice.ensures.len) in
-    still_runs c.args.world c.in_ok-after.after old back (c.in_ok-after.ensures ∙ sym c.requires.frame)
+    still_runs c.args.world c.in_ok-after.after old back
+    (c.in_ok-after.ensures ∙ sym c.requires.frame)
     (gone_named c.args.world.frame g.N.Name.frame old c.as_mut_slice.result.now new back
     c.requires.frame c.as_mut_slice.ensures.value is c.requires.tasks c.run_parts.ensures)
 

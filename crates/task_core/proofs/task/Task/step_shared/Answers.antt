@@ -1,4 +1,5 @@
--- Behind its turn the task is one of the world still, and the turn was one on the lists that it met.
+-- Behind its turn the task is one of the world still, and the turn was one on the lists that it
+-- met.
 use Rattle.std.proofs.Common.{◌≡◌, ◌∙◌, ap, refl, sym, subst}
 use Rattle.std.specs.Prelude.{Ok}
 use Rattle.std.specs.Option.{option_copied}
@@ -245,7 +246,8 @@ returns-in-Told-clause-go g c =
     ≡ task_after t c.hear.new.self c.reach.new.passes c.reach.new.gathered =
     elim c.match-answered.branch [ in-Image-1 w ↦ w.self-is | in-Held-1 w ↦ w.self-is ] in
     steps_with g.N.Name.frame c.args.self.now t c.match-answered.self room turns.Moved
-    (moved_steps g.N.Name.frame t c.match-answered.self c.reach.new.passes c.reach.new.gathered c.reach.result
-    c.in_ok-reach.field-0 c.in-Told.answered c.mode.result (option_copied c.as_ref.result)
+    (moved_steps g.N.Name.frame t c.match-answered.self c.reach.new.passes
+    c.reach.new.gathered c.reach.result c.in_ok-reach.field-0 c.in-Told.answered c.mode.result
+    (option_copied c.as_ref.result)
     c.hear.new.self c.in_ok-reach.was c.in-Told.is c.reach.ensures same c.mode.ensures
     c.as_ref.ensures.value c.hear.ensures.thought)
