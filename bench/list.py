@@ -1,6 +1,7 @@
 #!/usr/bin/env python3
-"""bench/list.py [RUNS]: the user time of `imakern list` on the largest list texts, and of hashing their contents by sha256sum and
-sha1sum. Run it after `rt ci`, which builds crates/imakern/out/imakern."""
+"""bench/list.py [RUNS]: the user time of `imakern list` on the largest list texts, and of hashing
+their contents by sha256sum and sha1sum. Run it after `rt ci`, which builds
+crates/imakern/out/imakern."""
 import os, resource, subprocess, sys, tempfile
 
 top = os.path.dirname(os.path.dirname(os.path.abspath(__file__)))
@@ -9,8 +10,8 @@ runs = int(sys.argv[1]) if len(sys.argv) > 1 else 15
 
 
 def text(files, size):
-    lines = ['imalist 1'] + ['file /f%d txt:%s' % (i, chr(97 + i % 26) * size) for i in range(files)] + ['end', '']
-    return '\n'.join(lines).encode()
+    lines = ['file /f%d txt:%s' % (i, chr(97 + i % 26) * size) for i in range(files)]
+    return '\n'.join(['imalist 1'] + lines + ['end', '']).encode()
 
 
 def least_user_time(words, data):
@@ -30,4 +31,5 @@ for files, size in [(15, 262144), (256, 16360)]:
     data = text(files, size)
     ours = least_user_time([program, 'list'], data)
     sums = least_user_time(['sha256sum'], data) + least_user_time(['sha1sum'], data)
-    print('%d files of %d bytes: list %.1f ms, sha256sum and sha1sum %.1f ms' % (files, size, ours, sums))
+    print('%d files of %d bytes: list %.1f ms, sha256sum and sha1sum %.1f ms' % (
+        files, size, ours, sums))
