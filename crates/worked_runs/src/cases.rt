@@ -9,12 +9,15 @@ use crate::outcome::Outcome;
 /// the input, any number of lines
 /// --- writes 0
 /// the whole output; the number is the status
+/// --- anywhere
+/// ends of lines that stand somewhere in the output; without this part there are none
 /// --- notes
 /// what is told on the note; without this part nothing is
 /// ```
 ///
-/// In place of `writes` stands `has`, where of a long output only some lines are to be looked at:
-/// each of them stands in it, in this order.
+/// In place of `writes` stands `has`, where only some lines of the output are to be looked at: each
+/// of them stands in it, in this order. The part `anywhere` is for what the fall of threads' steps
+/// leaves open: in which order their events stand, and under which numbers.
 #[derive(Clone, Copy, Debug)]
 pub struct Case<'a> {
     pub name: &'a str,
@@ -23,6 +26,7 @@ pub struct Case<'a> {
     pub status: u8,
     pub whole: bool,
     pub out: &'a str,
+    pub anywhere: &'a str,
     pub note: &'a str,
 }
 
@@ -34,7 +38,8 @@ impl<'a> Case<'a> {
         let (input, rest) = rest.split_once("--- ")?;
         let (head, rest) = rest.split_once('\n')?;
         let (form, status) = head.split_once(' ')?;
-        let (out, note) = rest.split_once("--- notes\n").unwrap_or((rest, ""));
+        let (rest, note) = rest.split_once("--- notes\n").unwrap_or((rest, ""));
+        let (out, anywhere) = rest.split_once("--- anywhere\n").unwrap_or((rest, ""));
         Some(Case {
             name,
             words,
@@ -42,6 +47,7 @@ impl<'a> Case<'a> {
             status: status.parse().ok()?,
             whole: form == "writes",
             out,
+            anywhere,
             note,
         })
     }
@@ -53,7 +59,9 @@ impl<'a> Case<'a> {
         } else {
             has_lines(&got.out, self.out)
         };
-        out && got.status == self.status && got.note.as_slice() == self.note.as_bytes()
+        out && has_ends(&got.out, self.anywhere)
+            && got.status == self.status
+            && got.note.as_slice() == self.note.as_bytes()
     }
 }
 
@@ -67,4 +75,24 @@ fn has_lines(out: &[u8], lines: &str) -> bool {
         }
     }
     next.is_none()
+}
+
+// Whether each of these is the end of a line of the output.
+fn has_ends(out: &[u8], ends: &str) -> bool {
+    for end in ends.lines() {
+        if !has_end(out, end.as_bytes()) {
+            return false;
+        }
+    }
+    true
+}
+
+// Whether a line of the output ends so.
+fn has_end(out: &[u8], end: &[u8]) -> bool {
+    for line in out.split(|b| *b == b'\n') {
+        if line.ends_with(end) {
+            return true;
+        }
+    }
+    false
 }

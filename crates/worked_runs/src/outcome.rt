@@ -1,5 +1,5 @@
 // What `serve` does with words and an input in memory.
-use ima_io::{FreeGate, MemSink, MemSource};
+use ima_io::{FreeGate, Gate, MemSink, MemSource};
 use ima_top::serve;
 use std::alloc::{AllocError, Global};
 use std::sync::Wait;
@@ -34,10 +34,21 @@ pub fn answer<R: Threads + Wait + Sync>(
     words: &str,
     input: &[u8],
 ) -> Result<Outcome, AllocError> {
+    answer_behind(rt, alloc, words, input, &FreeGate)
+}
+
+/// The same, where each turn of a task passes this gate.
+pub fn answer_behind<G: Gate + Sync, R: Threads + Wait + Sync>(
+    rt: &R,
+    alloc: Global,
+    words: &str,
+    input: &[u8],
+    gate: &G,
+) -> Result<Outcome, AllocError> {
     let mut script = MemSource::new(input.to_vec(alloc)?, 4096, none(alloc));
     let out = MemSink::new(alloc, 1_000_000, 4096, none(alloc))?;
     let note = MemSink::new(alloc, 200, 200, none(alloc))?;
-    served(rt, alloc, words, &mut script, out, note)
+    served_behind(rt, alloc, words, &mut script, out, note, gate)
 }
 
 /// The outcome of the words, parted by spaces, over this source and these sinks.
@@ -46,14 +57,27 @@ pub fn served<R: Threads + Wait + Sync>(
     alloc: Global,
     words: &str,
     script: &mut MemSource,
+    out: MemSink,
+    note: MemSink,
+) -> Result<Outcome, AllocError> {
+    served_behind(rt, alloc, words, script, out, note, &FreeGate)
+}
+
+// The same, where each turn of a task passes this gate.
+fn served_behind<G: Gate + Sync, R: Threads + Wait + Sync>(
+    rt: &R,
+    alloc: Global,
+    words: &str,
+    script: &mut MemSource,
     mut out: MemSink,
     mut note: MemSink,
+    gate: &G,
 ) -> Result<Outcome, AllocError> {
     let mut list = Vec::new(alloc);
     for word in words.split(' ').filter(|word| !word.is_empty()) {
         list.push(String::from_str(alloc, word)?)?;
     }
-    let status = serve(rt, alloc, &list, script, &mut out, &mut note, &FreeGate);
+    let status = serve(rt, alloc, &list, script, &mut out, &mut note, gate);
     Ok(Outcome {
         status,
         out: out.taken().to_vec(alloc)?,

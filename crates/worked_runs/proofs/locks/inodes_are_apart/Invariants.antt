@@ -1,0 +1,5 @@
+-- The constants that threads go by are those of the world.
+use Rattle.worked_runs.proofs.locks.inodes_are_apart.Given as goal
+
+abbrev pub ghosts-are_apart : goal.ghosts-are_apart
+ghosts-are_apart g a = record { frame = a.world.frame }

@@ -1,0 +1,47 @@
+-- The tasks of a script are tasks of its world, as `script_run` has it.
+use Rattle.std.proofs.Common.{◌≡◌, ◌∙◌, ℕ, ◌<◌, All, List, ap, length, map, refl, sym, subst, rules}
+use Rattle.std.proofs.lemmas.List.{length-map}
+use Rattle.std.proofs.lemmas.List.Elements.{All-from_recursion}
+use Rattle.inode_events.specs.declared.image.Image.{Image}
+use Rattle.policy_text.specs.declared.access.Super.{Super}
+use Rattle.script_run.proofs.Fits.{files_fit, places_fit}
+use Rattle.script_run.proofs.Starting.{started_is}
+use Rattle.script_scene.specs.Scene.{file_of, fs_of}
+use Rattle.task_frame.specs.Frame.{Site}
+use Rattle.thread_runner.proofs.Going.{all_tasks}
+use Rattle.world_start.specs.Started.{IsFile}
+use Rattle.worked_runs.proofs.start.started.Goals as goal
+
+pub start-requires-clause-files : goal.start-requires-clause-files
+start-requires-clause-files c =
+    let s = c.args.script in
+    subst (λ (l : List (List ℕ × Image)). All IsFile l) (sym c.in_ok-settings.ensures.inodes)
+    (All-from_recursion IsFile (map file_of s.files)
+    (files_fit s.supers s.files c.keeps.ensures.files.each))
+
+pub start-requires-clause-places : goal.start-requires-clause-places
+start-requires-clause-places c =
+    let s = c.args.script in
+    let parts = c.in_ok-settings.ensures in
+    subst (λ (x : List ℕ × List Super). All (λ place. place < length x.1) x.0)
+    (λ i. (sym parts.places i, sym parts.supers i))
+    (All-from_recursion (λ place. place < length s.supers) (map fs_of s.files)
+    (places_fit s.supers s.files c.keeps.ensures.files.each))
+
+pub returns-clause-tasks : goal.returns-clause-tasks
+returns-clause-tasks c =
+    let count : c.len-count.result ≡ length c.in_ok-settings.field-0.tasks.items =
+    search rules in
+    let frame = c.in_ok-world.world.frame in
+    all_tasks frame frame c.in_ok-tasks.tasks.items refl
+    (started_is c.args.script c.keeps.ensures c.in_ok-settings.field-0 c.in_ok-settings.ensures
+    c.in_ok-world.world c.in_ok-world.passes.items c.in_ok-tasks.tasks.items c.len-count.result
+    count c.in_ok-world.ensures.frame c.in_ok-world.ensures.begins c.in_ok-world.ensures.passes
+    c.in_ok-tasks.ensures).each
+
+pub returns-clause-inodes : goal.returns-clause-inodes
+returns-clause-inodes c =
+    let many : length c.in_ok-settings.field-0.inodes.items ≡ c.len-many.result =
+    search rules in
+    sym (length-map c.in_ok-world.world.frame.sites (λ (x : Site). (x.path, x.birth)))
+    ∙ ap length c.in_ok-world.ensures.frame.files ∙ many

@@ -1,0 +1,164 @@
+// Gates: one that sees which steps pass it, and one behind which two tasks wait for each other.
+use crate::outcome::answer_behind;
+use ima_io::{Gate, Who};
+use ima_top::DONE;
+use std::alloc::{AllocError, Global};
+use std::hint;
+use std::sync::Wait;
+use std::sync::atomic::{AtomicBool, AtomicUsize, Ordering};
+use std::thread::Threads;
+
+// A step of a run: its task, its call and its number in the call.
+type Step = (u32, u32, u32);
+
+// One task that opens, reads and closes a measured file.
+const READER: &str = "imakern 1\n\
+    fs magic=0xef53 uuid=00000000-0000-0000-0000-000000000001 name=ext4 versions\n\
+    file /a fs=0 ino=12 gen=1 uid=0 gid=0 mode=100644 content=txt:abc\n\
+    rule measure func=FILE_CHECK mask=MAY_READ\n\
+    task uid=0 euid=0 gid=0 egid=0\n\
+    open 0 /a r\nread 0 0 3\nclose 0\n";
+
+// A task that posts, and one that waits for it.
+const SIGNALS: &str = "imakern 1\n\
+    task uid=0 euid=0 gid=0 egid=0\npost 0\n\
+    task uid=0 euid=0 gid=0 egid=0\nwait 0\n";
+
+// Two tasks that post.
+const POSTS: &str = "imakern 1\n\
+    task uid=0 euid=0 gid=0 egid=0\npost 0\n\
+    task uid=0 euid=0 gid=0 egid=0\npost 0\n";
+
+// Sees whether it is passed by these steps, in order.
+#[derive(Drop)]
+struct Watch<'a> {
+    steps: &'a [Step],
+    at: AtomicUsize,
+    other: AtomicBool,
+}
+
+impl Gate for Watch<'_> {
+    fn pass(&self, who: Who) {
+        let at = self.at.fetch_add(1, Ordering::SeqCst);
+        let due = self.steps.get(at).copied();
+        if due != Some((who.task, who.call, who.step)) {
+            self.other.store(true, Ordering::SeqCst);
+        }
+    }
+}
+
+// Whether the run of this script, with this ending, passes its gate by these steps.
+fn is_passed_by<R: Threads + Wait + Sync>(
+    rt: &R,
+    alloc: Global,
+    script: &str,
+    ending: &str,
+    steps: &[Step],
+) -> Result<bool, AllocError> {
+    let gate = Watch {
+        steps,
+        at: AtomicUsize::new(0),
+        other: AtomicBool::new(false),
+    };
+    let input = format!(in alloc; "{script}{ending}\n")?;
+    let got = answer_behind(rt, alloc, "run", input.as_bytes(), &gate)?;
+    let all = gate.at.load(Ordering::SeqCst) == steps.len();
+    Ok(got.status == DONE && all && !gate.other.load(Ordering::SeqCst))
+}
+
+/// Whether each turn of a task whose program isn't over passes the gate before it: a blocked one
+/// too, and none behind the last call.
+pub fn turns_pass<R: Threads + Wait + Sync>(rt: &R, alloc: Global) -> Result<bool, AllocError> {
+    let open = [
+        (0, 0, 0),
+        (0, 0, 1),
+        (0, 0, 2),
+        (0, 0, 3),
+        (0, 0, 4),
+        (0, 1, 0),
+        (0, 2, 0),
+    ];
+    let rows: [(&str, &str, &[Step]); 5] = [
+        (READER, "rounds", &open),
+        (READER, "threads 1", &open),
+        (READER, "schedule 0 0 0", &[(0, 0, 0), (0, 0, 1), (0, 0, 2)]),
+        (
+            SIGNALS,
+            "schedule 1 1 0 0 1 1",
+            &[(1, 0, 0), (1, 0, 0), (0, 0, 0), (1, 0, 0)],
+        ),
+        (SIGNALS, "rounds", &[(0, 0, 0), (1, 0, 0)]),
+    ];
+    for (script, ending, steps) in rows {
+        if !is_passed_by(rt, alloc, script, ending, steps)? {
+            return Ok(false);
+        }
+    }
+    Ok(true)
+}
+
+// Lets the first step of each of two tasks wait for that of the other.
+#[derive(Drop)]
+struct Meeting {
+    turns: u64,
+    first: AtomicBool,
+    second: AtomicBool,
+    missed: AtomicBool,
+}
+
+impl Meeting {
+    // Sets the one flag, and waits for the other.
+    fn meet(&self, own: &AtomicBool, other: &AtomicBool) {
+        own.store(true, Ordering::SeqCst);
+        if !sees(other, self.turns) {
+            self.missed.store(true, Ordering::SeqCst);
+        }
+    }
+
+    // Whether both came, and neither waited in vain.
+    fn is_held(&self) -> bool {
+        self.first.load(Ordering::SeqCst)
+            && self.second.load(Ordering::SeqCst)
+            && !self.missed.load(Ordering::SeqCst)
+    }
+}
+
+impl Gate for Meeting {
+    fn pass(&self, who: Who) {
+        match (who.task, who.call, who.step) {
+            (0, 0, 0) => self.meet(&self.first, &self.second),
+            (1, 0, 0) => self.meet(&self.second, &self.first),
+            _ => {}
+        }
+    }
+}
+
+/// Whether the flag is set within so many looks.
+pub fn sees(flag: &AtomicBool, turns: u64) -> bool {
+    for _ in 0..turns {
+        if flag.load(Ordering::SeqCst) {
+            return true;
+        }
+        hint::spin_loop();
+    }
+    false
+}
+
+/// Whether two tasks meet before their first steps: each waits for the other, for at most so many
+/// looks at its flag.
+pub fn tasks_meet<R: Threads + Wait + Sync>(
+    rt: &R,
+    alloc: Global,
+    ending: &str,
+    turns: u64,
+) -> Result<bool, AllocError> {
+    let gate = Meeting {
+        turns,
+        first: AtomicBool::new(false),
+        second: AtomicBool::new(false),
+        missed: AtomicBool::new(false),
+    };
+    let input = format!(in alloc; "{POSTS}{ending}\n")?;
+    let got = answer_behind(rt, alloc, "run", input.as_bytes(), &gate)?;
+    Ok(got.status == DONE && gate.is_held())
+}
