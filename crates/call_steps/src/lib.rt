@@ -8,6 +8,7 @@
 #![tactic(auto)]
 
 mod ask;
+mod boxed_rule;
 mod call;
 mod course;
 mod due;
@@ -17,10 +18,9 @@ mod held;
 mod next;
 mod plan;
 mod reply;
-#[cfg(test)]
-mod tests;
 
 pub use ask::Ask;
+pub use boxed_rule::BoxedRule;
 pub use call::Call;
 pub use course::Course;
 pub use due::{Due, Next};

@@ -1,7 +1,7 @@
 ghost use Rattle.std.specs.Prelude.{◌≡◌};
 ghost use Rattle.call_steps.specs.Steps.{reply_of};
 
-use hash_algos::Digest;
+use hash_algos::Sha256Digest;
 use inode_events::Told;
 use inode_meta::EvmStatus;
 use label_values::Cause;
@@ -12,7 +12,7 @@ pub enum Reply {
     /// Done.
     Done,
     /// So many bytes were read; the digest is their SHA-256.
-    Bytes { n: u64, digest: Digest },
+    Bytes { n: u64, digest: Sha256Digest },
     /// The file is absent (`ENOENT`).
     NotFound,
     /// The descriptor, map or run isn't there, is of the wrong mode, or is made anew while it is

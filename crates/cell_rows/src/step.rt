@@ -1,6 +1,6 @@
 // One deed of a table, as its line gives it.
 use anyhow::{Context, Result};
-use inode_events::{Change, Deed, How};
+use inode_events::{BoxedBytes, Change, Deed, How};
 use inode_meta::Who;
 use policy_text::{Action, Purpose};
 use script_words::{id_of, ino_of, mode_of, value_of};
@@ -141,7 +141,7 @@ fn write_of(alloc: Global, rest: &str) -> Result<Deed> {
     Ok(Deed::Write {
         file: number_of(file).context("no file")?,
         from: number_of(from).context("no place")?,
-        bytes: bytes_of(alloc, bytes)?,
+        bytes: BoxedBytes::new(alloc, bytes_of(alloc, bytes)?)?,
     })
 }
 
@@ -154,10 +154,10 @@ fn bytes_of(alloc: Global, text: &str) -> Result<Bytes> {
 
 fn attribute_of(alloc: Global, rest: &str) -> Result<Deed> {
     let (name, value) = rest.split_once(' ').context("no value")?;
-    let name = Bytes::from_slice(alloc, name.as_bytes())?;
+    let name = BoxedBytes::from_slice(alloc, name.as_bytes())?;
     let value = match value {
         "-" => None,
-        text => Some(bytes_of(alloc, text)?),
+        text => Some(BoxedBytes::new(alloc, bytes_of(alloc, text)?)?),
     };
     Ok(Deed::SetAttr {
         name,

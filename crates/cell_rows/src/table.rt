@@ -118,7 +118,7 @@ fn start(alloc: Global, parts: ScriptParts) -> Result<(Room, Asking)>
     let place = supers.pop().context("no file system")?;
     ensure!(inodes.is_empty() && supers.is_empty(), "more than one file");
     ensure!(can_show(Template::Ima, path.as_slice()), "a long path");
-    ensure!(image.content.as_slice().len() <= 262_144, "a long file");
+    ensure!(image.content.len() <= 262_144, "a long file");
     ensure!(tasks.len() < 100, "many tasks");
     let count = tasks.len() as u32;
     let room = Room::start(alloc, path.as_slice(), image, settings, boot, count)?;

@@ -10,6 +10,3 @@ mod parser;
 
 pub use command::Command;
 pub use parser::command_of;
-
-#[cfg(test)]
-mod tests;

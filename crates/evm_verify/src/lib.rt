@@ -6,8 +6,6 @@
 mod evm;
 mod input;
 mod names;
-#[cfg(test)]
-mod tests;
 
 pub use evm::Evm;
 pub use input::VALUE_LEN;

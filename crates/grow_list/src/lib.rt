@@ -10,6 +10,3 @@ mod meeting;
 
 pub use inode_meta::OutOfMemory;
 pub use list::{Grow, Pass};
-
-#[cfg(test)]
-mod tests;

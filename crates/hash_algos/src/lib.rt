@@ -8,10 +8,10 @@ mod algo;
 mod algo_set;
 mod digest;
 mod running;
-#[cfg(test)]
-mod tests;
+mod sha256_digest;
 
 pub use algo::{Algo, by_id, by_name};
 pub use algo_set::AlgoSet;
 pub use digest::Digest;
 pub use running::{Running, digest_of};
+pub use sha256_digest::Sha256Digest;

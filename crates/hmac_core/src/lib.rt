@@ -4,7 +4,5 @@
 #![tactic(auto)]
 
 mod hmac;
-#[cfg(test)]
-mod tests;
 
 pub use hmac::{HmacSha1, MAC_LEN};

@@ -3,7 +3,5 @@
 #![tactic(auto)]
 
 mod appraisal;
-#[cfg(test)]
-mod tests;
 
 pub use appraisal::{mend_for, verdict};

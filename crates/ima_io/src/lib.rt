@@ -19,6 +19,3 @@ pub use memory::{MemSink, MemSource};
 pub use outside::{Failed, FreeGate, Gate, Sink, Source, Who};
 pub use standard::{StdSink, StdSource};
 pub use whole::{ReadErr, read_all, write_all};
-
-#[cfg(test)]
-mod tests;

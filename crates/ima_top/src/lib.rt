@@ -17,6 +17,3 @@ mod top;
 pub use command_line::Command;
 pub use status::{DONE, OUT_OF_MEMORY, READ_FAULT, REFUSED, STUCK, TOO_LONG, USAGE, WRITE_FAULT};
 pub use top::{MOST_INPUT, serve};
-
-#[cfg(test)]
-mod tests;

@@ -21,9 +21,8 @@ use hash_algos::Digest;
 use ima_templates::Entry;
 use inode_events::{Event, Image, Settings};
 use inode_kept::{InForce, State};
-use inode_pages::Content;
 use kept_journal::KeptJournal;
-use std::alloc::{AllocError, Global};
+use std::alloc::Global;
 use xattr_store::{Attrs, Bytes};
 
 /// An inode at the end of a run.
@@ -84,9 +83,7 @@ impl InodeCell {
             → slice_get r.1.items k ≡ Some (new_pass r.0.journal r.0.list (k + 1))) }
         ensures others { IfOk result (λ r. HasPasses r.0 r.1.items) }
     {
-        let Ok(content) = Content::from_slice(alloc, image.content.as_slice()) else {
-            return Err(AllocError);
-        };
+        let content = image.content.share(alloc)?;
         let attrs = image.attrs.copy()?;
         let path = Bytes::from_slice(alloc, path)?;
         let (kept, passes) = KeptJournal::start(alloc, path, settings, image, tasks)?;

@@ -13,8 +13,6 @@ mod granting;
 mod listing;
 mod reading;
 mod setting;
-#[cfg(test)]
-mod tests;
 mod writing;
 
 pub use answers::{CloseTaken, Counted, Found, Piece, Set, Taken, Wrote};

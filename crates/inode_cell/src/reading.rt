@@ -4,7 +4,7 @@ ghost use Rattle.hash_algos.specs.Digest.{digest_of};
 ghost use Rattle.hash_algos.specs.Running.{HasTaken, running_algo};
 ghost use Rattle.inode_pages.specs.Content.{bytes_at};
 
-use hash_algos::{Algo, Digest, Running};
+use hash_algos::{Algo, Running, Sha256Digest};
 use inode_pages::{Content, PAGE_SIZE};
 
 // Feeds at most `len` bytes from the byte `from` on, a page at a time, and answers how many they
@@ -29,11 +29,11 @@ fn feed_from(running: &mut Running, content: &Content, from: u64, len: u64) -> u
 }
 
 /// The number of bytes, at most `len`, from the byte `from` on, and their SHA-256.
-pub fn hashed_at(content: &Content, from: u64, len: u64) -> (u64, Digest)
+pub fn hashed_at(content: &Content, from: u64, len: u64) -> (u64, Sha256Digest)
     ensures count { result.0 ≡ length (bytes_at content.now from len) }
     ensures digest { result.1 ≡ digest_of Algo.Sha256 (bytes_at content.now from len) }
 {
     let mut running = Running::new(Algo::Sha256);
     let count = feed_from(&mut running, content, from, len);
-    (count, running.finish())
+    (count, Sha256Digest::of(&running.finish()))
 }

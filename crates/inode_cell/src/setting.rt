@@ -12,11 +12,11 @@ ghost use Rattle.inode_cell.specs.Answers.{set_told};
 use crate::answers::Set;
 use crate::cell::InodeCell;
 use grow_list::{OutOfMemory, Pass};
-use inode_events::{Change, Deed, Event, Told};
+use inode_events::{BoxedBytes, Change, Deed, Event, Told};
 use inode_kept::Known;
 use inode_meta::{Cred, EvmStatus, Who};
 use std::alloc::Global;
-use xattr_store::{Bytes, EVM_NAME, IMA_NAME, MAX_VALUE};
+use xattr_store::{EVM_NAME, IMA_NAME, MAX_VALUE};
 
 // The highest type of a label that the kernel knows.
 const LAST_TYPE: u8 = 6;
@@ -47,7 +47,7 @@ fn by_status(answer: Result<(), EvmStatus>) -> Set
     }
 }
 
-fn is_too_long(value: &Option<Bytes>) -> bool
+fn is_too_long(value: &Option<BoxedBytes>) -> bool
     ensures { result ≡ is_too_long value.now }
 {
     match value {
@@ -65,7 +65,7 @@ fn is_no_label_bytes(bytes: &[u8]) -> bool
     }
 }
 
-fn is_no_label(value: &Option<Bytes>) -> bool
+fn is_no_label(value: &Option<BoxedBytes>) -> bool
     ensures { result ≡ is_no_label value.now }
 {
     match value {
@@ -74,19 +74,19 @@ fn is_no_label(value: &Option<Bytes>) -> bool
     }
 }
 
-fn copied(alloc: Global, value: Option<&[u8]>) -> Result<Option<Bytes>, OutOfMemory>
+fn copied(alloc: Global, value: Option<&[u8]>) -> Result<Option<BoxedBytes>, OutOfMemory>
     ensures { IfOk result (λ copy. copy ≡ option_copied value.entry) }
 {
     match value {
         None => Ok(None),
-        Some(bytes) => Ok(Some(Bytes::from_slice(alloc, bytes)?)),
+        Some(bytes) => Ok(Some(BoxedBytes::from_slice(alloc, bytes)?)),
     }
 }
 
 impl InodeCell {
     // What a change of an attribute answers, where no collection is open: the first refusal that
     // holds, else done.
-    fn attr_answer(&self, name: &[u8], value: &Option<Bytes>, admin: bool) -> Set
+    fn attr_answer(&self, name: &[u8], value: &Option<BoxedBytes>, admin: bool) -> Set
         ensures { set_told result ≡ Some (set_attr_told self.now.inode name.now value.now admin
             (past self.now.list)) }
     {
@@ -181,7 +181,7 @@ impl InodeCell {
             self.block(pass);
             return Ok(Set::Blocked);
         }
-        let name = Bytes::from_slice(self.alloc, name)?;
+        let name = BoxedBytes::from_slice(self.alloc, name)?;
         let value = copied(self.alloc, value)?;
         self.set_free(pass, who, name, value, cred.admin)
     }
@@ -191,8 +191,8 @@ impl InodeCell {
         &mut self,
         pass: &mut Pass<Event>,
         who: Who,
-        name: Bytes,
-        value: Option<Bytes>,
+        name: BoxedBytes,
+        value: Option<BoxedBytes>,
         admin: bool,
     ) -> Result<Set, OutOfMemory>
         requires name { pass.old.name ≡ self.old.journal }

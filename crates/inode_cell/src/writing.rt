@@ -16,13 +16,12 @@ use crate::answers::{Piece, Wrote};
 use crate::cell::InodeCell;
 use crate::reading::hashed_at;
 use grow_list::{OutOfMemory, Pass};
-use hash_algos::{Algo, Digest};
-use inode_events::{Deed, Event, Told};
+use hash_algos::{Algo, Sha256Digest};
+use inode_events::{BoxedBytes, Deed, Event, Told};
 use inode_kept::Known;
 use inode_meta::Who;
 use inode_pages::{PAGE_SIZE, Page, PageErr};
 use std::alloc::AllocError;
-use xattr_store::Bytes;
 
 // Nothing is left behind the piece with this number, counted from 0, of a content of this size.
 fn is_last(size: u64, piece: u64) -> bool
@@ -57,7 +56,7 @@ pub struct Got {
     /// The number of bytes.
     pub n: u64,
     /// Their SHA-256.
-    pub digest: Digest,
+    pub digest: Sha256Digest,
 }
 
 impl InodeCell {
@@ -204,7 +203,7 @@ impl InodeCell {
             bytes.now) (Some (wrote_told w))) }
         ensures err { OnErr result (Stays self.old self.new pass.old pass.new) }
     {
-        let copy = Bytes::from_slice(self.alloc, bytes)?;
+        let copy = BoxedBytes::from_slice(self.alloc, bytes)?;
         let deed = Deed::Write {
             file,
             from,

@@ -1,5 +1,5 @@
+use crate::boxed_bytes::BoxedBytes;
 use policy_text::{Action, Func};
-use xattr_store::Bytes;
 
 /// How a file is opened, which its count says.
 #[derive(Clone, Copy, Debug, PartialEq, Eq)]
@@ -61,7 +61,7 @@ pub enum Deed {
     Write {
         file: u64,
         from: u64,
-        bytes: Bytes,
+        bytes: BoxedBytes,
     },
     /// The content is cut to `len` bytes, or lengthened by zeros.
     Trunc {
@@ -71,8 +71,8 @@ pub enum Deed {
     /// An extended attribute is set, or with no value removed. `admin` is the task's right to
     /// administer.
     SetAttr {
-        name: Bytes,
-        value: Option<Bytes>,
+        name: BoxedBytes,
+        value: Option<BoxedBytes>,
         admin: bool,
     },
     /// The mode or the owner is changed.

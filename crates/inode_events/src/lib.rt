@@ -6,14 +6,16 @@
 //! is told, and which journals are legal.
 #![tactic(auto)]
 
+mod boxed_bytes;
 mod deed;
 mod ended;
 mod image;
 mod settings;
 mod told;
 
+pub use boxed_bytes::BoxedBytes;
 pub use deed::{Change, Deed, How};
 pub use ended::EndedInode;
-pub use image::Image;
+pub use image::{BoxedImage, Image};
 pub use settings::Settings;
 pub use told::{Event, Grant, Told};

@@ -1,7 +1,7 @@
 use crate::deed::Deed;
-use crate::image::Image;
+use crate::image::BoxedImage;
 use evm_verify::Evm;
-use hash_algos::Digest;
+use hash_algos::Sha256Digest;
 use ima_templates::Placed;
 use inode_meta::{EvmStatus, Who};
 use label_values::Verdict;
@@ -24,7 +24,7 @@ pub struct Grant {
 #[derive(Drop)]
 pub enum Told {
     /// The birth: the inode as its script describes it.
-    Image(Image),
+    Image(BoxedImage),
     /// A count: the file is counted.
     Held,
     /// A count, or a change of attributes or metadata: the file is absent.
@@ -47,7 +47,7 @@ pub enum Told {
     /// A chunk: it was the last one.
     Last,
     /// A read: the number of bytes and their SHA-256.
-    Read { n: u64, digest: Digest },
+    Read { n: u64, digest: Sha256Digest },
     /// A write, truncation or change, a post or a wait: it was done.
     Done,
     /// A write or truncation: it would end above the limit on a file.

@@ -29,7 +29,7 @@ fn present_after(e: &Event, old: bool) -> bool
     ensures { result ≡ present_after e.now.deed e.now.told old }
 {
     match (&e.deed, &e.told) {
-        (Deed::Birth, Told::Image(image)) => image.present,
+        (Deed::Birth, Told::Image(image)) => image.get().present,
         (Deed::Count { .. }, Told::Held) => true,
         _ => old,
     }
@@ -39,7 +39,7 @@ fn versions_after(e: &Event, old: bool) -> bool
     ensures { result ≡ versions_after e.now.deed e.now.told old }
 {
     match (&e.deed, &e.told) {
-        (Deed::Birth, Told::Image(image)) => image.versions,
+        (Deed::Birth, Told::Image(image)) => image.get().versions,
         _ => old,
     }
 }

@@ -20,7 +20,7 @@ pub fn metadata_after(e: &Event, old: Meta) -> Meta
     ensures { result ≡ metadata_after e.now.deed e.now.told old }
 {
     match (&e.deed, &e.told) {
-        (Deed::Birth, Told::Image(image)) => image.meta,
+        (Deed::Birth, Told::Image(image)) => image.get().meta,
         (Deed::SetMeta { change }, Told::Done) => changed(*change, old),
         _ => old,
     }

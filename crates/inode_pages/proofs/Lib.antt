@@ -3,4 +3,6 @@ pub mod Lookups
 pub mod Writes
 pub mod Paging
 pub mod Changes
+pub mod Filling
 pub mod Reading
+pub mod Walking

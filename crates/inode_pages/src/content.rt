@@ -1,10 +1,13 @@
 //! The content of a file.
-ghost use Rattle.std.specs.Prelude.{◌≡◌, ℕ, ◌∷◌, ◌+◌, ◌-◌, ◌*◌, ◌%◌, ◌<◌, ◌≤◌, ◌↔◌, ◌⊎◌, [], ◌++◌, length, take, drop, IfOk, IsErrOf, OnOk, OnErr, min, slice_get, vec_len, Some};
+ghost use Rattle.std.specs.Prelude.{◌≡◌, ℕ, ◌∷◌, ◌+◌, ◌-◌, ◌*◌, ◌%◌, ◌<◌, ◌≤◌, ◌↔◌, ◌⊎◌, [], ◌++◌, length, take, drop, IfOk, IsErrOf, OnOk, OnErr, min, replicate, slice_get, vec_len, Some};
+ghost use Rattle.std.specs.List.{concat};
 ghost use Rattle.std.specs.Vec.{vec_capacity};
 ghost use Rattle.inode_pages.specs.Content.{bytes_at, overwritten, piece_bytes, piece_at, resized, most_bytes};
+ghost use Rattle.inode_pages.specs.Pages.{ArePagesOf};
 ghost use Rattle.inode_pages.specs.declared.content.PageErr.TheVariants.{OutOfMemory};
 
-use crate::page::{PAGE_SIZE, Page, overwritten};
+use crate::filled::filled_pages;
+use crate::page::{PAGE_SIZE, Page, overwritten, shared};
 use inode_meta::OutOfMemory;
 use std::alloc::{AllocError, Global};
 use std::marker::Model;
@@ -121,6 +124,29 @@ impl Content {
         Ok(content)
     }
 
+    /// So many times one byte; `TooBig` exactly where that is more than [`MOST_BYTES`]. All full
+    /// pages are one, which they share.
+    pub fn filled(alloc: Global, count: u64, byte: u8) -> Result<Content, PageErr>
+        ensures ok { IfOk result (λ content. content ≡ replicate count byte) }
+        ensures too_big { IsErrOf result PageErr.TooBig ↔ (most_bytes < count) }
+    {
+        if count > MOST_BYTES {
+            return Err(PageErr::TooBig);
+        }
+        let pages = filled_pages(alloc, count as usize, byte)?;
+        let content = Content { pages };
+        Ok(content)
+    }
+
+    /// The same content. The pages are shared and not copied; a write to the one leaves the other.
+    pub fn share(&self, alloc: Global) -> Result<Content, OutOfMemory>
+        ensures { IfOk result (λ content. content ≡ self.now) }
+    {
+        let pages = shared(alloc, self.pages.as_slice())?;
+        let content = Content { pages };
+        Ok(content)
+    }
+
     /// The number of bytes.
     pub fn len(&self) -> u64
         ensures { result ≡ length self.now }
@@ -131,6 +157,14 @@ impl Content {
             }
             None => 0,
         }
+    }
+
+    /// The pages, in order.
+    pub fn pages(&self) -> &[Page]
+        ensures pages { ArePagesOf self.now result.now }
+        ensures bytes { concat result.now ≡ self.now }
+    {
+        self.pages.as_slice()
     }
 
     // The piece with this number, none behind the last.

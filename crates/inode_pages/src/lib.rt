@@ -3,9 +3,8 @@
 #![tactic(auto)]
 
 mod content;
+mod filled;
 mod page;
-#[cfg(test)]
-mod tests;
 
 pub use content::{Content, MOST_BYTES, PageErr};
 pub use inode_meta::OutOfMemory;

@@ -1,5 +1,5 @@
 //! A page: bytes that may have several owners, and are never changed.
-ghost use Rattle.std.specs.Prelude.{◌≡◌, ◌+◌, ◌≤◌, length, IfOk};
+ghost use Rattle.std.specs.Prelude.{◌≡◌, ◌+◌, ◌≤◌, length, replicate, IfOk};
 ghost use Rattle.inode_pages.specs.Content.{overwritten, piece_bytes};
 
 use inode_meta::OutOfMemory;
@@ -47,6 +47,14 @@ impl Page {
         Ok(Page { bytes })
     }
 
+    /// The page of so many times this byte.
+    pub fn filled(alloc: Global, count: usize, byte: u8) -> Result<Page, OutOfMemory>
+        requires small { count ≤ piece_bytes }
+        ensures bytes { IfOk result (λ p. p ≡ replicate count byte) }
+    {
+        Page::from_vec(alloc, vec![in alloc; byte; count]?)
+    }
+
     /// The same page, with one owner more.
     pub fn share(&self) -> Result<Page, OutOfMemory>
         ensures bytes { IfOk result (λ p. p ≡ self.now) }
@@ -54,6 +62,17 @@ impl Page {
         let bytes = Arc::try_clone(&self.bytes)?;
         Ok(Page { bytes })
     }
+}
+
+/// The same pages, each with one owner more.
+pub fn shared(alloc: Global, pages: &[Page]) -> Result<Vec<Page>, OutOfMemory>
+    ensures { IfOk result (λ copy. copy.items ≡ pages.now) }
+{
+    let mut copy = Vec::with_capacity(alloc, pages.len())?;
+    for page in pages {
+        copy.push_reserved(page.share()?);
+    }
+    Ok(copy)
 }
 
 /// A new page: the old one's bytes with others written over them from a place on.

@@ -15,7 +15,7 @@ ghost use Rattle.kept_journal.specs.Value.{HasOthers, IsSameJournal, beside_own,
 
 use crate::showing::show;
 use grow_list::{Grow, OutOfMemory, Pass};
-use inode_events::{Deed, Event, How, Image, Settings, Told};
+use inode_events::{BoxedImage, Deed, Event, How, Image, Settings, Told};
 use inode_kept::{Known, State, counted};
 use inode_meta::Who;
 use std::alloc::Global;
@@ -174,7 +174,8 @@ impl KeptJournal {
         let mut own = passes.remove(0);
         journal.reserve(1)?;
         let state = State::born(alloc, &image);
-        journal.push(&mut own, born(image));
+        let birth = born(alloc, image)?;
+        journal.push(&mut own, birth);
         show(&mut journal, &mut passes);
         let kept = KeptJournal {
             path,
@@ -215,17 +216,18 @@ impl KeptJournal {
 }
 
 // The birth of an inode with this image.
-fn born(image: Image) -> Event
-    ensures { result ≡ birth_of image }
+fn born(alloc: Global, image: Image) -> Result<Event, OutOfMemory>
+    ensures { IfOk result (λ birth. birth ≡ birth_of image) }
 {
+    let image = BoxedImage::new(alloc, image)?;
     let who = Who {
         task: 0,
         call: 0,
         step: 0,
     };
-    Event {
+    Ok(Event {
         who,
         deed: Deed::Birth,
         told: Told::Image(image),
-    }
+    })
 }

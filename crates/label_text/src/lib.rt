@@ -6,6 +6,3 @@ mod seal;
 mod text;
 
 pub use text::label_text;
-
-#[cfg(test)]
-mod tests;

@@ -3,7 +3,8 @@ ghost use Rattle.std.specs.Prelude.{◌≡◌, IfOk};
 ghost use Rattle.script_text.specs.Files.{sealed};
 
 use evm_verify::Evm;
-use hash_algos::{Algo, digest_of};
+use hash_algos::Algo;
+use inode_hashing::digest_of_content;
 use inode_meta::OutOfMemory;
 use label_values::{MAX_LABEL, write_label};
 use script_text::FileBlock;
@@ -14,7 +15,7 @@ pub fn sealed_attrs(evm: &Evm, hash: Algo, file: &FileBlock) -> Result<Attrs, Ou
     ensures { IfOk result (λ attrs. attrs ≡ (sealed evm.now hash file.now).image.attrs) }
 {
     let mut out = [0; MAX_LABEL];
-    let digest = digest_of(hash, file.image.content.as_slice());
+    let digest = digest_of_content(hash, &file.image.content);
     let len = write_label(&digest, &mut out);
     let mut attrs = file.image.attrs.copy()?;
     let label = NewValue {

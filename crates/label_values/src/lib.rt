@@ -3,8 +3,6 @@
 #![tactic(auto)]
 
 mod label;
-#[cfg(test)]
-mod tests;
 mod verdict;
 
 pub use label::{Label, MAX_LABEL, collect_algo, read_label, write_label};

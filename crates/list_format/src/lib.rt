@@ -7,8 +7,6 @@ mod counts;
 mod data;
 mod line;
 mod record;
-#[cfg(test)]
-mod tests;
 
 pub use counts::violations;
 pub use line::{append_hex, append_named_digest, ascii};

@@ -3,8 +3,6 @@
 #![tactic(auto)]
 
 mod draws;
-#[cfg(test)]
-mod tests;
 mod text;
 
 pub use text::{MOST_BYTES, script};

@@ -7,6 +7,3 @@ mod places;
 
 pub use book::Book;
 pub use grow_list::{OutOfMemory, Pass};
-
-#[cfg(test)]
-mod tests;

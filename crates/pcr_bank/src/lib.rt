@@ -3,8 +3,6 @@
 #![tactic(auto)]
 
 mod banks;
-#[cfg(test)]
-mod tests;
 
 pub use banks::Banks;
 pub use inode_meta::Bank;

@@ -2,8 +2,6 @@
 #![tactic(auto)]
 
 mod cell;
-#[cfg(test)]
-mod tests;
 
 pub use cell::{PolicyCell, RuleEntry};
 pub use grow_list::{OutOfMemory, Pass};

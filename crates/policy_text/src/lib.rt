@@ -13,8 +13,6 @@ mod line;
 mod policy;
 mod read;
 mod rule;
-#[cfg(test)]
-mod tests;
 mod values;
 mod words;
 mod write;

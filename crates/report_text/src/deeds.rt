@@ -8,11 +8,10 @@ ghost use Rattle.report_text.specs.Words.{change_words, deed_words, how_words, l
 
 use crate::acts::{push_acts, push_rules};
 use crate::push::{push_number, push_numbers};
-use inode_events::{Change, Deed, How};
+use inode_events::{BoxedBytes, Change, Deed, How};
 use inode_meta::{OutOfMemory, Template};
 use std::alloc::AllocError;
 use std::io::Write;
-use xattr_store::Bytes;
 
 // `default` is the template that a measurement uses whose rule names none, and `grows` says whether
 // rules can be appended.
@@ -99,7 +98,7 @@ fn how_text(how: How) -> &'static str
 }
 
 // The length of the value that is set, or a dash for a removal.
-fn push_length(out: &mut Vec<u8>, value: &Option<Bytes>) -> Result<(), OutOfMemory>
+fn push_length(out: &mut Vec<u8>, value: &Option<BoxedBytes>) -> Result<(), OutOfMemory>
     ensures { OnOk result (out.new.items ≡ out.old.items ++ length_word value.now) }
 {
     match value {

@@ -14,8 +14,6 @@ mod lists;
 mod print;
 mod push;
 mod tasks;
-#[cfg(test)]
-mod tests;
 mod tolds;
 mod totals;
 

@@ -8,8 +8,6 @@ mod decision;
 mod family;
 mod group;
 mod index;
-#[cfg(test)]
-mod tests;
 
 pub use conditions::matches;
 pub use decision::decide;

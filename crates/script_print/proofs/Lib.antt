@@ -4,6 +4,7 @@ pub mod CallsAgain
 pub mod EvmAgain
 pub mod FileWords
 pub mod FilesAgain
+pub mod HexPages
 pub mod Lines
 pub mod Many
 pub mod PathsAgain

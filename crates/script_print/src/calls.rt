@@ -9,12 +9,11 @@ ghost use Rattle.policy_text.specs.Spelling.{rule_words};
 
 use crate::pushed::{push_number, push_octal, push_value, push_word};
 use call_steps::{Call, Ending};
-use inode_events::{Change, How};
+use inode_events::{BoxedBytes, Change, How};
 use inode_meta::{Cred, OutOfMemory};
 use policy_text::{Rule, print_rule};
 use script_text::{FileBlock, TaskBlock};
 use std::alloc::Global;
-use xattr_store::Bytes;
 
 pub fn push_rules(alloc: Global, out: &mut Vec<u8>, rules: &[Rule]) -> Result<(), OutOfMemory>
     ensures text { OnOk result (
@@ -129,7 +128,7 @@ fn push_call(
         Call::SetMeta { inode, change } => push_change(out, path_at(files, *inode), *change),
         Call::Post { sem } => push_number(out, b"post ", u64::from(*sem)),
         Call::Wait { sem } => push_number(out, b"wait ", u64::from(*sem)),
-        Call::AddRule { rule } => push_added(alloc, out, rule),
+        Call::AddRule { rule } => push_added(alloc, out, rule.get()),
         Call::Module { inode } => push_named(out, b"module", path_at(files, *inode)),
         Call::Firmware { inode } => push_named(out, b"firmware", path_at(files, *inode)),
     }
@@ -243,7 +242,7 @@ fn push_set(
     out: &mut Vec<u8>,
     path: &[u8],
     name: &[u8],
-    value: &Option<Bytes>,
+    value: &Option<BoxedBytes>,
 ) -> Result<(), OutOfMemory>
     ensures { OnOk result (out.new.items
         ≡ out.old.items ++ words_text (attr_set_line path.now name.now value.now)) }

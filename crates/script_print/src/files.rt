@@ -1,12 +1,13 @@
 // The blocks of files.
 
-ghost use Rattle.std.specs.Prelude.{◌≡◌, ◌++◌, flat_map, OnOk};
+ghost use Rattle.std.specs.Prelude.{◌≡◌, ◌++◌, codes, flat_map, OnOk};
 ghost use Rattle.script_print.specs.Lines.{line_text, lines_text, spaced};
-ghost use Rattle.script_print.specs.Spelling.{attr_line, content_words, file_line, file_lines, kind_word, meta_words};
+ghost use Rattle.script_print.specs.Spelling.{attr_line, content_words, file_line, file_lines, hex_text, kind_word, meta_words};
 
-use crate::pushed::{push_number, push_octal, push_value, push_word};
+use crate::pushed::{push_hex, push_number, push_octal, push_value, push_word};
 use inode_events::Image;
 use inode_meta::{Meta, OutOfMemory};
+use inode_pages::Content;
 use script_text::FileBlock;
 use xattr_store::Bytes;
 
@@ -59,7 +60,20 @@ fn push_content(out: &mut Vec<u8>, image: &Image) -> Result<(), OutOfMemory>
     ensures { OnOk result (out.new.items ≡ out.old.items ++ spaced (content_words image.now)) }
 {
     if image.present {
-        push_value(out, b" content=", image.content.as_slice())?;
+        push_pages(out, &image.content)?;
+    }
+    Ok(())
+}
+
+// The bytes of a content, page by page.
+fn push_pages(out: &mut Vec<u8>, content: &Content) -> Result<(), OutOfMemory>
+    ensures { OnOk result (
+        out.new.items ≡ out.old.items ++ (codes " content=" ++ hex_text content.now)) }
+{
+    let pages = content.pages();
+    out.extend_from_slice(b" content=hex:")?;
+    for page in pages {
+        push_hex(out, page.as_slice())?;
     }
     Ok(())
 }

@@ -12,6 +12,3 @@ mod settings;
 
 pub use law::text_is_read;
 pub use script::print;
-
-#[cfg(test)]
-mod tests;

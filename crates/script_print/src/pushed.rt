@@ -1,6 +1,7 @@
 // Words and numbers, put behind a text.
 
 ghost use Rattle.std.specs.Prelude.{◌≡◌, [], ◌∷◌, ◌++◌, decimal, OnOk};
+ghost use Rattle.hex.specs.Hex.{encode_lower};
 ghost use Rattle.script_print.specs.Lines.{line_text};
 ghost use Rattle.script_print.specs.Spelling.{hex_text, octal};
 
@@ -38,6 +39,19 @@ pub fn push_value(out: &mut Vec<u8>, key: &[u8], bytes: &[u8]) -> Result<(), Out
     out.extend_from_slice(key)?;
     out.extend_from_slice(b"hex")?;
     append_hex(out, b':', bytes)
+}
+
+// Bytes in hexadecimal.
+pub fn push_hex(out: &mut Vec<u8>, bytes: &[u8]) -> Result<(), OutOfMemory>
+    ensures { OnOk result (out.new.items ≡ out.old.items ++ encode_lower bytes.now) }
+{
+    let start = out.len();
+    let Some(end) = start.checked_add(2 * bytes.len()) else {
+        return Err(AllocError);
+    };
+    out.resize(end, 0)?;
+    hex::encode_to_slice(bytes, &mut out[start..]).unwrap();
+    Ok(())
 }
 
 // A word behind a space.

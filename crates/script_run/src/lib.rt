@@ -3,7 +3,6 @@
 
 mod members;
 mod running;
-#[cfg(test)]
-mod tests;
 
+pub use members::crew;
 pub use running::run;

@@ -22,8 +22,9 @@ fn task_of(
     Task::new(alloc, number, cred, calls.into_vec(), passes)
 }
 
-// All tasks, in order, each with its passes.
-pub(crate) fn crew(
+/// The tasks of these blocks before their first calls, in order and each with its passes. Their
+/// numbers are the places of their blocks.
+pub fn crew(
     alloc: Global,
     blocks: Vec<TaskBlock>,
     passes: Vec<Passes>,

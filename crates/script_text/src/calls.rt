@@ -9,8 +9,8 @@ ghost use Rattle.script_text.specs.Calls.{added_rule, call_of, chmod_of, chown_o
 use crate::files::is_filled;
 use crate::head::CallWord;
 use crate::paths::Paths;
-use call_steps::Call;
-use inode_events::{Change, How};
+use call_steps::{BoxedRule, Call};
+use inode_events::{BoxedBytes, Change, How};
 use inode_pages::MOST_BYTES;
 use script_words::{
     LineCause, LineErr, descriptor_of, id_of, mode_of, offset_of, portion_of, rule_of, small_of,
@@ -18,7 +18,6 @@ use script_words::{
 };
 use std::alloc::Global;
 use text_forms::{is_path, is_word};
-use xattr_store::Bytes;
 
 // The most bytes that are written at once, and that an attribute is set to.
 const WRITE: usize = MOST_BYTES as usize;
@@ -38,7 +37,7 @@ pub fn call_of(
         (call_of word (option_copied text.entry) (map (λ w. w.now) fields.now) paths.now) }
 {
     if word == CallWord::AddRule {
-        let rule = rule_of(alloc, text)?;
+        let rule = BoxedRule::new(alloc, rule_of(alloc, text)?)?;
         return Ok(Call::AddRule { rule });
     }
     match word {
@@ -273,13 +272,13 @@ fn exec_of(fields: &[&[u8]], paths: &Paths) -> Result<Call, LineErr>
 }
 
 // A name of 1 to 255 visible bytes.
-fn name_of(alloc: Global, text: &[u8]) -> Result<Bytes, LineErr>
+fn name_of(alloc: Global, text: &[u8]) -> Result<BoxedBytes, LineErr>
     ensures { LineGives result (ok_or (name_of text.now) cause.BadField) }
 {
     if !is_word(text, 255) {
         return Err(LineErr::Refused(LineCause::BadField));
     }
-    Ok(Bytes::from_slice(alloc, text)?)
+    Ok(BoxedBytes::from_slice(alloc, text)?)
 }
 
 fn setxattr_of(alloc: Global, fields: &[&[u8]], paths: &Paths) -> Result<Call, LineErr>
@@ -292,7 +291,8 @@ fn setxattr_of(alloc: Global, fields: &[&[u8]], paths: &Paths) -> Result<Call, L
         return Err(LineErr::Refused(LineCause::BadField));
     }
     let name = name_of(alloc, name)?;
-    let value = Some(value_of(alloc, value, 0, SET)?);
+    let value = value_of(alloc, value, 0, SET)?;
+    let value = Some(BoxedBytes::new(alloc, value)?);
     let inode = inode_at(path, paths)?;
     Ok(Call::SetAttr { inode, name, value })
 }

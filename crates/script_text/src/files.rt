@@ -18,24 +18,23 @@ use crate::blocks::FileBlock;
 use crate::draft::Draft;
 use crate::paths::Paths;
 use evm_verify::Evm;
-use hash_algos::{Algo, digest_of};
+use hash_algos::Algo;
 use inode_events::Image;
+use inode_hashing::digest_of_content;
 use inode_meta::Meta;
-use inode_pages::MOST_BYTES;
+use inode_pages::Content;
 use label_values::{MAX_LABEL, write_label};
 use policy_text::Super;
-use script_words::{LineCause, LineErr, id_of, ino_of, mode_of, place_among, value_of};
+use script_words::{LineCause, LineErr, content_of, id_of, ino_of, mode_of, place_among, value_of};
 use std::alloc::{AllocError, Global};
 use std::mem;
 use text_forms::{is_path, is_short_numeral, is_word};
 use xattr_store::{Attrs, Bytes, EVM_NAME, IMA_NAME, MAX_VALUE};
 
-// How many files a script may have, attributes a file, and bytes a content and all values in sum.
+// How many files a script may have, and attributes a file.
 const FILES: usize = 256;
 
 const ATTRS: usize = 16;
-
-const CONTENT: usize = MOST_BYTES as usize;
 
 // The most bytes that all values that are counted may have.
 const BYTES: usize = 33_554_432;
@@ -69,7 +68,7 @@ impl Draft {
         ensures { LineMakes result (with_absent (map (λ w. w.now) fields.now) self.old) self.new }
     {
         let front = front_in(fields).ok_or(LineCause::BadField)?;
-        self.with_front(alloc, &front, false, Bytes::from_vec(Vec::new(alloc)))
+        self.with_front(alloc, &front, false, Content::new(alloc))
     }
 
     // On the file system of the front's number, if it is there.
@@ -78,7 +77,7 @@ impl Draft {
         alloc: Global,
         front: &Front<'_>,
         present: bool,
-        content: Bytes,
+        content: Content,
     ) -> Result<(), LineErr>
         ensures { LineMakes result (with_front (front_view front.now) present content self.old)
             self.new }
@@ -98,9 +97,8 @@ impl Draft {
         if self.paths.len() >= FILES {
             return Err(LineErr::Refused(LineCause::TooMany));
         }
-        let sum = sum_of(self.sum, block.image.content.as_slice().len()).ok_or(
-            LineCause::TooLarge,
-        )?;
+        let len = block.image.content.len() as usize;
+        let sum = sum_of(self.sum, len).ok_or(LineCause::TooLarge)?;
         let paths = mem::replace(&mut self.paths, Paths::new(alloc));
         self.paths = paths.with(alloc, block.path.as_slice())?;
         self.unsealed = block.image.present;
@@ -349,12 +347,12 @@ fn mode_behind(text: &[u8]) -> Option<u16>
     mode_of(text.strip_prefix(b"mode=")?)
 }
 
-fn content_behind(alloc: Global, text: &[u8]) -> Result<Bytes, LineErr>
+fn content_behind(alloc: Global, text: &[u8]) -> Result<Content, LineErr>
     ensures { LineGives result
         (ok_or (behind_by content_of (codes "content=") text.now) cause.BadField) }
 {
     let value = text.strip_prefix(b"content=").ok_or(LineCause::BadField)?;
-    value_of(alloc, value, 0, CONTENT)
+    content_of(alloc, value)
 }
 
 // The file as its block begins.
@@ -364,7 +362,7 @@ fn block_of(
     fs: u32,
     place: &Super,
     present: bool,
-    content: Bytes,
+    content: Content,
 ) -> Result<FileBlock, AllocError>
     ensures { IfOk result (λ block. block
         ≡ block_of (front_view front.now) fs place.now present content) }
@@ -431,7 +429,7 @@ fn label_put(algo: Algo, file: FileBlock) -> Result<FileBlock, LineErr>
     ensures err { IfErr result (λ e. e ≡ LineErr.OutOfMemory) }
 {
     let mut out = [0; MAX_LABEL];
-    let digest = digest_of(algo, file.image.content.as_slice());
+    let digest = digest_of_content(algo, &file.image.content);
     let len = write_label(&digest, &mut out);
     attrs_put(file, IMA_NAME, &out[..len])
 }

@@ -24,6 +24,3 @@ pub use list::{ListText, parse_list};
 pub use read::parse;
 pub use script::Script;
 pub use script_words::{Fault, LineCause, ScriptErr};
-
-#[cfg(test)]
-mod tests;

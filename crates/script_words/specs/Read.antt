@@ -1,5 +1,5 @@
 -- A text of lines, each ended by a newline, and its last line.
-use Rattle.std.specs.Prelude.{ℕ, ◌+◌, Bool, true, false, ◌&&◌, not, List, [], ◌∷◌, Result, Ok, Err, if◌then◌else◌}
+use Rattle.std.specs.Prelude.{ℕ, ◌+◌, Bool, ◌&&◌, not, List, [], ◌∷◌, Result, Ok, Err, if◌then◌else◌}
 use Rattle.text_forms.specs.Lines.{◌>>=◌, at_line, lines}
 use Rattle.text_forms.specs.Tokens.{is_filled}
 use Rattle.script_words.specs.declared.fault.Fault.{Fault}

@@ -1,5 +1,5 @@
 -- The values of contents and attributes.
-use Rattle.std.specs.Prelude.{ℕ, ◌+◌, ◌-◌, ◌*◌, ◌==◌, Bool, ◌&&◌, nat_le, List, [], ◌∷◌, length, take, drop, codes, replicate, Option, Some, None, option_map, if◌then◌else◌}
+use Rattle.std.specs.Prelude.{ℕ, ◌+◌, ◌-◌, ◌*◌, ◌==◌, ◌&&◌, nat_le, List, [], ◌∷◌, length, take, drop, codes, replicate, Option, Some, None, option_map, if◌then◌else◌}
 use Rattle.std.specs.Char.{digit_value, is_digit}
 use Rattle.std.specs.List.{list_all}
 use Rattle.std.specs.Result.{result_ok}
@@ -52,3 +52,11 @@ within least most bytes = if nat_le least (length bytes) && nat_le (length bytes
 
 abbrev pub value_of : ℕ → ℕ → List ℕ → Option (List ℕ)
 value_of least most text = any_value most text >>= within least most
+
+-- what `txt:` gives, where it has at most so many bytes
+abbrev pub text_within : ℕ → List ℕ → Option (List ℕ)
+text_within most bytes = text_value bytes >>= within 0 most
+
+-- what `fill:` gives, where it has at most so many bytes
+abbrev pub fill_within : ℕ → List ℕ → Option (List ℕ)
+fill_within most fill = fill_value most fill >>= within 0 most

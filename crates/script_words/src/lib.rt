@@ -20,4 +20,4 @@ pub use numbers::{
 };
 pub use read::{Grammar, read_text};
 pub use rule::rule_of;
-pub use value::value_of;
+pub use value::{content_of, value_of};

@@ -3,13 +3,18 @@ ghost use Rattle.std.specs.List.{list_all};
 ghost use Rattle.text_forms.specs.Words.{is_visible};
 ghost use Rattle.script_words.specs.declared.fault.LineCause.TheVariants as cause;
 ghost use Rattle.script_words.specs.Gives.{VecGives, LineGives};
-ghost use Rattle.script_words.specs.Value.{any_value, byte_of, end_byte, fill_of, fill_value, hex_value, text_value, value_of};
+ghost use Rattle.inode_pages.specs.Content.{most_bytes};
+ghost use Rattle.script_words.specs.Value.{any_value, byte_of, end_byte, fill_of, fill_value, fill_within, hex_value, text_value, text_within, value_of, within};
 
 use crate::fault::{LineCause, LineErr};
 use hex::{FromHexError, decode};
+use inode_pages::{Content, MOST_BYTES, PageErr};
 use std::alloc::{AllocError, Global};
 use text_forms::short_number_of;
 use xattr_store::Bytes;
+
+// The most bytes of a content.
+const CONTENT: usize = MOST_BYTES as usize;
 
 /// The bytes of a value, of which there are `least` to `most`: `hex:` and hexadecimal digits, two a
 /// byte; `txt:` and the bytes themselves, 0x21 to 0x7e; or `fill:NUM:BB`, so many times one byte.
@@ -22,6 +27,55 @@ pub fn value_of(alloc: Global, text: &[u8], least: usize, most: usize) -> Result
         return Err(LineErr::Refused(LineCause::BadField));
     }
     Ok(Bytes::from_vec(bytes))
+}
+
+/// The content of a value, of at most as many bytes as a file may have. Those of `fill:` are never
+/// put one behind the other.
+pub fn content_of(alloc: Global, text: &[u8]) -> Result<Content, LineErr>
+    ensures { LineGives result (ok_or (value_of 0 most_bytes text.now) cause.BadField) }
+{
+    if let Some(digits) = text.strip_prefix(b"hex:") {
+        let bytes = hex_value(alloc, digits)?;
+        return paged(alloc, bytes.as_slice());
+    }
+    if let Some(bytes) = text.strip_prefix(b"txt:") {
+        return text_content(alloc, bytes);
+    }
+    if let Some(fill) = text.strip_prefix(b"fill:") {
+        return fill_content(alloc, fill);
+    }
+    Err(LineErr::Refused(LineCause::BadField))
+}
+
+// The content of these bytes, where they aren't too many.
+fn paged(alloc: Global, bytes: &[u8]) -> Result<Content, LineErr>
+    ensures { LineGives result (ok_or (within 0 most_bytes bytes.now) cause.BadField) }
+{
+    match Content::from_slice(alloc, bytes) {
+        Ok(content) => Ok(content),
+        Err(PageErr::TooBig) => Err(LineErr::Refused(LineCause::BadField)),
+        Err(PageErr::OutOfMemory) => Err(LineErr::OutOfMemory),
+    }
+}
+
+fn text_content(alloc: Global, bytes: &[u8]) -> Result<Content, LineErr>
+    ensures { LineGives result (ok_or (text_within most_bytes bytes.now) cause.BadField) }
+{
+    if !is_text(bytes) {
+        return Err(LineErr::Refused(LineCause::BadField));
+    }
+    paged(alloc, bytes)
+}
+
+fn fill_content(alloc: Global, fill: &[u8]) -> Result<Content, LineErr>
+    ensures { LineGives result (ok_or (fill_within most_bytes fill.now) cause.BadField) }
+{
+    let (count, byte) = fill_of(fill, CONTENT).ok_or(LineCause::BadField)?;
+    match Content::filled(alloc, count as u64, byte) {
+        Ok(content) => Ok(content),
+        Err(PageErr::TooBig) => Err(LineErr::Refused(LineCause::BadField)),
+        Err(PageErr::OutOfMemory) => Err(LineErr::OutOfMemory),
+    }
 }
 
 fn any_value(alloc: Global, text: &[u8], most: usize) -> Result<Vec<u8>, LineErr>

@@ -5,6 +5,3 @@ mod cell;
 
 pub use cell::SemaphoreCell;
 pub use grow_list::{OutOfMemory, Pass};
-
-#[cfg(test)]
-mod tests;

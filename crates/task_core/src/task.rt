@@ -67,9 +67,9 @@ impl Task {
     pub fn who(&self) -> Option<Who>
         ensures { result ≡ who_of self.now }
     {
-        match self.mind.due() {
-            Some(_) => Some(self.mind.who(self.number)),
-            None => None,
+        if self.mind.is_over() {
+            return None;
         }
+        Some(self.mind.who(self.number))
     }
 }

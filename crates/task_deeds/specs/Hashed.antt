@@ -1,5 +1,6 @@
 -- What a deed leaves of what its task has hashed.
-use Rattle.std.specs.Prelude.{Bool, true, false}
+use Rattle.std.specs.Prelude.{Bool, true, false, Option, None, Some}
+use Rattle.hash_algos.specs.DigestValue.{DigestValue}
 use Rattle.inode_cell.specs.declared.answers.Piece.{Piece}
 use Rattle.inode_cell.specs.declared.answers.Piece.TheVariants as piece
 use Rattle.inode_events.specs.Integrity.{Collection}
@@ -7,11 +8,17 @@ use Rattle.inode_events.specs.declared.deed.Deed.{Deed}
 use Rattle.inode_events.specs.declared.deed.Deed.TheVariants as deed
 use Rattle.task_frame.specs.Tasks.{HasSummed, HasTakenIn}
 use Rattle.task_frame.specs.declared.gathered.Gathered.{Gathered}
+use Rattle.task_frame.specs.declared.gathered.Gathered.TheVariants as gathered
 
 -- the piece is taken: after the last one the digests are there
 abbrev pub HasGathered : Piece → Gathered → Collection → Type 0
 HasGathered piece.More g c = HasTakenIn g c
 HasGathered piece.Last g c = HasSummed g c
+
+-- the digests, where all pieces are hashed
+abbrev pub sums_in : Gathered → Option (DigestValue × DigestValue)
+sums_in (gathered.Sums chosen sha1) = Some (chosen, sha1)
+sums_in _ = None
 
 -- the deed asks nothing of the measurement list, and goes on with no collection
 abbrev pub IsPlainDeed : Deed → Type 0

@@ -4,7 +4,7 @@ ghost use Rattle.std.specs.Prelude.{◌≡◌, ◌++◌, Some};
 ghost use Rattle.hash_algos.specs.Digest.{digest_of};
 ghost use Rattle.hash_algos.specs.declared.algo.Algo.TheVariants.{Sha1};
 ghost use Rattle.inode_events.specs.Integrity.{Collection, digest_from};
-ghost use Rattle.task_deeds.specs.Hashed.{HasGathered};
+ghost use Rattle.task_deeds.specs.Hashed.{HasGathered, sums_in};
 ghost use Rattle.task_frame.specs.Tasks.{HasSummed, HasTakenIn};
 
 use hash_algos::Digest;
@@ -39,10 +39,11 @@ pub fn gather(gathered: &mut Gathered, piece: Piece, page: &Page)
     }
 }
 
-/// The digests of the collection, which has taken its last piece.
+/// The digests of the collection, none where it hasn't taken its last piece.
 pub fn sums(gathered: &Gathered) -> Option<(Digest, Digest)>
-    ensures { (c : Collection) → HasSummed gathered.now c
+    ensures of { (c : Collection) → HasSummed gathered.now c
         → result ≡ Some (digest_from c, digest_of Sha1 c.bytes) }
+    ensures value { result ≡ sums_in gathered.now }
 {
     match gathered {
         Gathered::Sums(chosen, sha1) => Some((*chosen, *sha1)),

@@ -9,5 +9,7 @@ mod plain;
 mod told;
 
 pub use doing::{Actor, checks, does};
+pub use gathering::gather;
 pub use grow_list::OutOfMemory;
 pub use listed::Checks;
+pub use told::piece_told;

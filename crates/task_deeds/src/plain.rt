@@ -10,18 +10,17 @@ ghost use Rattle.task_mind.specs.Steps.{deed_in};
 use crate::told::{counted_told, set_told, wrote_told};
 use grow_list::{OutOfMemory, Pass};
 use inode_cell::InodeCell;
-use inode_events::{Event, Told};
+use inode_events::{BoxedBytes, Event, Told};
 use inode_meta::{Cred, Who};
 use task_mind::Doing;
-use xattr_store::Bytes;
 
 // An attribute is set, or removed.
 fn set_attr(
     cell: &mut InodeCell,
     pass: &mut Pass<Event>,
     who: Who,
-    name: &Bytes,
-    value: &Option<Bytes>,
+    name: &BoxedBytes,
+    value: &Option<BoxedBytes>,
     cred: Cred,
 ) -> Result<Option<Told>, OutOfMemory>
     requires name { pass.old.name ≡ cell.old.journal }

@@ -1,5 +1,5 @@
 -- What contracts see of what a task knows.
-use Rattle.std.specs.Prelude.{◌≡◌, ℕ, Option, None, Some, option_map}
+use Rattle.std.specs.Prelude.{◌≡◌, ℕ, Bool, Option, None, Some, is_none, option_map}
 use Rattle.policy_text.specs.ActionValue.{ActionValue}
 use Rattle.call_steps.specs.Mind as minds
 use Rattle.call_steps.specs.Mind.{Mind, progress_of}
@@ -30,6 +30,10 @@ progress_in g = record { due = g.due; step = g.step; inode = g.inode; file = g.f
 -- what the next step asks for, if the program isn't over
 abbrev pub due_at : Program → Mind → Option Ask
 due_at p m = option_map (λ (c : Call). (progress_of p.cred.admin c m).due.ask) (call_at p m)
+
+-- no step is to come
+abbrev pub is_over : Program → Mind → Bool
+is_over p m = is_none (call_at p m)
 
 -- the number of the next step of a call in progress, and of one that is to begin
 abbrev pub step_of : Option minds.Progress → ℕ

@@ -14,6 +14,3 @@ pub use inode_meta::OutOfMemory;
 pub use mind::TaskMind;
 pub use progress::Progress;
 pub use step::{Doing, Step};
-
-#[cfg(test)]
-mod tests;

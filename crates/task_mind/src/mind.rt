@@ -10,7 +10,7 @@ ghost use Rattle.task_mind.specs.Hearing.{thought_after};
 ghost use Rattle.task_mind.specs.Steps.{step_in};
 ghost use Rattle.run_model.specs.EndedValue.{appends};
 ghost use Rattle.std.specs.List.{list_any};
-ghost use Rattle.task_mind.specs.Value.{IsSameTask, awaited_by, due_at, progress_in, step_of};
+ghost use Rattle.task_mind.specs.Value.{IsSameTask, awaited_by, due_at, is_over, progress_in, step_of};
 
 use crate::handles::handle_of;
 use crate::heard::{Heard, heard_of, settle};
@@ -148,12 +148,33 @@ impl TaskMind {
         }
     }
 
+    /// Whether no step is to come.
+    pub fn is_over(&self) -> bool
+        ensures { result ≡ is_over self.now.program self.now.thought.mind }
+    {
+        match self.calls.get(self.at as usize) {
+            Some(_) => false,
+            None => true,
+        }
+    }
+
+    // The number of the next step within its call.
+    fn step_number(&self) -> u32
+        ensures { result ≡ step_of self.now.thought.mind.progress }
+    {
+        match &self.progress {
+            Some(progress) => progress.step,
+            None => 0,
+        }
+    }
+
     /// The place of the next step, for the task of this number.
+    #[tactic(auto, using(crate::proofs::Numbers::number_is))]
     pub fn who(&self, task: u32) -> Who
         ensures { result ≡ who_at task self.now.program self.now.thought.mind }
     {
         let step = match self.calls.get(self.at as usize) {
-            Some(call) => self.progress_of(call).step,
+            Some(_) => self.step_number(),
             None => 0,
         };
         Who {

@@ -7,7 +7,7 @@ ghost use Rattle.task_mind.specs.Steps.{deed_in, step_in};
 
 use crate::progress::Progress;
 use call_steps::{Ask, Call};
-use inode_events::{Change, Deed, How};
+use inode_events::{BoxedBytes, Change, Deed, How};
 use policy_text::{Func, Rule};
 use xattr_store::Bytes;
 
@@ -43,8 +43,8 @@ pub enum Doing<'a> {
     },
     /// An attribute is set, or with no value removed.
     SetAttr {
-        name: &'a Bytes,
-        value: &'a Option<Bytes>,
+        name: &'a BoxedBytes,
+        value: &'a Option<BoxedBytes>,
         admin: bool,
     },
     /// The mode or the owner is changed.
@@ -107,7 +107,7 @@ fn plain_step<'a>(admin: bool, call: &'a Call) -> Step<'a>
     match call {
         Call::Post { sem } => Step::Posts(*sem),
         Call::Wait { sem } => Step::Waits(*sem),
-        Call::AddRule { rule } if admin => Step::Appends(rule),
+        Call::AddRule { rule } if admin => Step::Appends(rule.get()),
         _ => Step::Nothing,
     }
 }

@@ -12,11 +12,12 @@ ghost use Rattle.world_locks.specs.Pages.{IsPageDeed, MayAt};
 
 use crate::locks::Locks;
 use crate::name::Name;
-use crate::pages::{alone, gather, page_told};
+use crate::order::Order;
+use crate::pages::alone;
 use grow_list::OutOfMemory;
 use inode_meta::Who;
 use std::sync::Wait;
-use task_deeds::{Actor, Checks};
+use task_deeds::{Actor, Checks, gather, piece_told};
 use task_frame::{Gathered, Passes};
 use task_mind::Doing;
 use world_deeds::Answered;
@@ -68,11 +69,12 @@ impl<N: Name> Locks<N> {
         ensures { EventMet N.frame i actor.now.who (deed_in doing.entry) passes.old passes.new
             gathered.old gathered.new result }
     {
-        let mut station = self.take(rt, i);
-        let mut book = self.book.lock(rt);
+        let mut order = Order::new();
+        let mut station = self.take(rt, &mut order, i);
+        let mut list = self.take_book(rt, &mut order);
         station.act(
             &mut passes.inodes[i as usize],
-            &mut book,
+            &mut list,
             &mut passes.book,
             actor,
             doing,
@@ -98,11 +100,12 @@ impl<N: Name> Locks<N> {
         ensures { EventMet N.frame i actor.now.who (deed_in doing.entry) passes.old passes.new
             gathered.old gathered.new result }
     {
+        let mut order = Order::new();
         let taken = self
-            .take(rt, i)
+            .take(rt, &mut order, i)
             .take_page(&mut passes.inodes[i as usize], actor.who, doing)?;
         gather(gathered, taken.piece, &taken.page);
-        let told = page_told(taken.piece);
+        let told = piece_told(taken.piece);
         Ok(Some(Answered {
             place: taken.place,
             told,
@@ -127,8 +130,9 @@ impl<N: Name> Locks<N> {
         ensures { (g : AnyGathered) → EventMet N.frame i who (Deed.Read file from len) passes.old
             passes.new g g result }
     {
+        let mut order = Order::new();
         let read = self
-            .take(rt, i)
+            .take(rt, &mut order, i)
             .read(&mut passes.inodes[i as usize], who, file, from, len);
         alone(read)
     }
@@ -153,10 +157,11 @@ impl<N: Name> Locks<N> {
         if i as usize >= self.stations.len() {
             return Ok(None);
         }
-        let mut station = self.take(rt, i);
-        let mut rules = self.rules.lock(rt);
-        let mut book = self.book.lock(rt);
-        station.check(
+        let mut order = Order::new();
+        let mut inode = self.take(rt, &mut order, i);
+        let mut rules = self.take_rules(rt, &mut order);
+        let mut book = self.take_book(rt, &mut order);
+        inode.check(
             &mut passes.inodes[i as usize],
             &mut rules,
             &mut passes.rules,

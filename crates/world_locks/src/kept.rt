@@ -40,6 +40,7 @@ impl<N: Name> KeptBook<N> {
     /// The measurement list of these constants.
     pub fn new(book: Book) -> KeptBook<N>
         requires { IsBookOf N.frame book }
+        ensures { result ≡ book }
     {
         KeptBook {
             book,
@@ -49,7 +50,8 @@ impl<N: Name> KeptBook<N> {
 
     /// Gives it back.
     pub fn open(self) -> Book
-        ensures { IsBookOf N.frame result }
+        ensures kept { IsBookOf N.frame result }
+        ensures value { result ≡ self }
     {
         let KeptBook { book, of: _ } = self;
         book
@@ -79,6 +81,7 @@ impl<N: Name> KeptSemaphores<N> {
     /// The semaphores of these constants.
     pub fn new(sems: SemaphoreCell) -> KeptSemaphores<N>
         requires { AreSignalsOf N.frame sems }
+        ensures { result ≡ sems }
     {
         KeptSemaphores {
             sems,
@@ -88,7 +91,8 @@ impl<N: Name> KeptSemaphores<N> {
 
     /// Gives them back.
     pub fn open(self) -> SemaphoreCell
-        ensures { AreSignalsOf N.frame result }
+        ensures kept { AreSignalsOf N.frame result }
+        ensures value { result ≡ self }
     {
         let KeptSemaphores { sems, of: _ } = self;
         sems
@@ -147,6 +151,7 @@ impl<N: Name> KeptRules<N> {
     /// The rules of these constants.
     pub fn new(rules: PolicyCell, idle: Vec<Pass<RuleEntry>>) -> KeptRules<N>
         requires { RulesKeep N.frame rules idle.items }
+        ensures { result ≡ rules }
     {
         KeptRules {
             rules,
@@ -157,7 +162,8 @@ impl<N: Name> KeptRules<N> {
 
     /// Gives them back.
     pub fn open(self) -> (PolicyCell, Vec<Pass<RuleEntry>>)
-        ensures { RulesKeep N.frame result.0 result.1.items }
+        ensures kept { RulesKeep N.frame result.0 result.1.items }
+        ensures value { result.0 ≡ self }
     {
         let KeptRules { rules, idle, of: _ } = self;
         (rules, idle)

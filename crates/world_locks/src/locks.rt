@@ -8,6 +8,7 @@ ghost use Rattle.world_locks.specs.Parts.{KeepFrame, frame_of_parts};
 
 use crate::kept::{KeptBook, KeptRules, KeptSemaphores};
 use crate::name::Name;
+use crate::order::Order;
 use crate::parts::Parts;
 use crate::station::KeptStation;
 use grow_list::OutOfMemory;
@@ -23,9 +24,9 @@ use task_frame::Station;
 #[derive(Drop)]
 pub struct Locks<N: Name> {
     pub(crate) stations: Vec<Mutex<KeptStation<N>>>,
-    pub(crate) book: Mutex<KeptBook<N>>,
-    pub(crate) sems: Mutex<KeptSemaphores<N>>,
-    pub(crate) rules: Mutex<KeptRules<N>>,
+    book: Mutex<KeptBook<N>>,
+    sems: Mutex<KeptSemaphores<N>>,
+    rules: Mutex<KeptRules<N>>,
     pub(crate) supers: Vec<Super>,
     settings: Settings,
     tasks: u32,
@@ -160,11 +161,19 @@ impl<N: Name> Locks<N> {
         self.settings.mode
     }
 
-    // The inode of this number, whose lock is held.
-    pub(crate) fn take<'a, R: Wait>(&'a self, rt: &R, inode: u32) -> MutexGuard<'a, KeptStation<N>>
-        requires { inode < length N.frame.sites }
-        ensures { (mutex_guard_value result).number ≡ inode }
+    // Takes the lock of the inode of this number, before any other.
+    pub(crate) fn take<'a, R: Wait>(
+        &'a self,
+        rt: &R,
+        order: &mut Order,
+        inode: u32,
+    ) -> MutexGuard<'a, KeptStation<N>>
+        requires below { inode < length N.frame.sites }
+        requires order { order.old.taken ≡ 0 }
+        ensures number { (mutex_guard_value result).number ≡ inode }
+        ensures order { order.new.taken ≡ 1 }
     {
+        order.taken = 1;
         for _ in rt.forever() {
             let station = self.stations[inode as usize].lock(rt);
             if station.number() == inode {
@@ -174,12 +183,52 @@ impl<N: Name> Locks<N> {
         unreachable!()
     }
 
+    // Takes the lock of the rules, after an inode's at most.
+    pub(crate) fn take_rules<'a, R: Wait>(
+        &'a self,
+        rt: &R,
+        order: &mut Order,
+    ) -> MutexGuard<'a, KeptRules<N>>
+        requires order { order.old.taken < 2 }
+        ensures order { order.new.taken ≡ 2 }
+    {
+        order.taken = 2;
+        self.rules.lock(rt)
+    }
+
+    // Takes the lock of the measurement list, after an inode's and the rules' at most.
+    pub(crate) fn take_book<'a, R: Wait>(
+        &'a self,
+        rt: &R,
+        order: &mut Order,
+    ) -> MutexGuard<'a, KeptBook<N>>
+        requires order { order.old.taken < 3 }
+        ensures order { order.new.taken ≡ 3 }
+    {
+        order.taken = 3;
+        self.book.lock(rt)
+    }
+
+    // Takes the lock of the semaphores, beside no other.
+    pub(crate) fn take_semaphores<'a, R: Wait>(
+        &'a self,
+        rt: &R,
+        order: &mut Order,
+    ) -> MutexGuard<'a, KeptSemaphores<N>>
+        requires order { order.old.taken ≡ 0 }
+        ensures order { order.new.taken ≡ 3 }
+    {
+        order.taken = 3;
+        self.sems.lock(rt)
+    }
+
     /// Takes the lock of the inode of this number, calls `f` once, and lets go.
     pub fn hold<R: Wait, F: FnOnce()>(&self, rt: &R, inode: u32, f: F)
         requires below { inode < length N.frame.sites }
         requires call { F.IsAlwaysCallable f }
     {
-        let _held = self.stations[inode as usize].lock(rt);
+        let mut order = Order::new();
+        let _held = self.take(rt, &mut order, inode);
         f();
     }
 }

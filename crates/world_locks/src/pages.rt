@@ -2,7 +2,7 @@
 //! when the lock is given back.
 
 ghost use Rattle.inode_events.specs.declared.deed.Deed.TheVariants as Deed;
-ghost use Rattle.std.specs.Prelude.{◌≡◌, ◌+◌, ◌++◌, List, Some, IfOk, OnErr, length};
+ghost use Rattle.std.specs.Prelude.{◌≡◌, ◌+◌, List, Some, IfOk, OnErr, length};
 ghost use Rattle.ima_templates.specs.declared.entry.Entry.{Entry as AnyEntry};
 ghost use Rattle.inode_cell.specs.Acts.{Acts, MayBy, Stays};
 ghost use Rattle.inode_cell.specs.Answers.{piece_told};
@@ -11,9 +11,7 @@ ghost use Rattle.inode_events.specs.Integrity.{Collection as AnyCollection, coll
 ghost use Rattle.inode_events.specs.Past.{past};
 ghost use Rattle.inode_events.specs.State.{content};
 ghost use Rattle.inode_pages.specs.Content.{piece_at};
-ghost use Rattle.task_deeds.specs.Hashed.{HasGathered};
 ghost use Rattle.task_deeds.specs.Leaving.{Leaves, told_by};
-ghost use Rattle.task_frame.specs.Tasks.{HasTakenIn};
 ghost use Rattle.task_laws.specs.Ready.{HasLooked};
 ghost use Rattle.task_mind.specs.Steps.{deed_in};
 ghost use Rattle.world_locks.specs.Pages.{IsPageDeed, alone_in, read_in, taken_in};
@@ -21,11 +19,8 @@ ghost use Rattle.world_locks.specs.Pages.{IsPageDeed, alone_in, read_in, taken_i
 use grow_list::{OutOfMemory, Pass};
 use inode_cell::{Got, InodeCell, Piece};
 use inode_events::{Event, Told};
-use inode_hashing::Hashing;
 use inode_meta::Who;
 use inode_pages::Page;
-use std::mem;
-use task_frame::Gathered;
 use task_mind::Doing;
 use world_deeds::Answered;
 
@@ -38,41 +33,6 @@ pub struct TakenPage {
     pub piece: Piece,
     /// Its bytes.
     pub page: Page,
-}
-
-// The piece is hashed; after the last one the digests are computed.
-fn hashed(mut hashing: Hashing, piece: Piece, page: &Page) -> Gathered
-    ensures { (c : AnyCollection) → HasTakenIn (Gathered.Running hashing) c
-        → HasGathered piece result (record c { bytes = c.bytes ++ page.now }) }
-{
-    hashing.next_page(page);
-    match piece {
-        Piece::More => Gathered::Running(hashing),
-        Piece::Last => {
-            let (chosen, sha1) = hashing.finish();
-            Gathered::Sums(chosen, sha1)
-        }
-    }
-}
-
-// Hashes the page that the collection took.
-pub(crate) fn gather(gathered: &mut Gathered, piece: Piece, page: &Page)
-    ensures { (c : AnyCollection) → HasTakenIn gathered.old c
-        → HasGathered piece gathered.new (record c { bytes = c.bytes ++ page.now }) }
-{
-    if let Gathered::Running(hashing) = mem::replace(gathered, Gathered::Nothing) {
-        *gathered = hashed(hashing, piece, page);
-    }
-}
-
-// What the page is told as.
-pub(crate) fn page_told(piece: Piece) -> Told
-    ensures { result ≡ piece_told piece }
-{
-    match piece {
-        Piece::More => Told::More,
-        Piece::Last => Told::Last,
-    }
 }
 
 // The page, with the place of its event.

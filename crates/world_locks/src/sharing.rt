@@ -6,6 +6,7 @@ ghost use Rattle.world_locks.specs.Met.{AppendsMet, SignalsMet};
 
 use crate::locks::Locks;
 use crate::name::Name;
+use crate::order::Order;
 use grow_list::OutOfMemory;
 use inode_events::Deed;
 use inode_meta::Who;
@@ -26,7 +27,9 @@ impl<N: Name> Locks<N> {
         requires { ArePassesOf N.frame who.task passes.old }
         ensures { SignalsMet passes.old passes.new who deed result }
     {
-        self.sems.lock(rt).signal(&mut passes.sems, who, deed)
+        let mut order = Order::new();
+        self.take_semaphores(rt, &mut order)
+            .signal(&mut passes.sems, who, deed)
     }
 
     /// Appends a copy of the rule to those in force.
@@ -42,8 +45,8 @@ impl<N: Name> Locks<N> {
             (record { who = who; rule = rule.now }) a) }
         ensures err { OnErr result (passes.new ≡ passes.old) }
     {
-        self.rules
-            .lock(rt)
+        let mut order = Order::new();
+        self.take_rules(rt, &mut order)
             .append(self.alloc, &mut passes.rules, who, rule)
     }
 }

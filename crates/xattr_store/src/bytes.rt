@@ -48,14 +48,3 @@ impl Bytes {
         self.bytes.as_slice()
     }
 }
-
-#[cfg(test)]
-mod tests {
-    use super::Bytes;
-
-    #[test]
-    fn a_slice_is_copied(rt: HostRuntime) {
-        let copy = Bytes::from_slice(rt.alloc(), b"security.ima");
-        assert!(rt; copy.is_ok_and(|b| b.as_slice() == b"security.ima".as_slice()));
-    }
-}

@@ -6,8 +6,6 @@ mod bytes;
 mod changes;
 mod names;
 mod places;
-#[cfg(test)]
-mod tests;
 
 pub use attrs::{Attrs, MAX_VALUE, NoData, SetErr};
 pub use bytes::Bytes;

@@ -1,14 +1,11 @@
-use Rattle.std.proofs.Common.{◌≡◌, ap, ◌∙◌, sym}
-use Rattle.hash_algos.specs.Digest.{digest_of}
+use Rattle.std.proofs.Common.{ap, ◌∙◌}
 use Rattle.label_values.specs.Labels.{label_of}
 use Rattle.script_text.proofs.Labels.{shown, shown_from_start}
 use Rattle.script_text.proofs.files.label_put.Goals as goal
 
 pub returns-clause-ok : goal.returns-clause-ok
 returns-clause-ok c =
-    let digest_is : c.digest_of-digest.result ≡ digest_of c.args.algo c.args.file.image.content =
-    rw c.as_slice.ensures.bytes at c.digest_of-digest.ensures in
-    let label_is = ap label_of digest_is in
+    let label_is = ap label_of c.digest_of_content-digest.ensures in
     let from_start = shown_from_start c.write_label-len.new.out _ _ c.write_label-len.result
     c.write_label-len.ensures.written c.write_label-len.ensures.length ∙ label_is in
     let front = shown c.write_label-len.new.out _ _ c.write_label-len.result

@@ -11,10 +11,9 @@ invariant_of-cell c =
     let k = c.in_ok-kept.kept in
     let path_is : c.args.path.now ≡ k.inode.path = sym c.in_ok-path.ensures.bytes
     ∙ ap (λ (i : Inode). i.path) (sym c.in_ok-kept.ensures.inode) in
-    born_holds k.inode k.list c.args.image c.in-Ok.content c.in_ok-attrs.attrs c.args.book.seen
-    c.args.book.mine
+    born_holds k.inode k.list c.args.image c.in_ok-content.content c.in_ok-attrs.attrs
+    c.args.book.seen c.args.book.mine
     (subst (λ (p : List ℕ). IsMeasuredPath Ima p) path_is c.requires.path)
     (subst (λ (i : Inode). length i.birth.content ≤ most_bytes) (sym c.in_ok-kept.ensures.inode)
     c.requires.content)
-    c.in_ok-kept.ensures.list (c.in-Ok.ensures.ok
-    ∙ c.as_slice.ensures.bytes) c.in_ok-attrs.ensures c.requires.book
+    c.in_ok-kept.ensures.list c.in_ok-content.ensures c.in_ok-attrs.ensures c.requires.book

@@ -32,7 +32,7 @@ list_is : (c : goal.After-show) → c.reserve.new.self.list ≡ []
 list_is c = c.reserve.ensures.list.list ∙ c.in_ok-journal.ensures.list.0
 
 event_is : (c : goal.After-show) → c.push.new.self.list ≡ birth_of c.args.image ∷ []
-event_is c = c.push.ensures.list ∙ (λ i. list_is c i ++ c.born.ensures i ∷ [])
+event_is c = c.push.ensures.list ∙ (λ i. list_is c i ++ c.in_ok-birth.ensures i ∷ [])
 
 pub invariant_of-kept : goal.invariant_of-kept
 invariant_of-kept c =
@@ -55,7 +55,7 @@ invariant_of-kept c =
     ∙ (λ j. (ap (λ (p : Passed Event). p.mine) (own_is c)) j ++ (
       (c.push.ensures.place
           ∙ ap length (list_is c)) j,
-      c.born.ensures j,
+      c.in_ok-birth.ensures j,
     ) ∷ []))
     (subst (λ (n : ℕ). 0 < n) (sym (shown.callers ∙ c.push.ensures.kept.1
     ∙ c.reserve.ensures.list.callers ∙ c.in_ok-journal.ensures.list.2)) (omega arith))

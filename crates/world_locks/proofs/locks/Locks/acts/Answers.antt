@@ -9,7 +9,7 @@ pub act-requires-clause-pass : goal.act-requires-clause-pass
 act-requires-clause-pass g c κs within =
     let p = c.passes.inside in
     let taken : c.deref_mut.result.now.number ≡ c.args.i =
-    ap (λ (s : NumberedStation). s.number) c.deref_mut.ensures.value ∙ c.take-station.ensures in
+    ap (λ (s : NumberedStation). s.number) c.deref_mut.ensures.value ∙ c.take-station.ensures.number in
     pass_of p.inodes.items p.sems p.book p.rules c.args.passes.now c.passes.view_is
     c.args.actor.now.who g.N.Name.frame c.requires.passes c.args.i
     c.deref_mut.result.now.number taken c.requires.below c.index_mut.result.now
@@ -19,7 +19,7 @@ pub act-requires-clause-ready : goal.act-requires-clause-ready
 act-requires-clause-ready g c κs within =
     let p = c.passes.inside in
     let taken : c.deref_mut.result.now.number ≡ c.args.i =
-    ap (λ (s : NumberedStation). s.number) c.deref_mut.ensures.value ∙ c.take-station.ensures in
+    ap (λ (s : NumberedStation). s.number) c.deref_mut.ensures.value ∙ c.take-station.ensures.number in
     ready_of p.inodes.items p.sems p.book p.rules c.args.passes.now c.passes.view_is
     c.args.actor.now.who g.N.Name.frame c.requires.passes c.args.i
     c.deref_mut.result.now.number taken c.requires.below c.index_mut.result.now
@@ -31,7 +31,7 @@ pub returns : goal.returns
 returns g c =
     let p = c.passes.inside in
     let taken : c.deref_mut.result.now.number ≡ c.args.i =
-    ap (λ (s : NumberedStation). s.number) c.deref_mut.ensures.value ∙ c.take-station.ensures in
+    ap (λ (s : NumberedStation). s.number) c.deref_mut.ensures.value ∙ c.take-station.ensures.number in
     deed_opened p.inodes.items p.sems p.book p.rules c.args.passes.now c.passes.view_is
     c.args.actor.now.who g.N.Name.frame c.requires.passes c.args.i
     c.deref_mut.result.now.number taken c.requires.below c.index_mut.result.now

@@ -20,7 +20,7 @@ check-requires-clause-pass g c κs within =
     let own = c.args.self.now in
     let p = c.passes.inside in
     let taken : c.deref_mut.result.now.number ≡ c.args.i =
-    ap (λ (s : NumberedStation). s.number) c.deref_mut.ensures.value ∙ c.take-station.ensures in
+    ap (λ (s : NumberedStation). s.number) c.deref_mut.ensures.value ∙ c.take-inode.ensures.number in
     let below : c.args.i < length g.N.Name.frame.sites =
     omega (arith, c.len.ensures, own.stations.ok.0, own.count) in
     pass_of p.inodes.items p.sems p.book p.rules c.args.passes.now c.passes.view_is
@@ -32,7 +32,7 @@ check-requires-clause-ready g c κs within =
     let own = c.args.self.now in
     let p = c.passes.inside in
     let taken : c.deref_mut.result.now.number ≡ c.args.i =
-    ap (λ (s : NumberedStation). s.number) c.deref_mut.ensures.value ∙ c.take-station.ensures in
+    ap (λ (s : NumberedStation). s.number) c.deref_mut.ensures.value ∙ c.take-inode.ensures.number in
     let below : c.args.i < length g.N.Name.frame.sites =
     omega (arith, c.len.ensures, own.stations.ok.0, own.count) in
     λ h. ready_of p.inodes.items p.sems p.book p.rules c.args.passes.now c.passes.view_is
@@ -46,7 +46,7 @@ returns g c =
     let own = c.args.self.now in
     let p = c.passes.inside in
     let taken : c.deref_mut.result.now.number ≡ c.args.i =
-    ap (λ (s : NumberedStation). s.number) c.deref_mut.ensures.value ∙ c.take-station.ensures in
+    ap (λ (s : NumberedStation). s.number) c.deref_mut.ensures.value ∙ c.take-inode.ensures.number in
     let below : c.args.i < length g.N.Name.frame.sites =
     omega (arith, c.len.ensures, own.stations.ok.0, own.count) in
     ask_opened p.inodes.items p.sems p.book p.rules c.args.passes.now c.passes.view_is

@@ -12,7 +12,7 @@ pub take_page-requires-clause-pass : goal.take_page-requires-clause-pass
 take_page-requires-clause-pass g c κs within =
     let p = c.passes.inside in
     let taken : c.deref_mut.result.now.number ≡ c.args.i =
-    ap (λ (s : NumberedStation). s.number) c.deref_mut.ensures.value ∙ c.take.ensures in
+    ap (λ (s : NumberedStation). s.number) c.deref_mut.ensures.value ∙ c.take.ensures.number in
     pass_of p.inodes.items p.sems p.book p.rules c.args.passes.now c.passes.view_is
     c.args.actor.now.who g.N.Name.frame c.requires.passes c.args.i
     c.deref_mut.result.now.number taken c.requires.below c.index_mut.result.now
@@ -22,7 +22,7 @@ pub take_page-requires-clause-may : goal.take_page-requires-clause-may
 take_page-requires-clause-may g c κs within =
     let p = c.passes.inside in
     let taken : c.deref_mut.result.now.number ≡ c.args.i =
-    ap (λ (s : NumberedStation). s.number) c.deref_mut.ensures.value ∙ c.take.ensures in
+    ap (λ (s : NumberedStation). s.number) c.deref_mut.ensures.value ∙ c.take.ensures.number in
     look_of p.inodes.items p.sems p.book p.rules c.args.passes.now c.passes.view_is
     c.args.actor.now.who g.N.Name.frame c.requires.passes c.args.i
     c.deref_mut.result.now.number taken c.requires.below c.index_mut.result.now
@@ -36,7 +36,7 @@ returns-in_err-taken g c =
     let e = err_from_is_err_and c.from_residual.result c.from_residual.ensures.1 in
     let p = c.passes.inside in
     let taken : c.deref_mut.result.now.number ≡ c.args.i =
-    ap (λ (s : NumberedStation). s.number) c.deref_mut.ensures.value ∙ c.take.ensures in
+    ap (λ (s : NumberedStation). s.number) c.deref_mut.ensures.value ∙ c.take.ensures.number in
     rw (e.1) (deed_opened p.inodes.items p.sems p.book p.rules c.args.passes.now c.passes.view_is
     c.args.actor.now.who g.N.Name.frame c.requires.passes c.args.i
     c.deref_mut.result.now.number taken c.requires.below c.index_mut.result.now
@@ -50,7 +50,7 @@ pub returns : goal.returns
 returns g c =
     let p = c.passes.inside in
     let taken : c.deref_mut.result.now.number ≡ c.args.i =
-    ap (λ (s : NumberedStation). s.number) c.deref_mut.ensures.value ∙ c.take.ensures in
+    ap (λ (s : NumberedStation). s.number) c.deref_mut.ensures.value ∙ c.take.ensures.number in
     let m = c.in_ok-taken.ensures.met in
     let its = pass_of p.inodes.items p.sems p.book p.rules c.args.passes.now c.passes.view_is
     c.args.actor.now.who g.N.Name.frame c.requires.passes c.args.i
@@ -72,11 +72,11 @@ returns g c =
     c.gather.new.gathered
     (Ok (Some (record {
       place = c.in_ok-taken.taken.place;
-      told = c.page_told-told.result;
+      told = c.piece_told-told.result;
       action =
           None;
     })))
     (page_met g.N.Name.frame c.deref_mut.result.now.number c.index_mut.result.now
     c.take_page.new.pass p.book c.args.actor.now.who (deed_in c.args.doing) c.args.gathered.now
     c.gather.new.gathered c.in_ok-taken.taken c.requires.page m ready.hashes c.gather.ensures
-    c.page_told-told.result c.page_told-told.ensures)
+    c.piece_told-told.result c.piece_told-told.ensures)

@@ -19,10 +19,10 @@ returns-clause-frame g c =
     })
     (record {
       stations = c.in_ok-stations.ensures;
-      book = c.open-book.ensures;
-      sems = c.open-sems.ensures;
-      rules = c.open-rules.ensures.rules;
-      idle = c.open-rules.ensures.idle;
+      book = c.open-book.ensures.kept;
+      sems = c.open-sems.ensures.kept;
+      rules = c.open-rules.ensures.kept.rules;
+      idle = c.open-rules.ensures.kept.idle;
       supers = own.supers_are;
       settings = own.settings_are;
       tasks = own.tasks_are;

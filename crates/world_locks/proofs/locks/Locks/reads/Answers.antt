@@ -15,7 +15,7 @@ pub read-read-requires-clause-pass : goal.read-read-requires-clause-pass
 read-read-requires-clause-pass g c κs within =
     let p = c.passes.inside in
     let taken : c.deref_mut.result.now.number ≡ c.args.i =
-    ap (λ (s : NumberedStation). s.number) c.deref_mut.ensures.value ∙ c.take.ensures in
+    ap (λ (s : NumberedStation). s.number) c.deref_mut.ensures.value ∙ c.take.ensures.number in
     pass_of p.inodes.items p.sems p.book p.rules c.args.passes.now c.passes.view_is
     c.args.who g.N.Name.frame c.requires.passes c.args.i
     c.deref_mut.result.now.number taken c.requires.below c.index_mut.result.now
@@ -25,7 +25,7 @@ pub read-read-requires-clause-may : goal.read-read-requires-clause-may
 read-read-requires-clause-may g c κs within =
     let p = c.passes.inside in
     let taken : c.deref_mut.result.now.number ≡ c.args.i =
-    ap (λ (s : NumberedStation). s.number) c.deref_mut.ensures.value ∙ c.take.ensures in
+    ap (λ (s : NumberedStation). s.number) c.deref_mut.ensures.value ∙ c.take.ensures.number in
     look_of p.inodes.items p.sems p.book p.rules c.args.passes.now c.passes.view_is
     c.args.who g.N.Name.frame c.requires.passes c.args.i
     c.deref_mut.result.now.number taken c.requires.below c.index_mut.result.now
@@ -36,7 +36,7 @@ pub returns : goal.returns
 returns g c =
     let p = c.passes.inside in
     let taken : c.deref_mut.result.now.number ≡ c.args.i =
-    ap (λ (s : NumberedStation). s.number) c.deref_mut.ensures.value ∙ c.take.ensures in
+    ap (λ (s : NumberedStation). s.number) c.deref_mut.ensures.value ∙ c.take.ensures.number in
     λ h. subst (λ (r : Result (Option Answered) AllocError). EventMet g.N.Name.frame c.args.i
     c.args.who (deed.Read c.args.file c.args.from c.args.len) c.args.passes.now
     (record {

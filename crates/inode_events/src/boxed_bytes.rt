@@ -1,0 +1,47 @@
+ghost use Rattle.std.specs.Prelude.{◌≡◌, IfOk};
+
+use inode_meta::OutOfMemory;
+use std::alloc::Global;
+use std::marker::Model;
+use xattr_store::Bytes;
+
+/// Bytes that lie outside of the deed or call that has them, so that others take no room for them.
+/// Contracts see the bytes.
+#[derive(Drop)]
+pub struct BoxedBytes {
+    bytes: Box<Bytes>,
+}
+
+impl Model for BoxedBytes {
+    ghost use Rattle.std.specs.Prelude.{ℕ, List};
+
+    ghost Value = { List ℕ };
+
+    ghost view = { λ b. b.bytes.value };
+}
+
+impl BoxedBytes {
+    /// The bytes, moved to memory of their own.
+    pub fn new(alloc: Global, bytes: Bytes) -> Result<BoxedBytes, OutOfMemory>
+        ensures bytes { IfOk result (λ b. b ≡ bytes) }
+    {
+        let bytes = Box::new(alloc, bytes)?;
+        Ok(BoxedBytes { bytes })
+    }
+
+    /// A copy of these bytes.
+    pub fn from_slice(alloc: Global, b: &[u8]) -> Result<BoxedBytes, OutOfMemory>
+        ensures bytes { IfOk result (λ copy. copy ≡ b.now) }
+    {
+        let bytes = Bytes::from_slice(alloc, b)?;
+        let copy = BoxedBytes::new(alloc, bytes)?;
+        Ok(copy)
+    }
+
+    /// The bytes.
+    pub fn as_slice(&self) -> &[u8]
+        ensures bytes { result.now ≡ self.now }
+    {
+        self.bytes.as_slice()
+    }
+}

@@ -1,0 +1,15 @@
+-- The number of a step within its call.
+use Rattle.std.proofs.Common.{◌≡◌, ℕ, Bool, Option, None, Some, refl}
+use Rattle.std.specs.Prelude.{unwrap_or}
+use Rattle.call_steps.specs.Mind.{Mind, Progress, begun, number_of}
+use Rattle.call_steps.specs.declared.call.Call.{Call}
+use Rattle.task_mind.specs.Value.{step_of}
+
+-- that of a call that begins is 0
+number_by : (o : Option Progress) (g : Progress) → g.step ≡ 0 → (unwrap_or o g).step ≡ step_of o
+number_by None g h = h
+number_by (Some x) g h = refl
+
+-- it needs nothing of the call
+pub number_is : (admin : Bool) (c : Call) (m : Mind) → number_of admin c m ≡ step_of m.progress
+number_is admin c m = number_by m.progress (begun admin m.handles c) refl
