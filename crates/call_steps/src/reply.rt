@@ -12,7 +12,7 @@ pub enum Reply {
     /// Done.
     Done,
     /// So many bytes were read; the digest is their SHA-256.
-    Bytes { n: u64, digest: Sha256Digest },
+    Bytes { n: u32, digest: Sha256Digest },
     /// The file is absent (`ENOENT`).
     NotFound,
     /// The descriptor, map or run isn't there, is of the wrong mode, or is made anew while it is

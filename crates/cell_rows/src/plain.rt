@@ -78,7 +78,7 @@ impl Lab {
                 Ok(None)
             }
             Deed::SetAttr { name, value, .. } => {
-                let value = match value {
+                let value = match value.get() {
                     Some(value) => Some(value.as_slice()),
                     None => None,
                 };

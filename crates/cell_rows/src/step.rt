@@ -1,6 +1,6 @@
 // One deed of a table, as its line gives it.
 use anyhow::{Context, Result};
-use inode_events::{BoxedBytes, Change, Deed, How};
+use inode_events::{BoxedBytes, BoxedValue, Change, Deed, How};
 use inode_meta::Who;
 use policy_text::{Action, Purpose};
 use script_words::{id_of, ino_of, mode_of, value_of};
@@ -157,8 +157,9 @@ fn attribute_of(alloc: Global, rest: &str) -> Result<Deed> {
     let name = BoxedBytes::from_slice(alloc, name.as_bytes())?;
     let value = match value {
         "-" => None,
-        text => Some(BoxedBytes::new(alloc, bytes_of(alloc, text)?)?),
+        text => Some(bytes_of(alloc, text)?),
     };
+    let value = BoxedValue::new(alloc, value)?;
     Ok(Deed::SetAttr {
         name,
         value,

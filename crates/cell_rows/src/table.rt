@@ -73,7 +73,7 @@ impl<'a> Table<'a> {
             blocked_well = blocked_well && made == (told != "blocked");
         }
         let left = ended(alloc, room, template)?;
-        let text = report(alloc, &left)?;
+        let text = report(alloc, left)?.joined(alloc)?;
         let report = String::from_utf8(text).ok().context("no text")?;
         Ok(Outcome {
             blocked_well,

@@ -6,6 +6,7 @@ ghost use Rattle.ima_io.specs.Bytes.{Gave, TookPart};
 ghost use Rattle.ima_io.specs.declared.whole.ReadErr.TheVariants.{Fault, OutOfMemory};
 
 use crate::outside::{Failed, Sink, Source};
+use crate::pieces::Pieces;
 use inode_meta::OutOfMemory;
 use std::alloc::{AllocError, Global};
 
@@ -109,6 +110,21 @@ pub fn write_all<K: Sink>(sink: &mut K, piece: &[u8]) -> Result<(), Failed>
     while !rest.is_empty() {
         let n = sink.write(rest)?;
         rest = &rest[n..];
+    }
+    Ok(())
+}
+
+/// Writes the pieces whole, one after another. `Failed` comes only where the sink's count of faults
+/// rose in this call; what was taken is then a prefix of the bytes that is shorter than they are.
+/// It takes no memory.
+pub fn write_pieces<K: Sink>(sink: &mut K, pieces: &Pieces) -> Result<(), Failed>
+    ensures whole { OnOk result (Appends (K.taken sink.old) (K.taken sink.new) pieces.now) }
+    ensures part { OnErr result (TookPart (K.taken sink.old) (K.taken sink.new) pieces.now) }
+    ensures count { K.faults sink.old ≤ K.faults sink.new }
+    ensures cause { OnErr result (Rose (K.faults sink.old) (K.faults sink.new)) }
+{
+    for piece in pieces.as_slice() {
+        write_all(sink, piece)?;
     }
     Ok(())
 }

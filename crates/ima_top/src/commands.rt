@@ -1,5 +1,5 @@
 // The commands: which of them read, and what each answers to its input.
-ghost use Rattle.std.specs.Prelude.{◌≡◌, ◌≤◌, length};
+ghost use Rattle.std.specs.Prelude.{◌≡◌, ◌≤◌, length, IfOk};
 ghost use Rattle.ima_top.specs.Answered.{Answers};
 ghost use Rattle.ima_top.specs.commands.Table.{reads, refusal, IsOutput};
 ghost use Rattle.ima_top.specs.declared.top.TheConstants.{MOST_INPUT};
@@ -13,7 +13,7 @@ mod run;
 
 use crate::not_done::NotDone;
 use command_line::Command;
-use ima_io::Gate;
+use ima_io::{Gate, OutOfMemory, Pieces};
 use std::alloc::Global;
 use std::sync::Wait;
 use std::thread::Threads;
@@ -39,39 +39,41 @@ pub fn answer_input<G: Gate + Sync, R: Threads + Wait + Sync>(
     rt: &R,
     alloc: Global,
     command: Command,
-    input: &[u8],
+    input: Vec<u8>,
     gate: &G,
 ) -> Result<Answer, NotDone>
-    requires { length input.now ≤ MOST_INPUT }
-    ensures { Answers result (refusal command input.now)
-        (λ answer. IsOutput command input.now answer.stuck answer.output.items) }
+    requires { length input.items ≤ MOST_INPUT }
+    ensures { Answers result (refusal command input.items)
+        (λ answer. IsOutput command input.items answer.stuck answer.output) }
 {
-    match command {
-        Command::List => Ok(Answer {
-            output: list::answer(alloc, input)?,
-            stuck: false,
-        }),
-        Command::Policy => Ok(Answer {
-            output: policy::answer(alloc, input)?,
-            stuck: false,
-        }),
-        Command::Label => Ok(Answer {
-            output: label::answer(alloc, input)?,
-            stuck: false,
-        }),
-        Command::Run => run::answer(rt, alloc, input, gate),
-        Command::Gen(number) => Ok(Answer {
-            output: gen_::answer(rt, alloc, number, gate)?,
-            stuck: false,
-        }),
-    }
+    let output = match command {
+        Command::Run => return run::answer(rt, alloc, input, gate),
+        Command::List => list::answer(alloc, &input)?,
+        Command::Policy => policy::answer(alloc, &input)?,
+        Command::Label => label::answer(alloc, &input)?,
+        Command::Gen(number) => gen_::answer(rt, alloc, number, gate)?,
+    };
+    let output = whole(alloc, output)?;
+    Ok(Answer {
+        output,
+        stuck: false,
+    })
+}
+
+// An output in one piece.
+fn whole(alloc: Global, output: Vec<u8>) -> Result<Pieces, OutOfMemory>
+    ensures { IfOk result (λ pieces. pieces ≡ output.items) }
+{
+    let mut pieces = Pieces::new(alloc);
+    pieces.push(output)?;
+    Ok(pieces)
 }
 
 /// What a command answers to an input.
 #[derive(Drop)]
 pub struct Answer {
     /// The whole output.
-    pub output: Vec<u8>,
+    pub output: Pieces,
     /// Whether the run behind it is stuck. Commands without tasks, or whose tasks never wait, never
     /// are.
     pub stuck: bool,

@@ -14,7 +14,7 @@ use crate::status::{
     DONE, OUT_OF_MEMORY, READ_FAULT, REFUSED, STUCK, TOO_LONG, USAGE, WRITE_FAULT,
 };
 use command_line::{Command, command_of};
-use ima_io::{Gate, Sink, Source, read_all, write_all};
+use ima_io::{Gate, Sink, Source, read_all, write_all, write_pieces};
 use std::alloc::Global;
 use std::sync::Wait;
 use std::thread::Threads;
@@ -71,8 +71,8 @@ fn perform<S: Source, K: Sink, G: Gate + Sync, R: Threads + Wait + Sync>(
         → Rose (K.faults out.old) (K.faults out.new) }
 {
     let input = read_input(alloc, command, script)?;
-    let answer = answer_input(rt, alloc, command, &input, gate)?;
-    write_all(out, &answer.output)?;
+    let answer = answer_input(rt, alloc, command, input, gate)?;
+    write_pieces(out, &answer.output)?;
     if answer.stuck {
         Err(NotDone::Stuck)
     } else {

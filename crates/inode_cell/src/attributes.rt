@@ -7,11 +7,11 @@ ghost use Rattle.inode_cell.specs.Changes.{IsRewriting, changed_on, labelled_on,
 
 use evm_verify::Evm;
 use hash_algos::Digest;
-use inode_events::{BoxedBytes, Deed};
+use inode_events::Deed;
 use inode_kept::changed;
 use inode_meta::{EvmStatus, Meta};
 use label_values::{MAX_LABEL, write_label};
-use xattr_store::{Attrs, IMA_NAME, NewValue, OutOfMemory};
+use xattr_store::{Attrs, Bytes, IMA_NAME, NewValue, OutOfMemory};
 
 // A call's change of one: the HMAC is renewed where the name is protected.
 fn change_on(
@@ -19,7 +19,7 @@ fn change_on(
     attrs: &mut Attrs,
     meta: &Meta,
     name: &[u8],
-    value: &Option<BoxedBytes>,
+    value: &Option<Bytes>,
 ) -> Result<(), OutOfMemory>
     requires { is_too_long value.now ≡ false }
     ensures ok { OnOk result (attrs.new
@@ -89,7 +89,9 @@ pub fn rewrite(
     ensures err { OnErr result (attrs.new ≡ attrs.old) }
 {
     match deed {
-        Deed::SetAttr { name, value, .. } => change_on(evm, attrs, meta, name.as_slice(), value),
+        Deed::SetAttr { name, value, .. } => {
+            change_on(evm, attrs, meta, name.as_slice(), value.get())
+        }
         Deed::SetMeta { change } => evm.renew(attrs, &changed(*change, *meta)),
         Deed::CloseFinish { .. } => match digest {
             Some(digest) => label_on(evm, attrs, meta, digest),

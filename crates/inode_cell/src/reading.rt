@@ -1,8 +1,8 @@
 // Bytes of a content, hashed a page at a time.
-ghost use Rattle.std.specs.Prelude.{◌≡◌, ℕ, ◌++◌, List, length};
+ghost use Rattle.std.specs.Prelude.{◌≡◌, ℕ, ◌≤◌, ◌++◌, List, length};
 ghost use Rattle.hash_algos.specs.Digest.{digest_of};
 ghost use Rattle.hash_algos.specs.Running.{HasTaken, running_algo};
-ghost use Rattle.inode_pages.specs.Content.{bytes_at};
+ghost use Rattle.inode_pages.specs.Content.{bytes_at, most_bytes};
 
 use hash_algos::{Algo, Running, Sha256Digest};
 use inode_pages::{Content, PAGE_SIZE};
@@ -11,6 +11,7 @@ use inode_pages::{Content, PAGE_SIZE};
 // were.
 fn feed_from(running: &mut Running, content: &Content, from: u64, len: u64) -> u64
     ensures count { result ≡ length (bytes_at content.now from len) }
+    ensures most { result ≤ most_bytes }
     ensures algo { running_algo running.new ≡ running_algo running.old }
     ensures taken { (m : List ℕ) → HasTaken running.old m
         → HasTaken running.new (m ++ bytes_at content.now from len) }
@@ -29,11 +30,11 @@ fn feed_from(running: &mut Running, content: &Content, from: u64, len: u64) -> u
 }
 
 /// The number of bytes, at most `len`, from the byte `from` on, and their SHA-256.
-pub fn hashed_at(content: &Content, from: u64, len: u64) -> (u64, Sha256Digest)
+pub fn hashed_at(content: &Content, from: u64, len: u64) -> (u32, Sha256Digest)
     ensures count { result.0 ≡ length (bytes_at content.now from len) }
     ensures digest { result.1 ≡ digest_of Algo.Sha256 (bytes_at content.now from len) }
 {
     let mut running = Running::new(Algo::Sha256);
     let count = feed_from(&mut running, content, from, len);
-    (count, Sha256Digest::of(&running.finish()))
+    (count as u32, Sha256Digest::of(&running.finish()))
 }

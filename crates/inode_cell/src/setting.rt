@@ -12,11 +12,11 @@ ghost use Rattle.inode_cell.specs.Answers.{set_told};
 use crate::answers::Set;
 use crate::cell::InodeCell;
 use grow_list::{OutOfMemory, Pass};
-use inode_events::{BoxedBytes, Change, Deed, Event, Told};
+use inode_events::{BoxedBytes, BoxedValue, Change, Deed, Event, Told};
 use inode_kept::Known;
 use inode_meta::{Cred, EvmStatus, Who};
 use std::alloc::Global;
-use xattr_store::{EVM_NAME, IMA_NAME, MAX_VALUE};
+use xattr_store::{Bytes, EVM_NAME, IMA_NAME, MAX_VALUE};
 
 // The highest type of a label that the kernel knows.
 const LAST_TYPE: u8 = 6;
@@ -47,7 +47,7 @@ fn by_status(answer: Result<(), EvmStatus>) -> Set
     }
 }
 
-fn is_too_long(value: &Option<BoxedBytes>) -> bool
+fn is_too_long(value: &Option<Bytes>) -> bool
     ensures { result ≡ is_too_long value.now }
 {
     match value {
@@ -65,7 +65,7 @@ fn is_no_label_bytes(bytes: &[u8]) -> bool
     }
 }
 
-fn is_no_label(value: &Option<BoxedBytes>) -> bool
+fn is_no_label(value: &Option<Bytes>) -> bool
     ensures { result ≡ is_no_label value.now }
 {
     match value {
@@ -74,19 +74,20 @@ fn is_no_label(value: &Option<BoxedBytes>) -> bool
     }
 }
 
-fn copied(alloc: Global, value: Option<&[u8]>) -> Result<Option<BoxedBytes>, OutOfMemory>
+fn copied(alloc: Global, value: Option<&[u8]>) -> Result<BoxedValue, OutOfMemory>
     ensures { IfOk result (λ copy. copy ≡ option_copied value.entry) }
 {
-    match value {
-        None => Ok(None),
-        Some(bytes) => Ok(Some(BoxedBytes::from_slice(alloc, bytes)?)),
-    }
+    let copy = match value {
+        None => None,
+        Some(bytes) => Some(Bytes::from_slice(alloc, bytes)?),
+    };
+    BoxedValue::new(alloc, copy)
 }
 
 impl InodeCell {
     // What a change of an attribute answers, where no collection is open: the first refusal that
     // holds, else done.
-    fn attr_answer(&self, name: &[u8], value: &Option<BoxedBytes>, admin: bool) -> Set
+    fn attr_answer(&self, name: &[u8], value: &Option<Bytes>, admin: bool) -> Set
         ensures { set_told result ≡ Some (set_attr_told self.now.inode name.now value.now admin
             (past self.now.list)) }
     {
@@ -192,7 +193,7 @@ impl InodeCell {
         pass: &mut Pass<Event>,
         who: Who,
         name: BoxedBytes,
-        value: Option<BoxedBytes>,
+        value: BoxedValue,
         admin: bool,
     ) -> Result<Set, OutOfMemory>
         requires name { pass.old.name ≡ self.old.journal }
@@ -204,7 +205,7 @@ impl InodeCell {
         ensures err { OnErr result (Stays self.old self.new pass.old pass.new) }
     {
         self.reserve()?;
-        match self.attr_answer(name.as_slice(), &value, admin) {
+        match self.attr_answer(name.as_slice(), value.get(), admin) {
             Set::Done => {
                 let deed = Deed::SetAttr { name, value, admin };
                 self.step_with(pass, who, deed, Told::Done, &Known::nothing(), None)?;

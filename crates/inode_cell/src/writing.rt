@@ -54,7 +54,7 @@ fn told_by_piece(piece: Piece) -> Told
 #[derive(Drop)]
 pub struct Got {
     /// The number of bytes.
-    pub n: u64,
+    pub n: u32,
     /// Their SHA-256.
     pub digest: Sha256Digest,
 }

@@ -1,4 +1,5 @@
 use crate::boxed_bytes::BoxedBytes;
+use crate::boxed_value::BoxedValue;
 use policy_text::{Action, Func};
 
 /// How a file is opened, which its count says.
@@ -72,7 +73,7 @@ pub enum Deed {
     /// administer.
     SetAttr {
         name: BoxedBytes,
-        value: Option<BoxedBytes>,
+        value: BoxedValue,
         admin: bool,
     },
     /// The mode or the owner is changed.

@@ -7,6 +7,7 @@
 #![tactic(auto)]
 
 mod boxed_bytes;
+mod boxed_value;
 mod deed;
 mod ended;
 mod image;
@@ -14,6 +15,7 @@ mod settings;
 mod told;
 
 pub use boxed_bytes::BoxedBytes;
+pub use boxed_value::BoxedValue;
 pub use deed::{Change, Deed, How};
 pub use ended::EndedInode;
 pub use image::{BoxedImage, Image};

@@ -47,7 +47,7 @@ pub enum Told {
     /// A chunk: it was the last one.
     Last,
     /// A read: the number of bytes and their SHA-256.
-    Read { n: u64, digest: Sha256Digest },
+    Read { n: u32, digest: Sha256Digest },
     /// A write, truncation or change, a post or a wait: it was done.
     Done,
     /// A write or truncation: it would end above the limit on a file.

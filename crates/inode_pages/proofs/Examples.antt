@@ -1,5 +1,5 @@
 -- Contents whose bytes are written out.
-use Rattle.std.proofs.Common.{◌≡◌, ℕ, List, [], ◌∷◌, ◌++◌, Bool, true, false, refl}
+use Rattle.std.proofs.Common.{◌≡◌, [], ◌∷◌, ◌++◌, true, false, refl}
 use Rattle.std.specs.Prelude.{replicate}
 use Rattle.inode_pages.specs.Content.{bytes_at, is_last_piece, overwritten, piece_at, resized}
 

@@ -1,5 +1,5 @@
 -- The pieces of a content that is one byte so many times.
-use Rattle.std.proofs.Common.{◌≡◌, ℕ, ◌+◌, ◌-◌, ◌*◌, ◌<◌, ◌≤◌, ⊎_elim, List, length, take, drop, Some, sym, ap, ◌∙◌, min, arith}
+use Rattle.std.proofs.Common.{◌≡◌, ℕ, ◌-◌, ◌*◌, ◌<◌, ◌≤◌, ⊎_elim, List, length, take, Some, sym, ap, ◌∙◌, min, arith}
 use Rattle.std.specs.Prelude.{replicate, slice_get}
 use Rattle.std.specs.Int.{div_ceil}
 use Rattle.std.specs.List.{concat}

@@ -147,9 +147,10 @@ impl Content {
         Ok(content)
     }
 
-    /// The number of bytes.
+    /// The number of bytes, at most [`MOST_BYTES`].
     pub fn len(&self) -> u64
-        ensures { result ≡ length self.now }
+        ensures length { result ≡ length self.now }
+        ensures most { result ≤ most_bytes }
     {
         match self.pages.last() {
             Some(last) => {

@@ -8,10 +8,11 @@ ghost use Rattle.report_text.specs.Words.{change_words, deed_words, how_words, l
 
 use crate::acts::{push_acts, push_rules};
 use crate::push::{push_number, push_numbers};
-use inode_events::{BoxedBytes, Change, Deed, How};
+use inode_events::{Change, Deed, How};
 use inode_meta::{OutOfMemory, Template};
 use std::alloc::AllocError;
 use std::io::Write;
+use xattr_store::Bytes;
 
 // `default` is the template that a measurement uses whose rule names none, and `grows` says whether
 // rules can be appended.
@@ -59,7 +60,7 @@ pub fn push_deed(
             out.extend_from_slice(b"set-attr ")?;
             out.extend_from_slice(name.as_slice())?;
             out.extend_from_slice(b" ")?;
-            push_length(out, value)
+            push_length(out, value.get())
         }
         Deed::SetMeta { change } => push_change(out, *change),
         Deed::Close { file } => push_numbers(out, b"close", &[*file]),
@@ -98,7 +99,7 @@ fn how_text(how: How) -> &'static str
 }
 
 // The length of the value that is set, or a dash for a removal.
-fn push_length(out: &mut Vec<u8>, value: &Option<BoxedBytes>) -> Result<(), OutOfMemory>
+fn push_length(out: &mut Vec<u8>, value: &Option<Bytes>) -> Result<(), OutOfMemory>
     ensures { OnOk result (out.new.items ≡ out.old.items ++ length_word value.now) }
 {
     match value {

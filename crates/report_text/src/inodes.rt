@@ -7,25 +7,34 @@ ghost use Rattle.report_text.specs.Report.{all_inode_lines, attr_line, force_wor
 ghost use Rattle.report_text.specs.Texts.{line_text};
 
 use crate::events::push_events;
-use crate::push::push_numbers;
+use crate::push::{cut, push_numbers};
 use hash_algos::Digest;
+use ima_io::Pieces;
 use inode_events::EndedInode;
 use inode_meta::{OutOfMemory, Template};
 use list_format::{append_hex, append_named_digest};
+use std::alloc::Global;
 use xattr_store::{Attrs, Bytes};
 
+// Each inode is given up once it is told.
 pub fn push_inodes(
-    out: &mut Vec<u8>,
+    alloc: Global,
+    out: &mut Pieces,
     default: Template,
     grows: bool,
-    inodes: &[EndedInode],
+    inodes: Vec<EndedInode>,
 ) -> Result<(), OutOfMemory>
-    ensures { OnOk result (out.new.items
-        ≡ out.old.items ++ text_of (all_inode_lines default grows 0 inodes.now)) }
+    ensures { OnOk result (out.new
+        ≡ out.old ++ text_of (all_inode_lines default grows 0 inodes.items)) }
 {
-    for (number, inode) in inodes.iter().enumerate() {
-        push_inode(out, default, grows, number as u64, inode)?;
+    let mut piece = Vec::new(alloc);
+    let mut number = 0;
+    for inode in inodes {
+        push_inode(&mut piece, default, grows, number, &inode)?;
+        piece = cut(alloc, out, piece)?;
+        number += 1;
     }
+    out.push(piece)?;
     Ok(())
 }
 

@@ -4,12 +4,13 @@ ghost use Rattle.std.specs.Prelude.{◌≡◌, [], ◌∷◌, ◌++◌, IfOk, On
 ghost use Rattle.std.specs.List.{count_by, flat_map, list_all};
 ghost use Rattle.list_format.specs.Line.{ascii_line};
 ghost use Rattle.text_forms.specs.Words.{text_of};
-ghost use Rattle.report_text.specs.Report.{ending_word, head_lines, report_of};
+ghost use Rattle.report_text.specs.Report.{appended_lines, ending_word, head_lines, pcr_lines, report_of};
 
 use crate::inodes::push_inodes;
 use crate::lists::{push_appended, push_entries, push_registers};
 use crate::push::push_numbers;
 use crate::tasks::push_tasks;
+use ima_io::Pieces;
 use inode_meta::OutOfMemory;
 use list_format::violations;
 use run_model::{Ended, EndedTask};
@@ -17,17 +18,45 @@ use std::alloc::Global;
 
 /// The report of a run, in lines that end in a newline: whether it is done, its list in the form of
 /// `ascii_runtime_measurements`, the registers that an entry names, the appended rules where the
-/// script can append any, each inode with its journal, and each task with its replies.
-pub fn report(alloc: Global, e: &Ended) -> Result<Vec<u8>, OutOfMemory>
-    ensures { IfOk result (λ text. text.items ≡ report_of e.now) }
+/// script can append any, each inode with its journal, and each task with its replies. Each journal
+/// is given up once it is told, so that the report takes its room.
+pub fn report(alloc: Global, e: Ended) -> Result<Pieces, OutOfMemory>
+    ensures { IfOk result (λ text. text ≡ report_of e) }
+{
+    let mut out = Pieces::new(alloc);
+    out.push(head(alloc, &e)?)?;
+    let Ended {
+        template,
+        grows,
+        inodes,
+        tasks,
+        ..
+    } = e;
+    push_inodes(alloc, &mut out, template, grows, inodes)?;
+    push_tasks(alloc, &mut out, tasks)?;
+    out.push(end(alloc)?)?;
+    Ok(out)
+}
+
+// What stands before the inodes.
+fn head(alloc: Global, e: &Ended) -> Result<Vec<u8>, OutOfMemory>
+    ensures { IfOk result (λ out. out.items ≡ ((text_of (head_lines e.now)
+        ++ flat_map ascii_line e.now.list)
+        ++ text_of (pcr_lines e.now.list e.now.banks))
+        ++ text_of (appended_lines e.now.grows e.now.base e.now.rules)) }
 {
     let mut out = Vec::new(alloc);
     push_head(&mut out, e)?;
     push_entries(&mut out, e.list.as_slice())?;
     push_registers(&mut out, e.list.as_slice(), &e.banks)?;
     push_appended(alloc, &mut out, e.grows, e.base, e.rules.as_slice())?;
-    push_inodes(&mut out, e.template, e.grows, e.inodes.as_slice())?;
-    push_tasks(&mut out, e.tasks.as_slice())?;
+    Ok(out)
+}
+
+fn end(alloc: Global) -> Result<Vec<u8>, OutOfMemory>
+    ensures { IfOk result (λ out. out.items ≡ codes "end\n") }
+{
+    let mut out = Vec::new(alloc);
     out.extend_from_slice(b"end\n")?;
     Ok(out)
 }

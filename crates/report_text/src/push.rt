@@ -1,10 +1,26 @@
-// Numbers and words, put behind a text.
+// Numbers and words, put behind a text, and texts in pieces.
 
-ghost use Rattle.std.specs.Prelude.{◌≡◌, [], ◌∷◌, ◌++◌, decimal, map, OnOk};
+ghost use Rattle.std.specs.Prelude.{◌≡◌, [], ◌∷◌, ◌++◌, decimal, map, IfOk, OnOk};
 ghost use Rattle.std.specs.List.{join_with_byte};
 
+use ima_io::Pieces;
 use inode_meta::OutOfMemory;
 use itoa::Buffer;
+use std::alloc::Global;
+
+// So many bytes make a piece.
+const PIECE: usize = 32_768;
+
+// Puts the piece behind the others where it is long enough, and gives what the text goes on with.
+pub fn cut(alloc: Global, out: &mut Pieces, piece: Vec<u8>) -> Result<Vec<u8>, OutOfMemory>
+    ensures { IfOk result (λ rest. out.new ++ rest.items ≡ out.old ++ piece.items) }
+{
+    if piece.len() < PIECE {
+        return Ok(piece);
+    }
+    out.push(piece)?;
+    Ok(Vec::new(alloc))
+}
 
 pub fn push_number(out: &mut Vec<u8>, n: u64) -> Result<(), OutOfMemory>
     ensures { OnOk result (out.new.items ≡ out.old.items ++ decimal n) }

@@ -6,19 +6,26 @@ ghost use Rattle.text_forms.specs.Words.{text_of};
 ghost use Rattle.report_text.specs.Report.{all_task_lines, reply_lines, reply_words, task_lines};
 ghost use Rattle.report_text.specs.Texts.{line_text};
 
-use crate::push::{push_number, push_numbers};
+use crate::push::{cut, push_number, push_numbers};
 use call_steps::Reply;
+use ima_io::Pieces;
 use inode_meta::OutOfMemory;
 use list_format::append_hex;
 use run_model::EndedTask;
+use std::alloc::Global;
 
-pub fn push_tasks(out: &mut Vec<u8>, tasks: &[EndedTask]) -> Result<(), OutOfMemory>
-    ensures { OnOk result (out.new.items
-        ≡ out.old.items ++ text_of (all_task_lines 0 tasks.now)) }
+// Each task is given up once it is told.
+pub fn push_tasks(alloc: Global, out: &mut Pieces, tasks: Vec<EndedTask>) -> Result<(), OutOfMemory>
+    ensures { OnOk result (out.new ≡ out.old ++ text_of (all_task_lines 0 tasks.items)) }
 {
-    for (number, task) in tasks.iter().enumerate() {
-        push_task(out, number as u64, task)?;
+    let mut piece = Vec::new(alloc);
+    let mut number = 0;
+    for task in tasks {
+        push_task(&mut piece, number, &task)?;
+        piece = cut(alloc, out, piece)?;
+        number += 1;
     }
+    out.push(piece)?;
     Ok(())
 }
 
@@ -65,7 +72,7 @@ fn push_reply(out: &mut Vec<u8>, reply: &Reply) -> Result<(), OutOfMemory>
     match reply {
         Reply::Done => out.extend_from_slice(b"ok"),
         Reply::Bytes { n, digest } => {
-            push_numbers(out, b"ok", &[*n])?;
+            push_numbers(out, b"ok", &[u64::from(*n)])?;
             append_hex(out, b' ', digest.as_slice())
         }
         Reply::NotFound => out.extend_from_slice(b"ENOENT"),

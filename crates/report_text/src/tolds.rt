@@ -27,7 +27,7 @@ pub fn push_told(out: &mut Vec<u8>, told: &Told) -> Result<(), OutOfMemory>
         Told::Grant(grant) => push_grant(out, *grant),
         Told::More => out.extend_from_slice(b"more"),
         Told::Last => out.extend_from_slice(b"last"),
-        Told::Read { n, .. } => push_number(out, *n),
+        Told::Read { n, .. } => push_number(out, u64::from(*n)),
         Told::Done => out.extend_from_slice(b"done"),
         Told::TooBig => out.extend_from_slice(b"toobig"),
         Told::EvmName => out.extend_from_slice(b"evmname"),

@@ -9,11 +9,12 @@ ghost use Rattle.policy_text.specs.Spelling.{rule_words};
 
 use crate::pushed::{push_number, push_octal, push_value, push_word};
 use call_steps::{Call, Ending};
-use inode_events::{BoxedBytes, Change, How};
+use inode_events::{Change, How};
 use inode_meta::{Cred, OutOfMemory};
 use policy_text::{Rule, print_rule};
 use script_text::{FileBlock, TaskBlock};
 use std::alloc::Global;
+use xattr_store::Bytes;
 
 pub fn push_rules(alloc: Global, out: &mut Vec<u8>, rules: &[Rule]) -> Result<(), OutOfMemory>
     ensures text { OnOk result (
@@ -123,7 +124,7 @@ fn push_call(
         Call::Exec { run, inode } => push_exec(out, *run, path_at(files, *inode)),
         Call::Endexec { run } => push_number(out, b"endexec ", u64::from(*run)),
         Call::SetAttr { inode, name, value } => {
-            push_set(out, path_at(files, *inode), name.as_slice(), value)
+            push_set(out, path_at(files, *inode), name.as_slice(), value.get())
         }
         Call::SetMeta { inode, change } => push_change(out, path_at(files, *inode), *change),
         Call::Post { sem } => push_number(out, b"post ", u64::from(*sem)),
@@ -242,7 +243,7 @@ fn push_set(
     out: &mut Vec<u8>,
     path: &[u8],
     name: &[u8],
-    value: &Option<BoxedBytes>,
+    value: &Option<Bytes>,
 ) -> Result<(), OutOfMemory>
     ensures { OnOk result (out.new.items
         ≡ out.old.items ++ words_text (attr_set_line path.now name.now value.now)) }

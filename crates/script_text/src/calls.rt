@@ -10,7 +10,7 @@ use crate::files::is_filled;
 use crate::head::CallWord;
 use crate::paths::Paths;
 use call_steps::{BoxedRule, Call};
-use inode_events::{BoxedBytes, Change, How};
+use inode_events::{BoxedBytes, BoxedValue, Change, How};
 use inode_pages::MOST_BYTES;
 use script_words::{
     LineCause, LineErr, descriptor_of, id_of, mode_of, offset_of, portion_of, rule_of, small_of,
@@ -177,6 +177,7 @@ fn write_of(alloc: Global, fields: &[&[u8]]) -> Result<Call, LineErr>
     let fd = descriptor_of(fd).ok_or(LineCause::BadField)?;
     let from = offset_of(from).ok_or(LineCause::BadField)?;
     let bytes = value_of(alloc, bytes, 1, WRITE)?;
+    let bytes = BoxedBytes::new(alloc, bytes)?;
     Ok(Call::Write { fd, from, bytes })
 }
 
@@ -292,7 +293,7 @@ fn setxattr_of(alloc: Global, fields: &[&[u8]], paths: &Paths) -> Result<Call, L
     }
     let name = name_of(alloc, name)?;
     let value = value_of(alloc, value, 0, SET)?;
-    let value = Some(BoxedBytes::new(alloc, value)?);
+    let value = BoxedValue::new(alloc, Some(value))?;
     let inode = inode_at(path, paths)?;
     Ok(Call::SetAttr { inode, name, value })
 }
@@ -305,7 +306,7 @@ fn removexattr_of(alloc: Global, fields: &[&[u8]], paths: &Paths) -> Result<Call
     };
     let name = name_of(alloc, name)?;
     let inode = inode_at(path, paths)?;
-    let value = None;
+    let value = BoxedValue::new(alloc, None)?;
     Ok(Call::SetAttr { inode, name, value })
 }
 

@@ -13,12 +13,12 @@ use crate::draft::Draft;
 use crate::files::{id_behind, pop_last, sum_of};
 use crate::head::CallWord;
 use call_steps::{Call, Ending};
-use inode_events::BoxedBytes;
 use inode_meta::Cred;
 use policy_text::RULES;
 use script_words::{LineCause, LineErr, rule_of};
 use std::alloc::{AllocError, Global};
 use text_forms::short_number_of;
+use xattr_store::Bytes;
 
 // How many tasks a script may have, and calls all tasks.
 const TASKS: usize = 64;
@@ -199,7 +199,7 @@ fn admin_of(more: &[&[u8]]) -> Option<bool>
     }
 }
 
-fn value_length(value: &Option<BoxedBytes>) -> usize
+fn value_length(value: &Option<Bytes>) -> usize
     ensures { result ≡ value_length value.now }
 {
     match value {
@@ -214,7 +214,7 @@ fn call_bytes(call: &Call) -> usize
 {
     match call {
         Call::Write { bytes, .. } => bytes.as_slice().len(),
-        Call::SetAttr { value, .. } => value_length(value),
+        Call::SetAttr { value, .. } => value_length(value.get()),
         _ => 0,
     }
 }

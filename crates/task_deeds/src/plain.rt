@@ -10,7 +10,7 @@ ghost use Rattle.task_mind.specs.Steps.{deed_in};
 use crate::told::{counted_told, set_told, wrote_told};
 use grow_list::{OutOfMemory, Pass};
 use inode_cell::InodeCell;
-use inode_events::{BoxedBytes, Event, Told};
+use inode_events::{BoxedBytes, BoxedValue, Event, Told};
 use inode_meta::{Cred, Who};
 use task_mind::Doing;
 
@@ -20,7 +20,7 @@ fn set_attr(
     pass: &mut Pass<Event>,
     who: Who,
     name: &BoxedBytes,
-    value: &Option<BoxedBytes>,
+    value: &BoxedValue,
     cred: Cred,
 ) -> Result<Option<Told>, OutOfMemory>
     requires name { pass.old.name ≡ cell.old.journal }
@@ -29,7 +29,7 @@ fn set_attr(
         pass.old pass.new who (Deed.SetAttr name.now value.now cred.admin) o) }
     ensures err { OnErr result (Stays cell.old cell.new pass.old pass.new) }
 {
-    let value = match value {
+    let value = match value.get() {
         Some(value) => Some(value.as_slice()),
         None => None,
     };

@@ -63,13 +63,15 @@ impl TaskMind {
         if calls.len() > u32::MAX as usize {
             return Err(AllocError);
         }
+        // A reply a call, and what `reserve` asks for once all are answered.
+        let replies = Vec::with_capacity(alloc, calls.len() + 1)?;
         Ok(TaskMind {
             cred,
             calls,
             at: 0,
             progress: None,
             handles: Vec::new(alloc),
-            replies: Vec::new(alloc),
+            replies,
             checked: Action::none(),
         })
     }

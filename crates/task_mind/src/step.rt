@@ -7,9 +7,8 @@ ghost use Rattle.task_mind.specs.Steps.{deed_in, step_in};
 
 use crate::progress::Progress;
 use call_steps::{Ask, Call};
-use inode_events::{BoxedBytes, Change, Deed, How};
+use inode_events::{BoxedBytes, BoxedValue, Change, Deed, How};
 use policy_text::{Func, Rule};
-use xattr_store::Bytes;
 
 /// An event on an inode, before it has happened. Bytes are the call's, and none is copied.
 #[derive(Clone, Copy, Drop)]
@@ -34,7 +33,7 @@ pub enum Doing<'a> {
     Write {
         file: u64,
         from: u64,
-        bytes: &'a Bytes,
+        bytes: &'a BoxedBytes,
     },
     /// The content is cut, or lengthened by zeros.
     Trunc {
@@ -44,7 +43,7 @@ pub enum Doing<'a> {
     /// An attribute is set, or with no value removed.
     SetAttr {
         name: &'a BoxedBytes,
-        value: &'a Option<BoxedBytes>,
+        value: &'a BoxedValue,
         admin: bool,
     },
     /// The mode or the owner is changed.

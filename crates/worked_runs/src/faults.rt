@@ -88,25 +88,20 @@ fn failing_write<R: Threads + Wait + Sync>(
     served(rt, alloc, case.words, &mut script, out, note)
 }
 
-// A fault at any call of those that are made: what was taken before stays taken.
+// A fault at any byte, over an output that takes one a call: what was taken before stays taken.
 fn writes_fail<R: Threads + Wait + Sync>(
     rt: &R,
     alloc: Global,
     case: &Case<'_>,
 ) -> Result<bool, AllocError> {
     let whole = case.out.as_bytes();
-    let mut call = 0;
-    for taken in (0..whole.len()).step_by(50) {
-        let got = failing_write(rt, alloc, case, whole.len(), 50, call)?;
-        let holds = whole
-            .get(..taken)
-            .is_some_and(|front| got.is(WRITE_FAULT, front, "write fault\n"));
-        if !holds {
+    for taken in 0..whole.len() {
+        let got = failing_write(rt, alloc, case, whole.len(), 1, taken as u64)?;
+        if !got.is(WRITE_FAULT, &whole[..taken], "write fault\n") {
             return Ok(false);
         }
-        call = call.saturating_add(1);
     }
-    let after = failing_write(rt, alloc, case, whole.len(), 50, call)?;
+    let after = failing_write(rt, alloc, case, whole.len(), 1, whole.len() as u64)?;
     Ok(after.is(DONE, whole, ""))
 }
 

@@ -15,20 +15,24 @@ use std::alloc::Global;
 use std::sync::Wait;
 use std::thread::Threads;
 
-/// The report of the script's run, or the line that tells its first bad line.
+/// The report of the script's run, or the line that tells its first bad line. The input is given up
+/// once it is read.
 #[tactic(auto, unfolding(crate::specs::commands::Run::run_refusal, crate::specs::commands::Run::IsRunOutput))]
 pub fn answer<G: Gate + Sync, R: Threads + Wait + Sync>(
     rt: &R,
     alloc: Global,
-    input: &[u8],
+    input: Vec<u8>,
     gate: &G,
 ) -> Result<Answer, NotDone>
-    requires { length input.now ≤ MOST_INPUT }
-    ensures { Answers result (run_refusal input.now)
-        (λ answer. IsRunOutput input.now answer.stuck answer.output.items) }
+    requires { length input.items ≤ MOST_INPUT }
+    ensures { Answers result (run_refusal input.items)
+        (λ answer. IsRunOutput input.items answer.stuck answer.output) }
 {
-    match parse(alloc, input) {
-        Ok(script) => Ok(reported(rt, alloc, script, gate)?),
+    match parse(alloc, &input) {
+        Ok(script) => {
+            drop(input);
+            Ok(reported(rt, alloc, script, gate)?)
+        }
         Err(ScriptErr::Refused(fault)) => Err(NotDone::Refused(bad_line(alloc, fault)?)),
         Err(ScriptErr::OutOfMemory) => Err(NotDone::OutOfMemory),
     }
@@ -41,12 +45,10 @@ fn reported<G: Gate + Sync, R: Threads + Wait + Sync>(
     script: Script,
     gate: &G,
 ) -> Result<Answer, OutOfMemory>
-    ensures { IfOk result (λ answer. IsReport script answer.stuck answer.output.items) }
+    ensures { IfOk result (λ answer. IsReport script answer.stuck answer.output) }
 {
     let ended = run(rt, alloc, script, gate)?;
-    let output = report(alloc, &ended)?;
-    Ok(Answer {
-        output,
-        stuck: ended.stuck,
-    })
+    let stuck = ended.stuck;
+    let output = report(alloc, ended)?;
+    Ok(Answer { output, stuck })
 }

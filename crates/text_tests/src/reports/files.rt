@@ -76,6 +76,9 @@ pub fn measured_read(rt: &impl Abort, alloc: Global) -> Result<Ended, AllocError
 fn a_measured_read_is_reported(rt: HostRuntime) -> Result<(), Fail> {
     let alloc = rt.alloc();
     let e = measured_read(&rt, alloc)?;
-    assert_eq!(rt; report(alloc, &e)?.as_slice(), MEASURED_READ.as_bytes());
+    assert_eq!(rt;
+        report(alloc, e)?.joined(alloc)?.as_slice(),
+        MEASURED_READ.as_bytes()
+    );
     Ok(())
 }

@@ -1,7 +1,7 @@
 use Rattle.std.proofs.Common.{refl, arith, take, ◌++◌}
 use Rattle.std.proofs.lemmas.Result.{err_from_is_err_and}
 use Rattle.std.proofs.KnownBytes.{Consumes-trans}
-use Rattle.ima_io.proofs.Pieces.{length-append-take}
+use Rattle.ima_io.proofs.Parts.{length-append-take}
 use Rattle.ima_io.proofs.whole.read_all.Goals as goal
 
 pub returns-then-n-limit-clause-given : goal.returns-then-n-limit-clause-given

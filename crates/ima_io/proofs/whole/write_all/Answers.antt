@@ -1,7 +1,7 @@
 use Rattle.std.proofs.Common.{take, ◌++◌, rules, arith}
 use Rattle.std.proofs.lemmas.Result.{err_from_is_err_and}
 use Rattle.std.proofs.KnownBytes.{Appends-trans, Appends-kept}
-use Rattle.ima_io.proofs.Pieces.{moves_front, TookPart-of_rest}
+use Rattle.ima_io.proofs.Parts.{moves_front, TookPart-of_rest}
 use Rattle.ima_io.proofs.whole.write_all.Goals as goal
 
 pub returns-in_err-n-clause-part : goal.returns-in_err-n-clause-part

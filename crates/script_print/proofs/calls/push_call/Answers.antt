@@ -11,6 +11,6 @@ pub returns-in-AddRule-clause-text : goal.returns-in-AddRule-clause-text
 returns-in-AddRule-clause-text c =
     subst (λ (w : List (List ℕ)). OnOk c.push_added.result
     (c.push_added.new.out.items ≡ c.args.out.now.items ++ words_text w))
-    (ap (λ (r : RuleValue). codes "addrule" ∷ rule_words r) c.get.ensures
+    (ap (λ (r : RuleValue). codes "addrule" ∷ rule_words r) c.get-in-AddRule.ensures
     ∙ sym (ap (λ (x : Call). call_line c.args.files.now x) c.in-AddRule.is))
     c.push_added.ensures.text

@@ -20,10 +20,10 @@ returns-clause-acts c =
     c.args.pass.now c.set_attr.new.pass c.args.who
     (deed.SetAttr c.as_slice-2.result.now v c.args.cred.admin)
     (answered c.in_ok-set_attr.field-0))
-    (elim c.match-value.branch [
+    (elim c.match-get.branch [
       | in-Some w ↦ ap option_copied w.value-is
           ∙ ap Some w.as_slice.ensures.bytes
-          ∙ sym w.in-Some.is
-      | in-None w ↦ ap option_copied w.value-is ∙ sym w.in-None.is
+          ∙ sym w.in-Some.is ∙ c.get.ensures
+      | in-None w ↦ ap option_copied w.value-is ∙ sym w.in-None.is ∙ c.get.ensures
     ])
     (c.in_ok-set_attr.ensures.acts list)))

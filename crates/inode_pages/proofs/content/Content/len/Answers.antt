@@ -10,4 +10,20 @@ returns-in-Some c =
     ap (λ (l : List (List ℕ)). slice_get l (length l - 1)) (sym c.deref.ensures.value)
     ∙ sym c.in-Some.ensures.value in
     let some = length_by_last _ pages c.in-Some.last.now c.self.invariant.pages_are at in
-    omega (arith, some, ap length c.self.view_is, ap length c.as_slice.ensures.bytes, c.len.ensures)
+    record {
+      length = omega (
+        arith,
+        some,
+        ap length c.self.view_is,
+        ap length c.as_slice.ensures.bytes,
+        c.len.ensures,
+      );
+      most = omega (
+        arith,
+        some,
+        ap length c.self.view_is,
+        ap length c.as_slice.ensures.bytes,
+        c.len.ensures,
+        c.self.invariant.small,
+      );
+    }

@@ -1,7 +1,7 @@
 use Rattle.std.proofs.Common.{◌≡◌, ◌-◌, ◌≤◌, length, take, drop, ap, sym, ◌∙◌, arith, length-append, length-drop, take-append-drop, drop_of_length-le}
 use Rattle.std.proofs.lemmas.List.{take_rest}
 use Rattle.ima_io.specs.Memory.{Feed}
-use Rattle.ima_io.proofs.Pieces.{front_given}
+use Rattle.ima_io.proofs.Parts.{front_given}
 use Rattle.ima_io.proofs.memory.source.MemSourceSource.read.Goals as goal
 
 pub returns-clause-bytes : goal.returns-clause-bytes
