@@ -1,16 +1,16 @@
 -- Calls with all their steps.
 use Rattle.std.proofs.Common.{◌≡◌, true, false, List, [], ◌∷◌, Option, Some, None, refl}
-use Rattle.hash_algos.specs.declared.algo.Algo.TheVariants.{Sha256}
-use Rattle.hash_algos.specs.DigestValue.{DigestValue}
-use Rattle.hash_algos.specs.Digest.{zero_digest}
-use Rattle.ima_templates.specs.declared.entry.Placed.TheVariants.{Added}
-use Rattle.inode_meta.specs.declared.appraisal.Mode.{Mode}
-use Rattle.inode_meta.specs.declared.appraisal.Mode.TheVariants as mode
-use Rattle.inode_meta.specs.declared.appraisal.Slot.TheVariants as slot
-use Rattle.label_values.specs.declared.verdict.Cause.TheVariants.{MissingHash}
-use Rattle.label_values.specs.declared.verdict.Verdict.TheVariants.{Deny}
-use Rattle.policy_text.specs.declared.access.Action.{Action}
-use Rattle.policy_text.specs.declared.rule.Func.TheVariants as func
+use Rattle.inode_events.specs.hashes.declared.algo.Algo.TheVariants.{Sha256}
+use Rattle.inode_events.specs.hashes.DigestValue.{DigestValue}
+use Rattle.inode_events.specs.hashes.Digest.{zero_digest}
+use Rattle.inode_events.specs.templates.declared.entry.Placed.TheVariants.{Added}
+use Rattle.inode_events.specs.meta.declared.appraisal.Mode.{Mode}
+use Rattle.inode_events.specs.meta.declared.appraisal.Mode.TheVariants as mode
+use Rattle.inode_events.specs.meta.declared.appraisal.Slot.TheVariants as slot
+use Rattle.inode_events.specs.labels.declared.verdict.Cause.TheVariants.{MissingHash}
+use Rattle.inode_events.specs.labels.declared.verdict.Verdict.TheVariants.{Deny}
+use Rattle.inode_events.specs.policy.declared.access.Action.{Action}
+use Rattle.inode_events.specs.policy.declared.rule.Func.TheVariants as func
 use Rattle.inode_events.specs.Checks.{no_action}
 use Rattle.inode_events.specs.declared.deed.How.TheVariants as how
 use Rattle.inode_events.specs.declared.told.Told.{Told}

@@ -1,8 +1,8 @@
 -- What a call line of a script can say: the ranges of its numbers and the lengths of its bytes.
 use Rattle.std.specs.Prelude.{ℕ, Bool, true, ◌&&◌, ◌||◌, not, nat_le, nat_lt, List, length, Option, Some, None}
-use Rattle.inode_pages.specs.Content.{most_bytes}
+use Rattle.inode_events.specs.pages.Content.{most_bytes}
 use Rattle.inode_events.specs.Files.{is_writer}
-use Rattle.text_forms.specs.Words.{is_word}
+use Rattle.inode_events.specs.forms.Words.{is_word}
 use Rattle.call_steps.specs.declared.call.Call.{Call}
 use Rattle.call_steps.specs.declared.call.Call.TheVariants as call
 

@@ -2,3 +2,8 @@ pub mod Handles
 pub mod Steps
 pub mod Mind
 pub mod Forms
+pub use Rattle.inode_events.specs.hashes
+pub use Rattle.inode_events.specs.templates
+pub use Rattle.inode_events.specs as events
+pub use Rattle.inode_events.specs.registers
+pub use Rattle.inode_events.specs.policy

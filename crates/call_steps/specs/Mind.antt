@@ -1,9 +1,9 @@
 -- Where a task stands among its calls, and what it makes of the outcome of its next step.
 use Rattle.std.specs.Prelude.{ℕ, ◌+◌, Bool, true, false, List, [], ◌∷◌, ◌++◌, Option, Some, None, unwrap_or, if◌then◌else◌}
-use Rattle.inode_meta.specs.declared.appraisal.Mode.{Mode}
-use Rattle.policy_text.specs.RuleValue.{RuleValue}
-use Rattle.policy_text.specs.declared.access.Action.{Action}
-use Rattle.policy_text.specs.declared.rule.Func.{Func}
+use Rattle.inode_events.specs.meta.declared.appraisal.Mode.{Mode}
+use Rattle.inode_events.specs.policy.RuleValue.{RuleValue}
+use Rattle.inode_events.specs.policy.declared.access.Action.{Action}
+use Rattle.inode_events.specs.policy.declared.rule.Func.{Func}
 use Rattle.inode_events.specs.declared.deed.Deed.{Deed}
 use Rattle.inode_events.specs.declared.deed.Deed.TheVariants as deed
 use Rattle.inode_events.specs.declared.deed.How.{How}

@@ -1,16 +1,16 @@
 -- The steps of a call, one after the other: which comes first, and which comes after what the step
 -- before was told.
 use Rattle.std.specs.Prelude.{Bool, true, false, ◌&&◌, ◌||◌, not, Option, Some, None, unwrap_or, if◌then◌else◌}
-use Rattle.inode_meta.specs.declared.appraisal.Mode.{Mode}
-use Rattle.label_values.specs.declared.verdict.Cause.{Cause}
-use Rattle.label_values.specs.declared.verdict.Verdict.{Verdict}
-use Rattle.label_values.specs.declared.verdict.Verdict.TheVariants.{Deny}
-use Rattle.policy_text.specs.declared.access.Action.{Action}
-use Rattle.policy_text.specs.declared.access.Purpose.{Purpose}
-use Rattle.policy_text.specs.declared.access.Purpose.TheVariants as purpose
-use Rattle.policy_text.specs.Accesses.{func_of_purpose, mask_of_purpose, slot_of}
+use Rattle.inode_events.specs.meta.declared.appraisal.Mode.{Mode}
+use Rattle.inode_events.specs.labels.declared.verdict.Cause.{Cause}
+use Rattle.inode_events.specs.labels.declared.verdict.Verdict.{Verdict}
+use Rattle.inode_events.specs.labels.declared.verdict.Verdict.TheVariants.{Deny}
+use Rattle.inode_events.specs.policy.declared.access.Action.{Action}
+use Rattle.inode_events.specs.policy.declared.access.Purpose.{Purpose}
+use Rattle.inode_events.specs.policy.declared.access.Purpose.TheVariants as purpose
+use Rattle.inode_events.specs.policy.Accesses.{func_of_purpose, mask_of_purpose, slot_of}
 use Rattle.inode_events.specs.Checks.{is_off, no_action}
-use Rattle.inode_pages.specs.Content.{most_bytes}
+use Rattle.inode_events.specs.pages.Content.{most_bytes}
 use Rattle.inode_events.specs.Files.{can_read, is_writer}
 use Rattle.inode_events.specs.declared.deed.How.{How}
 use Rattle.inode_events.specs.declared.deed.How.TheVariants as how

@@ -1,5 +1,5 @@
-use inode_meta::Slot;
-use policy_text::Func;
+use inode_events::meta::Slot;
+use inode_events::policy::Func;
 
 /// The next step of a call: which event it is to be, or that it is none. The event's other fields
 /// come from the call, from the file that it uses, from the task's credentials and from the rules.

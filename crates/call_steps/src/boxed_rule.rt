@@ -1,7 +1,7 @@
 ghost use Rattle.std.specs.Prelude.{◌≡◌, IfOk};
 
-use policy_text::Rule;
-use std::alloc::{AllocError, Global};
+use inode_events::policy::Rule;
+use std::alloc::{AllocError as OutOfMemory, Global};
 use std::marker::Model;
 
 /// A rule that lies outside of the call that appends it, so that other calls take no room for one.
@@ -12,7 +12,7 @@ pub struct BoxedRule {
 }
 
 impl Model for BoxedRule {
-    ghost use Rattle.policy_text.specs.RuleValue.{RuleValue};
+    ghost use Rattle.inode_events.specs.policy.RuleValue.{RuleValue};
 
     ghost Value = { RuleValue };
 
@@ -21,7 +21,7 @@ impl Model for BoxedRule {
 
 impl BoxedRule {
     /// The rule, moved to memory of its own.
-    pub fn new(alloc: Global, rule: Rule) -> Result<BoxedRule, AllocError>
+    pub fn new(alloc: Global, rule: Rule) -> Result<BoxedRule, OutOfMemory>
         ensures { IfOk result (λ b. b ≡ rule) }
     {
         let rule = Box::new(alloc, rule)?;

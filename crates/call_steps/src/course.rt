@@ -4,7 +4,7 @@ ghost use Rattle.call_steps.specs.Steps.{check, course_of, how_of, purpose_of, p
 use crate::ask::Ask;
 use crate::call::Call;
 use inode_events::How;
-use policy_text::Purpose;
+use inode_events::policy::Purpose;
 
 /// What a call does beyond its one event: those that raise a check go on by its answer.
 #[derive(Clone, Copy, Debug, PartialEq, Eq)]

@@ -10,11 +10,11 @@ use crate::course::Course;
 use crate::due::{Due, Next};
 use crate::first::close;
 use crate::reply::Reply;
+use inode_events::labels::{Cause, Verdict};
+use inode_events::meta::Mode;
+use inode_events::pages::MOST_BYTES;
+use inode_events::policy::Action;
 use inode_events::{Grant, Told};
-use inode_meta::Mode;
-use inode_pages::MOST_BYTES;
-use label_values::{Cause, Verdict};
-use policy_text::Action;
 
 /// What comes after a step, by what it was told, and after a check by its action.
 pub fn next_by(

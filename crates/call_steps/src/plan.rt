@@ -11,8 +11,8 @@ use crate::held::Hand;
 use crate::next::next_by;
 use crate::reply::Reply;
 use inode_events::Told;
-use inode_meta::Mode;
-use policy_text::Action;
+use inode_events::meta::Mode;
+use inode_events::policy::Action;
 
 /// A call in progress. After a reply it is of no further use.
 #[derive(Clone, Copy, Debug, PartialEq, Eq)]

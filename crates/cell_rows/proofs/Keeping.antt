@@ -16,7 +16,7 @@ use Rattle.inode_events.specs.declared.told.Event.{Event}
 use Rattle.inode_events.specs.declared.told.Told.{Told}
 use Rattle.inode_meta.specs.declared.step.Who.{Who}
 use Rattle.inode_pages.specs.Content.{piece_at}
-use Rattle.journal_laws.proofs.Small.{event}
+use Rattle.inode_cell.proofs.laws_of_journals.Small.{event}
 use Rattle.cell_rows.specs.Hashes.{Gathers, HasAll, Hashes}
 use Rattle.cell_rows.specs.Sound.{IsLab, IsOwn, Keeps}
 use Rattle.cell_rows.specs.declared.hashed.Hashed.{Hashed}

@@ -17,7 +17,7 @@ use Rattle.inode_hashing.specs.Hashing.{HasHashed}
 use Rattle.inode_hashing.specs.declared.hashing.Hashing.{Hashing}
 use Rattle.inode_meta.specs.declared.step.Who.{Who}
 use Rattle.inode_pages.specs.Content.{piece_at}
-use Rattle.journal_laws.proofs.Small.{event}
+use Rattle.inode_cell.proofs.laws_of_journals.Small.{event}
 use Rattle.cell_rows.specs.Hashes.{Gathers, HasAll}
 use Rattle.cell_rows.specs.declared.hashed.Hashed.{Hashed}
 use Rattle.cell_rows.specs.declared.hashed.Hashed.TheVariants as hashed

@@ -13,7 +13,7 @@ use Rattle.inode_events.specs.Stage.{is_gone, may_check, stage}
 use Rattle.inode_events.specs.declared.deed.Deed.{Deed}
 use Rattle.inode_events.specs.declared.deed.Deed.TheVariants as deed
 use Rattle.inode_events.specs.declared.deed.How.{How}
-use Rattle.own_laws.specs.Own.{counter, names_file}
+use Rattle.inode_cell.specs.laws_of_journals.Own.{counter, names_file}
 use Rattle.policy_text.specs.declared.rule.Func.{Func}
 use Rattle.policy_text.specs.declared.access.Action.{Action}
 use Rattle.cell_rows.specs.Stages.{file_of, is_caller}

@@ -9,12 +9,12 @@ use Rattle.inode_events.specs.Inode.{Inode}
 use Rattle.inode_events.specs.Past.{past, past_more}
 use Rattle.inode_events.specs.Stage.{Gone, Stage, next_stage, stage}
 use Rattle.inode_events.specs.declared.told.Event.{Event}
-use Rattle.kept_journal.proofs.Keeping.{length_past}
+use Rattle.inode_cell.proofs.about_states.Keeping.{length_past}
 use Rattle.policy_text.specs.declared.access.Action.{Action}
 use Rattle.policy_text.specs.declared.rule.Func.TheVariants as func
-use Rattle.own_laws.specs.Own.{counter}
-use Rattle.own_laws.proofs.Bridge.{event_there}
-use Rattle.rule_match.proofs.Lookups.{take-next}
+use Rattle.inode_cell.specs.laws_of_journals.Own.{counter}
+use Rattle.inode_cell.proofs.laws_of_journals.Bridge.{event_there}
+use Rattle.inode_cell.proofs.about_matching.Lookups.{take-next}
 use Rattle.cell_rows.specs.Stages.{is_caller}
 
 -- one event more is read

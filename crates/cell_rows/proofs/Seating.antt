@@ -11,7 +11,7 @@ use Rattle.grow_list.proofs.Others.{others_in_order}
 use Rattle.ima_templates.specs.declared.entry.Entry.{Entry}
 use Rattle.inode_cell.specs.Ending.{HasPasses}
 use Rattle.inode_events.specs.declared.told.Event.{Event}
-use Rattle.kept_journal.specs.Value.{new_pass}
+use Rattle.inode_cell.specs.states.Value.{new_pass}
 use Rattle.cell_rows.specs.Sound.{AreOwn, IsLab, IsOwn, IsRoom, Keeps}
 use Rattle.cell_rows.specs.declared.lab.Lab.{Lab}
 use Rattle.cell_rows.specs.declared.room.Room.{Room}

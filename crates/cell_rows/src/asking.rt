@@ -1,6 +1,6 @@
+use inode_cell::matching::Index;
 use inode_meta::Cred;
 use policy_text::Super;
-use rule_match::Index;
 
 /// What a table's checks ask by: the rules, the file system, and each task's credentials.
 #[derive(Drop)]

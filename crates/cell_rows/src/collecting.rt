@@ -7,12 +7,12 @@ use crate::fault::Fault;
 use crate::hashed::{Hashed, gather};
 use crate::lab::Lab;
 use crate::story::last_check;
-use call_steps::Reply;
 use grow_list::Pass;
 use inode_cell::{CloseTaken, Taken};
 use inode_events::Event;
 use inode_hashing::Hashing;
 use inode_meta::Who;
+use report_text::steps::Reply;
 
 impl Lab {
     // The digest in force is asked for, by what the file's last check asked for.

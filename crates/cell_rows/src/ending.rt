@@ -7,8 +7,8 @@ use crate::room::Room;
 use inode_cell::EndedInode as CellEnd;
 use inode_events::EndedInode;
 use inode_meta::Template;
-use run_model::{Ended, EndedTask};
-use std::alloc::{AllocError, Global};
+use report_text::model::{Ended, EndedTask};
+use std::alloc::{AllocError as OutOfMemory, Global};
 
 // The inode as reports show it.
 fn shown(end: CellEnd) -> EndedInode {
@@ -33,7 +33,7 @@ fn shown(end: CellEnd) -> EndedInode {
 }
 
 /// Closes the inode and the list. What the reads replied is shown as one task's replies.
-pub fn ended(alloc: Global, room: Room, template: Template) -> Result<Ended, AllocError>
+pub fn ended(alloc: Global, room: Room, template: Template) -> Result<Ended, OutOfMemory>
     requires { IsRoom room }
 {
     let Room {

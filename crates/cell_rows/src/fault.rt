@@ -1,7 +1,7 @@
 ghost use Rattle.std.specs.Prelude.{◌≡◌};
 ghost use Rattle.cell_rows.specs.declared.fault.Fault.TheVariants.{Memory};
 
-use std::alloc::AllocError;
+use std::alloc::AllocError as OutOfMemory;
 
 /// Why nothing was done.
 #[derive(Clone, Copy, Debug, PartialEq, Eq)]
@@ -12,10 +12,10 @@ pub enum Fault {
     Order,
 }
 
-impl From<AllocError> for Fault {
+impl From<OutOfMemory> for Fault {
     ghost from_gives = { λ _ e. e ≡ Memory };
 
-    fn from(_want: AllocError) -> Fault {
+    fn from(_want: OutOfMemory) -> Fault {
         Fault::Memory
     }
 }

@@ -8,12 +8,12 @@ use crate::fault::Fault;
 use crate::hashed::Hashed;
 use crate::step::Step;
 use crate::story::may;
-use call_steps::Reply;
 use grow_list::Pass;
 use inode_cell::InodeCell;
+use inode_cell::books::Book;
 use inode_events::{Deed, Event};
 use inode_meta::Mode;
-use measure_book::Book;
+use report_text::steps::Reply;
 
 /// One inode, the measurement list, the mode of appraisal, and what is hashed of the open
 /// collection.

@@ -7,11 +7,11 @@ ghost use Rattle.cell_rows.specs.Sound.{IsLab, IsOwn, Keeps};
 use crate::asking::Asking;
 use crate::fault::Fault;
 use crate::lab::Lab;
-use call_steps::Reply;
 use grow_list::Pass;
 use inode_events::{Deed, Event};
 use inode_meta::Who;
 use policy_text::Func;
+use report_text::steps::Reply;
 
 impl Lab {
     // The rules are asked for an access by the file.

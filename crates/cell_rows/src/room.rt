@@ -10,13 +10,13 @@ use crate::fault::Fault;
 use crate::hashed::Hashed;
 use crate::lab::Lab;
 use crate::step::Step;
-use call_steps::Reply;
-use grow_list::{OutOfMemory, Pass};
+use grow_list::Pass;
 use ima_templates::Entry;
 use inode_cell::InodeCell;
+use inode_cell::books::Book;
 use inode_events::{Event, Image, Settings};
-use measure_book::Book;
-use std::alloc::Global;
+use report_text::steps::Reply;
+use std::alloc::{AllocError as OutOfMemory, Global};
 
 /// A lab, the passes of its tasks, and what the reads have replied.
 #[derive(Drop)]

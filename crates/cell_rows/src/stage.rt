@@ -7,8 +7,8 @@ ghost use Rattle.inode_events.specs.Legal.{MayAt};
 ghost use Rattle.inode_events.specs.Stage.{next_stage, stage_after, touches};
 ghost use Rattle.cell_rows.specs.Stages.{file_of, stage_seen};
 
+use inode_cell::states::{Kind, counts_as};
 use inode_events::{Deed, Event, How, Told};
-use inode_kept::{Kind, counts_as};
 use inode_meta::Mode;
 use policy_text::Action;
 

@@ -1,11 +1,11 @@
 // One deed of a table, as its line gives it.
 use anyhow::{Context, Result};
+use inode_events::xattrs::Bytes;
 use inode_events::{BoxedBytes, BoxedValue, Change, Deed, How};
 use inode_meta::Who;
 use policy_text::{Action, Purpose};
-use script_words::{id_of, ino_of, mode_of, value_of};
+use script_scene::script_lines::{id_of, ino_of, mode_of, value_of};
 use std::alloc::Global;
-use xattr_store::Bytes;
 
 /// The place of the step, its deed, and where that is a check the access mask.
 #[derive(Drop)]

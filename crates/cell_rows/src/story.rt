@@ -7,13 +7,13 @@ ghost use Rattle.inode_events.specs.Files.{held};
 ghost use Rattle.inode_events.specs.Legal.{Legal};
 ghost use Rattle.inode_events.specs.Past.{past};
 ghost use Rattle.inode_events.specs.Stage.{is_gone, stage};
-ghost use Rattle.own_laws.specs.Own.{counter};
+ghost use Rattle.inode_cell.specs.laws_of_journals.Own.{counter};
 ghost use Rattle.cell_rows.specs.Stages.{check_seen, is_caller, stage_seen};
 
 use crate::stage::{Stage, file_of, may_at, next_stage};
 use inode_cell::InodeCell;
+use inode_cell::states::counted;
 use inode_events::{Deed, Event, How};
-use inode_kept::counted;
 use inode_meta::Mode;
 use policy_text::{Action, Func};
 

@@ -9,12 +9,12 @@ use crate::room::Room;
 use crate::step::Step;
 use anyhow::{Context, Result, bail, ensure};
 use ima_templates::can_show;
+use inode_cell::matching::Index;
 use inode_meta::{Cred, Template};
 use report_text::report;
-use rule_match::Index;
+use script_scene::scripts::{TaskBlock, parse};
 use script_scene::{ScriptParts, parts_of};
-use script_text::{TaskBlock, parse};
-use std::alloc::{AllocError, Global};
+use std::alloc::{AllocError as OutOfMemory, Global};
 
 /// One table, as its text gives it:
 ///
@@ -130,7 +130,7 @@ fn start(alloc: Global, parts: ScriptParts) -> Result<(Room, Asking)>
     Ok((room, asking))
 }
 
-fn creds_of(alloc: Global, tasks: &[TaskBlock]) -> Result<Vec<Cred>, AllocError> {
+fn creds_of(alloc: Global, tasks: &[TaskBlock]) -> Result<Vec<Cred>, OutOfMemory> {
     tasks.iter().map(|task| task.cred).collect(alloc)
 }
 

@@ -8,13 +8,13 @@ ghost use Rattle.command_line.specs.Program.{bare, numbered, program};
 
 use crate::command::Command;
 use clap::error::ErrorKind;
-use std::alloc::{AllocError, Global};
+use std::alloc::{AllocError as OutOfMemory, Global};
 
 /// The command that the words are. They don't hold the program's name.
 ///
 /// Words of which one begins with a hyphen aren't parsed: the program has no options, so they
 /// aren't a command.
-pub fn command_of(alloc: Global, words: &[String]) -> Result<Option<Command>, AllocError>
+pub fn command_of(alloc: Global, words: &[String]) -> Result<Option<Command>, OutOfMemory>
     ensures { IfOk result (λ command. command ≡ command_of (map string_bytes words.now)) }
 {
     if has_option(words) {
@@ -27,7 +27,7 @@ pub fn command_of(alloc: Global, words: &[String]) -> Result<Option<Command>, Al
             None => Ok(None),
         },
         Err(error) => match error.kind() {
-            ErrorKind::OutOfMemory => Err(AllocError),
+            ErrorKind::OutOfMemory => Err(OutOfMemory),
             _ => Ok(None),
         },
     }
@@ -48,7 +48,7 @@ fn is_option(word: &str) -> bool
     }
 }
 
-fn program<'a>(alloc: Global) -> Result<clap::Command<'a>, AllocError>
+fn program<'a>(alloc: Global) -> Result<clap::Command<'a>, OutOfMemory>
     ensures { IfOk result (λ p. app_of p ≡ program) }
 {
     let program = bare(alloc);
@@ -74,7 +74,7 @@ fn with_command<'a>(
     alloc: Global,
     program: clap::Command<'a>,
     name: &'a str,
-) -> Result<clap::Command<'a>, AllocError>
+) -> Result<clap::Command<'a>, OutOfMemory>
     ensures { IfOk result (λ p. app_of p
         ≡ with_subcommand (app_of program.entry) (new_shape name.entry.now)) }
 {
@@ -87,7 +87,7 @@ fn with_numbered<'a>(
     alloc: Global,
     program: clap::Command<'a>,
     name: &'a str,
-) -> Result<clap::Command<'a>, AllocError>
+) -> Result<clap::Command<'a>, OutOfMemory>
     ensures { IfOk result (λ p. app_of p
         ≡ with_subcommand (app_of program.entry) (numbered name.entry.now)) }
 {

@@ -5,11 +5,11 @@ use Rattle.std.proofs.lemmas.Bool.{eqb-true, eq-eqb}
 use Rattle.std.proofs.lemmas.List.{append-nil, reverse-append}
 use Rattle.std.proofs.lemmas.List.Elements.{All-nil, All-cons, All-head, All-tail, All-contains, Contains-append_right}
 use Rattle.std.proofs.lemmas.Option.{same_Some}
-use Rattle.grow_list.specs.Entries.{entries_from, entries_of}
+use Rattle.merged_laws.specs.growing.Entries.{entries_from, entries_of}
 use Rattle.inode_meta.specs.declared.appraisal.Mode.{Mode}
 use Rattle.inode_meta.specs.declared.step.Who.{Who}
-use Rattle.policy_text.specs.declared.access.Action.{Action}
-use Rattle.policy_text.specs.declared.rule.Func.{Func}
+use Rattle.inode_events.specs.policy.declared.access.Action.{Action}
+use Rattle.inode_events.specs.policy.declared.rule.Func.{Func}
 use Rattle.inode_events.specs.Callers.{caller_of}
 use Rattle.inode_events.specs.Checks.{asks}
 use Rattle.inode_events.specs.Inode.{Inode}
@@ -18,7 +18,7 @@ use Rattle.inode_events.specs.Files.{writers}
 use Rattle.inode_events.specs.Legal.{EachFollows, Follows}
 use Rattle.inode_events.specs.Past.{past}
 use Rattle.inode_events.specs.Says.{close_finish_told, finish_told, says, placed_in}
-use Rattle.ima_templates.specs.declared.entry.Placed.{Placed}
+use Rattle.inode_events.specs.templates.declared.entry.Placed.{Placed}
 use Rattle.inode_events.specs.declared.deed.Deed.{Deed}
 use Rattle.inode_events.specs.declared.deed.Deed.TheVariants as deed
 use Rattle.inode_events.specs.declared.deed.How.{How}
@@ -33,9 +33,9 @@ use Rattle.call_steps.specs.declared.ask.Ask.TheVariants as ask
 use Rattle.call_steps.specs.declared.call.Call.{Call}
 use Rattle.call_steps.specs.declared.call.Call.TheVariants as call
 use Rattle.call_steps.specs.declared.reply.Reply.{Reply}
-use Rattle.run_model.specs.History.{Answer, Thought, call_at, event, event_in, hear_in, own, step_at, step_in, thought, thought_with, who_at}
-use Rattle.run_model.specs.Scene.{Program}
-use Rattle.run_model.specs.Served.{events_of}
+use Rattle.merged_laws.specs.model.History.{Answer, Thought, call_at, event, event_in, hear_in, own, step_at, step_in, thought, thought_with, who_at}
+use Rattle.merged_laws.specs.model.Scene.{Program}
+use Rattle.merged_laws.specs.model.Served.{events_of}
 use Rattle.merged_laws.proofs.Containing.{has_reverse}
 use Rattle.merged_laws.proofs.Counting.{all_from, all_left}
 use Rattle.ending_laws.specs.Busy.{BusyOfHistory, finish_fits}

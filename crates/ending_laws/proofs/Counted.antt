@@ -20,9 +20,9 @@ use Rattle.call_steps.specs.declared.call.Call.TheVariants as call
 use Rattle.call_steps.specs.declared.held.Handle.{Handle}
 use Rattle.call_steps.specs.declared.reply.Reply.{Reply}
 use Rattle.call_steps.specs.declared.reply.Reply.TheVariants as reply
-use Rattle.run_model.specs.Ended.{how_many, posts_to, waits_for}
-use Rattle.run_model.specs.History.{Answer, Thought, call_at, hear, hear_in, own_signals, signal_in, step_at, step_in, thought, thought_with, replied, who_at}
-use Rattle.run_model.specs.Scene.{Program}
+use Rattle.merged_laws.specs.model.Ended.{how_many, posts_to, waits_for}
+use Rattle.merged_laws.specs.model.History.{Answer, Thought, call_at, hear, hear_in, own_signals, signal_in, step_at, step_in, thought, thought_with, replied, who_at}
+use Rattle.merged_laws.specs.model.Scene.{Program}
 use Rattle.call_steps.specs.declared.due.Next.{Next}
 use Rattle.call_steps.specs.declared.due.Next.TheVariants.{On, Over}
 

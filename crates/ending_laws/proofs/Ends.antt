@@ -3,8 +3,8 @@ use Rattle.std.proofs.Common.{◌≡◌, ℕ, zero, suc, ◌+◌, ◌<◌, ◌�
 use Rattle.std.specs.Prelude.{◌==◌, ◌-◌, nat_lt, slice_get, unwrap_or}
 use Rattle.std.proofs.lemmas.Bool.{and_from, eq-eqb, ltb-false, or_left, or_right}
 use Rattle.std.proofs.lemmas.Option.{same_Some, slice_get_within}
-use Rattle.ima_templates.specs.declared.entry.Entry.{Entry}
-use Rattle.ima_templates.specs.declared.entry.Placed.{Placed}
+use Rattle.inode_events.specs.templates.declared.entry.Entry.{Entry}
+use Rattle.inode_events.specs.templates.declared.entry.Placed.{Placed}
 use Rattle.inode_events.specs.Asked.{asked, outcome, placed_for}
 use Rattle.inode_events.specs.Inode.{Inode}
 use Rattle.inode_events.specs.Integrity.{Collection, collecting, in_force}
@@ -19,19 +19,19 @@ use Rattle.inode_events.specs.declared.deed.Deed.TheVariants as deed
 use Rattle.inode_events.specs.declared.told.Event.{Event}
 use Rattle.inode_events.specs.declared.told.Told.{Told}
 use Rattle.inode_events.specs.declared.told.Told.TheVariants as told
-use Rattle.policy_text.specs.declared.rule.Func.{Func}
-use Rattle.journal_laws.proofs.Stages.{Collects, stages}
+use Rattle.inode_events.specs.policy.declared.rule.Func.{Func}
+use Rattle.merged_laws.proofs.laws_of_journals.Stages.{Collects, stages}
 use Rattle.call_steps.specs.Mind.{Mind, Progress, Step, ask_of, plain_step, progress_of, step_by}
 use Rattle.call_steps.specs.Mind.{Nothing, Does, Checks, Signals, Appends}
 use Rattle.call_steps.specs.declared.ask.Ask.{Ask}
 use Rattle.call_steps.specs.declared.ask.Ask.TheVariants as ask
 use Rattle.call_steps.specs.declared.call.Call.{Call}
 use Rattle.call_steps.specs.declared.call.Call.TheVariants as call
-use Rattle.run_model.specs.Ended.{all_done, all_wait, is_done, is_stuck, left, posted, posts_to, waited, waits_in_vain}
-use Rattle.run_model.specs.History.{Thought, call_at, own_signals, step_at, step_in}
-use Rattle.run_model.specs.Rounds.{is_moved, moves}
-use Rattle.run_model.specs.Scene.{Program, Scene, Station, inode_of, mode_of}
-use Rattle.run_model.specs.Turns.{Moment, State, go, go_check, go_step, turn_of}
+use Rattle.merged_laws.specs.model.Ended.{all_done, all_wait, is_done, is_stuck, left, posted, posts_to, waited, waits_in_vain}
+use Rattle.merged_laws.specs.model.History.{Thought, call_at, own_signals, step_at, step_in}
+use Rattle.merged_laws.specs.model.Rounds.{is_moved, moves}
+use Rattle.merged_laws.specs.model.Scene.{Program, Scene, Station, inode_of, mode_of}
+use Rattle.merged_laws.specs.model.Turns.{Moment, State, go, go_check, go_step, turn_of}
 use Rattle.inode_events.specs.Semaphores.{semaphore_says}
 use Rattle.ending_laws.specs.Resting.{AtRest, EndsAtRest, IsReached, MayStep, PaidWhenReached, Resting}
 use Rattle.ending_laws.proofs.Counted.{Fits, history_fits, posts_agree, signal_of}

@@ -4,8 +4,8 @@ use Rattle.std.specs.Prelude.{◌⊎◌, ◌==◌, All, reverse, slice_get, opti
 use Rattle.std.proofs.lemmas.Bool.{eqb-true, eq-eqb, ne_eqb}
 use Rattle.std.proofs.lemmas.List.Elements.{All-head, All-tail}
 use Rattle.std.proofs.lemmas.Option.{get_or_from_slice_get, same_Some}
-use Rattle.ima_templates.specs.declared.entry.Entry.{Entry}
-use Rattle.ima_templates.specs.declared.entry.Placed.{Placed}
+use Rattle.inode_events.specs.templates.declared.entry.Entry.{Entry}
+use Rattle.inode_events.specs.templates.declared.entry.Placed.{Placed}
 use Rattle.inode_meta.specs.declared.step.Who.{Who}
 use Rattle.inode_events.specs.Asked.{asked, outcome, placed_for}
 use Rattle.inode_events.specs.Callers.{caller_in, caller_of}
@@ -19,19 +19,19 @@ use Rattle.inode_events.specs.declared.deed.Deed.{Deed}
 use Rattle.inode_events.specs.declared.deed.Deed.TheVariants as deed
 use Rattle.inode_events.specs.declared.told.Event.{Event}
 use Rattle.inode_events.specs.declared.told.Told.{Told}
-use Rattle.journal_laws.proofs.Lives.{lives}
-use Rattle.journal_laws.proofs.Small.{event}
-use Rattle.journal_laws.proofs.Stages.{Collects, StageIs, stage_busy, stages}
-use Rattle.journal_laws.specs.Standing.{event_at}
-use Rattle.own_laws.proofs.Bridge.{own_bridge}
-use Rattle.own_laws.proofs.Owning.{stage_own}
-use Rattle.own_laws.specs.Own.{counter, own_past}
+use Rattle.merged_laws.proofs.laws_of_journals.Lives.{lives}
+use Rattle.merged_laws.proofs.laws_of_journals.Small.{event}
+use Rattle.merged_laws.proofs.laws_of_journals.Stages.{Collects, StageIs, stage_busy, stages}
+use Rattle.merged_laws.specs.laws_of_journals.Standing.{event_at}
+use Rattle.merged_laws.proofs.laws_of_journals.Bridge.{own_bridge}
+use Rattle.merged_laws.proofs.laws_of_journals.Owning.{stage_own}
+use Rattle.merged_laws.specs.laws_of_journals.Own.{counter, own_past}
 use Rattle.call_steps.specs.Mind.{Step}
 use Rattle.call_steps.specs.Mind.{Nothing, Does, Checks, Signals, Appends}
-use Rattle.run_model.specs.History.{Thought, own, step_at}
-use Rattle.run_model.specs.Rounds.{is_moved, moves, moves_at}
-use Rattle.run_model.specs.Scene.{Program, Scene, Station, inode_of, mode_of}
-use Rattle.run_model.specs.Turns.{Moment, State, go, go_does, go_step, journal_at, turn_of}
+use Rattle.merged_laws.specs.model.History.{Thought, own, step_at}
+use Rattle.merged_laws.specs.model.Rounds.{is_moved, moves, moves_at}
+use Rattle.merged_laws.specs.model.Scene.{Program, Scene, Station, inode_of, mode_of}
+use Rattle.merged_laws.specs.model.Turns.{Moment, State, go, go_does, go_step, journal_at, turn_of}
 use Rattle.ending_laws.specs.Resting.{AreLegal, AtRest, GoesOn, Resting}
 use Rattle.ending_laws.proofs.Busy.{busy_goes}
 use Rattle.inode_events.specs.Stage.{Asked, CloseCollected, CloseCollecting, Collected, Collecting, Counted, Gone, Settled, Stage, is_collecting, is_gone, stage, stage_in}

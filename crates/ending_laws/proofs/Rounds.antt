@@ -5,10 +5,10 @@ use Rattle.std.proofs.lemmas.Bool.{cases_eq, cases_order, or_parts}
 use Rattle.std.proofs.lemmas.List.{append-nil, set-get_or}
 use Rattle.std.proofs.lemmas.List.Elements.{Contains-append_left, Contains-push}
 use Rattle.std.proofs.lemmas.Option.{get_or_from_slice_get, unwrap_or-slice_get}
-use Rattle.ima_templates.specs.declared.entry.Entry.{Entry}
+use Rattle.inode_events.specs.templates.declared.entry.Entry.{Entry}
 use Rattle.inode_meta.specs.declared.step.Who.{Who}
-use Rattle.policy_text.specs.declared.access.Action.{Action}
-use Rattle.policy_text.specs.declared.rule.Func.{Func}
+use Rattle.inode_events.specs.policy.declared.access.Action.{Action}
+use Rattle.inode_events.specs.policy.declared.rule.Func.{Func}
 use Rattle.inode_events.specs.Asked.{asked, list_after, outcome}
 use Rattle.inode_events.specs.Inode.{Inode}
 use Rattle.inode_events.specs.Past.{past}
@@ -20,10 +20,10 @@ use Rattle.inode_events.specs.declared.told.Event.{Event}
 use Rattle.inode_events.specs.declared.told.Told.{Told}
 use Rattle.call_steps.specs.Mind.{Step}
 use Rattle.call_steps.specs.Mind.{Nothing, Does, Checks, Signals, Appends}
-use Rattle.run_model.specs.History.{Thought, step_at, who_at}
-use Rattle.run_model.specs.Rounds.{any_moves, is_moved, moves, moves_at, numbers}
-use Rattle.run_model.specs.Scene.{Program, Scene, Station, decided, inode_of, mode_of, rules_with}
-use Rattle.run_model.specs.Turns.{Moment, State, Turned, go, go_check, go_does, go_event, go_signal, go_step, hear_told, journal_at, state_on, turn, turn_of, turned}
+use Rattle.merged_laws.specs.model.History.{Thought, step_at, who_at}
+use Rattle.merged_laws.specs.model.Rounds.{any_moves, is_moved, moves, moves_at, numbers}
+use Rattle.merged_laws.specs.model.Scene.{Program, Scene, Station, decided, inode_of, mode_of, rules_with}
+use Rattle.merged_laws.specs.model.Turns.{Moment, State, Turned, go, go_check, go_does, go_event, go_signal, go_step, hear_told, journal_at, state_on, turn, turn_of, turned}
 use Rattle.ending_laws.specs.Resting.{StillAtRest}
 use Rattle.merged_laws.proofs.Containing.{has_cases, has_none}
 

@@ -4,7 +4,7 @@ use Rattle.std.specs.Prelude.{◌⊎◌, ◌==◌, ◌-◌, All, nat_lt, reverse
 use Rattle.std.proofs.lemmas.Bool.{ne_eqb, eq-eqb, eqb-true, cases_eq, cases_order, cond-false, ltb-true, ltb-false}
 use Rattle.std.proofs.lemmas.List.{reverse-append}
 use Rattle.std.proofs.lemmas.List.Elements.{All-head, All-tail}
-use Rattle.grow_list.specs.Entries.{entries_from}
+use Rattle.merged_laws.specs.growing.Entries.{entries_from}
 use Rattle.inode_events.specs.Callers.{caller_of}
 use Rattle.inode_events.specs.Past.{past}
 use Rattle.inode_events.specs.Semaphores.{LegalSemaphores, left, is_post, is_wait, posts, semaphore_says, waits}
@@ -14,11 +14,11 @@ use Rattle.inode_events.specs.declared.told.Event.{Event}
 use Rattle.inode_events.specs.declared.told.Told.{Told}
 use Rattle.inode_events.specs.declared.told.Told.TheVariants as told
 use Rattle.call_steps.specs.declared.call.Call.{Call}
-use Rattle.run_model.specs.Ended.{answered, answered_by, how_many, posted, posts_to, waited, waits_for}
-use Rattle.run_model.specs.History.{Answer, Thought, own_signals, thought}
-use Rattle.run_model.specs.Served.{events_of}
-use Rattle.run_model.specs.Scene.{Program, Scene, mode_of}
-use Rattle.run_model.specs.Turns.{Moment, State}
+use Rattle.merged_laws.specs.model.Ended.{answered, answered_by, how_many, posted, posts_to, waited, waits_for}
+use Rattle.merged_laws.specs.model.History.{Answer, Thought, own_signals, thought}
+use Rattle.merged_laws.specs.model.Served.{events_of}
+use Rattle.merged_laws.specs.model.Scene.{Program, Scene, mode_of}
+use Rattle.merged_laws.specs.model.Turns.{Moment, State}
 use Rattle.ending_laws.specs.Resting.{AreLegal, IsReached, Resting, SignalsCounted, SignalsCountedWhenReached}
 use Rattle.ending_laws.proofs.Counted.{Agree, Fits, bit, history_fits, passing, posts_agree, waits_agree}
 

@@ -11,9 +11,9 @@ use Rattle.inode_events.specs.declared.told.Told.{Told}
 use Rattle.inode_events.specs.declared.told.Told.TheVariants as told
 use Rattle.call_steps.specs.Mind.{Step}
 use Rattle.call_steps.specs.Mind.{Does}
-use Rattle.run_model.specs.History.{Answer, own, step_at, thought}
-use Rattle.run_model.specs.Scene.{Program}
-use Rattle.run_model.specs.Served.{events_of}
+use Rattle.merged_laws.specs.model.History.{Answer, own, step_at, thought}
+use Rattle.merged_laws.specs.model.Scene.{Program}
+use Rattle.merged_laws.specs.model.Served.{events_of}
 use Rattle.ending_laws.specs.Resting.{GoesOn}
 use Rattle.inode_events.specs.Stage.{is_collecting, stage_in}
 

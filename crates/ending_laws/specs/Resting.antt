@@ -11,13 +11,13 @@ use Rattle.inode_events.specs.declared.deed.Deed.TheVariants as deed
 use Rattle.inode_events.specs.declared.told.Event.{Event}
 use Rattle.call_steps.specs.Mind.{Step}
 use Rattle.call_steps.specs.Mind.{Nothing, Does, Checks, Signals, Appends}
-use Rattle.own_laws.specs.Own.{IsOwned}
-use Rattle.run_model.specs.Ended.{all_done, how_many, is_stuck, posted, posts_to, waited, waits_for}
-use Rattle.run_model.specs.History.{Answer, Thought, own, own_signals, step_at, thought}
-use Rattle.run_model.specs.Rounds.{all_tasks, any_moves, is_moved, moves}
-use Rattle.run_model.specs.Served.{events_of}
-use Rattle.run_model.specs.Scene.{Program, Scene, Station, inode_of, mode_of}
-use Rattle.run_model.specs.Turns.{Moment, State, go}
+use Rattle.merged_laws.specs.laws_of_journals.Own.{IsOwned}
+use Rattle.merged_laws.specs.model.Ended.{all_done, how_many, is_stuck, posted, posts_to, waited, waits_for}
+use Rattle.merged_laws.specs.model.History.{Answer, Thought, own, own_signals, step_at, thought}
+use Rattle.merged_laws.specs.model.Rounds.{all_tasks, any_moves, is_moved, moves}
+use Rattle.merged_laws.specs.model.Served.{events_of}
+use Rattle.merged_laws.specs.model.Scene.{Program, Scene, Station, inode_of, mode_of}
+use Rattle.merged_laws.specs.model.Turns.{Moment, State, go}
 use Rattle.inode_events.specs.Stage.{is_collecting, stage_in}
 
 -- the deed goes on with a collection of the file

@@ -8,9 +8,9 @@ ghost use Rattle.evm_verify.specs.Input.{evm_input, evm_value, old_input};
 use crate::input::{HMAC_TYPE, VALUE_LEN, value_of};
 use crate::names::{any_present, any_present_after, copy_names, is_among, protected_names};
 use inode_meta::{EvmStatus, Meta};
-use std::alloc::{AllocError, Global};
+use std::alloc::{AllocError as OutOfMemory, Global};
 use std::marker::Model;
-use xattr_store::{After, Attrs, Bytes, EVM_NAME, NewValue, OutOfMemory};
+use xattr_store::{After, Attrs, Bytes, EVM_NAME, NewValue};
 
 // How many names are always protected.
 const FIVE: usize = 5;
@@ -172,7 +172,7 @@ impl Evm {
         match attrs.set(EVM_NAME, &value) {
             Ok(()) => Ok(()),
             // A value of 21 bytes is never too long.
-            Err(_) => Err(AllocError),
+            Err(_) => Err(OutOfMemory),
         }
     }
 

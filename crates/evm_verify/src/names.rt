@@ -7,8 +7,8 @@ ghost use Rattle.xattr_store.specs.Attrs.{value};
 ghost use Rattle.evm_verify.specs.Changes.{is_protected};
 ghost use Rattle.evm_verify.specs.Input.{any_present, five_names};
 
-use std::alloc::Global;
-use xattr_store::{After, Attrs, Bytes, IMA_NAME, OutOfMemory};
+use std::alloc::{AllocError as OutOfMemory, Global};
+use xattr_store::{After, Attrs, Bytes, IMA_NAME};
 
 // The attributes that are always protected, in the order of the kernel's list.
 const FIVE_NAMES: [&[u8]; 5] = [

@@ -8,5 +8,5 @@ mod known;
 mod list;
 mod meeting;
 
-pub use inode_meta::OutOfMemory;
 pub use list::{Grow, Pass};
+pub use std::alloc::AllocError as OutOfMemory;

@@ -9,8 +9,7 @@ ghost use Rattle.grow_list.specs.Shown.{IsSameList, HasItsOwn, HasEach, Accounts
 use crate::known::{Growing, Known};
 use crate::meeting::{Board, Place, end, enter, meet, part, take_number};
 use atomic_table::Table;
-use inode_meta::OutOfMemory;
-use std::alloc::{AllocError, Global};
+use std::alloc::{AllocError as OutOfMemory, Global};
 use std::marker::Model;
 
 /// A list that only grows. Contracts see its name, its number of callers, its entries, beside each

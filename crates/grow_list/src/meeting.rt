@@ -11,8 +11,7 @@ use crate::known::{
     Adding, Adds, Closes, Copies, Drawing, Draws, Growing, Hears, Known, Learns, Meets,
 };
 use atomic_table::{Seat, Shared};
-use inode_meta::OutOfMemory;
-use std::alloc::AllocError;
+use std::alloc::AllocError as OutOfMemory;
 use std::marker::Brand;
 
 /// The words that the list's seat and the passes' step on.
@@ -192,7 +191,7 @@ pub fn take_number<E>(
     if draw::<E, Brand>(board, &mut seat, due) {
         Ok(seat)
     } else {
-        Err(AllocError)
+        Err(OutOfMemory)
     }
 }
 

@@ -5,3 +5,4 @@
 mod appraisal;
 
 pub use appraisal::{mend_for, verdict};
+pub use label_values as labels;

@@ -15,9 +15,9 @@ mod pieces;
 mod standard;
 mod whole;
 
-pub use inode_meta::OutOfMemory;
 pub use memory::{MemSink, MemSource};
 pub use outside::{Failed, FreeGate, Gate, Sink, Source, Who};
 pub use pieces::Pieces;
 pub use standard::{StdSink, StdSource};
+pub use std::alloc::AllocError as OutOfMemory;
 pub use whole::{ReadErr, read_all, write_all, write_pieces};

@@ -7,8 +7,7 @@ ghost use Rattle.ima_io.specs.declared.whole.ReadErr.TheVariants.{Fault, OutOfMe
 
 use crate::outside::{Failed, Sink, Source};
 use crate::pieces::Pieces;
-use inode_meta::OutOfMemory;
-use std::alloc::{AllocError, Global};
+use std::alloc::{AllocError as OutOfMemory, Global};
 
 /// Why [`read_all`] didn't read a source to its end. Writing has no such enum: [`write_all`] can
 /// only be [`Failed`].
@@ -30,10 +29,10 @@ impl From<Failed> for ReadErr {
     }
 }
 
-impl From<AllocError> for ReadErr {
+impl From<OutOfMemory> for ReadErr {
     ghost from_gives = { λ _ e. e ≡ OutOfMemory };
 
-    fn from(_error: AllocError) -> ReadErr {
+    fn from(_error: OutOfMemory) -> ReadErr {
         ReadErr::OutOfMemory
     }
 }

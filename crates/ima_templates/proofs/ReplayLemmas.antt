@@ -2,7 +2,7 @@
 use Rattle.std.proofs.Common.{◌≡◌, ℕ, ◌<◌, List, [], ◌∷◌, ◌++◌, refl, ap, ◌∙◌}
 use Rattle.std.specs.List.{fold}
 use Rattle.std.proofs.lemmas.List.Sums.{fold-append}
-use Rattle.inode_meta.specs.declared.measurement.Bank.{Bank}
+use Rattle.pcr_bank.specs.meta.declared.measurement.Bank.{Bank}
 use Rattle.pcr_bank.specs.declared.banks.Banks.{Banks}
 use Rattle.pcr_bank.specs.Bank.{zero_register}
 use Rattle.pcr_bank.specs.Banks.{new_banks, register}

@@ -1,10 +1,10 @@
 -- The template digest of an entry, and what registers are extended with.
 use Rattle.std.specs.Prelude.{ℕ, if◌then◌else◌, List, replicate}
-use Rattle.hash_algos.specs.declared.digest.Digest.{Digest}
-use Rattle.hash_algos.specs.Algo.{algo_size}
-use Rattle.hash_algos.specs.Digest.{digest_of, zero_digest}
-use Rattle.hash_algos.specs.Hash.{hash}
-use Rattle.inode_meta.specs.declared.measurement.Bank.{Bank}
+use Rattle.pcr_bank.specs.hashes.declared.digest.Digest.{Digest}
+use Rattle.pcr_bank.specs.hashes.Algo.{algo_size}
+use Rattle.pcr_bank.specs.hashes.Digest.{digest_of, zero_digest}
+use Rattle.pcr_bank.specs.hashes.Hash.{hash}
+use Rattle.pcr_bank.specs.meta.declared.measurement.Bank.{Bank}
 use Rattle.pcr_bank.specs.Bank.{bank_algo}
 use Rattle.ima_templates.specs.declared.entry.Entry.{Entry}
 use Rattle.ima_templates.specs.Data.{template_data}

@@ -1,12 +1,12 @@
 -- The entries that measurements make.
 use Rattle.std.specs.Prelude.{ℕ, true, false, List, []}
-use Rattle.hash_algos.specs.declared.algo.Algo.{Algo}
-use Rattle.hash_algos.specs.declared.algo.Algo.TheVariants.{Sha1}
-use Rattle.hash_algos.specs.declared.digest.Digest.{Digest}
-use Rattle.hash_algos.specs.Digest.{zero_digest}
-use Rattle.inode_meta.specs.declared.measurement.TheConstants.{DEFAULT_PCR}
-use Rattle.inode_meta.specs.declared.measurement.Template.{Template}
-use Rattle.inode_meta.specs.declared.measurement.TheConstants.{DEFAULT_PCR}
+use Rattle.pcr_bank.specs.hashes.declared.algo.Algo.{Algo}
+use Rattle.pcr_bank.specs.hashes.declared.algo.Algo.TheVariants.{Sha1}
+use Rattle.pcr_bank.specs.hashes.declared.digest.Digest.{Digest}
+use Rattle.pcr_bank.specs.hashes.Digest.{zero_digest}
+use Rattle.pcr_bank.specs.meta.declared.measurement.TheConstants.{DEFAULT_PCR}
+use Rattle.pcr_bank.specs.meta.declared.measurement.Template.{Template}
+use Rattle.pcr_bank.specs.meta.declared.measurement.TheConstants.{DEFAULT_PCR}
 use Rattle.ima_templates.specs.declared.entry.Entry.{Entry}
 use Rattle.ima_templates.specs.Shown.{shown_digest, shown_name, shown_sig}
 

@@ -10,3 +10,5 @@ pub mod Kept
 pub mod Digests
 pub mod Same
 pub mod Replay
+pub use Rattle.pcr_bank.specs as registers
+pub use Rattle.xattr_store.specs as xattrs

@@ -1,7 +1,7 @@
 -- The registers that a list of entries gives.
 use Rattle.std.specs.Prelude.{ℕ, ◌==◌, if◌then◌else◌, List}
 use Rattle.std.specs.List.{fold}
-use Rattle.inode_meta.specs.declared.measurement.Bank.{Bank}
+use Rattle.pcr_bank.specs.meta.declared.measurement.Bank.{Bank}
 use Rattle.pcr_bank.specs.declared.banks.Banks.{Banks}
 use Rattle.pcr_bank.specs.Bank.{extended, zero_register}
 use Rattle.pcr_bank.specs.Banks.{extend_banks, new_banks}

@@ -1,9 +1,9 @@
 -- What a template shows of a file: its fields are `d` and `n`, or `d-ng`, `n-ng` and perhaps a
 -- third.
 use Rattle.std.specs.Prelude.{ℕ, nat_le, if◌then◌else◌, List, [], length}
-use Rattle.hash_algos.specs.declared.digest.Digest.{Digest}
-use Rattle.inode_meta.specs.declared.measurement.Template.{Template}
-use Rattle.inode_meta.specs.declared.measurement.Template.TheVariants.{Ima, ImaNg, ImaSig, ImaBuf}
+use Rattle.pcr_bank.specs.hashes.declared.digest.Digest.{Digest}
+use Rattle.pcr_bank.specs.meta.declared.measurement.Template.{Template}
+use Rattle.pcr_bank.specs.meta.declared.measurement.Template.TheVariants.{Ima, ImaNg, ImaSig, ImaBuf}
 use Rattle.ima_templates.specs.Path.{last_component}
 
 -- `d` is the digest by SHA-1, whatever was collected; `d-ng` the one collected

@@ -5,9 +5,8 @@ ghost use Rattle.std.specs.Vec.{vec_len};
 ghost use Rattle.ima_templates.specs.Feeds.{Feeds, Feeds-append, Feeds-nothing};
 ghost use Rattle.ima_templates.specs.Appends.{append_more, append_nothing, keeps_all, keeps_further, length_more, length_nothing};
 
-use hash_algos::Running;
-use std::alloc::AllocError;
-use xattr_store::OutOfMemory;
+use pcr_bank::hashes::Running;
+use std::alloc::AllocError as OutOfMemory;
 
 /// What takes bytes, one piece after another. After a refusal it may have taken a part of the
 /// piece, and what it had taken before is still there.
@@ -81,7 +80,7 @@ impl Absorb for Count {
     ghost keeps = { λ a b. Unit {0} };
 
     fn absorb(&mut self, piece: &[u8]) -> Result<(), OutOfMemory> {
-        self.bytes = self.bytes.checked_add(piece.len()).ok_or(AllocError)?;
+        self.bytes = self.bytes.checked_add(piece.len()).ok_or(OutOfMemory)?;
         Ok(())
     }
 

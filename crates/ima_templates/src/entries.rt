@@ -7,10 +7,10 @@ ghost use Rattle.xattr_store.specs.Attrs.{most_value};
 
 use crate::entry::Entry;
 use crate::shown::{shown_digest, shown_name, shown_sig};
-use hash_algos::{Algo, Digest};
-use inode_meta::{DEFAULT_PCR, Template};
-use std::alloc::Global;
-use xattr_store::{Bytes, OutOfMemory};
+use pcr_bank::hashes::{Algo, Digest};
+use pcr_bank::meta::{DEFAULT_PCR, Template};
+use std::alloc::{AllocError as OutOfMemory, Global};
+use xattr_store::Bytes;
 
 /// The entry of a file or buffer in this register: `file` is the digest by the algorithm that was
 /// collected and `sha1` that by SHA-1, and `sig` is the signature in `security.ima`, or under

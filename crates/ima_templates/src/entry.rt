@@ -5,11 +5,12 @@ ghost use Rattle.ima_templates.specs.Data.{template_data};
 
 use crate::absorb::{Absorb, Count};
 use crate::data::{absorb_data, sums};
-use hash_algos::{Algo, Digest};
-use inode_meta::{Bank, Template};
 use pcr_bank::Banks;
+use pcr_bank::hashes::{Algo, Digest};
+use pcr_bank::meta::{Bank, Template};
+use std::alloc::AllocError as OutOfMemory;
 use std::marker::Model;
-use xattr_store::{Bytes, OutOfMemory};
+use xattr_store::Bytes;
 
 /// An entry of the measurement list. It keeps that its register is below 24, that its digest has as
 /// many bytes as its algorithm and is of SHA-1 under `ima`, that its name has 1 to 1,024 bytes from

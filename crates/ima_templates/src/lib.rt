@@ -12,4 +12,6 @@ mod shown;
 pub use absorb::Absorb;
 pub use entries::{build, violation};
 pub use entry::{Entry, Placed};
+pub use pcr_bank as registers;
 pub use shown::can_show;
+pub use xattr_store as xattrs;

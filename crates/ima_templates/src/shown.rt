@@ -1,12 +1,12 @@
 // What a template shows of a file: which digest, name and signature.
 
 ghost use Rattle.std.specs.Prelude.{◌≡◌, IsTrue};
-ghost use Rattle.hash_algos.specs.Digest.{HasDigestSize};
+ghost use Rattle.pcr_bank.specs.hashes.Digest.{HasDigestSize};
 ghost use Rattle.ima_templates.specs.Path.{last_component, IsMeasuredPath};
 ghost use Rattle.ima_templates.specs.Shown.{shown_digest, shown_name, shown_sig};
 
-use hash_algos::Digest;
-use inode_meta::Template;
+use pcr_bank::hashes::Digest;
+use pcr_bank::meta::Template;
 
 // The digest in the field `d` or `d-ng`: that by SHA-1 under `ima`, else the one collected.
 pub(crate) fn shown_digest(template: Template, file: &Digest, sha1: &Digest) -> Digest

@@ -18,7 +18,7 @@ use Rattle.script_text.specs.Limits.{most_bytes, most_files}
 use Rattle.script_text.specs.ListGrammar.{ListDraft, Listed, add, head_of, is_over, list_of, listed, placed, stands, start, with_end, with_file, with_head, with_version}
 use Rattle.script_text.specs.declared.list_head.ListHead.{ListHead}
 use Rattle.script_text.specs.declared.list_head.ListHead.TheVariants as head
-use Rattle.script_scene.proofs.Paths.{and_left, and_right}
+use Rattle.script_run.proofs.about_scenes.Paths.{and_left, and_right}
 
 -- the paths of these files are paths
 abbrev AllPaths : List Listed → Type 0

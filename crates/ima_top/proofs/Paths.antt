@@ -3,7 +3,7 @@ use Rattle.std.proofs.Common.{◌≡◌, ℕ, List, true}
 use Rattle.inode_meta.specs.declared.measurement.Template.TheVariants.{ImaNg}
 use Rattle.text_forms.specs.Paths.{is_path}
 use Rattle.ima_templates.specs.Path.{IsMeasuredPath}
-use Rattle.script_scene.proofs.Paths as scripts
+use Rattle.script_run.proofs.about_scenes.Paths as scripts
 
 -- it can be shown by the template
 pub measured_path : (path : List ℕ) → is_path path ≡ true → IsMeasuredPath ImaNg path

@@ -4,3 +4,9 @@ pub mod Words
 pub mod NotDone
 pub mod Answered
 pub mod Served
+pub mod Summarized
+pub use Rattle.script_text.specs.events
+pub use Rattle.policy_text.specs as policy
+pub use Rattle.script_run.specs.scenes
+pub use Rattle.script_run.specs.frames
+pub use Rattle.script_run.specs.starts

@@ -13,8 +13,8 @@ mod run;
 
 use crate::not_done::NotDone;
 use command_line::Command;
-use ima_io::{Gate, OutOfMemory, Pieces};
-use std::alloc::Global;
+use ima_io::{Gate, Pieces};
+use std::alloc::{AllocError as OutOfMemory, Global};
 use std::sync::Wait;
 use std::thread::Threads;
 

@@ -12,8 +12,13 @@
 mod commands;
 mod not_done;
 mod status;
+mod summary;
 mod top;
 
 pub use command_line::Command;
+pub use ima_io as outer;
+pub use script_run as runs;
+pub use script_run::{scenes, tasks};
+pub use script_text as scripts;
 pub use status::{DONE, OUT_OF_MEMORY, READ_FAULT, REFUSED, STUCK, TOO_LONG, USAGE, WRITE_FAULT};
 pub use top::{MOST_INPUT, serve};

@@ -6,7 +6,7 @@ ghost use Rattle.ima_top.specs.NotDone.{not_done_of_read, not_done_status, not_d
 use crate::commands::USAGE_LINE;
 use crate::status::{OUT_OF_MEMORY, READ_FAULT, REFUSED, STUCK, TOO_LONG, USAGE, WRITE_FAULT};
 use ima_io::{Failed, ReadErr};
-use std::alloc::{AllocError, AllocFailed};
+use std::alloc::{AllocError as OutOfMemory, AllocFailed};
 
 /// Why a command was not done: one variant for each status but `DONE`. A command itself answers
 /// only `Refused` and `OutOfMemory`; the others are of the call around it, and take the place of
@@ -29,10 +29,10 @@ pub enum NotDone {
     OutOfMemory,
 }
 
-impl From<AllocError> for NotDone {
+impl From<OutOfMemory> for NotDone {
     ghost from_gives = { λ _ why. why ≡ not_done.OutOfMemory };
 
-    fn from(_error: AllocError) -> NotDone {
+    fn from(_error: OutOfMemory) -> NotDone {
         NotDone::OutOfMemory
     }
 }

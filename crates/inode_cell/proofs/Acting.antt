@@ -8,7 +8,7 @@ use Rattle.inode_meta.specs.declared.identity.Meta.{Meta}
 use Rattle.inode_events.specs.Inode.{Inode}
 use Rattle.inode_events.specs.Integrity.{Collection, digest_from, labelled_by}
 use Rattle.inode_events.specs.Says.{unless_collecting}
-use Rattle.journal_laws.proofs.Stages.{Collects}
+use Rattle.inode_state.proofs.laws_of_journals.Stages.{Collects}
 use Rattle.xattr_store.specs.Attrs.{Pair}
 use Rattle.inode_events.specs.Past.{past}
 use Rattle.inode_cell.specs.Changes.{labelled_on}

@@ -10,8 +10,8 @@ use Rattle.inode_events.specs.Says.{check_told, place_of}
 use Rattle.inode_events.specs.declared.deed.Deed.TheVariants as deed
 use Rattle.inode_events.specs.declared.told.Event.{Event}
 use Rattle.inode_events.specs.declared.told.Told.{Told}
-use Rattle.policy_text.specs.declared.access.Action.{Action}
-use Rattle.policy_text.specs.declared.rule.Func.{Func}
+use Rattle.inode_events.specs.policy.declared.access.Action.{Action}
+use Rattle.inode_events.specs.policy.declared.rule.Func.{Func}
 use Rattle.inode_cell.specs.Answers.{found_told}
 use Rattle.inode_cell.specs.Listing.{with_asked}
 use Rattle.inode_cell.specs.declared.answers.Found.{Found}

@@ -20,13 +20,13 @@ use Rattle.inode_events.specs.declared.deed.Deed.TheVariants as deed
 use Rattle.inode_events.specs.declared.told.Event.{Event}
 use Rattle.inode_events.specs.declared.told.Told.{Told}
 use Rattle.inode_events.specs.declared.told.Told.TheVariants as told
-use Rattle.inode_kept.specs.Collecting.{Short, short_of, short_seen, shortened, shorts_seen}
-use Rattle.inode_kept.specs.declared.collecting.Collecting.{Collecting}
-use Rattle.inode_kept.specs.declared.in_force.Sums.{Sums}
+use Rattle.inode_state.specs.Collecting.{Short, short_of, short_seen, shortened, shorts_seen}
+use Rattle.inode_state.specs.declared.collecting.Collecting.{Collecting}
+use Rattle.inode_state.specs.declared.in_force.Sums.{Sums}
 use Rattle.inode_meta.specs.declared.step.Who.{Who}
 use Rattle.inode_pages.specs.Content.{is_last_piece, most_bytes, overwritten, piece_bytes, resized, with_zeros_to}
-use Rattle.journal_laws.specs.Standing.{collecting_stage}
-use Rattle.journal_laws.proofs.Stages.{Collects, collection_stands, stage_busy, stage_collects, stage_parts}
+use Rattle.inode_state.specs.laws_of_journals.Standing.{collecting_stage}
+use Rattle.inode_state.proofs.laws_of_journals.Stages.{Collects, collection_stands, stage_busy, stage_collects, stage_parts}
 use Rattle.label_values.specs.Labels.{type_of}
 use Rattle.xattr_store.specs.Attrs.{Fits, most_value}
 use Rattle.inode_cell.specs.Granting.{sums_in, sums_in_force}

@@ -31,11 +31,11 @@ use Rattle.inode_events.specs.declared.told.Told.{Told}
 use Rattle.inode_events.specs.declared.told.Told.TheVariants as told
 use Rattle.std.proofs.lemmas.Option.{same_Some}
 use Rattle.xattr_store.specs.Attrs.{Pair}
-use Rattle.book_laws.specs.Booked.{Books, IsBooked}
-use Rattle.book_laws.proofs.Keeping.{kept_birth, kept_look, kept_outcome}
+use Rattle.inode_state.specs.laws_of_journals.Booked.{Books, IsBooked}
+use Rattle.inode_state.proofs.laws_of_journals.Keeping.{kept_birth, kept_look, kept_outcome}
 use Rattle.inode_events.specs.declared.image.Image.{Image}
-use Rattle.kept_journal.proofs.Keeping.{past_one}
-use Rattle.kept_journal.specs.Value.{birth_of}
+use Rattle.inode_state.proofs.Keeping.{past_one}
+use Rattle.inode_state.specs.Value.{birth_of}
 use Rattle.inode_cell.specs.Fields.{Holds}
 
 -- ---- what is told names its place

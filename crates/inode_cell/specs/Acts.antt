@@ -16,9 +16,9 @@ use Rattle.inode_events.specs.State.{content, content_after, metadata}
 use Rattle.inode_events.specs.declared.deed.Deed.{Deed}
 use Rattle.inode_events.specs.declared.told.Event.{Event}
 use Rattle.inode_events.specs.declared.told.Told.{Told}
-use Rattle.inode_kept.specs.Known.{IsKnown}
-use Rattle.inode_kept.specs.declared.known.Known.{Known}
-use Rattle.own_laws.specs.Own.{IsBy}
+use Rattle.inode_state.specs.Known.{IsKnown}
+use Rattle.inode_state.specs.declared.known.Known.{Known}
+use Rattle.inode_state.specs.laws_of_journals.Own.{IsBy}
 use Rattle.inode_cell.specs.Changes.{rewritten}
 use Rattle.inode_cell.specs.Value.{CellValue, IsSameCell}
 

@@ -1,8 +1,8 @@
 -- Changes of attributes, by what EVM is set up with.
 use Rattle.std.specs.Prelude.{◌≡◌, ℕ, Bool, false, List, Option, Some, if◌then◌else◌}
-use Rattle.evm_verify.specs.Changes.{protects}
-use Rattle.evm_verify.specs.Setup.{Setup}
-use Rattle.evm_verify.specs.Status.{evm_status, renewed}
+use Rattle.inode_events.specs.evm.Changes.{protects}
+use Rattle.inode_events.specs.evm.Setup.{Setup}
+use Rattle.inode_events.specs.evm.Status.{evm_status, renewed}
 use Rattle.hash_algos.specs.declared.digest.Digest.{Digest}
 use Rattle.inode_events.specs.Integrity.{attr_changed, ima_name}
 use Rattle.inode_events.specs.Says.{is_too_long}

@@ -7,8 +7,8 @@ use Rattle.inode_events.specs.Files.{execs, readers, writers}
 use Rattle.inode_events.specs.Integrity.{attributes, in_force}
 use Rattle.inode_events.specs.Past.{past}
 use Rattle.inode_events.specs.declared.told.Event.{Event}
-use Rattle.inode_kept.specs.declared.in_force.InForce.{InForce}
-use Rattle.kept_journal.specs.Value.{HasOthers}
+use Rattle.inode_state.specs.declared.in_force.InForce.{InForce}
+use Rattle.inode_state.specs.Value.{HasOthers}
 use Rattle.inode_cell.specs.Value.{CellValue}
 use Rattle.inode_cell.specs.declared.ending.EndedInode.{EndedInode}
 

@@ -11,7 +11,7 @@ use Rattle.ima_templates.specs.declared.entry.Entry.{Entry}
 use Rattle.inode_pages.specs.Content.{most_bytes}
 use Rattle.inode_meta.specs.declared.measurement.Template.TheVariants.{Ima}
 use Rattle.xattr_store.specs.Attrs.{Pair}
-use Rattle.book_laws.specs.Booked.{IsBooked}
+use Rattle.inode_state.specs.laws_of_journals.Booked.{IsBooked}
 use Rattle.inode_cell.specs.Value.{CellValue}
 use Rattle.inode_cell.specs.declared.cell.InodeCell.TheInside.{Inside}
 

@@ -15,12 +15,12 @@ use Rattle.inode_events.specs.declared.deed.Deed.{Deed}
 use Rattle.inode_events.specs.declared.told.Event.{Event}
 use Rattle.inode_events.specs.declared.told.Grant.{Grant}
 use Rattle.inode_events.specs.declared.told.Told.TheVariants as told
-use Rattle.inode_kept.specs.Collecting.{IsAsked}
-use Rattle.inode_kept.specs.Known.{IsKnown}
-use Rattle.inode_kept.specs.declared.collecting.Asked.{Asked}
-use Rattle.inode_kept.specs.declared.collecting.Collecting.{Collecting}
-use Rattle.inode_kept.specs.declared.in_force.Sums.{Sums}
-use Rattle.inode_kept.specs.declared.known.Known.{Known}
+use Rattle.inode_state.specs.Collecting.{IsAsked}
+use Rattle.inode_state.specs.Known.{IsKnown}
+use Rattle.inode_state.specs.declared.collecting.Asked.{Asked}
+use Rattle.inode_state.specs.declared.collecting.Collecting.{Collecting}
+use Rattle.inode_state.specs.declared.in_force.Sums.{Sums}
+use Rattle.inode_state.specs.declared.known.Known.{Known}
 
 -- the digests with no begin, which a grant doesn't read
 abbrev pub digests_in : Sums → Digests

@@ -8,3 +8,5 @@ pub mod Pieces
 pub mod Listing
 pub mod Granting
 pub mod Ending
+pub use Rattle.inode_state.specs.laws_of_journals
+pub use Rattle.inode_state.specs as states

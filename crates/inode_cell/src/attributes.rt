@@ -5,13 +5,14 @@ ghost use Rattle.std.specs.Option.{option_copied};
 ghost use Rattle.inode_events.specs.Says.{is_too_long};
 ghost use Rattle.inode_cell.specs.Changes.{IsRewriting, changed_on, labelled_on, mended_on, rewritten};
 
-use evm_verify::Evm;
 use hash_algos::Digest;
 use inode_events::Deed;
-use inode_kept::changed;
+use inode_events::evm::Evm;
 use inode_meta::{EvmStatus, Meta};
+use inode_state::changed;
 use label_values::{MAX_LABEL, write_label};
-use xattr_store::{Attrs, Bytes, IMA_NAME, NewValue, OutOfMemory};
+use std::alloc::AllocError as OutOfMemory;
+use xattr_store::{Attrs, Bytes, IMA_NAME, NewValue};
 
 // A call's change of one: the HMAC is renewed where the name is protected.
 fn change_on(

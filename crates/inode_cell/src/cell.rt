@@ -11,15 +11,14 @@ ghost use Rattle.inode_cell.specs.Changes.{IsRewriting};
 ghost use Rattle.inode_cell.specs.Value.{IsSameCell};
 
 use crate::attributes::rewrite;
-use grow_list::{OutOfMemory, Pass};
+use grow_list::Pass;
 use hash_algos::Digest;
 use ima_templates::Entry;
 use inode_events::{Deed, Event, Told};
-use inode_kept::Known;
 use inode_meta::Who;
 use inode_pages::Content;
-use kept_journal::KeptJournal;
-use std::alloc::Global;
+use inode_state::{KeptJournal, Known};
+use std::alloc::{AllocError as OutOfMemory, Global};
 use std::marker::Model;
 use xattr_store::Attrs;
 

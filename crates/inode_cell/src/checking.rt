@@ -4,7 +4,7 @@ ghost use Rattle.inode_events.specs.Asked.{violation_in};
 ghost use Rattle.inode_events.specs.Checks.{no_action};
 ghost use Rattle.inode_events.specs.Legal.{May};
 ghost use Rattle.inode_events.specs.Listing.{violated};
-ghost use Rattle.own_laws.specs.Own.{IsBy};
+ghost use Rattle.inode_state.specs.laws_of_journals.Own.{IsBy};
 ghost use Rattle.inode_events.specs.Past.{past};
 ghost use Rattle.inode_events.specs.Says.{check_told, place_of};
 ghost use Rattle.inode_events.specs.State.{metadata};
@@ -15,14 +15,15 @@ ghost use Rattle.inode_cell.specs.Answers.{found_told};
 use crate::answers::Found;
 use crate::cell::InodeCell;
 use crate::listing::list_asked;
-use grow_list::{OutOfMemory, Pass};
+use grow_list::Pass;
 use ima_templates::{Entry, Placed, violation};
+use inode_events::policy::{Access, Action, Func, Super};
 use inode_events::{Deed, Event, Told};
-use inode_kept::{Kind, Known, counts_as};
 use inode_meta::{Cred, Who};
+use inode_state::{Kind, Known, counts_as};
 use measure_book::Book;
-use policy_text::{Access, Action, Func, Super};
 use rule_match::Index;
+use std::alloc::AllocError as OutOfMemory;
 
 /// The answer of a check.
 #[derive(Drop)]

@@ -10,12 +10,13 @@ ghost use Rattle.inode_cell.specs.Acts.{Acts, MayBy, Stays};
 
 use crate::answers::CloseTaken;
 use crate::cell::InodeCell;
-use grow_list::{OutOfMemory, Pass};
+use grow_list::Pass;
 use hash_algos::Digest;
 use inode_events::{Deed, Event, Told};
-use inode_kept::Known;
 use inode_meta::Who;
+use inode_state::Known;
 use label_values::{Label, read_label};
+use std::alloc::AllocError as OutOfMemory;
 
 impl InodeCell {
     /// Drops a file that isn't open for writing.

@@ -10,10 +10,11 @@ ghost use Rattle.inode_cell.specs.Answers.{IsPlaced, counted_told};
 
 use crate::answers::Counted;
 use crate::cell::InodeCell;
-use grow_list::{OutOfMemory, Pass};
+use grow_list::Pass;
 use inode_events::{Deed, Event, How, Told};
-use inode_kept::{Kind, Known, counts_as};
 use inode_meta::Who;
+use inode_state::{Kind, Known, counts_as};
+use std::alloc::AllocError as OutOfMemory;
 
 // An open that makes an absent file.
 fn creates(how: How) -> bool

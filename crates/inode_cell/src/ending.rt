@@ -1,7 +1,7 @@
 // The start and the end of a cell.
 ghost use Rattle.std.specs.Prelude.{◌≡◌, ℕ, ◌+◌, ◌<◌, ◌≤◌, ◌^◌, All, [], ◌∷◌, count_by, length, map, option_copied, slice_get, IfOk, Some};
 ghost use mathlib.Core.List.{IsPrefix};
-ghost use Rattle.book_laws.specs.Booked.{IsBooked};
+ghost use Rattle.inode_state.specs.laws_of_journals.Booked.{IsBooked};
 ghost use Rattle.grow_list.specs.Entries.{entries_of, has_place};
 ghost use Rattle.ima_templates.specs.Path.{IsMeasuredPath};
 ghost use Rattle.inode_events.specs.Callers.{caller_of};
@@ -9,20 +9,19 @@ ghost use Rattle.inode_events.specs.Legal.{Legal};
 ghost use Rattle.inode_events.specs.Past.{past};
 ghost use Rattle.inode_pages.specs.Content.{most_bytes};
 ghost use Rattle.inode_meta.specs.declared.measurement.Template.TheVariants.{Ima};
-ghost use Rattle.kept_journal.specs.Value.{beside_own, birth_of, new_pass};
-ghost use Rattle.own_laws.specs.Laws.{TellsByMine};
-ghost use Rattle.own_laws.specs.Own.{IsOwned};
+ghost use Rattle.inode_state.specs.Value.{beside_own, birth_of, new_pass};
+ghost use Rattle.inode_state.specs.laws_of_journals.OwnLaws.{TellsByMine};
+ghost use Rattle.inode_state.specs.laws_of_journals.Own.{IsOwned};
 ghost use Rattle.inode_cell.specs.Ending.{HasPasses, IsEnded, digest_in};
 ghost use Rattle.inode_cell.specs.Value.{IsSameCell};
 
 use crate::cell::InodeCell;
-use grow_list::{OutOfMemory, Pass};
+use grow_list::Pass;
 use hash_algos::Digest;
 use ima_templates::Entry;
 use inode_events::{Event, Image, Settings};
-use inode_kept::{InForce, State};
-use kept_journal::KeptJournal;
-use std::alloc::Global;
+use inode_state::{InForce, KeptJournal, State};
+use std::alloc::{AllocError as OutOfMemory, Global};
 use xattr_store::{Attrs, Bytes};
 
 /// An inode at the end of a run.

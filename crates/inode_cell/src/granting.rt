@@ -5,7 +5,7 @@ ghost use Rattle.inode_events.specs.Callers.{caller_in};
 ghost use Rattle.inode_events.specs.Stage.{stage};
 ghost use Rattle.inode_events.specs.declared.told.Told.{Told as AnyTold};
 ghost use Rattle.inode_meta.specs.declared.step.Who.{Who as AnyWho};
-ghost use Rattle.inode_kept.specs.Known.{IsKnown};
+ghost use Rattle.inode_state.specs.Known.{IsKnown};
 ghost use Rattle.inode_cell.specs.Granting.{Collects, asked_in};
 ghost use Rattle.inode_cell.specs.Acts.{Acts, MayBy, Stays};
 ghost use Rattle.inode_cell.specs.Answers.{BeginsBy, taken_told};
@@ -18,7 +18,7 @@ ghost use Rattle.inode_events.specs.Listing.{signature_in};
 ghost use Rattle.inode_events.specs.Past.{past};
 ghost use Rattle.inode_events.specs.Verdicts.{judged};
 ghost use Rattle.std.specs.Option.{option_copied};
-ghost use Rattle.inode_kept.specs.Collecting.{IsAsked};
+ghost use Rattle.inode_state.specs.Collecting.{IsAsked};
 ghost use Rattle.xattr_store.specs.Attrs.{most_value};
 
 use crate::answers::Taken;
@@ -29,13 +29,14 @@ use grow_list::Pass;
 use hash_algos::{Algo, AlgoSet, Digest};
 use ima_appraise::{mend_for, verdict};
 use ima_templates::{Entry, Placed, build};
+use inode_events::policy::Action;
 use inode_events::{Deed, Event, Grant, Told};
-use inode_kept::{Asked, Collecting, Kind, Known, Sums, copied, counts_as, key_of};
 use inode_meta::{EvmStatus, Mode, Need, Slot, Who};
+use inode_state::{Asked, Collecting, Kind, Known, Sums, copied, counts_as, key_of};
 use label_values::{Mend, Verdict, read_label};
 use measure_book::Book;
-use policy_text::Action;
-use xattr_store::{IMA_NAME, OutOfMemory};
+use std::alloc::AllocError as OutOfMemory;
+use xattr_store::IMA_NAME;
 
 // The mode admits the file.
 fn admits(mode: Mode, verdict: Option<Verdict>) -> bool

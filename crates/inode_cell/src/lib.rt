@@ -19,4 +19,7 @@ pub use answers::{CloseTaken, Counted, Found, Piece, Set, Taken, Wrote};
 pub use cell::InodeCell;
 pub use checking::Checked;
 pub use ending::EndedInode;
+pub use inode_state as states;
+pub use measure_book as books;
+pub use rule_match as matching;
 pub use writing::Got;

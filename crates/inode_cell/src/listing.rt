@@ -1,6 +1,6 @@
 // The measurement list, as a cell adds to it.
 ghost use Rattle.std.specs.Prelude.{◌≡◌, ◌≤◌};
-ghost use Rattle.book_laws.specs.Booked.{Books};
+ghost use Rattle.inode_state.specs.laws_of_journals.Booked.{Books};
 ghost use Rattle.inode_events.specs.Asked.{placed_for};
 ghost use Rattle.inode_cell.specs.Listing.{with_asked};
 

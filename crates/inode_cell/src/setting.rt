@@ -11,11 +11,11 @@ ghost use Rattle.inode_cell.specs.Answers.{set_told};
 
 use crate::answers::Set;
 use crate::cell::InodeCell;
-use grow_list::{OutOfMemory, Pass};
+use grow_list::Pass;
 use inode_events::{BoxedBytes, BoxedValue, Change, Deed, Event, Told};
-use inode_kept::Known;
 use inode_meta::{Cred, EvmStatus, Who};
-use std::alloc::Global;
+use inode_state::Known;
+use std::alloc::{AllocError as OutOfMemory, Global};
 use xattr_store::{Bytes, EVM_NAME, IMA_NAME, MAX_VALUE};
 
 // The highest type of a label that the kernel knows.

@@ -15,13 +15,13 @@ ghost use Rattle.inode_cell.specs.Pieces.{IsPieceDeed};
 use crate::answers::{Piece, Wrote};
 use crate::cell::InodeCell;
 use crate::reading::hashed_at;
-use grow_list::{OutOfMemory, Pass};
+use grow_list::Pass;
 use hash_algos::{Algo, Sha256Digest};
 use inode_events::{BoxedBytes, Deed, Event, Told};
-use inode_kept::Known;
 use inode_meta::Who;
 use inode_pages::{PAGE_SIZE, Page, PageErr};
-use std::alloc::AllocError;
+use inode_state::Known;
+use std::alloc::AllocError as OutOfMemory;
 
 // Nothing is left behind the piece with this number, counted from 0, of a content of this size.
 fn is_last(size: u64, piece: u64) -> bool
@@ -221,7 +221,7 @@ impl InodeCell {
                 self.step(pass, who, deed, Told::TooBig, &Known::nothing());
                 Ok(Wrote::TooBig)
             }
-            Err(PageErr::OutOfMemory) => Err(AllocError),
+            Err(PageErr::OutOfMemory) => Err(OutOfMemory),
         }
     }
 
@@ -254,7 +254,7 @@ impl InodeCell {
                 self.step(pass, who, deed, Told::TooBig, &Known::nothing());
                 Ok(Wrote::TooBig)
             }
-            Err(PageErr::OutOfMemory) => Err(AllocError),
+            Err(PageErr::OutOfMemory) => Err(OutOfMemory),
         }
     }
 }

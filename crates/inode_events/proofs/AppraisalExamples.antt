@@ -30,7 +30,7 @@ use Rattle.std.proofs.Common.{if◌then◌else◌, inl, inr, Bool, suc, ◌&&◌
 use Rattle.std.specs.Str.{bytes_eq}
 use Rattle.std.proofs.Math.Seq.{take-length}
 use Rattle.std.proofs.lemmas.Slice.Eq.{bytes_eq-Decides}
-use Rattle.xattr_store.specs.Attrs.{Pair}
+use Rattle.ima_templates.specs.xattrs.Attrs.{Pair}
 use Rattle.evm_verify.specs.Input.{evm_input, evm_value}
 use Rattle.inode_events.specs.Inode.{Inode}
 use Rattle.inode_events.specs.Integrity.{attributes, in_force, label, label_in, labelled_with, status as status_of}

@@ -14,7 +14,7 @@ use Rattle.evm_verify.specs.Setup.{Setup}
 use Rattle.evm_verify.specs.Status.{evm_status}
 use Rattle.inode_meta.specs.declared.appraisal.EvmStatus.{EvmStatus}
 use Rattle.std.proofs.Common.{ap}
-use Rattle.xattr_store.specs.Attrs.{Pair}
+use Rattle.ima_templates.specs.xattrs.Attrs.{Pair}
 use Rattle.evm_verify.specs.Changes.{allows_meta, answered}
 use Rattle.inode_events.specs.Says.{status_told}
 use Rattle.inode_events.proofs.Examples.{Tells, abc, grant, inode_of, measure, meta, no_key, plain, with_key}

@@ -9,3 +9,6 @@ pub mod EntryExamples
 pub mod SemaphoreExamples
 pub mod RunExamples
 pub mod Paid
+pub use Rattle.hash_algos.proofs as about_hashes
+pub use Rattle.ima_templates.proofs as about_templates
+pub use Rattle.inode_pages.proofs as about_pages

@@ -1,7 +1,7 @@
 -- What contracts see of an inode at the end of a run.
 use Rattle.std.specs.Prelude.{ℕ, List, Option, option_map}
 use Rattle.hash_algos.specs.declared.digest.Digest.{Digest}
-use Rattle.xattr_store.specs.Attrs.{Pair}
+use Rattle.ima_templates.specs.xattrs.Attrs.{Pair}
 use Rattle.inode_events.specs.Files.{execs, readers, writers}
 use Rattle.inode_events.specs.Inode.{Inode}
 use Rattle.inode_events.specs.Integrity.{attributes, in_force}

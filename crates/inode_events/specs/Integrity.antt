@@ -12,8 +12,8 @@ use Rattle.evm_verify.specs.Changes.{protects}
 use Rattle.evm_verify.specs.Status.{evm_status, renewed}
 use Rattle.label_values.specs.Labels.{collect_algo, label_of}
 use Rattle.label_values.specs.Verdicts.{is_old}
-use Rattle.xattr_store.specs.Attrs.{Pair, value, put, without}
-pub use Rattle.xattr_store.specs.Names.{ima_name}
+use Rattle.ima_templates.specs.xattrs.Attrs.{Pair, value, put, without}
+pub use Rattle.ima_templates.specs.xattrs.Names.{ima_name}
 use Rattle.inode_pages.specs.Content.{piece_at}
 use Rattle.inode_events.specs.Inode.{Inode}
 use Rattle.inode_events.specs.State.{changed, content, is_last_drop, metadata, new, versions, modified_since}

@@ -8,7 +8,7 @@ use Rattle.hash_algos.specs.declared.algo.Algo.TheVariants.{Sha256}
 use Rattle.ima_templates.specs.declared.entry.Placed.{Placed}
 use Rattle.ima_templates.specs.declared.entry.Placed.TheVariants.{Added, Already}
 use Rattle.inode_meta.specs.declared.appraisal.EvmStatus.{EvmStatus}
-use Rattle.xattr_store.specs.Attrs.{most_value, value}
+use Rattle.ima_templates.specs.xattrs.Attrs.{most_value, value}
 use Rattle.inode_pages.specs.Content.{bytes_at, is_last_piece, most_bytes}
 use Rattle.inode_events.specs.Files.{creates, execs, is_exec, is_writer, is_writing, readers, writers}
 use Rattle.inode_events.specs.Grants.{grant_of}

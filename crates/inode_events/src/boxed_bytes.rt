@@ -1,9 +1,8 @@
 ghost use Rattle.std.specs.Prelude.{◌≡◌, IfOk};
 
-use inode_meta::OutOfMemory;
-use std::alloc::Global;
+use ima_templates::xattrs::Bytes;
+use std::alloc::{AllocError as OutOfMemory, Global};
 use std::marker::Model;
-use xattr_store::Bytes;
 
 /// Bytes that lie outside of the deed or call that has them, so that others take no room for them.
 /// Contracts see the bytes.

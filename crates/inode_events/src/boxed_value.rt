@@ -1,9 +1,8 @@
 ghost use Rattle.std.specs.Prelude.{◌≡◌, IfOk};
 
-use inode_meta::OutOfMemory;
-use std::alloc::Global;
+use ima_templates::xattrs::Bytes;
+use std::alloc::{AllocError as OutOfMemory, Global};
 use std::marker::Model;
-use xattr_store::Bytes;
 
 /// The value that an attribute is to have, or none where it is to be removed. It lies outside of
 /// the deed or call that has it, so that others take no room for it. Contracts see the value.

@@ -4,7 +4,7 @@ ghost use Rattle.policy_text.specs.RuleValue.{is_named_template};
 use evm_verify::Evm;
 use hash_algos::Algo;
 use inode_meta::{Mode, Template};
-use xattr_store::OutOfMemory;
+use std::alloc::AllocError as OutOfMemory;
 
 /// What a script sets for all inodes.
 #[derive(Drop)]

@@ -7,3 +7,4 @@ mod hashing;
 
 pub use content::digest_of_content;
 pub use hashing::Hashing;
+pub use inode_pages as pages;

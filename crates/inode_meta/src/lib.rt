@@ -6,11 +6,10 @@
 mod appraisal;
 mod identity;
 mod measurement;
-mod memory;
 mod step;
 
 pub use appraisal::{EvmStatus, Mode, Need, Slot};
 pub use identity::{Cred, Meta};
 pub use measurement::{Bank, DEFAULT_PCR, Field, Template};
-pub use memory::OutOfMemory;
+pub use std::alloc::AllocError as OutOfMemory;
 pub use step::Who;

@@ -8,8 +8,7 @@ ghost use Rattle.inode_pages.specs.declared.content.PageErr.TheVariants.{OutOfMe
 
 use crate::filled::filled_pages;
 use crate::page::{PAGE_SIZE, Page, overwritten, shared};
-use inode_meta::OutOfMemory;
-use std::alloc::{AllocError, Global};
+use std::alloc::{AllocError as OutOfMemory, Global};
 use std::marker::Model;
 
 /// The most bytes that a content may have.
@@ -24,10 +23,10 @@ pub enum PageErr {
     OutOfMemory,
 }
 
-impl From<AllocError> for PageErr {
+impl From<OutOfMemory> for PageErr {
     ghost from_gives = { λ _ e. e ≡ OutOfMemory };
 
-    fn from(_want: AllocError) -> PageErr {
+    fn from(_want: OutOfMemory) -> PageErr {
         PageErr::OutOfMemory
     }
 }

@@ -5,8 +5,7 @@ ghost use Rattle.inode_pages.specs.Content.{most_bytes, piece_at, piece_bytes};
 ghost use Rattle.inode_pages.specs.Pages.{IsPaged};
 
 use crate::page::{PAGE_SIZE, Page};
-use inode_meta::OutOfMemory;
-use std::alloc::Global;
+use std::alloc::{AllocError as OutOfMemory, Global};
 
 /// The pages of so many times this byte. All that are full are one page, which they share.
 pub fn filled_pages(alloc: Global, count: usize, byte: u8) -> Result<Vec<Page>, OutOfMemory>

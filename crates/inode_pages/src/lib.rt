@@ -7,5 +7,5 @@ mod filled;
 mod page;
 
 pub use content::{Content, MOST_BYTES, PageErr};
-pub use inode_meta::OutOfMemory;
 pub use page::{PAGE_SIZE, Page};
+pub use std::alloc::AllocError as OutOfMemory;

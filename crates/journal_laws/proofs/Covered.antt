@@ -40,8 +40,8 @@ use Rattle.inode_events.specs.Marks.{must_measure}
 use Rattle.inode_events.specs.Files.{readers}
 use Rattle.inode_events.specs.declared.deed.How.{How}
 use Rattle.inode_events.specs.declared.deed.How.TheVariants as how
-use Rattle.policy_text.specs.declared.access.Action.{Action}
-use Rattle.policy_text.specs.declared.rule.Func.{Func}
+use Rattle.inode_events.specs.policy.declared.access.Action.{Action}
+use Rattle.inode_events.specs.policy.declared.rule.Func.{Func}
 use Rattle.journal_laws.proofs.Covering.{Progress, check_asks, is_owing, shows_listed, step}
 use Rattle.journal_laws.proofs.Tallies.{tally_held}
 

@@ -17,7 +17,7 @@ use Rattle.inode_meta.specs.declared.appraisal.Need.{Need}
 use Rattle.label_values.specs.Labels.{collect_algo}
 use Rattle.label_values.specs.declared.verdict.Verdict.{Verdict}
 use Rattle.inode_events.specs.Checks.{Check, appraises}
-use Rattle.inode_pages.specs.Content.{is_last_piece, piece_at}
+use Rattle.inode_events.specs.pages.Content.{is_last_piece, piece_at}
 use Rattle.inode_events.specs.Files.{files, is_writer, is_writing, writers}
 use Rattle.inode_events.specs.Grants.{grant_of, verdict_for}
 use Rattle.inode_events.specs.Inode.{Inode}

@@ -40,8 +40,8 @@ use Rattle.journal_laws.proofs.Fresh.{CollectionIs, DigestsIs, Fresh, FreshUnles
 use Rattle.inode_events.specs.Integrity.{fixed_by, is_stale}
 use Rattle.inode_events.specs.State.{metadata}
 use Rattle.inode_meta.specs.declared.identity.Meta.{Meta}
-use Rattle.evm_verify.specs.Status.{evm_status}
-use Rattle.xattr_store.specs.Attrs.{Pair}
+use Rattle.inode_events.specs.evm.Status.{evm_status}
+use Rattle.ima_templates.specs.xattrs.Attrs.{Pair}
 use Rattle.inode_events.specs.declared.image.Image.{Image}
 
 -- ---- the verdict over its parts

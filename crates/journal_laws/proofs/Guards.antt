@@ -4,8 +4,8 @@ use Rattle.std.proofs.Common.{◌≡◌, ℕ, ◌<◌, Bool, true, false, ◌&&�
 use Rattle.std.specs.Prelude.{◌==◌, nat_lt, option_map}
 use Rattle.std.proofs.lemmas.Bool.{cond-true, cond-false, eqb-true, lt-ltb, ne_eqb, or_left}
 use Rattle.inode_meta.specs.declared.step.Who.{Who}
-use Rattle.policy_text.specs.declared.access.Action.{Action}
-use Rattle.policy_text.specs.declared.rule.Func.{Func}
+use Rattle.inode_events.specs.policy.declared.access.Action.{Action}
+use Rattle.inode_events.specs.policy.declared.rule.Func.{Func}
 use Rattle.inode_events.specs.Checks.{asks}
 use Rattle.inode_events.specs.Coverage.{violation_places}
 use Rattle.inode_events.specs.Files.{files, find_file, held, holds, is_reader, is_writer, is_writing, less_file, readers, writers}

@@ -10,10 +10,10 @@ use Rattle.std.specs.declared.cmp.Ordering.TheVariants.{Less, Equal, Greater}
 use Rattle.std.proofs.lemmas.Bool.{cond-false, cond-true}
 use Rattle.std.proofs.lemmas.Slice.Eq.{bytes_eq-Decides}
 use Rattle.inode_meta.specs.declared.identity.Meta.{Meta}
-use Rattle.evm_verify.specs.Input.{evm_input, evm_name, evm_value, any_present, protected_names}
-use Rattle.evm_verify.specs.Setup.{Setup}
-use Rattle.evm_verify.specs.Status.{renewed, renewed_under}
-use Rattle.xattr_store.specs.Attrs.{Pair, byte_order, put, value, without}
+use Rattle.inode_events.specs.evm.Input.{evm_input, evm_name, evm_value, any_present, protected_names}
+use Rattle.inode_events.specs.evm.Setup.{Setup}
+use Rattle.inode_events.specs.evm.Status.{renewed, renewed_under}
+use Rattle.ima_templates.specs.xattrs.Attrs.{Pair, byte_order, put, value, without}
 use Rattle.inode_events.specs.Integrity.{ima_name, label_in}
 
 -- names that compare equal are equal

@@ -13,3 +13,13 @@ pub mod Guards
 pub mod Holding
 pub mod Covering
 pub mod Covered
+pub mod Bridge
+pub mod Owning
+pub mod OwnHolding
+pub mod Doing
+pub mod Staying
+pub mod Seeing
+pub mod Looking
+pub mod Prefixed
+pub mod Asking
+pub mod Keeping

@@ -1,2 +1,6 @@
 pub mod Standing
 pub mod Laws
+pub mod Own
+pub mod OwnLaws
+pub mod Asked
+pub mod Booked

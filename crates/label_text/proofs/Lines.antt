@@ -1,6 +1,6 @@
 -- The lines of a file, as they are appended.
 use Rattle.std.proofs.Common.{◌≡◌, ℕ, Bool, true, cond, List, [], ◌++◌, Option, sym, ap, ◌∙◌, append_assoc}
-use Rattle.evm_verify.specs.Setup.{Setup}
+use Rattle.script_text.specs.evm.Setup.{Setup}
 use Rattle.xattr_store.specs.Attrs.{Pair, value}
 use Rattle.xattr_store.specs.Names.{evm_name, ima_name}
 use Rattle.script_text.specs.Files.{sealed, setup_of}

@@ -6,7 +6,7 @@ ghost use Rattle.byteorder.specs.Endian.{little_bytes};
 ghost use Rattle.ima_templates.specs.Data.{sized};
 
 use byteorder::{ByteOrder, LittleEndian};
-use xattr_store::OutOfMemory;
+use std::alloc::AllocError as OutOfMemory;
 
 // A length of bytes, and the bytes.
 pub(crate) fn append_sized(out: &mut Vec<u8>, bytes: &[u8]) -> Result<(), OutOfMemory>

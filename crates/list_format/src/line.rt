@@ -9,8 +9,7 @@ ghost use Rattle.list_format.specs.Line.{ascii_line, field_text, fields_text, li
 use hash_algos::Digest;
 use ima_templates::Entry;
 use inode_meta::{Bank, Field};
-use std::alloc::AllocError;
-use xattr_store::OutOfMemory;
+use std::alloc::AllocError as OutOfMemory;
 
 /// Appends the line of an entry: its register, right in a width of 2, the template digest of SHA-1
 /// in hexadecimal, the template's name, and each field behind a space. An empty field leaves its
@@ -101,7 +100,7 @@ pub fn append_hex(out: &mut Vec<u8>, before: u8, bytes: &[u8]) -> Result<(), Out
 {
     let start = out.len() + 1;
     let Some(end) = start.checked_add(2 * bytes.len()) else {
-        return Err(AllocError);
+        return Err(OutOfMemory);
     };
     out.resize(end, before)?;
     hex::encode_to_slice(bytes, &mut out[start..]).unwrap();

@@ -8,7 +8,7 @@ ghost use Rattle.list_format.specs.Record.{binary_record, shown_data};
 use crate::data::{append_number, append_sized};
 use ima_templates::{Absorb, Entry};
 use inode_meta::{Bank, Template};
-use xattr_store::OutOfMemory;
+use std::alloc::AllocError as OutOfMemory;
 
 /// Appends the record of an entry, with numbers of 4 bytes, the low one first: its register, the 20
 /// bytes of the template digest of SHA-1, the length of the template's name and the name. Under

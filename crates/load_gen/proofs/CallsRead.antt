@@ -10,8 +10,8 @@ use Rattle.std.proofs.lemmas.List.Folds.{list_all-append}
 use Rattle.call_steps.specs.declared.call.Call.{Call}
 use Rattle.call_steps.specs.declared.call.Call.TheVariants as call
 use Rattle.hex.specs.Hex.{encode_lower}
-use Rattle.inode_events.specs.declared.deed.How.{How}
-use Rattle.inode_events.specs.declared.deed.How.TheVariants as how
+use Rattle.call_steps.specs.events.declared.deed.How.{How}
+use Rattle.call_steps.specs.events.declared.deed.How.TheVariants as how
 use Rattle.script_text.specs.Calls.{call_of}
 use Rattle.script_text.specs.Draft.{Draft}
 use Rattle.script_text.specs.Forms.{is_id}

@@ -1,11 +1,11 @@
 -- The first lines of the text are settings and a file system.
 use Rattle.std.proofs.Common.{◌≡◌, ℕ, true, List, [], ◌∷◌, Some, refl}
 use Rattle.std.specs.Prelude.{codes, replicate}
-use Rattle.hash_algos.specs.declared.algo.Algo.TheVariants.{Sha256}
+use Rattle.call_steps.specs.hashes.declared.algo.Algo.TheVariants.{Sha256}
 use Rattle.hex.specs.Hex.{decode_pairs}
 use Rattle.inode_meta.specs.declared.appraisal.Mode.TheVariants.{Enforce}
 use Rattle.inode_meta.specs.declared.measurement.Template.TheVariants.{ImaNg}
-use Rattle.policy_text.specs.declared.access.Super.{Super}
+use Rattle.call_steps.specs.policy.declared.access.Super.{Super}
 use Rattle.uuid.specs.Text.{by_index}
 use Rattle.script_text.specs.Draft.{Draft, start}
 use Rattle.script_text.specs.Grammar.{with_head}

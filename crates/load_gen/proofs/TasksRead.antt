@@ -7,8 +7,8 @@ use Rattle.std.proofs.lemmas.Bool.{false≢true}
 use Rattle.std.proofs.lemmas.Bool.Decides.{nat_tests}
 use Rattle.std.proofs.lemmas.List.Folds.{list_all-append}
 use Rattle.inode_meta.specs.declared.identity.Cred.{Cred}
-use Rattle.policy_text.specs.Grammar.{rule_of}
-use Rattle.policy_text.specs.RuleValue.{RuleValue}
+use Rattle.call_steps.specs.policy.Grammar.{rule_of}
+use Rattle.call_steps.specs.policy.RuleValue.{RuleValue}
 use Rattle.script_text.specs.Draft.{Draft}
 use Rattle.script_text.specs.Grammar.{with_head}
 use Rattle.script_text.specs.Limits.{most_rules, most_tasks}

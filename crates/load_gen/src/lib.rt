@@ -5,4 +5,5 @@
 mod draws;
 mod text;
 
+pub use script_print as prints;
 pub use text::{MOST_BYTES, script};

@@ -6,9 +6,8 @@ ghost use Rattle.load_gen.specs.declared.text.TheConstants.{MOST_BYTES};
 ghost use Rattle.load_gen.specs.Script.{file_text, files, group, groups, read_text, rules_text, script_text, settings_text, tasks, write_text};
 
 use crate::draws::Draws;
-use inode_meta::OutOfMemory;
-use list_format::append_hex;
-use std::alloc::{AllocError, Global};
+use script_print::list_lines::append_hex;
+use std::alloc::{AllocError as OutOfMemory, Global};
 use std::io::Write;
 
 /// The most bytes of a script of a number.
@@ -60,7 +59,7 @@ fn push_file(out: &mut Vec<u8>, i: u8, length: u64) -> Result<(), OutOfMemory>
         "file /f{i} fs=0 ino={inode} gen=1 uid=0 gid=0 mode=100644 content=fill:{length}"
     ) {
         Ok(()) => {}
-        Err(_) => return Err(AllocError),
+        Err(_) => return Err(OutOfMemory),
     }
     append_hex(out, b':', &[i])?;
     out.extend_from_slice(b"\nseal\n")?;
@@ -109,7 +108,7 @@ fn push_read(out: &mut Vec<u8>, file: u64) -> Result<(), OutOfMemory>
 {
     match write!(out, "open 0 /f{file} r\nread 0 0 4096\nclose 0\n") {
         Ok(()) => Ok(()),
-        Err(_) => Err(AllocError),
+        Err(_) => Err(OutOfMemory),
     }
 }
 
@@ -124,7 +123,7 @@ fn push_write(
 {
     match write!(out, "open 0 /f{file} w\nwrite 0 {from} fill:{length}") {
         Ok(()) => {}
-        Err(_) => return Err(AllocError),
+        Err(_) => return Err(OutOfMemory),
     }
     append_hex(out, b':', &[task])?;
     out.extend_from_slice(b"\nclose 0\n")?;

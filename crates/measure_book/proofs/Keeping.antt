@@ -11,8 +11,8 @@ use Rattle.ima_templates.specs.Replay.{banks_of, extended_by}
 use Rattle.ima_templates.specs.Same.{IsDistinct, place_of_same}
 use Rattle.ima_templates.specs.declared.entry.Entry.{Entry}
 use Rattle.ima_templates.proofs.ReplayLemmas.{banks_of-push}
-use Rattle.pcr_bank.specs.Banks.{new_banks}
-use Rattle.pcr_bank.specs.declared.banks.Banks.{Banks}
+use Rattle.ima_templates.specs.registers.Banks.{new_banks}
+use Rattle.ima_templates.specs.registers.declared.banks.Banks.{Banks}
 use Rattle.measure_book.specs.BookFields.{HasBooted, IsBook}
 use Rattle.measure_book.specs.Key.{key_of}
 use Rattle.measure_book.specs.declared.book.Book.TheInside.{Inside}

@@ -13,10 +13,10 @@ ghost use Rattle.measure_book.specs.Key.{key_of, stands_at};
 
 use crate::places::Places;
 use byteorder::{BigEndian, ByteOrder};
-use grow_list::{Grow, OutOfMemory, Pass};
+use grow_list::{Grow, Pass};
+use ima_templates::registers::{Bank, Banks};
 use ima_templates::{Entry, Placed};
-use pcr_bank::{Bank, Banks};
-use std::alloc::Global;
+use std::alloc::{AllocError as OutOfMemory, Global};
 use std::marker::Model;
 
 /// The measurement list of the kernel, with its registers. Contracts see it as a growing list of

@@ -6,4 +6,5 @@ mod book;
 mod places;
 
 pub use book::Book;
-pub use grow_list::{OutOfMemory, Pass};
+pub use grow_list::Pass;
+pub use std::alloc::AllocError as OutOfMemory;

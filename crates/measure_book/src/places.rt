@@ -4,8 +4,7 @@ ghost use Rattle.std.specs.Prelude.{◌≡◌, ℕ, true, ◌+◌, ◌*◌, ◌%
 ghost use Rattle.std.specs.Int.{IsPowerOfTwo};
 ghost use Rattle.measure_book.specs.Places.{displaced, last_below, linked, meets};
 
-use grow_list::OutOfMemory;
-use std::alloc::Global;
+use std::alloc::{AllocError as OutOfMemory, Global};
 use std::marker::Model;
 use std::mem;
 

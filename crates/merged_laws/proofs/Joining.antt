@@ -7,7 +7,7 @@ use Rattle.inode_events.specs.Callers.{caller_of}
 use Rattle.inode_events.specs.Merged.{Journal}
 use Rattle.inode_events.specs.Past.{past}
 use Rattle.inode_events.specs.declared.told.Event.{Event}
-use Rattle.own_laws.specs.Own.{own_past}
+use Rattle.journal_laws.specs.Own.{own_past}
 use Rattle.run_model.specs.History.{Thought}
 use Rattle.run_model.specs.Scene.{Program, Scene, Station, mode_of}
 use Rattle.run_model.specs.Served.{IsServed, Run, Served, events_of}

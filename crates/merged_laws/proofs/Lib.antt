@@ -6,3 +6,4 @@ pub mod Rising
 pub mod Merging
 pub mod Logging
 pub mod Joining
+pub use Rattle.journal_laws.proofs as laws_of_journals

@@ -7,13 +7,13 @@ use Rattle.inode_meta.specs.declared.appraisal.Mode.{Mode}
 use Rattle.inode_meta.specs.declared.step.Who.{Who}
 use Rattle.inode_events.specs.Merged.{is_earlier}
 use Rattle.inode_events.specs.declared.deed.Deed.TheVariants as deed
-use Rattle.call_steps.specs.Mind.{Mind, Step, ask_of, moved, progress_of}
-use Rattle.call_steps.specs.Mind.{Nothing, Does, Checks, Signals, Appends}
+use Rattle.run_model.specs.steps.Mind.{Mind, Step, ask_of, moved, progress_of}
+use Rattle.run_model.specs.steps.Mind.{Nothing, Does, Checks, Signals, Appends}
 use Rattle.inode_events.specs.declared.told.Event.{Event}
-use Rattle.call_steps.specs.Steps.{next}
-use Rattle.call_steps.specs.declared.due.Next.{Next}
-use Rattle.call_steps.specs.declared.due.Next.TheVariants.{On, Over}
-use Rattle.call_steps.specs.declared.call.Call.{Call}
+use Rattle.run_model.specs.steps.Steps.{next}
+use Rattle.run_model.specs.steps.declared.due.Next.{Next}
+use Rattle.run_model.specs.steps.declared.due.Next.TheVariants.{On, Over}
+use Rattle.run_model.specs.steps.declared.call.Call.{Call}
 use Rattle.run_model.specs.History.{Answer, Thought, call_at, event, event_in, hear_in, step_at, step_in, thought, thought_with, who_at, who_in}
 use Rattle.run_model.specs.Scene.{Program}
 use Rattle.merged_laws.specs.Steps.{Made, OrderedBefore, own_in}

@@ -11,7 +11,7 @@ use Rattle.ima_templates.specs.declared.entry.Entry.{Entry}
 use Rattle.inode_events.specs.Listing.{IsListed}
 use Rattle.inode_events.specs.Merged.{Journal, PlacesRise}
 use Rattle.merged_laws.specs.Laws.{BookClosed, ClosedTurned, InodeClosed, MergedFromCloses}
-use Rattle.book_laws.proofs.Prefixed.{listed_prefix}
+use Rattle.journal_laws.proofs.Prefixed.{listed_prefix}
 use Rattle.merged_laws.proofs.Counting.{all_left, count_none, has_in, sum_times, times_in}
 use Rattle.merged_laws.proofs.Ordering.{steps_rise}
 

@@ -7,7 +7,7 @@ use Rattle.inode_meta.specs.declared.step.Who.{Who}
 use Rattle.inode_events.specs.Merged.{Journal, StepsRise, is_earlier}
 use Rattle.inode_events.specs.declared.told.Event.{Event}
 use Rattle.inode_events.specs.Callers.{caller_of}
-use Rattle.own_laws.specs.Own.{own_past}
+use Rattle.journal_laws.specs.Own.{own_past}
 use Rattle.merged_laws.specs.Steps.{Above, AreStepped, NamesBelow, Rises, Made, Stepped, AreOrdered, own_in, place_added, place_named}
 use Rattle.merged_laws.proofs.Containing.{has_at, has_cases, has_first, has_later, has_none, has_reversed}
 use Rattle.merged_laws.proofs.Naming.{added_by_event, named_by_event}

@@ -24,14 +24,14 @@ use Rattle.inode_events.specs.declared.deed.Deed.{Deed}
 use Rattle.inode_events.specs.declared.deed.Deed.TheVariants as deed
 use Rattle.inode_events.specs.declared.told.Event.{Event}
 use Rattle.inode_events.specs.declared.told.Told.{Told}
-use Rattle.policy_text.specs.declared.access.Action.{Action}
-use Rattle.policy_text.specs.declared.rule.Func.{Func}
+use Rattle.inode_events.specs.policy.declared.access.Action.{Action}
+use Rattle.inode_events.specs.policy.declared.rule.Func.{Func}
 use Rattle.journal_laws.proofs.Covering.{first_shows}
-use Rattle.own_laws.specs.Own.{own_past}
-use Rattle.own_laws.proofs.Bridge.{own_bridge}
+use Rattle.journal_laws.specs.Own.{own_past}
+use Rattle.journal_laws.proofs.Bridge.{own_bridge}
 use Rattle.merged_laws.specs.Steps.{Above, Made, NamesBelow, OrderedBefore, made_of, own_in, placed_added, placed_named, told_added, told_named}
 use Rattle.merged_laws.specs.Laws.{RisesByEvent, RisesByLook}
-use Rattle.book_laws.proofs.Asking.{IsNew, asked_new, checked, measured_none, measures, none_new}
+use Rattle.journal_laws.proofs.Asking.{IsNew, asked_new, checked, measured_none, measures, none_new}
 use Rattle.merged_laws.proofs.Ordering.{before_or_at}
 
 -- the places that the answer to an entry names

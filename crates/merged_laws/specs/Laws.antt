@@ -19,7 +19,7 @@ use Rattle.run_model.specs.History.{Answer, own, thought, who_at}
 use Rattle.run_model.specs.Scene.{Program, Scene}
 use Rattle.run_model.specs.Served.{Run, Served}
 use Rattle.run_model.specs.Shown.{journals_of}
-use Rattle.book_laws.specs.Booked.{IsBooked}
+use Rattle.journal_laws.specs.Booked.{IsBooked}
 use Rattle.merged_laws.specs.Logs.{RiseServed, log}
 use Rattle.merged_laws.specs.Steps.{AreStepped, Made, OrderedBefore, RisesWithin, made_of, own_in}
 

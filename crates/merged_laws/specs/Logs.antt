@@ -3,8 +3,8 @@ use Rattle.std.specs.Prelude.{◌≡◌, ℕ, List, [], ◌∷◌, ◌++◌, Opt
 use Rattle.inode_meta.specs.declared.appraisal.Mode.{Mode}
 use Rattle.inode_meta.specs.declared.step.Who.{Who}
 use Rattle.inode_events.specs.declared.deed.Deed.TheVariants as deed
-use Rattle.call_steps.specs.Mind.{Step}
-use Rattle.call_steps.specs.Mind.{Does, Checks}
+use Rattle.run_model.specs.steps.Mind.{Step}
+use Rattle.run_model.specs.steps.Mind.{Does, Checks}
 use Rattle.run_model.specs.History.{Answer, Thought, step_at, thought, who_at}
 use Rattle.run_model.specs.Scene.{Program, Scene, mode_of}
 use Rattle.run_model.specs.Served.{Run, Served}

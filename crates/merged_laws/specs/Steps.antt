@@ -11,7 +11,7 @@ use Rattle.inode_events.specs.declared.deed.Deed.TheVariants as deed
 use Rattle.inode_events.specs.declared.told.Event.{Event}
 use Rattle.inode_events.specs.declared.told.Told.{Told}
 use Rattle.inode_events.specs.declared.told.Told.TheVariants as told
-use Rattle.own_laws.specs.Own.{own_past}
+use Rattle.journal_laws.specs.Own.{own_past}
 
 -- one step that is an event: the number of its journal, its place there, and the event
 pub record Made : Type 0 where

@@ -1,0 +1,1 @@
+pub use Rattle.grow_list.proofs as about_growing

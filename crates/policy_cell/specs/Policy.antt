@@ -1,7 +1,7 @@
 -- The rules in force while tasks run.
 use Rattle.std.specs.Prelude.{List, ◌++◌, map}
 use Rattle.grow_list.specs.Shown.{Grown}
-use Rattle.policy_text.specs.RuleValue.{RuleValue}
+use Rattle.rule_match.specs.policy.RuleValue.{RuleValue}
 use Rattle.policy_cell.specs.declared.cell.RuleEntry.{RuleEntry}
 
 -- the rules at the start, and the growing list of those that were appended

@@ -4,11 +4,11 @@ ghost use Rattle.grow_list.specs.Entries.{has_place};
 ghost use Rattle.grow_list.specs.Shown.{IsSameList, HasItsOwn, HasEach, fresh};
 ghost use Rattle.policy_cell.specs.Policy.{in_force};
 
-use grow_list::{Grow, OutOfMemory, Pass};
-use inode_meta::Who;
-use policy_text::{Policy, Rule};
+use grow_list::{Grow, Pass};
 use rule_match::Index;
-use std::alloc::Global;
+use rule_match::meta::Who;
+use rule_match::policy::{Policy, Rule};
+use std::alloc::{AllocError as OutOfMemory, Global};
 use std::marker::Model;
 
 /// A rule that was appended.

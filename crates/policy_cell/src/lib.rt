@@ -4,4 +4,6 @@
 mod cell;
 
 pub use cell::{PolicyCell, RuleEntry};
-pub use grow_list::{OutOfMemory, Pass};
+pub use grow_list::Pass;
+pub use rule_match as matching;
+pub use std::alloc::AllocError as OutOfMemory;

@@ -10,3 +10,5 @@ pub mod Spelling
 pub mod Tests
 pub mod ValueTexts
 pub mod Values
+pub use Rattle.inode_meta.specs as meta
+pub use Rattle.text_forms.specs as forms

@@ -3,7 +3,7 @@ ghost use Rattle.policy_text.specs.declared.fault.LineErr.TheVariants as line;
 ghost use Rattle.policy_text.specs.declared.fault.PolicyErr.TheVariants.{OutOfMemory};
 ghost use Rattle.policy_text.specs.Gives.{err_at};
 
-use std::alloc::{AllocError, AllocFailed};
+use std::alloc::{AllocError as OutOfMemory, AllocFailed};
 
 /// Why a line isn't a rule. A line's tokens are tested from left to right, and the first bad token
 /// decides.
@@ -43,10 +43,10 @@ pub enum PolicyErr {
     OutOfMemory,
 }
 
-impl From<AllocError> for PolicyErr {
+impl From<OutOfMemory> for PolicyErr {
     ghost from_gives = { λ _ e. e ≡ OutOfMemory };
 
-    fn from(_e: AllocError) -> PolicyErr {
+    fn from(_e: OutOfMemory) -> PolicyErr {
         PolicyErr::OutOfMemory
     }
 }
@@ -88,10 +88,10 @@ impl From<RuleCause> for LineErr {
     }
 }
 
-impl From<AllocError> for LineErr {
+impl From<OutOfMemory> for LineErr {
     ghost from_gives = { λ _ e. e ≡ line.OutOfMemory };
 
-    fn from(_e: AllocError) -> LineErr {
+    fn from(_e: OutOfMemory) -> LineErr {
         LineErr::OutOfMemory
     }
 }

@@ -19,10 +19,12 @@ mod write;
 
 pub use access::{Access, Action, MAY_APPEND, MAY_EXEC, MAY_READ, MAY_WRITE, Purpose, Super};
 pub use fault::{Fault, PolicyErr, RuleCause};
-pub use inode_meta::OutOfMemory;
+pub use inode_meta as meta;
 pub use key::Key;
 pub use policy::{Policy, RULES};
 pub use read::{parse, parse_rule};
 pub use rule::{Act, Func, IdTest, MaskTest, Rule};
+pub use std::alloc::AllocError as OutOfMemory;
 pub use values::template_of;
 pub use write::{print, print_rule};
+pub use xattr_store as xattrs;

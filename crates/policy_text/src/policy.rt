@@ -1,8 +1,7 @@
 ghost use Rattle.std.specs.Prelude.{◌≡◌, ◌<◌, ◌≤◌, [], ◌∷◌, ◌++◌, length, IfOk, OnOk, OnErr};
 
 use crate::rule::Rule;
-use inode_meta::OutOfMemory;
-use std::alloc::Global;
+use std::alloc::{AllocError as OutOfMemory, Global};
 use std::marker::Model;
 
 /// How many rules a policy may have.

@@ -3,8 +3,8 @@ ghost use Rattle.policy_text.specs.Accesses.{slot_of};
 ghost use Rattle.policy_text.specs.Tests.{id_holds, mask_holds};
 
 use hash_algos::AlgoSet;
-use inode_meta::{Need, OutOfMemory, Slot, Template};
-use std::alloc::Global;
+use inode_meta::{Need, Slot, Template};
+use std::alloc::{AllocError as OutOfMemory, Global};
 use std::marker::Model;
 use xattr_store::Bytes;
 

@@ -18,8 +18,8 @@ use crate::policy::Policy;
 use crate::rule::{Func, IdTest, MaskTest, Rule};
 use crate::words::mask_bits_word;
 use hash_algos::{Algo, AlgoSet};
-use inode_meta::{OutOfMemory, Template};
-use std::alloc::{AllocError, Global};
+use inode_meta::Template;
+use std::alloc::{AllocError as OutOfMemory, Global};
 use std::io::{self, Write};
 use text_forms::{FsUuid, Magic};
 use xattr_store::Bytes;
@@ -36,7 +36,7 @@ pub fn print(alloc: Global, policy: &Policy) -> Result<Vec<u8>, OutOfMemory>
     Ok(text)
 }
 
-fn push_line(text: &mut Vec<u8>, rule: &Rule) -> Result<(), AllocError>
+fn push_line(text: &mut Vec<u8>, rule: &Rule) -> Result<(), OutOfMemory>
     ensures text { OnOk result (
         text.new.items ≡ text.old.items ++ (rule_text rule.now ++ 10 ∷ [])) }
     ensures rule { IsRule rule.now }
@@ -46,7 +46,7 @@ fn push_line(text: &mut Vec<u8>, rule: &Rule) -> Result<(), AllocError>
             text.push(b'\n')?;
             Ok(())
         }
-        Err(_) => Err(AllocError),
+        Err(_) => Err(OutOfMemory),
     }
 }
 
@@ -64,7 +64,7 @@ pub fn print_rule(alloc: Global, rule: &Rule, out: &mut Vec<u8>) -> Result<(), O
     let mut text = Vec::new(alloc);
     match push_rule(&mut text, rule) {
         Ok(()) => out.extend_from_slice(text.as_slice()),
-        Err(_) => Err(AllocError),
+        Err(_) => Err(OutOfMemory),
     }
 }
 

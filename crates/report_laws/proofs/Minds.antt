@@ -1,7 +1,7 @@
 -- Where a task stands doesn't depend on what a report's lines leave out.
 use Rattle.std.proofs.Common.{◌≡◌, ℕ, Bool, true, false, List, Option, Some, None, unwrap_or, option_map, if◌then◌else◌, refl, sym, ap, ◌∙◌}
 use Rattle.inode_meta.specs.declared.appraisal.Mode.{Mode}
-use Rattle.policy_text.specs.declared.access.Action.{Action}
+use Rattle.inode_events.specs.policy.declared.access.Action.{Action}
 use Rattle.inode_events.specs.declared.told.Told.{Told}
 use Rattle.inode_events.specs.declared.told.Told.TheVariants as told
 use Rattle.call_steps.specs.Mind.{Mind, Progress, Step, after_of, ask_of, begun, handle_made, is_done, moved, number_of, plain_step, progress_of, step_by}

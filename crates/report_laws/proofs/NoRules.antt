@@ -14,7 +14,7 @@ use Rattle.call_steps.specs.declared.call.Call.TheVariants as call
 use Rattle.run_model.specs.History.{Answer, call_at, own_rules, rule_in, step_at, step_in, thought, who_at}
 use Rattle.run_model.specs.Served.{Run, Served, rules_of}
 use Rattle.run_model.specs.Scene.{Program, Scene, mode_of}
-use Rattle.policy_cell.specs.declared.cell.RuleEntry.{RuleEntry}
+use Rattle.run_model.specs.rules.declared.cell.RuleEntry.{RuleEntry}
 use Rattle.run_model.specs.EndedValue.{appends, grows}
 use Rattle.report_laws.proofs.Own.{is_there, some_same, same_number}
 

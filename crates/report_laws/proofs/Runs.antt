@@ -5,7 +5,7 @@ use Rattle.std.proofs.lemmas.Bool.{cases_Bool, false≢true}
 use Rattle.std.proofs.lemmas.Bool.Decides.{nat_tests}
 use Rattle.std.proofs.lemmas.List.Elements.{All-head, All-tail}
 use Rattle.std.proofs.lemmas.List.Sums.{sum_by-cons}
-use Rattle.ima_templates.specs.declared.entry.Entry.{Entry}
+use Rattle.inode_events.specs.templates.declared.entry.Entry.{Entry}
 use Rattle.inode_meta.specs.declared.step.Who.{Who}
 use Rattle.inode_events.specs.Callers.{caller_of}
 use Rattle.inode_events.specs.Inode.{Inode}

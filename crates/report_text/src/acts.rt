@@ -5,8 +5,9 @@ ghost use Rattle.policy_text.specs.RuleValue.{is_any};
 ghost use Rattle.report_text.specs.Texts.{acts_text, appraise_text, flag_text, measure_text, rules_text};
 
 use crate::push::push_number;
-use inode_meta::{Need, OutOfMemory, Template};
+use inode_meta::{Need, Template};
 use policy_text::Action;
+use std::alloc::AllocError as OutOfMemory;
 
 // How many of the rules the check saw, where rules can be appended.
 pub fn push_rules(out: &mut Vec<u8>, grows: bool, rules: u64) -> Result<(), OutOfMemory>

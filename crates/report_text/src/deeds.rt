@@ -9,8 +9,8 @@ ghost use Rattle.report_text.specs.Words.{change_words, deed_words, how_words, l
 use crate::acts::{push_acts, push_rules};
 use crate::push::{push_number, push_numbers};
 use inode_events::{Change, Deed, How};
-use inode_meta::{OutOfMemory, Template};
-use std::alloc::AllocError;
+use inode_meta::Template;
+use std::alloc::AllocError as OutOfMemory;
 use std::io::Write;
 use xattr_store::Bytes;
 
@@ -116,7 +116,7 @@ fn push_change(out: &mut Vec<u8>, change: Change) -> Result<(), OutOfMemory>
     match change {
         Change::Mode(mode) => match write!(out, "set-meta mode {mode:o}") {
             Ok(()) => Ok(()),
-            Err(_) => Err(AllocError),
+            Err(_) => Err(OutOfMemory),
         },
         Change::Owner { uid, gid } => push_numbers(
             out,

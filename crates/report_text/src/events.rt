@@ -9,7 +9,8 @@ use crate::deeds::push_deed;
 use crate::push::push_number;
 use crate::tolds::push_told;
 use inode_events::{Deed, Event};
-use inode_meta::{OutOfMemory, Template, Who};
+use inode_meta::{Template, Who};
+use std::alloc::AllocError as OutOfMemory;
 
 pub fn push_events(
     out: &mut Vec<u8>,

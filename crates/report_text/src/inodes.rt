@@ -11,9 +11,9 @@ use crate::push::{cut, push_numbers};
 use hash_algos::Digest;
 use ima_io::Pieces;
 use inode_events::EndedInode;
-use inode_meta::{OutOfMemory, Template};
+use inode_meta::Template;
 use list_format::{append_hex, append_named_digest};
-use std::alloc::Global;
+use std::alloc::{AllocError as OutOfMemory, Global};
 use xattr_store::{Attrs, Bytes};
 
 // Each inode is given up once it is told.

@@ -17,5 +17,7 @@ mod tasks;
 mod tolds;
 mod totals;
 
+pub use call_steps as steps;
 pub use print::report;
+pub use run_model as model;
 pub use totals::summary;

@@ -10,13 +10,13 @@ ghost use Rattle.report_text.specs.Texts.{line_text};
 use crate::events::push_who;
 use crate::push::push_numbers;
 use ima_templates::Entry;
-use inode_meta::{Bank, OutOfMemory};
+use inode_meta::Bank;
 use itoa::Buffer;
 use list_format::{append_hex, ascii};
 use pcr_bank::Banks;
 use policy_text::print_rule;
 use run_model::RuleEntry;
-use std::alloc::Global;
+use std::alloc::{AllocError as OutOfMemory, Global};
 
 pub fn push_entries(out: &mut Vec<u8>, list: &[Entry]) -> Result<(), OutOfMemory>
     ensures { OnOk result (out.new.items ≡ out.old.items ++ flat_map ascii_line list.now) }

@@ -11,10 +11,9 @@ use crate::lists::{push_appended, push_entries, push_registers};
 use crate::push::push_numbers;
 use crate::tasks::push_tasks;
 use ima_io::Pieces;
-use inode_meta::OutOfMemory;
 use list_format::violations;
 use run_model::{Ended, EndedTask};
-use std::alloc::Global;
+use std::alloc::{AllocError as OutOfMemory, Global};
 
 /// The report of a run, in lines that end in a newline: whether it is done, its list in the form of
 /// `ascii_runtime_measurements`, the registers that an entry names, the appended rules where the

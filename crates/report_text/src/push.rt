@@ -4,9 +4,8 @@ ghost use Rattle.std.specs.Prelude.{◌≡◌, [], ◌∷◌, ◌++◌, decimal,
 ghost use Rattle.std.specs.List.{join_with_byte};
 
 use ima_io::Pieces;
-use inode_meta::OutOfMemory;
 use itoa::Buffer;
-use std::alloc::Global;
+use std::alloc::{AllocError as OutOfMemory, Global};
 
 // So many bytes make a piece.
 const PIECE: usize = 32_768;

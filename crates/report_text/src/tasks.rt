@@ -9,10 +9,9 @@ ghost use Rattle.report_text.specs.Texts.{line_text};
 use crate::push::{cut, push_number, push_numbers};
 use call_steps::Reply;
 use ima_io::Pieces;
-use inode_meta::OutOfMemory;
 use list_format::append_hex;
 use run_model::EndedTask;
-use std::alloc::Global;
+use std::alloc::{AllocError as OutOfMemory, Global};
 
 // Each task is given up once it is told.
 pub fn push_tasks(alloc: Global, out: &mut Pieces, tasks: Vec<EndedTask>) -> Result<(), OutOfMemory>

@@ -8,8 +8,8 @@ ghost use Rattle.report_text.specs.Words.{told_words};
 use crate::push::{push_number, push_numbers};
 use ima_templates::Placed;
 use inode_events::{Grant, Told};
-use inode_meta::OutOfMemory;
 use label_values::Verdict;
+use std::alloc::AllocError as OutOfMemory;
 
 pub fn push_told(out: &mut Vec<u8>, told: &Told) -> Result<(), OutOfMemory>
     ensures { OnOk result

@@ -9,10 +9,10 @@ use crate::lists::push_values;
 use crate::push::{push_numbers, push_sum};
 use call_steps::Reply;
 use inode_events::EndedInode;
-use inode_meta::{DEFAULT_PCR, OutOfMemory};
+use inode_meta::DEFAULT_PCR;
 use list_format::violations;
 use run_model::{Ended, EndedTask};
-use std::alloc::Global;
+use std::alloc::{AllocError as OutOfMemory, Global};
 
 /// The summary of the run of the script of a number, which has `script` bytes: in lines that end in
 /// a newline the number, the script's length, the length of the list and its violations, the events

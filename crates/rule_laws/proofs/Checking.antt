@@ -9,12 +9,12 @@ use Rattle.policy_text.specs.declared.rule.Func.{Func}
 use Rattle.inode_events.specs.Past.{past}
 use Rattle.inode_events.specs.State.{metadata}
 use Rattle.inode_events.specs.declared.told.Event.{Event}
-use Rattle.call_steps.specs.Mind.{Step}
-use Rattle.call_steps.specs.Mind.{Nothing, Does, Checks, Signals, Appends}
+use Rattle.run_model.specs.steps.Mind.{Step}
+use Rattle.run_model.specs.steps.Mind.{Nothing, Does, Checks, Signals, Appends}
 use Rattle.run_model.specs.History.{Answer, step_at, thought}
 use Rattle.run_model.specs.Scene.{Program, Scene, decided, mode_of, rules_with}
 use Rattle.run_model.specs.Served.{AreSuited, Run, Suits, known_after, rules_known}
-use Rattle.policy_cell.specs.declared.cell.RuleEntry.{RuleEntry}
+use Rattle.run_model.specs.rules.declared.cell.RuleEntry.{RuleEntry}
 use Rattle.rule_laws.specs.Checks.{ChecksFit, FitsAreSuited, FitsAtFirst, FitsByCheck, FitsByStep, FitsWithMore, IsCheckStep, IsDecidedIn, IsPlainStep, Longer, Seen, SeesMore, SuitIn, SuitsIn, seen_of}
 
 abbrev rule_of : RuleEntry → RuleValue

@@ -7,10 +7,10 @@ use Rattle.std.proofs.lemmas.List.Elements.{All-push}
 use Rattle.std.proofs.lemmas.Option.{same_Some, slice_get_within, slice_get-get_or}
 use Rattle.grow_list.proofs.Counting.{entries-other, entries-same}
 use Rattle.grow_list.specs.Entries.{entries_of}
-use Rattle.inode_meta.specs.declared.step.Who.{Who}
+use Rattle.inode_events.specs.meta.declared.step.Who.{Who}
 use Rattle.policy_text.specs.declared.access.Action.{Action}
 use Rattle.policy_text.specs.declared.rule.Func.{Func}
-use Rattle.ima_templates.specs.declared.entry.Entry.{Entry}
+use Rattle.inode_events.specs.templates.declared.entry.Entry.{Entry}
 use Rattle.inode_events.specs.Asked.{entered, made, outcome}
 use Rattle.inode_events.specs.Callers.{caller_in, caller_of}
 use Rattle.inode_events.specs.Checks.{no_action}
@@ -23,14 +23,14 @@ use Rattle.inode_events.specs.declared.deed.Deed.TheVariants as deed
 use Rattle.inode_events.specs.declared.told.Event.{Event}
 use Rattle.inode_events.specs.declared.told.Told.{Told}
 use Rattle.inode_events.specs.declared.told.Told.TheVariants as told
-use Rattle.call_steps.specs.Mind.{Mind, Step}
-use Rattle.call_steps.specs.Mind.{Nothing, Does, Checks, Signals, Appends}
-use Rattle.call_steps.specs.declared.call.Call.{Call}
+use Rattle.run_model.specs.steps.Mind.{Mind, Step}
+use Rattle.run_model.specs.steps.Mind.{Nothing, Does, Checks, Signals, Appends}
+use Rattle.run_model.specs.steps.declared.call.Call.{Call}
 use Rattle.run_model.specs.History.{Answer, Thought, call_at, event, event_in, own, own_rules, plain_answer, rule_in, step_at, thought, who_at, who_in}
 use Rattle.run_model.specs.Scene.{Program, Scene, Station, decided, inode_of, mode_of, rules_with}
 use Rattle.run_model.specs.Served.{events_of, rules_of}
 use Rattle.run_model.specs.Turns.{State, go_check, go_does, go_step, journal_at, state_on}
-use Rattle.policy_cell.specs.declared.cell.RuleEntry.{RuleEntry}
+use Rattle.run_model.specs.rules.declared.cell.RuleEntry.{RuleEntry}
 use Rattle.rule_laws.specs.Kept.{AreSigned, GoLeaves, GoOwns, GoSigns, Owns}
 use Rattle.rule_laws.specs.Moments.{answers_to, answers_told, check_answers, does_answers}
 

@@ -14,9 +14,9 @@ use Rattle.run_model.specs.History.{Thought, event, start}
 use Rattle.run_model.specs.Scene.{Program, Scene, Station}
 use Rattle.run_model.specs.Rounds.{RoundsTo, all_tasks, rounds}
 use Rattle.run_model.specs.Served.{Served, events_of}
-use Rattle.call_steps.specs.declared.ending.Ending.TheVariants as ending
+use Rattle.run_model.specs.steps.declared.ending.Ending.TheVariants as ending
 use Rattle.run_model.specs.Turns.{Moment, State, go, newborn, run_at, start_of, turn, turned, turns_of}
-use Rattle.policy_cell.specs.declared.cell.RuleEntry.{RuleEntry}
+use Rattle.run_model.specs.rules.declared.cell.RuleEntry.{RuleEntry}
 use Rattle.rule_laws.specs.Kept.{HasMade, IsKept, RunsAreServed, TurnsAreServed}
 use Rattle.rule_laws.specs.Moments.{history_after, seen_in}
 use Rattle.rule_laws.specs.Stations.{StationRules}

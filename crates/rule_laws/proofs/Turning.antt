@@ -5,7 +5,7 @@ use Rattle.std.proofs.lemmas.List.{length-map, length-set}
 use Rattle.std.proofs.lemmas.Option.{same_Some, slice_get_within, slice_get-get_or}
 use mathlib.Core.List.{IsPrefix}
 use Rattle.grow_list.proofs.Prefixes.{prefix_append, prefix_refl}
-use Rattle.inode_meta.specs.declared.step.Who.{Who}
+use Rattle.inode_events.specs.meta.declared.step.Who.{Who}
 use Rattle.policy_text.specs.declared.access.Action.{Action}
 use Rattle.policy_text.specs.declared.rule.Func.{Func}
 use Rattle.inode_events.specs.Asked.{made, outcome}
@@ -19,17 +19,17 @@ use Rattle.inode_events.specs.declared.deed.Deed.TheVariants as deed
 use Rattle.inode_events.specs.declared.told.Event.{Event}
 use Rattle.inode_events.specs.declared.told.Told.{Told}
 use Rattle.inode_events.specs.declared.told.Told.TheVariants as told
-use Rattle.call_steps.specs.Mind.{Step}
-use Rattle.call_steps.specs.Mind.{Nothing, Does, Checks, Signals, Appends}
-use Rattle.call_steps.specs.Mind.{Mind, Progress, ask_of, deed_of, plain_step, progress_of, step_by}
-use Rattle.call_steps.specs.declared.ask.Ask.{Ask}
-use Rattle.call_steps.specs.declared.ask.Ask.TheVariants as ask
-use Rattle.call_steps.specs.declared.call.Call.{Call}
-use Rattle.call_steps.specs.declared.call.Call.TheVariants as call
+use Rattle.run_model.specs.steps.Mind.{Step}
+use Rattle.run_model.specs.steps.Mind.{Nothing, Does, Checks, Signals, Appends}
+use Rattle.run_model.specs.steps.Mind.{Mind, Progress, ask_of, deed_of, plain_step, progress_of, step_by}
+use Rattle.run_model.specs.steps.declared.ask.Ask.{Ask}
+use Rattle.run_model.specs.steps.declared.ask.Ask.TheVariants as ask
+use Rattle.run_model.specs.steps.declared.call.Call.{Call}
+use Rattle.run_model.specs.steps.declared.call.Call.TheVariants as call
 use Rattle.run_model.specs.History.{Answer, Thought, call_at, event, plain_answer, start, step_at, step_in, thought, who_at}
 use Rattle.run_model.specs.Scene.{Program, Scene, Station, decided, inode_of, mode_of, rules_with}
 use Rattle.run_model.specs.Turns.{Moment, State, go, go_check, go_does, go_step, hear_told, journal_at, newborn, run_at, start_of, state_on, turn, turned, turns_of}
-use Rattle.policy_cell.specs.declared.cell.RuleEntry.{RuleEntry}
+use Rattle.run_model.specs.rules.declared.cell.RuleEntry.{RuleEntry}
 use Rattle.rule_laws.specs.Checks.{ChecksFit, IsPlainStep, JournalsGrow, Longer, SeesMore, seen_of}
 use Rattle.rule_laws.specs.Moments.{FitIsSuited, GoFits, GoGrows, GoHears, GoRises, HasChecks, HasSuited, IsFit, StationsRise, TurnFits, TurnsAreFit, answers_to, answers_told, check_answers, does_answers, history_after, seen_in}
 use Rattle.rule_laws.specs.Stations.{CountsAll, StationRules}

@@ -8,12 +8,12 @@ use Rattle.inode_events.specs.Past.{past}
 use Rattle.inode_events.specs.State.{metadata}
 use Rattle.inode_events.specs.declared.told.Event.{Event}
 use Rattle.inode_events.specs.declared.told.Told.TheVariants as told
-use Rattle.call_steps.specs.Mind.{Step}
-use Rattle.call_steps.specs.Mind.{Nothing, Does, Checks, Signals, Appends}
+use Rattle.run_model.specs.steps.Mind.{Step}
+use Rattle.run_model.specs.steps.Mind.{Nothing, Does, Checks, Signals, Appends}
 use Rattle.run_model.specs.History.{Answer, plain_answer, step_at, thought}
 use Rattle.run_model.specs.Scene.{Program, Scene, Station, decided, mode_of, rules_with}
 use Rattle.run_model.specs.Served.{AreSuited, Run, rules_known}
-use Rattle.policy_cell.specs.declared.cell.RuleEntry.{RuleEntry}
+use Rattle.run_model.specs.rules.declared.cell.RuleEntry.{RuleEntry}
 
 -- what a task's passes have seen: of each inode's journal, and of the appended rules
 pub record Seen : Type 0 where

@@ -7,9 +7,9 @@ use Rattle.run_model.specs.Scene.{Program, Scene, mode_of}
 use Rattle.run_model.specs.Rounds.{IsRunOf}
 use Rattle.run_model.specs.Served.{Run, Served, events_of, rules_of}
 use Rattle.run_model.specs.Turns.{Moment, State, go, run_at, start_of, turns_of}
-use Rattle.call_steps.specs.declared.ending.Ending.{Ending}
-use Rattle.call_steps.specs.declared.ending.Ending.TheVariants as ending
-use Rattle.policy_cell.specs.declared.cell.RuleEntry.{RuleEntry}
+use Rattle.run_model.specs.steps.declared.ending.Ending.{Ending}
+use Rattle.run_model.specs.steps.declared.ending.Ending.TheVariants as ending
+use Rattle.run_model.specs.rules.declared.cell.RuleEntry.{RuleEntry}
 use Rattle.rule_laws.specs.Checks.{ChecksFit}
 use Rattle.rule_laws.specs.Moments.{StationsRise, history_after, seen_in}
 

@@ -3,7 +3,7 @@ use Rattle.std.specs.Prelude.{◌≡◌, ℕ, ◌+◌, ◌≤◌, All, List, [],
 use Rattle.std.specs.List.{AllZip}
 use mathlib.Core.List.{IsPrefix}
 use Rattle.grow_list.specs.Shown.{Passed}
-use Rattle.inode_meta.specs.declared.step.Who.{Who}
+use Rattle.inode_events.specs.meta.declared.step.Who.{Who}
 use Rattle.inode_events.specs.Asked.{made}
 use Rattle.inode_events.specs.Past.{past}
 use Rattle.inode_events.specs.declared.deed.Deed.{Deed}
@@ -11,7 +11,7 @@ use Rattle.inode_events.specs.declared.deed.Deed.TheVariants as deed
 use Rattle.inode_events.specs.declared.told.Event.{Event}
 use Rattle.inode_events.specs.declared.told.Told.{Told}
 use Rattle.run_model.specs.Served.{RulesRise, last_counted}
-use Rattle.policy_cell.specs.declared.cell.RuleEntry.{RuleEntry}
+use Rattle.run_model.specs.rules.declared.cell.RuleEntry.{RuleEntry}
 
 -- along the journal the number never falls, and the last one is at most the base rules and those
 -- that the pass has seen

@@ -6,6 +6,10 @@ ghost use Rattle.rule_laws.specs.Stations.{RiseAtFirst, RiseByLook, RiseByEvent,
 ghost use Rattle.rule_laws.specs.Kept.{GoOwns, GoLeaves, GoSigns, TurnsAreServed, RunsAreServed};
 ghost use Rattle.rule_laws.specs.Moments.{GoHears, GoGrows, GoFits, GoRises, TurnFits, TurnsAreFit, FitIsSuited};
 
+pub use inode_events as events;
+pub use inode_events::templates;
+pub use run_model::rules;
+
 /// A task that has made no step has no check.
 pub fn fits_at_first()
     ensures { FitsAtFirst }

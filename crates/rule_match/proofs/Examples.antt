@@ -1,6 +1,6 @@
 -- The definitions on written-out rules and accesses.
 use Rattle.std.proofs.Common.{◌≡◌, ℕ, true, false, [], ◌∷◌, Some, None, refl}
-use Rattle.inode_meta.specs.declared.appraisal.Need.TheVariants as need
+use Rattle.policy_text.specs.meta.declared.appraisal.Need.TheVariants as need
 use Rattle.policy_text.specs.RuleValue.{RuleValue}
 use Rattle.policy_text.specs.declared.access.Access.{Access}
 use Rattle.policy_text.specs.declared.rule.Act.{Act}

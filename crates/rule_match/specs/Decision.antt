@@ -3,10 +3,10 @@
 use Rattle.std.specs.Prelude.{ℕ, Bool, true, false, ◌&&◌, List, Option, Some, None, is_some, unwrap_or, find, if◌then◌else◌}
 use Rattle.std.specs.List.{position_from}
 use Rattle.std.specs.Option.{option_and_then, option_map_or}
-use Rattle.inode_meta.specs.declared.identity.Cred.{Cred}
-use Rattle.inode_meta.specs.declared.identity.Meta.{Meta}
-use Rattle.inode_meta.specs.declared.appraisal.Need.TheVariants as need
-use Rattle.inode_meta.specs.declared.measurement.TheConstants.{DEFAULT_PCR}
+use Rattle.policy_text.specs.meta.declared.identity.Cred.{Cred}
+use Rattle.policy_text.specs.meta.declared.identity.Meta.{Meta}
+use Rattle.policy_text.specs.meta.declared.appraisal.Need.TheVariants as need
+use Rattle.policy_text.specs.meta.declared.measurement.TheConstants.{DEFAULT_PCR}
 use Rattle.policy_text.specs.ActionValue.{ActionValue}
 use Rattle.policy_text.specs.RuleValue.{RuleValue}
 use Rattle.policy_text.specs.declared.access.Access.{Access}

@@ -6,3 +6,4 @@ pub mod Groups
 pub mod Kept
 pub mod Indexed
 pub mod SameGroup
+pub use Rattle.policy_text.specs as policy

@@ -6,7 +6,7 @@ ghost use Rattle.rule_match.specs.Deciders.{after_line, carried_at, decided_with
 
 use crate::conditions::matches;
 use crate::family::{Family, is_done};
-use inode_meta::DEFAULT_PCR;
+use policy_text::meta::DEFAULT_PCR;
 use policy_text::{Access, Act, Action, Rule};
 
 /// Of each family the place of the line that decides on an access, counted from 0, where one was

@@ -9,8 +9,8 @@ ghost use Rattle.rule_match.specs.declared.group.Group.{Group as AnyGroup};
 use crate::deciders::Deciders;
 use crate::family::Family;
 use crate::group::{Candidates, Group};
-use policy_text::{Access, Action, Func, OutOfMemory, Policy, Rule};
-use std::alloc::{AllocError, Global};
+use policy_text::{Access, Action, Func, Policy, Rule};
+use std::alloc::{AllocError as OutOfMemory, Global};
 use std::collections::HashMap;
 use std::marker::Model;
 
@@ -139,7 +139,7 @@ fn add_line(
     if let Some(of_group) = lines.get_mut(&group) {
         return match of_group.push(line) {
             Ok(()) => Ok(()),
-            Err(_) => Err(AllocError),
+            Err(_) => Err(OutOfMemory),
         };
     }
     let mut of_group = Vec::new(alloc);

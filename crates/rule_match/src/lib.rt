@@ -13,3 +13,5 @@ pub use conditions::matches;
 pub use decision::decide;
 pub use family::Family;
 pub use index::Index;
+pub use policy_text as policy;
+pub use policy_text::meta;

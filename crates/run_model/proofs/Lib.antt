@@ -4,3 +4,4 @@ pub mod Unserved
 pub mod Still
 pub mod PlacedAsTold
 pub mod Listed
+pub use Rattle.policy_cell.proofs.about_growing

@@ -4,23 +4,23 @@ use Rattle.std.specs.Prelude.{◌==◌, nat_lt, option_map, is_some}
 use Rattle.std.specs.List.{position_or_len}
 use Rattle.std.proofs.lemmas.Bool.{le-ltb}
 use Rattle.std.proofs.lemmas.Option.{none-some, same_Some}
-use Rattle.ima_templates.specs.Same.{add_by, place_of_same, placed_by, same, same_data}
-use Rattle.ima_templates.specs.declared.entry.Entry.{Entry}
-use Rattle.policy_text.specs.declared.access.Action.{Action}
-use Rattle.policy_text.specs.declared.rule.Func.{Func}
-use Rattle.inode_events.specs.Asked.{asked, list_after, measured_if, outcome, placed_for, violation_in}
-use Rattle.inode_events.specs.Checks.{last_check}
-use Rattle.inode_events.specs.Files.{is_writing, readers, writers}
-use Rattle.inode_events.specs.Grants.{grant_of}
-use Rattle.inode_events.specs.Inode.{Inode}
-use Rattle.inode_events.specs.Integrity.{Collection, Digests, collecting, digest_from, in_force, digests_of}
-use Rattle.inode_events.specs.Listing.{added_at, adds, finds, found_at, measured, violated}
-use Rattle.inode_events.specs.Marks.{must_measure}
-use Rattle.inode_events.specs.Says.{check_told, finish_told, place_of, take_told, unless_collecting}
-use Rattle.inode_events.specs.declared.deed.Deed.TheVariants as deed
-use Rattle.inode_events.specs.declared.told.Event.{Event}
-use Rattle.inode_events.specs.declared.told.Told.{Told}
-use Rattle.inode_events.specs.declared.told.Told.TheVariants as told
+use Rattle.call_steps.specs.templates.Same.{add_by, place_of_same, placed_by, same, same_data}
+use Rattle.call_steps.specs.templates.declared.entry.Entry.{Entry}
+use Rattle.call_steps.specs.policy.declared.access.Action.{Action}
+use Rattle.call_steps.specs.policy.declared.rule.Func.{Func}
+use Rattle.call_steps.specs.events.Asked.{asked, list_after, measured_if, outcome, placed_for, violation_in}
+use Rattle.call_steps.specs.events.Checks.{last_check}
+use Rattle.call_steps.specs.events.Files.{is_writing, readers, writers}
+use Rattle.call_steps.specs.events.Grants.{grant_of}
+use Rattle.call_steps.specs.events.Inode.{Inode}
+use Rattle.call_steps.specs.events.Integrity.{Collection, Digests, collecting, digest_from, in_force, digests_of}
+use Rattle.call_steps.specs.events.Listing.{added_at, adds, finds, found_at, measured, violated}
+use Rattle.call_steps.specs.events.Marks.{must_measure}
+use Rattle.call_steps.specs.events.Says.{check_told, finish_told, place_of, take_told, unless_collecting}
+use Rattle.call_steps.specs.events.declared.deed.Deed.TheVariants as deed
+use Rattle.call_steps.specs.events.declared.told.Event.{Event}
+use Rattle.call_steps.specs.events.declared.told.Told.{Told}
+use Rattle.call_steps.specs.events.declared.told.Told.TheVariants as told
 use Rattle.run_model.specs.Laws.{IsAdded, IsFound, StepIsListed}
 
 -- ---- violations

@@ -2,20 +2,20 @@
 use Rattle.std.proofs.Common.{◌≡◌, ℕ, Bool, true, false, ◌&&◌, if◌then◌else◌, List, Option, Some, None, refl, ap, subst}
 use Rattle.std.specs.Prelude.{nat_lt}
 use Rattle.std.proofs.lemmas.Option.{none-some, same_Some}
-use Rattle.hash_algos.specs.declared.digest.Digest.{Digest}
-use Rattle.ima_templates.specs.declared.entry.Placed.{Placed}
-use Rattle.policy_text.specs.declared.access.Action.{Action}
-use Rattle.inode_events.specs.Checks.{last_check}
-use Rattle.inode_events.specs.Files.{is_writing, readers, writers}
-use Rattle.inode_events.specs.Grants.{grant_of, placed_if_measured}
-use Rattle.inode_events.specs.Inode.{Inode}
-use Rattle.inode_events.specs.Integrity.{Collection, Digests, collecting, digest_from, in_force}
-use Rattle.inode_events.specs.Marks.{must_measure}
-use Rattle.inode_events.specs.Says.{check_told, finish_told, place_of, placed_in, placed_in_grant, take_told, unless_collecting}
-use Rattle.inode_events.specs.declared.deed.Deed.TheVariants as deed
-use Rattle.inode_events.specs.declared.told.Event.{Event}
-use Rattle.inode_events.specs.declared.told.Told.{Told}
-use Rattle.inode_events.specs.declared.told.Told.TheVariants as told
+use Rattle.call_steps.specs.hashes.declared.digest.Digest.{Digest}
+use Rattle.call_steps.specs.templates.declared.entry.Placed.{Placed}
+use Rattle.call_steps.specs.policy.declared.access.Action.{Action}
+use Rattle.call_steps.specs.events.Checks.{last_check}
+use Rattle.call_steps.specs.events.Files.{is_writing, readers, writers}
+use Rattle.call_steps.specs.events.Grants.{grant_of, placed_if_measured}
+use Rattle.call_steps.specs.events.Inode.{Inode}
+use Rattle.call_steps.specs.events.Integrity.{Collection, Digests, collecting, digest_from, in_force}
+use Rattle.call_steps.specs.events.Marks.{must_measure}
+use Rattle.call_steps.specs.events.Says.{check_told, finish_told, place_of, placed_in, placed_in_grant, take_told, unless_collecting}
+use Rattle.call_steps.specs.events.declared.deed.Deed.TheVariants as deed
+use Rattle.call_steps.specs.events.declared.told.Event.{Event}
+use Rattle.call_steps.specs.events.declared.told.Told.{Told}
+use Rattle.call_steps.specs.events.declared.told.Told.TheVariants as told
 use Rattle.run_model.specs.Laws.{PlacedIsTold}
 
 -- a check

@@ -4,34 +4,34 @@ use Rattle.std.specs.Prelude.{All, ◌≤◌, ◌<◌, ◌&&◌, leb, slice_get}
 use Rattle.std.proofs.lemmas.Bool.{and_parts, leb-true}
 use Rattle.std.proofs.lemmas.List.Elements.{All-cons, All-nil}
 use Rattle.std.proofs.lemmas.Option.{none-some, same_Some}
-use Rattle.hash_algos.specs.Digest.{digest_of, zero_digest}
-use Rattle.hash_algos.specs.declared.algo.Algo.TheVariants.{Sha1, Sha256}
-use Rattle.ima_templates.specs.Entries.{entry_of, violation_of}
-use Rattle.ima_templates.specs.Same.{add_by, place_of_same, placed_by, same}
-use Rattle.ima_templates.specs.declared.entry.Entry.{Entry}
-use Rattle.ima_templates.specs.declared.entry.Placed.{Placed}
-use Rattle.ima_templates.specs.declared.entry.Placed.TheVariants.{Added}
+use Rattle.call_steps.specs.hashes.Digest.{digest_of, zero_digest}
+use Rattle.call_steps.specs.hashes.declared.algo.Algo.TheVariants.{Sha1, Sha256}
+use Rattle.call_steps.specs.templates.Entries.{entry_of, violation_of}
+use Rattle.call_steps.specs.templates.Same.{add_by, place_of_same, placed_by, same}
+use Rattle.call_steps.specs.templates.declared.entry.Entry.{Entry}
+use Rattle.call_steps.specs.templates.declared.entry.Placed.{Placed}
+use Rattle.call_steps.specs.templates.declared.entry.Placed.TheVariants.{Added}
 use Rattle.inode_meta.specs.declared.appraisal.Mode.TheVariants.{Off}
 use Rattle.inode_meta.specs.declared.appraisal.Need.TheVariants.{Any}
 use Rattle.inode_meta.specs.declared.identity.Cred.{Cred}
 use Rattle.inode_meta.specs.declared.measurement.Template.TheVariants.{ImaNg}
 use Rattle.inode_meta.specs.declared.step.Who.{Who}
-use Rattle.policy_text.specs.RuleValue.{RuleValue}
-use Rattle.policy_text.specs.declared.access.Action.{Action}
-use Rattle.policy_text.specs.declared.rule.Act.TheVariants as act
-use Rattle.policy_text.specs.declared.rule.Func.TheVariants.{FileCheck}
-use Rattle.inode_events.specs.Callers.{caller_of}
-use Rattle.inode_events.specs.Checks.{no_action}
-use Rattle.inode_events.specs.Inode.{nobody}
-use Rattle.inode_events.specs.Past.{past}
-use Rattle.inode_events.specs.declared.deed.Deed.{Deed}
-use Rattle.inode_events.specs.declared.deed.Deed.TheVariants as deed
-use Rattle.inode_events.specs.declared.deed.How.TheVariants as how
-use Rattle.inode_events.specs.declared.image.Image.{Image}
-use Rattle.inode_events.specs.declared.settings.Settings.{Settings}
-use Rattle.inode_events.specs.declared.told.Event.{Event}
-use Rattle.inode_events.specs.declared.told.Told.{Told}
-use Rattle.inode_events.specs.declared.told.Told.TheVariants as told
+use Rattle.call_steps.specs.policy.RuleValue.{RuleValue}
+use Rattle.call_steps.specs.policy.declared.access.Action.{Action}
+use Rattle.call_steps.specs.policy.declared.rule.Act.TheVariants as act
+use Rattle.call_steps.specs.policy.declared.rule.Func.TheVariants.{FileCheck}
+use Rattle.call_steps.specs.events.Callers.{caller_of}
+use Rattle.call_steps.specs.events.Checks.{no_action}
+use Rattle.call_steps.specs.events.Inode.{nobody}
+use Rattle.call_steps.specs.events.Past.{past}
+use Rattle.call_steps.specs.events.declared.deed.Deed.{Deed}
+use Rattle.call_steps.specs.events.declared.deed.Deed.TheVariants as deed
+use Rattle.call_steps.specs.events.declared.deed.How.TheVariants as how
+use Rattle.call_steps.specs.events.declared.image.Image.{Image}
+use Rattle.call_steps.specs.events.declared.settings.Settings.{Settings}
+use Rattle.call_steps.specs.events.declared.told.Event.{Event}
+use Rattle.call_steps.specs.events.declared.told.Told.{Told}
+use Rattle.call_steps.specs.events.declared.told.Told.TheVariants as told
 use Rattle.call_steps.specs.declared.ask.Ask.TheVariants as ask
 use Rattle.call_steps.specs.declared.call.Call.{Call}
 use Rattle.call_steps.specs.declared.call.Call.TheVariants as call

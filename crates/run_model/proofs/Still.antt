@@ -4,18 +4,18 @@ use Rattle.std.specs.Prelude.{slice_get, slice_set}
 use Rattle.std.proofs.lemmas.List.{append-nil, set-get_or}
 use Rattle.std.proofs.lemmas.Bool.{cases_order, or_parts, true≢false}
 use Rattle.std.proofs.lemmas.Option.{get_or_from_slice_get}
-use Rattle.policy_text.specs.declared.access.Action.{Action}
+use Rattle.call_steps.specs.policy.declared.access.Action.{Action}
 use Rattle.inode_meta.specs.declared.step.Who.{Who}
-use Rattle.policy_text.specs.declared.rule.Func.{Func}
-use Rattle.inode_events.specs.Checks.{no_action}
-use Rattle.inode_events.specs.Asked.{outcome}
-use Rattle.inode_events.specs.Inode.{Inode}
-use Rattle.inode_events.specs.Past.{past}
-use Rattle.inode_events.specs.State.{metadata}
-use Rattle.inode_events.specs.Semaphores.{semaphore_says}
-use Rattle.inode_events.specs.declared.deed.Deed.{Deed}
-use Rattle.inode_events.specs.declared.deed.Deed.TheVariants as deed
-use Rattle.inode_events.specs.declared.told.Told.{Told}
+use Rattle.call_steps.specs.policy.declared.rule.Func.{Func}
+use Rattle.call_steps.specs.events.Checks.{no_action}
+use Rattle.call_steps.specs.events.Asked.{outcome}
+use Rattle.call_steps.specs.events.Inode.{Inode}
+use Rattle.call_steps.specs.events.Past.{past}
+use Rattle.call_steps.specs.events.State.{metadata}
+use Rattle.call_steps.specs.events.Semaphores.{semaphore_says}
+use Rattle.call_steps.specs.events.declared.deed.Deed.{Deed}
+use Rattle.call_steps.specs.events.declared.deed.Deed.TheVariants as deed
+use Rattle.call_steps.specs.events.declared.told.Told.{Told}
 use Rattle.call_steps.specs.Mind.{Step}
 use Rattle.call_steps.specs.Mind.{Nothing, Does, Checks, Signals, Appends}
 use Rattle.run_model.specs.History.{Thought, step_at, who_at}

@@ -7,28 +7,28 @@ use Rattle.std.proofs.lemmas.List.{append-nil}
 use Rattle.std.proofs.lemmas.List.Elements.{All-contains}
 use Rattle.std.proofs.lemmas.Option.{none-some, same_Some}
 use mathlib.Core.List.{IsPrefix}
-use Rattle.grow_list.proofs.Prefixes.{prefix_append, prefix_get, prefix_refl, prefix_trans}
+use Rattle.policy_cell.proofs.about_growing.Prefixes.{prefix_append, prefix_get, prefix_refl, prefix_trans}
 use Rattle.inode_meta.specs.declared.appraisal.Mode.{Mode}
 use Rattle.inode_meta.specs.declared.appraisal.Mode.TheVariants.{Off}
 use Rattle.inode_meta.specs.declared.identity.Cred.{Cred}
 use Rattle.inode_meta.specs.declared.step.Who.{Who}
-use Rattle.ima_templates.specs.Entries.{violation_of}
-use Rattle.ima_templates.specs.declared.entry.Entry.{Entry}
-use Rattle.ima_templates.specs.declared.entry.Placed.TheVariants.{Added}
-use Rattle.hash_algos.specs.declared.algo.Algo.TheVariants.{Sha256}
+use Rattle.call_steps.specs.templates.Entries.{violation_of}
+use Rattle.call_steps.specs.templates.declared.entry.Entry.{Entry}
+use Rattle.call_steps.specs.templates.declared.entry.Placed.TheVariants.{Added}
+use Rattle.call_steps.specs.hashes.declared.algo.Algo.TheVariants.{Sha256}
 use Rattle.inode_meta.specs.declared.measurement.Template.TheVariants.{ImaNg}
-use Rattle.policy_text.specs.declared.access.Action.{Action}
-use Rattle.policy_text.specs.declared.rule.Func.TheVariants.{FileCheck}
-use Rattle.inode_events.specs.Callers.{caller_of}
-use Rattle.inode_events.specs.Checks.{no_action}
-use Rattle.inode_events.specs.Past.{past}
-use Rattle.inode_events.specs.State.{metadata}
-use Rattle.inode_events.specs.declared.deed.Deed.{Deed}
-use Rattle.inode_events.specs.declared.deed.Deed.TheVariants as deed
-use Rattle.inode_events.specs.declared.deed.How.TheVariants as how
-use Rattle.inode_events.specs.declared.told.Event.{Event}
-use Rattle.inode_events.specs.declared.told.Told.{Told}
-use Rattle.inode_events.specs.declared.told.Told.TheVariants as told
+use Rattle.call_steps.specs.policy.declared.access.Action.{Action}
+use Rattle.call_steps.specs.policy.declared.rule.Func.TheVariants.{FileCheck}
+use Rattle.call_steps.specs.events.Callers.{caller_of}
+use Rattle.call_steps.specs.events.Checks.{no_action}
+use Rattle.call_steps.specs.events.Past.{past}
+use Rattle.call_steps.specs.events.State.{metadata}
+use Rattle.call_steps.specs.events.declared.deed.Deed.{Deed}
+use Rattle.call_steps.specs.events.declared.deed.Deed.TheVariants as deed
+use Rattle.call_steps.specs.events.declared.deed.How.TheVariants as how
+use Rattle.call_steps.specs.events.declared.told.Event.{Event}
+use Rattle.call_steps.specs.events.declared.told.Told.{Told}
+use Rattle.call_steps.specs.events.declared.told.Told.TheVariants as told
 use Rattle.call_steps.specs.declared.call.Call.TheVariants as call
 use Rattle.call_steps.specs.declared.held.Name.TheVariants.{Descriptor}
 use Rattle.call_steps.specs.declared.reply.Reply.{Reply}

@@ -3,14 +3,14 @@ use Rattle.std.proofs.Common.{◌≡◌, ℕ, Bool, true, false, List, [], ◌�
 use Rattle.std.specs.Prelude.{◌≤◌, ◌&&◌, nat_le, All}
 use Rattle.std.proofs.lemmas.Bool.{and_parts, leb-true}
 use Rattle.std.proofs.lemmas.List.Elements.{All-cons, All-nil}
-use Rattle.hash_algos.specs.declared.algo.Algo.TheVariants.{Sha256}
-use Rattle.hash_algos.proofs.HashLemmas.{length-hash}
-use Rattle.ima_templates.specs.Entries.{violation_of}
-use Rattle.ima_templates.specs.IsEntry.{IsEntry}
-use Rattle.ima_templates.specs.Path.{IsGraphic}
-use Rattle.ima_templates.specs.Same.{place_of_same, same}
-use Rattle.ima_templates.specs.declared.entry.Entry.{Entry}
-use Rattle.ima_templates.proofs.SameLemmas.{same_data-fields}
+use Rattle.call_steps.specs.hashes.declared.algo.Algo.TheVariants.{Sha256}
+use Rattle.call_steps.proofs.about_hashes.HashLemmas.{length-hash}
+use Rattle.call_steps.specs.templates.Entries.{violation_of}
+use Rattle.call_steps.specs.templates.IsEntry.{IsEntry}
+use Rattle.call_steps.specs.templates.Path.{IsGraphic}
+use Rattle.call_steps.specs.templates.Same.{place_of_same, same}
+use Rattle.call_steps.specs.templates.declared.entry.Entry.{Entry}
+use Rattle.call_steps.proofs.about_templates.SameLemmas.{same_data-fields}
 use Rattle.inode_meta.specs.declared.measurement.Template.TheVariants.{ImaNg}
 use Rattle.call_steps.specs.declared.ending.Ending.TheVariants as ending
 use Rattle.run_model.specs.Rounds.{IsRunOf}

@@ -2,11 +2,11 @@
 use Rattle.std.specs.Prelude.{ℕ, Bool, true, false, List, [], ◌∷◌, length}
 use Rattle.std.specs.List.{list_any}
 use Rattle.inode_meta.specs.declared.measurement.Template.{Template}
-use Rattle.pcr_bank.specs.declared.banks.Banks.{Banks}
-use Rattle.ima_templates.specs.Replay.{banks_of}
-use Rattle.ima_templates.specs.declared.entry.Entry.{Entry}
-use Rattle.inode_events.specs.EndedInode.{EndedInodeValue, ended_inode}
-use Rattle.inode_events.specs.declared.told.Event.{Event}
+use Rattle.call_steps.specs.registers.declared.banks.Banks.{Banks}
+use Rattle.call_steps.specs.templates.Replay.{banks_of}
+use Rattle.call_steps.specs.templates.declared.entry.Entry.{Entry}
+use Rattle.call_steps.specs.events.EndedInode.{EndedInodeValue, ended_inode}
+use Rattle.call_steps.specs.events.declared.told.Event.{Event}
 use Rattle.call_steps.specs.declared.call.Call.{Call}
 use Rattle.call_steps.specs.declared.call.Call.TheVariants as call
 use Rattle.call_steps.specs.declared.reply.Reply.{Reply}

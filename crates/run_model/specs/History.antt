@@ -3,12 +3,12 @@
 use Rattle.std.specs.Prelude.{ℕ, ◌==◌, List, [], ◌∷◌, ◌++◌, Option, Some, None, slice_get, if◌then◌else◌}
 use Rattle.inode_meta.specs.declared.appraisal.Mode.{Mode}
 use Rattle.inode_meta.specs.declared.step.Who.{Who}
-use Rattle.policy_text.specs.declared.access.Action.{Action}
-use Rattle.inode_events.specs.Checks.{no_action}
-use Rattle.inode_events.specs.declared.deed.Deed.{Deed}
-use Rattle.inode_events.specs.declared.deed.Deed.TheVariants as deed
-use Rattle.inode_events.specs.declared.told.Event.{Event}
-use Rattle.inode_events.specs.declared.told.Told.{Told}
+use Rattle.call_steps.specs.policy.declared.access.Action.{Action}
+use Rattle.call_steps.specs.events.Checks.{no_action}
+use Rattle.call_steps.specs.events.declared.deed.Deed.{Deed}
+use Rattle.call_steps.specs.events.declared.deed.Deed.TheVariants as deed
+use Rattle.call_steps.specs.events.declared.told.Event.{Event}
+use Rattle.call_steps.specs.events.declared.told.Told.{Told}
 use Rattle.call_steps.specs.Mind.{Mind, Step, after_of, ask_of, fresh, number_of}
 use Rattle.call_steps.specs.Mind.{Does, Checks, Signals, Appends}
 use Rattle.call_steps.specs.declared.call.Call.{Call}

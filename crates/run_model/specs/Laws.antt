@@ -1,15 +1,15 @@
 -- The laws of runs.
 use Rattle.std.specs.Prelude.{◌≡◌, ℕ, false, List, [], ◌∷◌, ◌++◌, length, Option, Some, None}
-use Rattle.ima_templates.specs.Same.{place_of_same}
-use Rattle.ima_templates.specs.declared.entry.Entry.{Entry}
-use Rattle.ima_templates.specs.declared.entry.Placed.{Placed}
-use Rattle.inode_events.specs.Asked.{asked, list_after, outcome}
-use Rattle.inode_events.specs.Inode.{Inode}
-use Rattle.inode_events.specs.Listing.{Listed, adds, finds}
-use Rattle.inode_events.specs.Says.{says, placed_in}
-use Rattle.inode_events.specs.declared.deed.Deed.{Deed}
-use Rattle.inode_events.specs.declared.told.Event.{Event}
-use Rattle.inode_events.specs.declared.told.Told.{Told}
+use Rattle.call_steps.specs.templates.Same.{place_of_same}
+use Rattle.call_steps.specs.templates.declared.entry.Entry.{Entry}
+use Rattle.call_steps.specs.templates.declared.entry.Placed.{Placed}
+use Rattle.call_steps.specs.events.Asked.{asked, list_after, outcome}
+use Rattle.call_steps.specs.events.Inode.{Inode}
+use Rattle.call_steps.specs.events.Listing.{Listed, adds, finds}
+use Rattle.call_steps.specs.events.Says.{says, placed_in}
+use Rattle.call_steps.specs.events.declared.deed.Deed.{Deed}
+use Rattle.call_steps.specs.events.declared.told.Event.{Event}
+use Rattle.call_steps.specs.events.declared.told.Told.{Told}
 use Rattle.run_model.specs.History.{Thought}
 use Rattle.run_model.specs.Rounds.{RoundsTo, all_tasks, is_moved, round_moves}
 use Rattle.run_model.specs.Scene.{Program, Scene}

@@ -1,17 +1,17 @@
 -- What a script sets up: its scene, and what never changes while it runs.
 use Rattle.std.specs.Prelude.{ℕ, false, List, [], ◌++◌, map}
-use Rattle.ima_templates.specs.declared.entry.Entry.{Entry}
+use Rattle.call_steps.specs.templates.declared.entry.Entry.{Entry}
 use Rattle.inode_meta.specs.declared.appraisal.Mode.{Mode}
 use Rattle.inode_meta.specs.declared.identity.Cred.{Cred}
 use Rattle.inode_meta.specs.declared.identity.Meta.{Meta}
-use Rattle.policy_text.specs.ActionValue.{ActionValue}
-use Rattle.policy_text.specs.RuleValue.{RuleValue}
-use Rattle.policy_text.specs.declared.access.Super.{Super}
-use Rattle.policy_text.specs.declared.rule.Func.{Func}
-use Rattle.rule_match.specs.Decision.{access_of, decide_of}
-use Rattle.inode_events.specs.Inode.{Inode}
-use Rattle.inode_events.specs.declared.image.Image.{Image}
-use Rattle.inode_events.specs.declared.settings.Settings.{Settings}
+use Rattle.call_steps.specs.policy.ActionValue.{ActionValue}
+use Rattle.call_steps.specs.policy.RuleValue.{RuleValue}
+use Rattle.call_steps.specs.policy.declared.access.Super.{Super}
+use Rattle.call_steps.specs.policy.declared.rule.Func.{Func}
+use Rattle.policy_cell.specs.matching.Decision.{access_of, decide_of}
+use Rattle.call_steps.specs.events.Inode.{Inode}
+use Rattle.call_steps.specs.events.declared.image.Image.{Image}
+use Rattle.call_steps.specs.events.declared.settings.Settings.{Settings}
 use Rattle.call_steps.specs.declared.call.Call.{Call}
 use Rattle.policy_cell.specs.declared.cell.RuleEntry.{RuleEntry}
 

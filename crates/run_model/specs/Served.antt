@@ -1,16 +1,16 @@
 -- When journals, appended rules and replies are those of the tasks' calls.
 use Rattle.std.specs.Prelude.{◌≡◌, ℕ, ◌+◌, ◌<◌, ◌≤◌, All, List, [], ◌∷◌, length, map, max, Option, Some, None, slice_get, take}
-use Rattle.grow_list.specs.Entries.{entries_of}
-use Rattle.policy_text.specs.RuleValue.{RuleValue}
-use Rattle.policy_text.specs.declared.rule.Func.{Func}
-use Rattle.inode_events.specs.Callers.{caller_of}
-use Rattle.inode_events.specs.Past.{past}
-use Rattle.inode_events.specs.State.{metadata}
-use Rattle.inode_events.specs.declared.deed.Deed.{Deed}
-use Rattle.inode_events.specs.declared.deed.Deed.TheVariants as deed
-use Rattle.inode_events.specs.declared.told.Event.{Event}
-use Rattle.inode_events.specs.declared.told.Told.TheVariants as told
-use Rattle.ima_templates.specs.declared.entry.Entry.{Entry}
+use Rattle.policy_cell.specs.growing.Entries.{entries_of}
+use Rattle.call_steps.specs.policy.RuleValue.{RuleValue}
+use Rattle.call_steps.specs.policy.declared.rule.Func.{Func}
+use Rattle.call_steps.specs.events.Callers.{caller_of}
+use Rattle.call_steps.specs.events.Past.{past}
+use Rattle.call_steps.specs.events.State.{metadata}
+use Rattle.call_steps.specs.events.declared.deed.Deed.{Deed}
+use Rattle.call_steps.specs.events.declared.deed.Deed.TheVariants as deed
+use Rattle.call_steps.specs.events.declared.told.Event.{Event}
+use Rattle.call_steps.specs.events.declared.told.Told.TheVariants as told
+use Rattle.call_steps.specs.templates.declared.entry.Entry.{Entry}
 use Rattle.call_steps.specs.Mind.{Step}
 use Rattle.call_steps.specs.Mind.{Nothing, Does, Checks, Signals, Appends}
 use Rattle.run_model.specs.History.{Answer, Thought, own, own_rules, plain_answer, step_at, thought}

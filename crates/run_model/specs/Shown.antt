@@ -1,9 +1,9 @@
 -- Which runs may be shown for a script, whatever its ending and however its threads fell.
 use Rattle.std.specs.Prelude.{All, List, [], ◌∷◌}
-use Rattle.inode_events.specs.Legal.{Legal}
-use Rattle.inode_events.specs.Merged.{IsMerged, Journal}
-use Rattle.inode_events.specs.Past.{past}
-use Rattle.inode_events.specs.declared.told.Event.{Event}
+use Rattle.call_steps.specs.events.Legal.{Legal}
+use Rattle.call_steps.specs.events.Merged.{IsMerged, Journal}
+use Rattle.call_steps.specs.events.Past.{past}
+use Rattle.call_steps.specs.events.declared.told.Event.{Event}
 use Rattle.run_model.specs.Ended.{IsEnded}
 use Rattle.run_model.specs.Served.{Run, Served}
 use Rattle.run_model.specs.Scene.{Scene, Station, inode_of}

@@ -1,21 +1,21 @@
 -- One turn of a task on plain lists, and schedules of turns.
 use Rattle.std.specs.Prelude.{ℕ, List, [], ◌∷◌, ◌++◌, length, map, Option, Some, None, slice_get, slice_set, get_or}
-use Rattle.ima_templates.specs.declared.entry.Entry.{Entry}
+use Rattle.call_steps.specs.templates.declared.entry.Entry.{Entry}
 use Rattle.inode_meta.specs.declared.appraisal.Mode.{Mode}
 use Rattle.inode_meta.specs.declared.step.Who.{Who}
-use Rattle.policy_text.specs.declared.access.Action.{Action}
-use Rattle.policy_text.specs.declared.rule.Func.{Func}
-use Rattle.inode_events.specs.Asked.{asked, list_after, made, outcome}
-use Rattle.inode_events.specs.Checks.{no_action}
-use Rattle.inode_events.specs.Inode.{Inode, nobody}
-use Rattle.inode_events.specs.Past.{past}
-use Rattle.inode_events.specs.Semaphores.{semaphore_says}
-use Rattle.inode_events.specs.State.{metadata}
-use Rattle.inode_events.specs.declared.deed.Deed.{Deed}
-use Rattle.inode_events.specs.declared.deed.Deed.TheVariants as deed
-use Rattle.inode_events.specs.declared.told.Event.{Event}
-use Rattle.inode_events.specs.declared.told.Told.{Told}
-use Rattle.inode_events.specs.declared.told.Told.TheVariants as told
+use Rattle.call_steps.specs.policy.declared.access.Action.{Action}
+use Rattle.call_steps.specs.policy.declared.rule.Func.{Func}
+use Rattle.call_steps.specs.events.Asked.{asked, list_after, made, outcome}
+use Rattle.call_steps.specs.events.Checks.{no_action}
+use Rattle.call_steps.specs.events.Inode.{Inode, nobody}
+use Rattle.call_steps.specs.events.Past.{past}
+use Rattle.call_steps.specs.events.Semaphores.{semaphore_says}
+use Rattle.call_steps.specs.events.State.{metadata}
+use Rattle.call_steps.specs.events.declared.deed.Deed.{Deed}
+use Rattle.call_steps.specs.events.declared.deed.Deed.TheVariants as deed
+use Rattle.call_steps.specs.events.declared.told.Event.{Event}
+use Rattle.call_steps.specs.events.declared.told.Told.{Told}
+use Rattle.call_steps.specs.events.declared.told.Told.TheVariants as told
 use Rattle.call_steps.specs.Mind.{Step}
 use Rattle.call_steps.specs.Mind.{Nothing, Does, Checks, Signals, Appends}
 use Rattle.run_model.specs.History.{Thought, event, hear, plain_answer, start, step_at, who_at}

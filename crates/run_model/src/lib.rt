@@ -11,8 +11,12 @@ mod turn;
 
 ghost use Rattle.run_model.specs.Laws.{OneEnd, PlacedIsTold, StepIsListed, StillRound, StillTurn};
 
+pub use call_steps as steps;
+pub use call_steps::{events, policy};
 pub use ended::{Ended, EndedTask};
-pub use policy_cell::RuleEntry;
+pub use inode_meta as meta;
+pub use policy_cell as rules;
+pub use policy_cell::{RuleEntry, matching};
 pub use turn::Turn;
 
 /// A turn that doesn't move its task changes nothing.

@@ -7,7 +7,7 @@ use Rattle.std.specs.Str.{bytes_eq}
 use Rattle.std.proofs.lemmas.Bool.{cases_Bool, false≢true}
 use Rattle.std.proofs.lemmas.Bool.Decides.{nat_tests}
 use Rattle.std.proofs.lemmas.List.{append-nil}
-use Rattle.evm_verify.specs.Input.{five_names}
+use Rattle.inode_events.specs.evm.Input.{five_names}
 use Rattle.policy_text.specs.Key.{starts}
 use Rattle.policy_text.specs.RuleValue.{if_there}
 use Rattle.text_forms.specs.Words.{is_word}

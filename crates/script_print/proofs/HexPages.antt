@@ -3,7 +3,7 @@ use Rattle.std.proofs.Common.{◌≡◌, ℕ, ◌+◌, ◌/◌, ◌%◌, ◌<◌
 use Rattle.std.specs.Prelude.{slice_index}
 use Rattle.std.specs.List.{concat}
 use Rattle.hex.specs.Hex.{encode_lower, encode_with, lower_digits}
-use Rattle.inode_pages.proofs.Walking.{concat_more}
+use Rattle.inode_events.proofs.about_pages.Walking.{concat_more}
 
 -- the text of bytes behind bytes
 encode_lower-append : (xs ys : List ℕ) → encode_lower (xs ++ ys)

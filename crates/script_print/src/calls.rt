@@ -10,10 +10,10 @@ ghost use Rattle.policy_text.specs.Spelling.{rule_words};
 use crate::pushed::{push_number, push_octal, push_value, push_word};
 use call_steps::{Call, Ending};
 use inode_events::{Change, How};
-use inode_meta::{Cred, OutOfMemory};
+use inode_meta::Cred;
 use policy_text::{Rule, print_rule};
 use script_text::{FileBlock, TaskBlock};
-use std::alloc::Global;
+use std::alloc::{AllocError as OutOfMemory, Global};
 use xattr_store::Bytes;
 
 pub fn push_rules(alloc: Global, out: &mut Vec<u8>, rules: &[Rule]) -> Result<(), OutOfMemory>

@@ -6,9 +6,10 @@ ghost use Rattle.script_print.specs.Spelling.{attr_line, content_words, file_lin
 
 use crate::pushed::{push_hex, push_number, push_octal, push_value, push_word};
 use inode_events::Image;
-use inode_meta::{Meta, OutOfMemory};
-use inode_pages::Content;
+use inode_events::pages::Content;
+use inode_meta::Meta;
 use script_text::FileBlock;
+use std::alloc::AllocError as OutOfMemory;
 use xattr_store::Bytes;
 
 pub fn push_files(out: &mut Vec<u8>, files: &[FileBlock]) -> Result<(), OutOfMemory>

@@ -5,9 +5,8 @@ ghost use Rattle.hex.specs.Hex.{encode_lower};
 ghost use Rattle.script_print.specs.Lines.{line_text};
 ghost use Rattle.script_print.specs.Spelling.{hex_text, octal};
 
-use inode_meta::OutOfMemory;
 use list_format::append_hex;
-use std::alloc::AllocError;
+use std::alloc::AllocError as OutOfMemory;
 use std::io::Write;
 
 // A number behind its key.
@@ -17,7 +16,7 @@ pub fn push_number(out: &mut Vec<u8>, key: &[u8], n: u64) -> Result<(), OutOfMem
     out.extend_from_slice(key)?;
     match write!(out, "{n}") {
         Ok(()) => Ok(()),
-        Err(_) => Err(AllocError),
+        Err(_) => Err(OutOfMemory),
     }
 }
 
@@ -28,7 +27,7 @@ pub fn push_octal(out: &mut Vec<u8>, key: &[u8], mode: u16) -> Result<(), OutOfM
     out.extend_from_slice(key)?;
     match write!(out, "{mode:o}") {
         Ok(()) => Ok(()),
-        Err(_) => Err(AllocError),
+        Err(_) => Err(OutOfMemory),
     }
 }
 
@@ -47,7 +46,7 @@ pub fn push_hex(out: &mut Vec<u8>, bytes: &[u8]) -> Result<(), OutOfMemory>
 {
     let start = out.len();
     let Some(end) = start.checked_add(2 * bytes.len()) else {
-        return Err(AllocError);
+        return Err(OutOfMemory);
     };
     out.resize(end, 0)?;
     hex::encode_to_slice(bytes, &mut out[start..]).unwrap();

@@ -7,9 +7,8 @@ ghost use Rattle.script_print.specs.Spelling.{script_text};
 use crate::calls::{push_ending, push_rules, push_tasks};
 use crate::files::push_files;
 use crate::settings::{push_evm, push_settings, push_supers};
-use inode_meta::OutOfMemory;
 use script_text::Script;
-use std::alloc::Global;
+use std::alloc::{AllocError as OutOfMemory, Global};
 
 /// The canonical text of a script, which is read as the same script: all settings but an absent
 /// key, the `boot` digest among them, and then the sections in order. Values stand as `hex:` in

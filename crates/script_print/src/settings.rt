@@ -6,10 +6,9 @@ ghost use Rattle.script_print.specs.Lines.{line_text, lines_text};
 ghost use Rattle.script_print.specs.Spelling.{evm_lines, format_word, key_lines, lock_lines, name_line, setting_lines, super_line, versions_word};
 
 use crate::pushed::{push_line, push_value_line, push_word};
-use inode_meta::OutOfMemory;
 use policy_text::Super;
 use script_text::Script;
-use std::alloc::AllocError;
+use std::alloc::AllocError as OutOfMemory;
 use std::io::Write;
 use text_forms::{FsUuid, Magic};
 use xattr_store::Bytes;
@@ -96,7 +95,7 @@ fn push_magic(out: &mut Vec<u8>, magic: u64) -> Result<(), OutOfMemory>
 {
     match write!(out, "fs magic={}", Magic(magic)) {
         Ok(()) => Ok(()),
-        Err(_) => Err(AllocError),
+        Err(_) => Err(OutOfMemory),
     }
 }
 
@@ -106,7 +105,7 @@ fn push_uuid(out: &mut Vec<u8>, uuid: u128) -> Result<(), OutOfMemory>
 {
     match write!(out, " uuid={}", FsUuid(uuid)) {
         Ok(()) => Ok(()),
-        Err(_) => Err(AllocError),
+        Err(_) => Err(OutOfMemory),
     }
 }
 

@@ -4,13 +4,13 @@ use Rattle.std.specs.Prelude.{slice_get}
 use Rattle.std.proofs.lemmas.List.{length-append}
 use Rattle.std.proofs.lemmas.Option.{none-some, same_Some, slice_get_within}
 use Rattle.call_steps.specs.declared.call.Call.{Call}
-use Rattle.inode_meta.specs.declared.identity.Cred.{Cred}
+use Rattle.policy_text.specs.meta.declared.identity.Cred.{Cred}
 use Rattle.run_model.specs.History.{start}
 use Rattle.run_model.specs.Scene.{Program}
 use Rattle.script_text.specs.declared.blocks.TaskBlock.{TaskBlock}
-use Rattle.task_frame.specs.Frame.{Frame}
-use Rattle.task_frame.specs.Tasks.{AreCallsOf, ArePassesOf, AreUnused, IsTask, PassesValue, Tasked}
-use Rattle.world_close.proofs.Gets.{get_parts}
+use Rattle.task_runner.specs.frames.Frame.{Frame}
+use Rattle.task_runner.specs.frames.Tasks.{AreCallsOf, ArePassesOf, AreUnused, IsTask, PassesValue, Tasked}
+use Rattle.task_runner.proofs.about_closes.Gets.{get_parts}
 use Rattle.script_scene.specs.Scene.{program_of}
 use Rattle.script_run.specs.Crew.{AreNew, IsNew}
 

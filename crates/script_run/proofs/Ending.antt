@@ -9,7 +9,7 @@ use Rattle.ima_templates.specs.IsEntry.{IsEntry}
 use Rattle.ima_templates.specs.Path.{IsMeasuredPath}
 use Rattle.ima_templates.specs.Replay.{banks_of}
 use Rattle.ima_templates.specs.declared.entry.Entry.{Entry}
-use Rattle.inode_meta.specs.declared.measurement.Template.TheVariants.{Ima}
+use Rattle.policy_text.specs.meta.declared.measurement.Template.TheVariants.{Ima}
 use Rattle.policy_text.specs.declared.access.Super.{Super}
 use Rattle.run_model.specs.Ended.{IsThrough}
 use Rattle.run_model.specs.EndedValue.{EndedValue, ended_of}
@@ -26,13 +26,13 @@ use Rattle.script_text.specs.declared.blocks.FileBlock.{FileBlock}
 use Rattle.shown_laws.proofs.Denied.{denied_there}
 use Rattle.shown_laws.proofs.Sound.{admitted_there, covered_there, fresh_there, labelled_there, rare_there}
 use Rattle.shown_laws.specs.Places.{HasForms}
-use Rattle.task_frame.specs.Frame as frames
-use Rattle.task_frame.specs.Runs as runs
-use Rattle.task_frame.specs.Runs.{programs_of}
-use Rattle.task_frame.specs.Tasks.{Tasked}
-use Rattle.task_frame.specs.World.{WorldValue}
-use Rattle.turn_laws.specs.Runs.{StillRuns, moment_in, scene_in}
-use Rattle.world_ended.specs.Settled.{is_over}
+use Rattle.task_runner.specs.frames.Frame as frames
+use Rattle.task_runner.specs.frames.Runs as runs
+use Rattle.task_runner.specs.frames.Runs.{programs_of}
+use Rattle.task_runner.specs.frames.Tasks.{Tasked}
+use Rattle.task_runner.specs.frames.World.{WorldValue}
+use Rattle.task_runner.specs.laws_of_turns.Runs.{StillRuns, moment_in, scene_in}
+use Rattle.task_runner.specs.ends.Settled.{is_over}
 use Rattle.script_scene.specs.Scene.{IsForFiles, scene_of, station_of}
 use Rattle.script_scene.proofs.Paths.{measured_path}
 use Rattle.script_run.specs.Run.{AreWithin, HasRun, HasStarted, LeadsTo, Promised}

@@ -8,17 +8,17 @@ use Rattle.std.proofs.lemmas.Option.{none-some, same_Some}
 use Rattle.call_steps.specs.Forms.{is_call, is_offset, is_portion}
 use Rattle.call_steps.specs.declared.call.Call.{Call}
 use Rattle.call_steps.specs.declared.call.Call.TheVariants as call
-use Rattle.inode_events.specs.Files.{is_writer}
-use Rattle.inode_events.specs.declared.image.Image.{Image}
+use Rattle.run_model.specs.events.Files.{is_writer}
+use Rattle.run_model.specs.events.declared.image.Image.{Image}
 use Rattle.policy_text.specs.declared.access.Super.{Super}
 use Rattle.script_text.specs.Forms.{AreFiles, AreTasks, IsFile, IsOn, IsOnSome, IsScript, is_cred, is_line_call, is_spelled, is_task}
 use Rattle.script_text.specs.ScriptValue.{ScriptValue}
 use Rattle.script_text.specs.declared.blocks.FileBlock.{FileBlock}
 use Rattle.script_text.specs.declared.blocks.TaskBlock.{TaskBlock}
 use Rattle.script_text.proofs.Holding.{both_true, left_true, right_true}
-use Rattle.step_laws.specs.NextSteps.{IsFit}
-use Rattle.step_laws.specs.Stations.{IsWithin}
-use Rattle.world_start.specs.Started as started
+use Rattle.task_runner.specs.laws_of_steps.NextSteps.{IsFit}
+use Rattle.task_runner.specs.laws_of_steps.Stations.{IsWithin}
+use Rattle.task_runner.specs.starts.Started as started
 use Rattle.script_scene.specs.Scene.{file_of, fs_of}
 use Rattle.script_scene.proofs.Paths.{measured_path}
 

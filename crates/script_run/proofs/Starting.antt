@@ -9,26 +9,26 @@ use Rattle.run_model.specs.Scene.{Program}
 use Rattle.script_text.specs.Forms.{is_cred, is_line_call, is_task}
 use Rattle.script_text.specs.declared.blocks.TaskBlock.{TaskBlock}
 use Rattle.script_text.proofs.Holding.{left_true, right_true}
-use Rattle.task_frame.specs.Frame.{Frame}
-use Rattle.task_frame.specs.Runs as runs
-use Rattle.task_frame.specs.Runs.{AreTasks, programs_of, thought_of}
-use Rattle.task_frame.specs.Tasks.{AreCallsOf, PassesValue, Tasked}
-use Rattle.world_close.proofs.Gets.{get_map, map_get}
-use Rattle.world_start.specs.Start.{AreFirstPasses}
+use Rattle.task_runner.specs.frames.Frame.{Frame}
+use Rattle.task_runner.specs.frames.Runs as runs
+use Rattle.task_runner.specs.frames.Runs.{AreTasks, programs_of, thought_of}
+use Rattle.task_runner.specs.frames.Tasks.{AreCallsOf, PassesValue, Tasked}
+use Rattle.task_runner.proofs.about_closes.Gets.{get_map, map_get}
+use Rattle.task_runner.specs.starts.Start.{AreFirstPasses}
 use Rattle.call_steps.specs.declared.ending.Ending.{Ending}
 use Rattle.run_model.specs.Turns.{start_of}
 use Rattle.script_text.specs.Forms.{IsScript}
 use Rattle.script_text.specs.ScriptValue.{ScriptValue}
-use Rattle.task_frame.specs.Frame.{Site}
-use Rattle.task_frame.specs.World.{WorldValue}
-use Rattle.turn_laws.specs.Runs.{moment_in, scene_in}
-use Rattle.world_start.specs.Start.{Begins, IsFrameOf}
+use Rattle.task_runner.specs.frames.Frame.{Site}
+use Rattle.task_runner.specs.frames.World.{WorldValue}
+use Rattle.task_runner.specs.laws_of_turns.Runs.{moment_in, scene_in}
+use Rattle.task_runner.specs.starts.Start.{Begins, IsFrameOf}
 use Rattle.script_scene.specs.Parts.{ArePartsOf}
 use Rattle.script_scene.specs.Scene.{file_of}
 use Rattle.script_scene.specs.declared.parts.ScriptParts.{ScriptParts}
 use Rattle.script_run.specs.Crew.{AreNew, IsNew}
 use Rattle.script_run.specs.Run.{HasStarted}
-use Rattle.script_run.proofs.Scenes.{scene_is}
+use Rattle.script_run.proofs.StartedScenes.{scene_is}
 use Rattle.script_run.proofs.Fits.{calls_fit}
 use Rattle.script_scene.specs.Scene.{program_of}
 

@@ -2,8 +2,8 @@
 use Rattle.std.specs.Prelude.{◌≡◌, ℕ, List, length, Some, slice_get}
 use Rattle.run_model.specs.History.{start}
 use Rattle.script_text.specs.declared.blocks.TaskBlock.{TaskBlock}
-use Rattle.task_frame.specs.Frame.{Frame}
-use Rattle.task_frame.specs.Tasks.{AreCallsOf, ArePassesOf, AreUnused, IsTask, PassesValue, Tasked}
+use Rattle.task_runner.specs.frames.Frame.{Frame}
+use Rattle.task_runner.specs.frames.Tasks.{AreCallsOf, ArePassesOf, AreUnused, IsTask, PassesValue, Tasked}
 use Rattle.script_scene.specs.Scene.{program_of}
 
 -- the task of this number, block and passes, in each world to which they belong

@@ -1,2 +1,6 @@
 pub mod Crew
 pub mod Run
+pub use Rattle.run_model.specs as model
+pub use Rattle.script_scene.specs as scenes
+pub use Rattle.task_runner.specs.frames
+pub use Rattle.task_runner.specs.starts

@@ -11,10 +11,10 @@ use Rattle.call_steps.specs.declared.ending.Ending.{Ending}
 use Rattle.call_steps.specs.declared.ending.Ending.TheVariants as ending
 use Rattle.script_scene.specs.Scene.{IsForFiles, scene_of}
 use Rattle.script_text.specs.ScriptValue.{ScriptValue}
-use Rattle.task_frame.specs.Runs.{AreTasks}
-use Rattle.task_frame.specs.Tasks.{Tasked}
-use Rattle.task_frame.specs.World.{WorldValue}
-use Rattle.turn_laws.specs.Runs.{moment_in, scene_in}
+use Rattle.task_runner.specs.frames.Runs.{AreTasks}
+use Rattle.task_runner.specs.frames.Tasks.{Tasked}
+use Rattle.task_runner.specs.frames.World.{WorldValue}
+use Rattle.task_runner.specs.laws_of_turns.Runs.{moment_in, scene_in}
 use Rattle.shown_laws.specs.Laws.{AreAdmitted, AreDenied, AreLabelled, AreReadsCovered, IsFresh, IsRarelyHashed}
 
 -- what is promised of a run of this scene, with this ending, that leaves this

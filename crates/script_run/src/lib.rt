@@ -6,3 +6,5 @@ mod running;
 
 pub use members::crew;
 pub use running::run;
+pub use script_scene as scenes;
+pub use task_runner::tasks;

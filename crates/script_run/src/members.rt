@@ -2,12 +2,11 @@
 ghost use Rattle.std.specs.Prelude.{◌≡◌, ◌<◌, ◌^◌, IfOk, length};
 ghost use Rattle.script_run.specs.Crew.{AreNew, IsNew};
 
-use grow_list::OutOfMemory;
 use script_text::TaskBlock;
-use std::alloc::Global;
+use std::alloc::{AllocError as OutOfMemory, Global};
 use std::collections::VecDeque;
-use task_core::Task;
-use task_frame::Passes;
+use task_runner::frames::Passes;
+use task_runner::tasks::Task;
 
 // The task of this number, before its first call.
 fn task_of(

@@ -2,23 +2,21 @@
 
 ghost use Rattle.std.specs.Prelude.{◌≡◌, ◌<◌, All, IfOk, length};
 ghost use Rattle.script_run.specs.Run.{AreWithin, HasRun, HasStarted, LeadsTo};
-ghost use Rattle.task_frame.specs.Runs.{AreTasks};
-ghost use Rattle.turn_laws.specs.Runs.{StillRuns, moment_in, scene_in};
+ghost use Rattle.task_runner.specs.frames.Runs.{AreTasks};
+ghost use Rattle.task_runner.specs.laws_of_turns.Runs.{StillRuns, moment_in, scene_in};
 
 use crate::members::crew;
 use call_steps::Ending;
-use grow_list::OutOfMemory;
-use ima_io::Gate;
 use run_model::Ended;
 use script_scene::{ScriptParts, parts_of};
 use script_text::Script;
-use std::alloc::Global;
+use std::alloc::{AllocError as OutOfMemory, Global};
 use std::marker::Brand;
 use std::sync::Wait;
 use std::thread::Threads;
-use task_core::{Task, World};
-use task_runner::{run_rounds, run_schedule};
-use thread_runner::run_threads;
+use task_runner::outer::Gate;
+use task_runner::tasks::{Task, World};
+use task_runner::{run_rounds, run_schedule, run_threads};
 
 // The world and the tasks of a script before their first turn, and how they are run.
 fn started(alloc: Global, script: Script) -> Result<(World, Vec<Task>, Ending), OutOfMemory>

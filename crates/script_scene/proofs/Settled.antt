@@ -1,8 +1,8 @@
 -- Settings with one field's proof in place of another are the same.
 use Rattle.std.proofs.Common.{◌≡◌, true, subst}
 use Rattle.std.proofs.Math.Bool.{Bool-set}
-use Rattle.evm_verify.specs.Setup.{Setup}
-use Rattle.inode_events.specs.declared.settings.Settings.{Settings}
+use Rattle.script_text.specs.evm.Setup.{Setup}
+use Rattle.run_model.specs.events.declared.settings.Settings.{Settings}
 use Rattle.policy_text.specs.RuleValue.{is_named_template}
 use Rattle.script_text.specs.Files.{setup_of}
 use Rattle.script_text.specs.ScriptValue.{ScriptValue}

@@ -5,8 +5,8 @@ use Rattle.ima_templates.specs.Entries.{entry_of}
 use Rattle.ima_templates.specs.declared.entry.Entry.{Entry}
 use Rattle.inode_meta.specs.declared.measurement.Template.{Template}
 use Rattle.inode_meta.specs.declared.measurement.TheConstants.{DEFAULT_PCR}
-use Rattle.inode_events.specs.declared.image.Image.{Image}
-use Rattle.inode_events.specs.declared.settings.Settings.{Settings}
+use Rattle.run_model.specs.events.declared.image.Image.{Image}
+use Rattle.run_model.specs.events.declared.settings.Settings.{Settings}
 use Rattle.policy_text.specs.RuleValue.{is_named_template}
 use Rattle.policy_text.specs.declared.access.Super.{Super}
 use Rattle.run_model.specs.Scene.{Program, Scene, Station, no_super}

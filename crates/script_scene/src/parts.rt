@@ -3,14 +3,13 @@ ghost use Rattle.script_scene.specs.Parts.{ArePartsOf};
 ghost use Rattle.script_scene.specs.Scene.{file_of, fs_of};
 
 use crate::settings::{boot_entry, settings_of};
-use call_steps::Ending;
 use ima_templates::Entry;
-use inode_events::{Image, Settings};
-use inode_meta::OutOfMemory;
+use ima_templates::xattrs::Bytes;
 use policy_text::{Policy, Super};
+use run_model::events::{Image, Settings};
+use run_model::steps::Ending;
 use script_text::{FileBlock, Script, TaskBlock};
-use std::alloc::Global;
-use xattr_store::Bytes;
+use std::alloc::{AllocError as OutOfMemory, Global};
 
 /// The parts with which the world and the tasks of a script start.
 #[derive(Drop)]

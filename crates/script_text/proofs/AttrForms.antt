@@ -17,7 +17,7 @@ use Rattle.hash_algos.specs.Hash.{hash}
 use Rattle.hash_algos.specs.declared.algo.Algo.{Algo}
 use Rattle.hash_algos.specs.declared.algo.Algo.TheVariants as algo
 use Rattle.hash_algos.proofs.HashLemmas.{length-hash, length-sha1}
-use Rattle.hmac_core.specs.Hmac.{hmac}
+use Rattle.evm_verify.specs.hmacs.Hmac.{hmac}
 use Rattle.inode_meta.specs.declared.identity.Meta.{Meta}
 use Rattle.label_values.specs.Labels.{is_plain, label_of}
 use Rattle.text_forms.specs.Words.{is_word}

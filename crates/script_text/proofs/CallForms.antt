@@ -7,10 +7,10 @@ use Rattle.std.proofs.lemmas.Bool.Decides.{nat_tests}
 use Rattle.call_steps.specs.Forms.{is_call, is_offset, is_portion, is_small}
 use Rattle.call_steps.specs.declared.call.Call.{Call}
 use Rattle.call_steps.specs.declared.call.Call.TheVariants as call
-use Rattle.inode_events.specs.Files.{is_exec, is_writer}
-use Rattle.inode_events.specs.declared.deed.Change.TheVariants as change
-use Rattle.inode_events.specs.declared.deed.How.{How}
-use Rattle.inode_events.specs.declared.deed.How.TheVariants as how
+use Rattle.call_steps.specs.events.Files.{is_exec, is_writer}
+use Rattle.call_steps.specs.events.declared.deed.Change.TheVariants as change
+use Rattle.call_steps.specs.events.declared.deed.How.{How}
+use Rattle.call_steps.specs.events.declared.deed.How.TheVariants as how
 use Rattle.text_forms.specs.Lines.{◌>>=◌}
 use Rattle.text_forms.specs.Numbers.{short_number_of}
 use Rattle.text_forms.specs.Paths.{is_path}

@@ -2,7 +2,7 @@
 use Rattle.std.proofs.Common.{◌≡◌, ℕ, Bool, true, false, List, [], ◌∷◌, codes, Result, Ok, Err, Some, None, refl}
 use Rattle.call_steps.specs.declared.call.Call.TheVariants as call
 use Rattle.call_steps.specs.declared.ending.Ending.TheVariants as ending
-use Rattle.inode_events.specs.declared.deed.How.TheVariants as how
+use Rattle.call_steps.specs.events.declared.deed.How.TheVariants as how
 use Rattle.script_words.specs.declared.fault.LineCause.TheVariants as cause
 use Rattle.script_words.specs.Read.{fault_at}
 use Rattle.script_text.specs.Calls.{open_of, setxattr_of, write_of}

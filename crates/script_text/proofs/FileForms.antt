@@ -10,7 +10,7 @@ use Rattle.std.proofs.lemmas.List.Folds.{list_all-append}
 use Rattle.hash_algos.specs.Algo.{algo_size}
 use Rattle.hash_algos.specs.Digest.{zero_digest}
 use Rattle.hash_algos.specs.declared.algo.Algo.{Algo}
-use Rattle.inode_events.specs.declared.image.Image.{Image}
+use Rattle.call_steps.specs.events.declared.image.Image.{Image}
 use Rattle.inode_meta.specs.declared.measurement.Template.{Template}
 use Rattle.inode_meta.specs.declared.measurement.Template.TheVariants as template
 use Rattle.policy_text.specs.RuleValue.{is_named_template}

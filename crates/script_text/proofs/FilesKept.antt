@@ -7,7 +7,7 @@ use Rattle.std.proofs.lemmas.Bool.Decides.{nat_tests}
 use Rattle.std.proofs.lemmas.List.{map-append}
 use Rattle.std.proofs.lemmas.List.Sums.{sum_by_push}
 use Rattle.hash_algos.specs.Digest.{digest_of}
-use Rattle.inode_events.specs.declared.image.Image.{Image}
+use Rattle.call_steps.specs.events.declared.image.Image.{Image}
 use Rattle.label_values.specs.Labels.{label_of}
 use Rattle.policy_text.specs.declared.access.Super.{Super}
 use Rattle.text_forms.specs.Tokens.{is_filled}

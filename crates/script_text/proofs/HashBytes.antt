@@ -15,7 +15,7 @@ use Rattle.hash_algos.specs.Digest.{digest_of}
 use Rattle.hash_algos.specs.Hash.{hash}
 use Rattle.hash_algos.specs.declared.algo.Algo.{Algo}
 use Rattle.hash_algos.specs.declared.algo.Algo.TheVariants as algo
-use Rattle.hmac_core.specs.Hmac.{hmac}
+use Rattle.evm_verify.specs.hmacs.Hmac.{hmac}
 use Rattle.label_values.specs.Labels.{is_plain, label_of}
 use Rattle.evm_verify.specs.Input.{evm_value}
 use Rattle.script_text.specs.Forms.{are_bytes, is_byte}

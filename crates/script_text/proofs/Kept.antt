@@ -14,7 +14,7 @@ use Rattle.call_steps.specs.declared.call.Call.TheVariants as call
 use Rattle.evm_verify.specs.Input.{five_names}
 use Rattle.hash_algos.specs.Algo.{algo_by_name}
 use Rattle.hash_algos.specs.Digest.{digest_of}
-use Rattle.inode_events.specs.declared.image.Image.{Image}
+use Rattle.call_steps.specs.events.declared.image.Image.{Image}
 use Rattle.label_values.specs.Labels.{label_of}
 use Rattle.policy_text.specs.RuleValue.{RuleValue, if_there, is_named_template}
 use Rattle.policy_text.specs.Values.{template_of}

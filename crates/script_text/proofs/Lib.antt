@@ -7,7 +7,7 @@ pub mod FilesKept
 pub mod HashBytes
 pub mod Holding
 pub mod Kept
-pub mod Labels
+pub mod LabelFront
 pub mod Lasts
 pub mod MoreFiles
 pub mod PlacesLemmas

@@ -3,10 +3,10 @@ use Rattle.std.specs.Prelude.{ℕ, Bool, true, false, ◌&&◌, not, List, [], �
 use Rattle.std.specs.Str.{bytes_eq}
 use Rattle.call_steps.specs.declared.call.Call.{Call}
 use Rattle.call_steps.specs.declared.call.Call.TheVariants as call
-use Rattle.inode_events.specs.declared.deed.Change.{Change}
-use Rattle.inode_events.specs.declared.deed.Change.TheVariants as change
-use Rattle.inode_events.specs.declared.deed.How.{How}
-use Rattle.inode_events.specs.declared.deed.How.TheVariants as how
+use Rattle.call_steps.specs.events.declared.deed.Change.{Change}
+use Rattle.call_steps.specs.events.declared.deed.Change.TheVariants as change
+use Rattle.call_steps.specs.events.declared.deed.How.{How}
+use Rattle.call_steps.specs.events.declared.deed.How.TheVariants as how
 use Rattle.policy_text.specs.Values.{look_up}
 use Rattle.text_forms.specs.Lines.{◌>>=◌}
 use Rattle.text_forms.specs.Paths.{is_path}

@@ -5,7 +5,7 @@ use Rattle.evm_verify.specs.Setup.{Setup}
 use Rattle.evm_verify.specs.Status.{renewed}
 use Rattle.hash_algos.specs.Digest.{digest_of}
 use Rattle.hash_algos.specs.declared.algo.Algo.{Algo}
-use Rattle.inode_events.specs.declared.image.Image.{Image}
+use Rattle.call_steps.specs.events.declared.image.Image.{Image}
 use Rattle.label_values.specs.Labels.{label_of}
 use Rattle.policy_text.specs.declared.access.Super.{Super}
 use Rattle.text_forms.specs.Lines.{◌>>=◌}

@@ -11,10 +11,10 @@ use Rattle.evm_verify.specs.Input.{five_names}
 use Rattle.hash_algos.specs.Algo.{algo_size}
 use Rattle.hash_algos.specs.DigestValue.{DigestValue}
 use Rattle.hash_algos.specs.declared.algo.Algo.{Algo}
-use Rattle.inode_events.specs.Files.{is_exec}
-use Rattle.inode_events.specs.declared.deed.Change.{Change}
-use Rattle.inode_events.specs.declared.deed.Change.TheVariants as change
-use Rattle.inode_events.specs.declared.image.Image.{Image}
+use Rattle.call_steps.specs.events.Files.{is_exec}
+use Rattle.call_steps.specs.events.declared.deed.Change.{Change}
+use Rattle.call_steps.specs.events.declared.deed.Change.TheVariants as change
+use Rattle.call_steps.specs.events.declared.image.Image.{Image}
 use Rattle.inode_meta.specs.declared.identity.Cred.{Cred}
 use Rattle.inode_meta.specs.declared.identity.Meta.{Meta}
 use Rattle.policy_text.specs.RuleValue.{if_there, is_named_template}

@@ -13,3 +13,7 @@ pub mod Tasks
 pub mod Grammar
 pub mod Forms
 pub mod ListGrammar
+pub use Rattle.evm_verify.specs as evm
+pub use Rattle.label_values.specs as labels
+pub use Rattle.call_steps.specs as steps
+pub use Rattle.call_steps.specs.events

@@ -1,9 +1,9 @@
 ghost use Rattle.std.specs.Prelude.{◌≡◌, ◌++◌, ◌∷◌, [], IfOk};
 
 use call_steps::Call;
-use inode_events::Image;
+use call_steps::events::Image;
 use inode_meta::Cred;
-use std::alloc::AllocError;
+use std::alloc::AllocError as OutOfMemory;
 use std::marker::Model;
 use xattr_store::Bytes;
 
@@ -49,7 +49,7 @@ impl Calls {
     }
 
     /// The calls, and behind them one more.
-    pub fn with(self, call: Call) -> Result<Calls, AllocError>
+    pub fn with(self, call: Call) -> Result<Calls, OutOfMemory>
         ensures { IfOk result (λ calls. calls ≡ self ++ call ∷ []) }
     {
         let mut calls = self;

@@ -9,8 +9,8 @@ ghost use Rattle.script_text.specs.Calls.{added_rule, call_of, chmod_of, chown_o
 use crate::files::is_filled;
 use crate::head::CallWord;
 use crate::paths::Paths;
+use call_steps::events::{BoxedBytes, BoxedValue, Change, How};
 use call_steps::{BoxedRule, Call};
-use inode_events::{BoxedBytes, BoxedValue, Change, How};
 use inode_pages::MOST_BYTES;
 use script_words::{
     LineCause, LineErr, descriptor_of, id_of, mode_of, offset_of, portion_of, rule_of, small_of,

@@ -17,16 +17,16 @@ ghost use Rattle.script_text.specs.FrontView.{front_view};
 use crate::blocks::FileBlock;
 use crate::draft::Draft;
 use crate::paths::Paths;
+use call_steps::events::Image;
 use evm_verify::Evm;
 use hash_algos::Algo;
-use inode_events::Image;
 use inode_hashing::digest_of_content;
 use inode_meta::Meta;
 use inode_pages::Content;
 use label_values::{MAX_LABEL, write_label};
 use policy_text::Super;
 use script_words::{LineCause, LineErr, content_of, id_of, ino_of, mode_of, place_among, value_of};
-use std::alloc::{AllocError, Global};
+use std::alloc::{AllocError as OutOfMemory, Global};
 use std::mem;
 use text_forms::{is_path, is_short_numeral, is_word};
 use xattr_store::{Attrs, Bytes, EVM_NAME, IMA_NAME, MAX_VALUE};
@@ -164,7 +164,7 @@ impl Draft {
     }
 
     // EVM as the settings have it.
-    fn evm(&self, alloc: Global) -> Result<Evm, AllocError>
+    fn evm(&self, alloc: Global) -> Result<Evm, OutOfMemory>
         ensures { IfOk result (λ evm. evm ≡ setup_of self.now.script) }
     {
         match &self.key {
@@ -363,7 +363,7 @@ fn block_of(
     place: &Super,
     present: bool,
     content: Content,
-) -> Result<FileBlock, AllocError>
+) -> Result<FileBlock, OutOfMemory>
     ensures { IfOk result (λ block. block
         ≡ block_of (front_view front.now) fs place.now present content) }
 {

@@ -20,7 +20,17 @@ mod settings;
 mod tasks;
 
 pub use blocks::{Calls, FileBlock, TaskBlock};
+pub use call_steps as steps;
+pub use call_steps::{events, registers, templates};
+pub use evm_verify as evm;
+pub use hash_algos as hashes;
+pub use inode_hashing as hashing;
+pub use inode_meta as meta;
+pub use label_values as labels;
 pub use list::{ListText, parse_list};
+pub use policy_text as policy;
 pub use read::parse;
 pub use script::Script;
+pub use script_words as script_lines;
 pub use script_words::{Fault, LineCause, ScriptErr};
+pub use xattr_store as xattrs;

@@ -1,7 +1,7 @@
 ghost use Rattle.std.specs.Prelude.{◌≡◌, ◌<◌, None, [], ◌∷◌, ◌++◌, length, IfOk};
 ghost use Rattle.script_text.specs.Places.{place_in};
 
-use std::alloc::{AllocError, Global};
+use std::alloc::{AllocError as OutOfMemory, Global};
 use std::collections::BTreeMap;
 use std::marker::Model;
 use xattr_store::Bytes;
@@ -51,7 +51,7 @@ impl Paths {
     }
 
     /// The paths, and behind them one that isn't among them.
-    pub fn with(self, alloc: Global, path: &[u8]) -> Result<Paths, AllocError>
+    pub fn with(self, alloc: Global, path: &[u8]) -> Result<Paths, OutOfMemory>
         requires few { length self < 256 }
         requires absent { place_in self path.now ≡ None }
         ensures { IfOk result (λ paths. paths ≡ self ++ path.now ∷ []) }

@@ -16,7 +16,7 @@ use call_steps::{Call, Ending};
 use inode_meta::Cred;
 use policy_text::RULES;
 use script_words::{LineCause, LineErr, rule_of};
-use std::alloc::{AllocError, Global};
+use std::alloc::{AllocError as OutOfMemory, Global};
 use text_forms::short_number_of;
 use xattr_store::Bytes;
 
@@ -143,7 +143,7 @@ impl Draft {
 
 // The last task makes one call more.
 #[tactic(auto, unfolding(crate::specs::Draft::change_last))]
-fn call_on_last(tasks: &mut Vec<TaskBlock>, call: Call) -> Result<(), AllocError>
+fn call_on_last(tasks: &mut Vec<TaskBlock>, call: Call) -> Result<(), OutOfMemory>
     ensures ok { OnOk result (tasks.new.items ≡ change_last (task_with call) tasks.old.items) }
     ensures few { length tasks.new.items ≤ length tasks.old.items }
 {

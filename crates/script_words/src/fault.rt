@@ -5,7 +5,7 @@ ghost use Rattle.script_words.specs.Causes.{cause_text, cause_word};
 ghost use Rattle.script_words.specs.Gives.{err_at};
 
 use policy_text::RuleCause;
-use std::alloc::{AllocError, AllocFailed};
+use std::alloc::{AllocError as OutOfMemory, AllocFailed};
 use std::fmt::{self, Display};
 
 /// Why a line is refused. Where several causes hold of a line, it is the first in this order.
@@ -82,10 +82,10 @@ pub enum ScriptErr {
     OutOfMemory,
 }
 
-impl From<AllocError> for ScriptErr {
+impl From<OutOfMemory> for ScriptErr {
     ghost from_gives = { λ _ e. e ≡ OutOfMemory };
 
-    fn from(_e: AllocError) -> ScriptErr {
+    fn from(_e: OutOfMemory) -> ScriptErr {
         ScriptErr::OutOfMemory
     }
 }
@@ -119,10 +119,10 @@ impl From<LineCause> for LineErr {
     }
 }
 
-impl From<AllocError> for LineErr {
+impl From<OutOfMemory> for LineErr {
     ghost from_gives = { λ _ e. e ≡ line.OutOfMemory };
 
-    fn from(_e: AllocError) -> LineErr {
+    fn from(_e: OutOfMemory) -> LineErr {
         LineErr::OutOfMemory
     }
 }

@@ -4,7 +4,7 @@ ghost use Rattle.std.specs.Option.{option_copied};
 ghost use Rattle.script_words.specs.Line.{cut, cut_line, fields, is_skipped};
 
 use memchr::memchr;
-use std::alloc::{AllocError, Global};
+use std::alloc::{AllocError as OutOfMemory, Global};
 
 /// What stands before the first separator, and what stands behind it.
 pub fn cut(text: &[u8], separator: u8) -> Option<(&[u8], &[u8])>
@@ -40,7 +40,7 @@ pub fn cut_line(line: &[u8]) -> (&[u8], Option<&[u8]>)
 
 /// The words behind the first, at most nine of them: no line has more, but for those that read all
 /// their words by themselves.
-pub fn fields<'a>(alloc: Global, text: Option<&'a [u8]>) -> Result<Vec<&'a [u8]>, AllocError>
+pub fn fields<'a>(alloc: Global, text: Option<&'a [u8]>) -> Result<Vec<&'a [u8]>, OutOfMemory>
     ensures { IfOk result (λ v. map (λ w. w.now) v.items ≡ fields (option_copied text.entry)) }
 {
     match text {

@@ -4,7 +4,7 @@ use Rattle.std.proofs.lemmas.Bool.{cases_eq}
 use Rattle.std.proofs.lemmas.List.{get_or-replicate, get_or-set_other, get_or-set_same, length-reverse, map-append}
 use Rattle.std.proofs.lemmas.List.Elements.{All-nil, All-push}
 use Rattle.std.specs.Prelude.{replicate}
-use Rattle.inode_meta.specs.declared.step.Who.{Who}
+use Rattle.inode_events.specs.meta.declared.step.Who.{Who}
 use Rattle.inode_events.specs.Callers.{caller_in, caller_of}
 use Rattle.inode_events.specs.Past.{past, past_more}
 use Rattle.inode_events.specs.Semaphores.{LegalSemaphores, is_post, left, posts, semaphore_says, waits}

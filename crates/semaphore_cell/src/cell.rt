@@ -8,10 +8,10 @@ ghost use Rattle.inode_events.specs.Callers.{caller_of};
 ghost use Rattle.inode_events.specs.Past.{past};
 ghost use Rattle.inode_events.specs.Semaphores.{LegalSemaphores, left, semaphore_says};
 
-use grow_list::{Grow, OutOfMemory, Pass};
+use grow_list::{Grow, Pass};
+use inode_events::meta::Who;
 use inode_events::{Deed, Event, Told};
-use inode_meta::Who;
-use std::alloc::Global;
+use std::alloc::{AllocError as OutOfMemory, Global};
 use std::marker::Model;
 
 /// The semaphores, each of which starts at 0, with the journal of the posts and waits on them.

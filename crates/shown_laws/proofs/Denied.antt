@@ -4,14 +4,14 @@ use Rattle.std.specs.Prelude.{All, reverse, slice_get, unwrap_or, ◌==◌, if�
 use Rattle.std.proofs.lemmas.List.{reverse-append, reverse-reverse}
 use Rattle.std.proofs.lemmas.List.Elements.{All-contains}
 use Rattle.std.proofs.lemmas.Option.{get_or_from_slice_get, none-some, same_Some, slice_get_past, slice_get_within}
-use Rattle.grow_list.specs.Shown.{Grown, Passed, no_name}
-use Rattle.grow_list.proofs.Own.{own_has, slice_get-push}
+use Rattle.run_model.specs.growing.Shown.{Grown, Passed, no_name}
+use Rattle.run_model.proofs.about_growing.Own.{own_has, slice_get-push}
 use Rattle.inode_meta.specs.declared.appraisal.Mode.{Mode}
 use Rattle.inode_meta.specs.declared.step.Who.{Who}
 use Rattle.label_values.specs.declared.verdict.Cause.{Cause}
 use Rattle.label_values.specs.declared.verdict.Verdict.{Verdict}
 use Rattle.label_values.specs.declared.verdict.Verdict.TheVariants.{Deny}
-use Rattle.policy_text.specs.declared.access.Action.{Action}
+use Rattle.inode_events.specs.policy.declared.access.Action.{Action}
 use Rattle.inode_events.specs.Admission.{granted_file}
 use Rattle.inode_events.specs.Callers.{caller_in, caller_of}
 use Rattle.inode_events.specs.Files.{is_writer}

@@ -5,7 +5,7 @@ use Rattle.std.proofs.lemmas.Bool.{eq-eqb}
 use Rattle.std.proofs.lemmas.List.{append-nil, reverse-append}
 use Rattle.std.proofs.lemmas.Option.{same_Some}
 use Rattle.inode_meta.specs.declared.step.Who.{Who}
-use Rattle.policy_text.specs.declared.access.Action.{Action}
+use Rattle.call_steps.specs.policy.declared.access.Action.{Action}
 use Rattle.inode_events.specs.Inode.{Inode}
 use Rattle.inode_events.specs.declared.deed.Deed.{Deed}
 use Rattle.inode_events.specs.declared.deed.Deed.TheVariants as deed
@@ -26,8 +26,8 @@ use Rattle.call_steps.specs.declared.held.Handle.{Handle}
 use Rattle.call_steps.specs.declared.held.Name.{Name}
 use Rattle.call_steps.specs.declared.reply.Reply.{Reply}
 use Rattle.call_steps.specs.declared.reply.Reply.TheVariants as reply
-use Rattle.run_model.specs.History.{Answer, Thought, call_at, event, event_in, hear_in, own, step_in, thought, who_at}
-use Rattle.run_model.specs.Scene.{Program}
+use Rattle.ending_laws.specs.model.History.{Answer, Thought, call_at, event, event_in, hear_in, own, step_in, thought, who_at}
+use Rattle.ending_laws.specs.model.Scene.{Program}
 use Rattle.step_laws.specs.NextSteps.{IsFit}
 use Rattle.step_laws.proofs.Ready.{Each, IsAttr, IsWrite, NextTo, Ready, Strong, each_left, each_map, left, mk}
 use Rattle.step_laws.proofs.Rows.{attr_row, check_row, chunk_row, close_chunk_row, close_finish_row, close_row, close_take_row, counted_ready, finish_row, read_row, take_row, told_fits, trunc_row, write_row}

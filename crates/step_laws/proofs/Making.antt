@@ -14,11 +14,11 @@ use Rattle.call_steps.specs.declared.call.Call.{Call}
 use Rattle.call_steps.specs.declared.call.Call.TheVariants as call
 use Rattle.call_steps.specs.declared.held.Handle.{Handle}
 use Rattle.call_steps.specs.declared.reply.Reply.{Reply}
-use Rattle.own_laws.specs.Own.{IsOwned, own_past}
-use Rattle.own_laws.proofs.Bridge.{own_bridge}
-use Rattle.own_laws.proofs.Owning.{stage_own}
-use Rattle.run_model.specs.History.{call_at, own, step_in, thought}
-use Rattle.run_model.specs.Scene.{Program}
+use Rattle.ending_laws.specs.laws_of_journals.Own.{IsOwned, own_past}
+use Rattle.ending_laws.proofs.laws_of_journals.Bridge.{own_bridge}
+use Rattle.ending_laws.proofs.laws_of_journals.Owning.{stage_own}
+use Rattle.ending_laws.specs.model.History.{call_at, own, step_in, thought}
+use Rattle.ending_laws.specs.model.Scene.{Program}
 use Rattle.step_laws.specs.NextSteps.{IsFit, MayMake, NextMay}
 use Rattle.step_laws.proofs.Ready.{At, IsAttr, IsWrite, Mine, Ready, mk}
 use Rattle.step_laws.proofs.Owning.{AreGood, how_in, own_counter, own_good, own_held}

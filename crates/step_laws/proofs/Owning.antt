@@ -4,10 +4,10 @@ use Rattle.std.specs.Prelude.{◌==◌, option_map}
 use Rattle.std.proofs.lemmas.Bool.{eqb-true, ne_eqb, cond-true, cond-false}
 use Rattle.std.proofs.lemmas.Option.{same_Some}
 use Rattle.inode_meta.specs.declared.step.Who.{Who}
-use Rattle.ima_templates.specs.declared.entry.Placed.{Placed}
+use Rattle.call_steps.specs.templates.declared.entry.Placed.{Placed}
 use Rattle.inode_events.specs.Callers.{caller_of}
-use Rattle.journal_laws.specs.Standing.{event_at}
-use Rattle.inode_pages.specs.Content.{is_last_piece}
+use Rattle.ending_laws.specs.laws_of_journals.Standing.{event_at}
+use Rattle.inode_events.specs.pages.Content.{is_last_piece}
 use Rattle.inode_events.specs.Files.{execs, held, writers}
 use Rattle.inode_events.specs.Inode.{Inode}
 use Rattle.inode_events.specs.Integrity.{Collection, Digests, collecting, in_force}
@@ -20,10 +20,10 @@ use Rattle.inode_events.specs.declared.deed.How.{How}
 use Rattle.inode_events.specs.declared.told.Event.{Event}
 use Rattle.inode_events.specs.declared.told.Told.{Told}
 use Rattle.inode_events.specs.declared.told.Told.TheVariants as told
-use Rattle.journal_laws.proofs.Guards.{held_same}
-use Rattle.journal_laws.proofs.Lives.{alive_before}
-use Rattle.journal_laws.proofs.Small.{event}
-use Rattle.own_laws.specs.Own.{counter, own_past}
+use Rattle.ending_laws.proofs.laws_of_journals.Guards.{held_same}
+use Rattle.ending_laws.proofs.laws_of_journals.Lives.{alive_before}
+use Rattle.ending_laws.proofs.laws_of_journals.Small.{event}
+use Rattle.ending_laws.specs.laws_of_journals.Own.{counter, own_past}
 use Rattle.step_laws.proofs.Rows.{told_fits}
 use Rattle.inode_events.specs.Stage.{is_gone, next_stage, stage}
 

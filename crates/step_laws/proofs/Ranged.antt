@@ -3,7 +3,7 @@ use Rattle.std.proofs.Common.{◌≡◌, ℕ, zero, suc, ◌<◌, Bool, true, fa
 use Rattle.std.specs.Prelude.{◌⊎◌, option_map, slice_get, unwrap_or}
 use Rattle.std.proofs.lemmas.List.{append-nil}
 use Rattle.inode_meta.specs.declared.appraisal.Mode.{Mode}
-use Rattle.policy_text.specs.declared.access.Action.{Action}
+use Rattle.call_steps.specs.policy.declared.access.Action.{Action}
 use Rattle.inode_events.specs.Past.{past}
 use Rattle.inode_events.specs.declared.deed.How.{How}
 use Rattle.inode_events.specs.declared.told.Event.{Event}
@@ -21,10 +21,10 @@ use Rattle.call_steps.specs.declared.held.Handle.{Handle}
 use Rattle.call_steps.specs.declared.held.Name.{Name}
 use Rattle.call_steps.specs.declared.held.Name.TheVariants as name
 use Rattle.call_steps.specs.declared.reply.Reply.{Reply}
-use Rattle.run_model.specs.History.{Answer, Thought, call_at, hear_in, step_at, step_in, thought}
-use Rattle.run_model.specs.Scene.{Program, Scene, Station, mode_of}
-use Rattle.run_model.specs.Scene.{inode_of as inode_at}
-use Rattle.run_model.specs.Turns.{State}
+use Rattle.ending_laws.specs.model.History.{Answer, Thought, call_at, hear_in, step_at, step_in, thought}
+use Rattle.ending_laws.specs.model.Scene.{Program, Scene, Station, mode_of}
+use Rattle.ending_laws.specs.model.Scene.{inode_of as inode_at}
+use Rattle.ending_laws.specs.model.Turns.{State}
 use Rattle.ending_laws.specs.Resting.{MayStep}
 use Rattle.step_laws.specs.NextSteps.{MayMake}
 use Rattle.step_laws.specs.Stations.{IsWithin, StepsMay}

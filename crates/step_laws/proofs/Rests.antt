@@ -1,6 +1,6 @@
 -- A task at rest.
 use Rattle.std.proofs.Common.{subst}
-use Rattle.run_model.specs.History.{Thought, step_at}
+use Rattle.ending_laws.specs.model.History.{Thought, step_at}
 use Rattle.ending_laws.specs.Resting.{MayStep}
 use Rattle.step_laws.specs.Rests.{RestsByHistory}
 use Rattle.step_laws.proofs.Ranged.{all_steps_may}

@@ -3,12 +3,12 @@ use Rattle.std.proofs.Common.{◌≡◌, ℕ, Bool, true, false, ◌&&◌, cond,
 use Rattle.std.specs.Prelude.{◌==◌}
 use Rattle.std.proofs.lemmas.Bool.{eqb-true, eq-eqb, cond-true, cond-false}
 use Rattle.std.proofs.lemmas.List.{append-nil}
-use Rattle.label_values.specs.declared.verdict.Cause.{Cause}
-use Rattle.label_values.specs.declared.verdict.Verdict.{Verdict}
-use Rattle.label_values.specs.declared.verdict.Verdict.TheVariants.{Deny}
+use Rattle.inode_events.specs.labels.declared.verdict.Cause.{Cause}
+use Rattle.inode_events.specs.labels.declared.verdict.Verdict.{Verdict}
+use Rattle.inode_events.specs.labels.declared.verdict.Verdict.TheVariants.{Deny}
 use Rattle.inode_meta.specs.declared.appraisal.Slot.{Slot}
-use Rattle.policy_text.specs.declared.access.Action.{Action}
-use Rattle.policy_text.specs.declared.rule.Func.{Func}
+use Rattle.call_steps.specs.policy.declared.access.Action.{Action}
+use Rattle.call_steps.specs.policy.declared.rule.Func.{Func}
 use Rattle.inode_events.specs.Checks.{asks}
 use Rattle.inode_events.specs.Files.{can_read, is_writer}
 use Rattle.inode_events.specs.Inode.{Inode}

@@ -1,6 +1,6 @@
 -- The next step of a task may be made.
 use Rattle.std.specs.Prelude.{◌≡◌, ℕ, ◌<◌, true, List, length, Option, Some, slice_get}
-use Rattle.policy_text.specs.declared.access.Action.{Action}
+use Rattle.call_steps.specs.policy.declared.access.Action.{Action}
 use Rattle.inode_events.specs.Files.{is_writer}
 use Rattle.inode_events.specs.Inode.{Inode}
 use Rattle.inode_events.specs.Legal.{EachFollows, May}
@@ -11,10 +11,10 @@ use Rattle.call_steps.specs.Mind.{Step}
 use Rattle.call_steps.specs.Mind.{Does, Checks}
 use Rattle.call_steps.specs.declared.call.Call.{Call}
 use Rattle.call_steps.specs.declared.call.Call.TheVariants as call
-use Rattle.own_laws.specs.Own.{IsOwned}
-use Rattle.run_model.specs.History.{Answer, own, step_at, thought}
-use Rattle.run_model.specs.Scene.{Program}
-use Rattle.run_model.specs.Served.{events_of}
+use Rattle.ending_laws.specs.laws_of_journals.Own.{IsOwned}
+use Rattle.ending_laws.specs.model.History.{Answer, own, step_at, thought}
+use Rattle.ending_laws.specs.model.Scene.{Program}
+use Rattle.ending_laws.specs.model.Served.{events_of}
 
 -- a call of a script: an open that cuts the file writes, and a write writes something
 abbrev pub IsFit : Call → Type 0

@@ -2,10 +2,10 @@
 use Rattle.std.specs.Prelude.{◌≡◌, ℕ, List, length, Some, slice_get}
 use Rattle.inode_events.specs.declared.told.Event.{Event}
 use Rattle.call_steps.specs.declared.call.Call.{Call}
-use Rattle.run_model.specs.History.{Answer, Thought, own, own_signals, thought}
-use Rattle.run_model.specs.Scene.{Program, Scene, mode_of}
-use Rattle.run_model.specs.Served.{events_of}
-use Rattle.run_model.specs.Turns.{State}
+use Rattle.ending_laws.specs.model.History.{Answer, Thought, own, own_signals, thought}
+use Rattle.ending_laws.specs.model.Scene.{Program, Scene, mode_of}
+use Rattle.ending_laws.specs.model.Served.{events_of}
+use Rattle.ending_laws.specs.model.Turns.{State}
 use Rattle.ending_laws.specs.Resting.{AreLegal, Resting}
 use Rattle.step_laws.specs.NextSteps.{IsFit}
 use Rattle.step_laws.specs.Stations.{IsWithin}

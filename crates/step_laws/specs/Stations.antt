@@ -5,11 +5,11 @@ use Rattle.inode_events.specs.Past.{past}
 use Rattle.inode_events.specs.declared.told.Event.{Event}
 use Rattle.call_steps.specs.declared.call.Call.{Call}
 use Rattle.call_steps.specs.declared.call.Call.TheVariants as call
-use Rattle.own_laws.specs.Own.{IsOwned}
-use Rattle.run_model.specs.History.{Answer, own, step_at, thought}
-use Rattle.run_model.specs.Scene.{Program, Scene, Station, inode_of, mode_of}
-use Rattle.run_model.specs.Served.{events_of}
-use Rattle.run_model.specs.Turns.{State}
+use Rattle.ending_laws.specs.laws_of_journals.Own.{IsOwned}
+use Rattle.ending_laws.specs.model.History.{Answer, own, step_at, thought}
+use Rattle.ending_laws.specs.model.Scene.{Program, Scene, Station, inode_of, mode_of}
+use Rattle.ending_laws.specs.model.Served.{events_of}
+use Rattle.ending_laws.specs.model.Turns.{State}
 use Rattle.ending_laws.specs.Resting.{MayStep}
 use Rattle.step_laws.specs.NextSteps.{IsFit}
 

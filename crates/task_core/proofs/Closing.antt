@@ -18,11 +18,11 @@ use Rattle.task_frame.specs.Frame.{Frame, scene_of}
 use Rattle.task_frame.specs.Runs.{AreTasks, moment_of, programs_of}
 use Rattle.task_frame.specs.Tasks.{ArePassesOf, PassesValue, Tasked}
 use Rattle.task_frame.specs.World.{AreRulesOf, AreSignalsOf, IsBookOf, StationValue, site_of}
-use Rattle.world_close.specs.Closed.{AreStations, WorldClosed, ended_station}
-use Rattle.world_close.specs.Finished.{HaveMade}
-use Rattle.world_close.proofs.Gets.{get_map}
-use Rattle.world_deeds.proofs.Looked.{force_count}
-use Rattle.world_deeds.specs.Parts.{AreParts, frame_by, state_by}
+use Rattle.world_ended.specs.closes.Closed.{AreStations, WorldClosed, ended_station}
+use Rattle.world_ended.specs.closes.Finished.{HaveMade}
+use Rattle.world_ended.proofs.about_closes.Gets.{get_map}
+use Rattle.world_locks.proofs.about_acts.Looked.{force_count}
+use Rattle.world_locks.specs.acts.Parts.{AreParts, frame_by, state_by}
 use Rattle.world_ended.proofs.Ending.{closed_ended}
 use Rattle.world_ended.specs.Leaves.{are_stuck, left_by, may_append, task_left}
 use Rattle.world_ended.specs.Settled.{HasEnded}

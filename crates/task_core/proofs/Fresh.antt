@@ -8,7 +8,7 @@ use Rattle.run_model.specs.Scene.{Program}
 use Rattle.task_frame.specs.Frame.{Frame}
 use Rattle.task_frame.specs.Tasks.{AreCallsOf, ArePassesOf, AreUnused, IsTask, PassesValue}
 use Rattle.task_frame.specs.declared.gathered.Gathered.TheVariants as gathered
-use Rattle.task_laws.proofs.Playing.{fresh_is_task}
+use Rattle.world_locks.proofs.laws_of_tasks.Playing.{fresh_is_task}
 use Rattle.task_mind.specs.Value.{TaskValue}
 
 -- it is a task of each world whose passes it has

@@ -8,3 +8,6 @@ pub mod Fresh
 pub mod Inspects
 pub mod Closing
 pub mod SharedSteps
+pub use Rattle.task_frame.proofs.laws_of_endings
+pub use Rattle.turn_laws.proofs as laws_of_turns
+pub use Rattle.world_ended.proofs.about_closes

@@ -21,16 +21,16 @@ use Rattle.task_frame.specs.Runs.{HasMade}
 use Rattle.task_frame.specs.Tasks.{ArePassesOf, IsTask, PassesValue, Tasked}
 use Rattle.task_frame.specs.World.{StationValue, WorldValue, journal_of, site_of}
 use Rattle.task_frame.specs.declared.gathered.Gathered.{Gathered}
-use Rattle.task_laws.proofs.Eventing.{get_map}
-use Rattle.task_laws.proofs.Looking.{look_is_made, look_is_played}
-use Rattle.task_laws.specs.Looks.{HasLookedAtAll, InodeLooked}
-use Rattle.task_laws.specs.Plays.{task_left}
-use Rattle.task_laws.specs.Ready.{HasLooked}
+use Rattle.world_locks.proofs.laws_of_tasks.Eventing.{get_map}
+use Rattle.world_locks.proofs.laws_of_tasks.Looking.{look_is_made, look_is_played}
+use Rattle.world_locks.specs.laws_of_tasks.Looks.{HasLookedAtAll, InodeLooked}
+use Rattle.world_locks.specs.laws_of_tasks.Plays.{task_left}
+use Rattle.world_locks.specs.laws_of_tasks.Ready.{HasLooked}
 use Rattle.task_mind.specs.Value.{TaskValue}
-use Rattle.world_close.specs.Closed.{AreIdle}
-use Rattle.world_deeds.proofs.Keeping.{journals_kept, sites_kept, stations_kept}
-use Rattle.world_deeds.specs.Looking.{AreKept, HaveLooked, LookedAt}
-use Rattle.world_deeds.specs.Parts.{AreParts, frame_by, state_by}
+use Rattle.world_ended.specs.closes.Closed.{AreIdle}
+use Rattle.world_locks.proofs.about_acts.Keeping.{journals_kept, sites_kept, stations_kept}
+use Rattle.world_locks.specs.acts.Looking.{AreKept, HaveLooked, LookedAt}
+use Rattle.world_locks.specs.acts.Parts.{AreParts, frame_by, state_by}
 
 module _ (settings : Settings) (stations stations2 : List StationValue) (supers : List Super)
     (book book2 : Grown Entry) (sems sems2 : Grown Event) (rules rules2 : PolicyValue) (tasks : ℕ)

@@ -17,18 +17,18 @@ use Rattle.run_model.specs.declared.turn.Turn.{Turn}
 use Rattle.run_model.specs.declared.turn.Turn.TheVariants as turns
 use Rattle.task_core.proofs.Turns.{appends_fail, appends_turn, check_turn, does_turn, signals_turn}
 use Rattle.task_core.specs.Shared.{IsIdle, ReachesMet, StepsTo}
-use Rattle.task_deeds.specs.declared.listed.Checks.{Checks as Asked}
+use Rattle.world_locks.specs.deeds.declared.listed.Checks.{Checks as Asked}
 use Rattle.task_frame.specs.Frame.{Frame, mode_in, scene_of}
 use Rattle.task_frame.specs.Tasks.{PassesValue, Tasked}
 use Rattle.task_frame.specs.declared.gathered.Gathered.{Gathered}
-use Rattle.task_laws.specs.Plays.{task_after, task_left}
+use Rattle.world_locks.specs.laws_of_tasks.Plays.{task_after, task_left}
 use Rattle.task_mind.specs.Value.{TaskValue}
-use Rattle.world_deeds.proofs.Sharing.{nothing_tells}
-use Rattle.world_deeds.specs.Acting.{told_in}
-use Rattle.world_deeds.specs.Turning.{Goes, Reaches, Stops, Tells, answer_of, reached_by, turned_to}
-use Rattle.world_deeds.specs.declared.answers.Answered.{Answered}
-use Rattle.world_deeds.specs.declared.answers.Reached.{Reached}
-use Rattle.world_deeds.specs.declared.answers.Reached.TheVariants as reached
+use Rattle.world_locks.proofs.about_acts.Sharing.{nothing_tells}
+use Rattle.world_locks.specs.acts.Acting.{told_in}
+use Rattle.world_locks.specs.acts.Turning.{Goes, Reaches, Stops, Tells, answer_of, reached_by, turned_to}
+use Rattle.world_locks.specs.acts.declared.answers.Answered.{Answered}
+use Rattle.world_locks.specs.acts.declared.answers.Reached.{Reached}
+use Rattle.world_locks.specs.acts.declared.answers.Reached.TheVariants as reached
 use Rattle.world_locks.proofs.Idle.{check_idle, event_idle, signals_idle}
 use Rattle.world_locks.specs.Met.{AppendsMet, CheckMet, EventMet, SignalsMet, mines_of, state_seen}
 

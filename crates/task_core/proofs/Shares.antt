@@ -11,8 +11,8 @@ use Rattle.policy_text.specs.RuleValue.{RuleValue}
 use Rattle.policy_text.specs.declared.access.Super.{Super}
 use Rattle.task_frame.specs.Frame.{Frame}
 use Rattle.task_frame.specs.World.{AreRulesOf, AreSignalsOf, StationValue}
-use Rattle.world_close.specs.Closed.{AreIdle}
-use Rattle.world_deeds.specs.Parts.{AreParts, frame_by}
+use Rattle.world_ended.specs.closes.Closed.{AreIdle}
+use Rattle.world_locks.specs.acts.Parts.{AreParts, frame_by}
 
 module _ (settings : Settings) (stations : List StationValue) (supers : List Super)
     (book : Grown Entry) (sems sems2 : Grown Event) (rules rules2 : PolicyValue) (tasks : ℕ)

@@ -24,25 +24,25 @@ use Rattle.run_model.specs.declared.turn.Turn.TheVariants as turns
 use Rattle.task_frame.specs.Frame.{Frame, inode_in, mode_in}
 use Rattle.task_frame.specs.Tasks.{HasPlayed, IsTask, PassesValue, Tasked}
 use Rattle.task_frame.specs.declared.gathered.Gathered.{Gathered}
-use Rattle.task_laws.proofs.Blocking.{task_of_who}
-use Rattle.task_laws.proofs.Readying.{ready_by_look}
-use Rattle.task_laws.specs.Due.{slot_in}
-use Rattle.task_laws.specs.Plays.{task_after, task_left}
-use Rattle.task_laws.specs.Ready.{HasLooked, IsReady, IsStepOn}
-use Rattle.task_deeds.specs.declared.listed.Checks.{Checks as Asked}
+use Rattle.world_locks.proofs.laws_of_tasks.Blocking.{task_of_who}
+use Rattle.world_locks.proofs.laws_of_tasks.Readying.{ready_by_look}
+use Rattle.world_locks.specs.laws_of_tasks.Due.{slot_in}
+use Rattle.world_locks.specs.laws_of_tasks.Plays.{task_after, task_left}
+use Rattle.world_locks.specs.laws_of_tasks.Ready.{HasLooked, IsReady, IsStepOn}
+use Rattle.world_locks.specs.deeds.declared.listed.Checks.{Checks as Asked}
 use Rattle.task_mind.specs.Steps.{step_in}
 use Rattle.task_mind.specs.Value.{IsSameTask, TaskValue, due_at}
 use Rattle.task_mind.specs.declared.step.Step.{Step as Named}
-use Rattle.world_deeds.proofs.Checked.{check_reaches}
-use Rattle.world_deeds.proofs.Reaching.{does_reaches, same_left}
-use Rattle.world_deeds.proofs.Sharing.{appends_tells, signals_reach}
-use Rattle.world_deeds.specs.Acting.{EventIn, IsPlacedAt, IsSaid, ReadyAt, told_in, told_of}
-use Rattle.world_deeds.specs.Checking.{CheckIn}
-use Rattle.world_deeds.specs.Sharing.{AppendsTo, SignalsOn}
-use Rattle.world_deeds.specs.Turning.{Fails, Reaches, StillPlays, Stops, Tells, answer_of, reached_by}
-use Rattle.world_deeds.specs.declared.answers.Answered.{Answered}
-use Rattle.world_deeds.specs.declared.answers.Reached.{Reached}
-use Rattle.world_deeds.specs.declared.answers.Reached.TheVariants as reached
+use Rattle.world_locks.proofs.about_acts.Checked.{check_reaches}
+use Rattle.world_locks.proofs.about_acts.Reaching.{does_reaches, same_left}
+use Rattle.world_locks.proofs.about_acts.Sharing.{appends_tells, signals_reach}
+use Rattle.world_locks.specs.acts.Acting.{EventIn, IsPlacedAt, IsSaid, ReadyAt, told_in, told_of}
+use Rattle.world_locks.specs.acts.Checking.{CheckIn}
+use Rattle.world_locks.specs.acts.Sharing.{AppendsTo, SignalsOn}
+use Rattle.world_locks.specs.acts.Turning.{Fails, Reaches, StillPlays, Stops, Tells, answer_of, reached_by}
+use Rattle.world_locks.specs.acts.declared.answers.Answered.{Answered}
+use Rattle.world_locks.specs.acts.declared.answers.Reached.{Reached}
+use Rattle.world_locks.specs.acts.declared.answers.Reached.TheVariants as reached
 
 module _ (frame : Frame) (n room : ℕ) (g : Gathered) (passes : PassesValue) (h : List Answer) where
   -- the task with this of its own words has played the history

@@ -5,9 +5,9 @@ use Rattle.run_model.specs.declared.turn.Turn.{Turn}
 use Rattle.task_frame.specs.Frame.{Frame}
 use Rattle.task_frame.specs.Tasks.{PassesValue, Tasked}
 use Rattle.task_frame.specs.declared.gathered.Gathered.{Gathered}
-use Rattle.world_deeds.specs.Turning.{Goes, Reaches, turned_to}
-use Rattle.world_deeds.specs.declared.answers.Reached.{Reached}
-use Rattle.world_deeds.specs.declared.answers.Reached.TheVariants as reached
+use Rattle.world_locks.specs.acts.Turning.{Goes, Reaches, turned_to}
+use Rattle.world_locks.specs.acts.declared.answers.Reached.{Reached}
+use Rattle.world_locks.specs.acts.declared.answers.Reached.TheVariants as reached
 use Rattle.world_locks.specs.Met.{mines_of, state_seen}
 
 -- it was told nothing

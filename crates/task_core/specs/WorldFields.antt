@@ -2,8 +2,8 @@
 use Rattle.task_core.specs.declared.world.World.TheInside.{Inside}
 use Rattle.task_frame.specs.Frame.{Frame}
 use Rattle.task_frame.specs.World.{WorldValue}
-use Rattle.world_close.specs.Closed.{AreIdle}
-use Rattle.world_deeds.specs.Parts.{AreParts, frame_by, state_by}
+use Rattle.world_ended.specs.closes.Closed.{AreIdle}
+use Rattle.world_locks.specs.acts.Parts.{AreParts, frame_by, state_by}
 
 abbrev pub frame_in : Inside → Frame
 frame_in w =

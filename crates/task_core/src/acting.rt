@@ -6,15 +6,15 @@ ghost use Rattle.inode_events.specs.Checks.{no_action};
 ghost use Rattle.task_frame.specs.Tasks.{ArePassesOf};
 ghost use Rattle.task_frame.specs.declared.gathered.Gathered.{Gathered as AnyGathered};
 ghost use Rattle.task_mind.specs.Steps.{deed_in};
-ghost use Rattle.world_deeds.specs.Acting.{EventIn, IsSaid, ReadyAt, told_in};
-ghost use Rattle.world_deeds.specs.Checking.{CheckIn};
+ghost use Rattle.world_locks.specs.acts.Acting.{EventIn, IsSaid, ReadyAt, told_in};
+ghost use Rattle.world_locks.specs.acts.Checking.{CheckIn};
 
 use crate::world::World;
-use grow_list::OutOfMemory;
-use task_deeds::{Actor, Checks};
+use std::alloc::AllocError as OutOfMemory;
 use task_frame::{Gathered, Passes};
 use task_mind::Doing;
-use world_deeds::{Answered, act_at, check_at};
+use world_locks::acts::{Answered, act_at, check_at};
+use world_locks::deeds::{Actor, Checks};
 
 impl World {
     /// Does the deed on the inode of this number, by the task's passes. `None` is blocked.

@@ -15,19 +15,18 @@ ghost use Rattle.task_frame.specs.Frame.{Frame, scene_of};
 ghost use Rattle.task_frame.specs.Runs.{AreTasks, moment_of, programs_of};
 ghost use Rattle.task_frame.specs.Tasks.{Tasked};
 ghost use Rattle.turn_laws.specs.Runs.{moment_in, scene_in};
-ghost use Rattle.world_close.specs.Finished.{HaveMade, IsFinished};
+ghost use Rattle.world_ended.specs.closes.Finished.{HaveMade, IsFinished};
 ghost use Rattle.world_ended.specs.Leaves.{are_stuck, done_by, may_append, rests, task_left};
 ghost use Rattle.world_ended.specs.Settled.{HasEnded, HaveSameMinds, is_over};
 
 use crate::task::Task;
 use crate::world::World;
-use grow_list::OutOfMemory;
 use run_model::{Ended, EndedTask};
-use semaphore_cell::SemaphoreCell;
-use std::alloc::Global;
+use std::alloc::{AllocError as OutOfMemory, Global};
 use task_frame::Passes;
-use world_close::{Lists, close_lists};
+use world_ended::closes::{Lists, close_lists};
 use world_ended::rests;
+use world_ended::semaphores::SemaphoreCell;
 
 /// Each task looks at all lists of the world. Afterwards the entries of its number in each list are
 /// those that it has made.

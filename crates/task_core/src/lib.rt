@@ -13,10 +13,11 @@ mod turning;
 mod world;
 
 pub use close::settle;
-pub use grow_list::OutOfMemory;
 pub use live::Live;
 pub use run_model::Turn;
+pub use std::alloc::AllocError as OutOfMemory;
 pub use task::Task;
+pub use task_frame as frames;
 pub use task_frame::Passes;
 pub use world::World;
 pub use world_locks::Name;

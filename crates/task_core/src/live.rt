@@ -3,7 +3,7 @@
 ghost use Rattle.std.specs.Prelude.{◌≡◌, ◌<◌, IfOk, length};
 
 use crate::world::World;
-use grow_list::OutOfMemory;
+use std::alloc::AllocError as OutOfMemory;
 use std::sync::Wait;
 use world_locks::{Locks, Name, Parts};
 

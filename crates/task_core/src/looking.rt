@@ -6,7 +6,7 @@ ghost use Rattle.task_frame.specs.Tasks.{IsTask};
 
 use crate::task::Task;
 use crate::world::World;
-use world_deeds::look_at_inodes;
+use world_locks::acts::look_at_inodes;
 
 impl Task {
     /// Looks at each list of the world. Afterwards the entries of the task's number in each list

@@ -9,15 +9,15 @@ ghost use Rattle.world_locks.specs.Met.{mines_of};
 use crate::live::Live;
 use crate::task::Task;
 use crate::turning::slot_due;
-use grow_list::OutOfMemory;
 use inode_events::{Deed, Told};
 use run_model::Turn;
+use std::alloc::AllocError as OutOfMemory;
 use std::sync::Wait;
-use task_deeds::{Actor, Checks};
 use task_frame::{Gathered, Passes};
 use task_mind::{Step, TaskMind};
-use world_deeds::{Answered, Reached, became};
 use world_locks::Name;
+use world_locks::acts::{Answered, Reached, became};
+use world_locks::deeds::{Actor, Checks};
 
 impl<N: Name> Live<N> {
     /// The step that is due for the task, whose passes and hashes these are.

@@ -4,17 +4,17 @@ ghost use Rattle.std.specs.Prelude.{◌≡◌, ◌+◌, [], ◌∷◌, ◌++◌,
 ghost use Rattle.inode_events.specs.Asked.{entered, made};
 ghost use Rattle.inode_events.specs.Past.{past};
 ghost use Rattle.inode_events.specs.Semaphores.{semaphore_says};
-ghost use Rattle.world_deeds.specs.Acting.{IsPlacedAt, told_in, told_of};
-ghost use Rattle.world_deeds.specs.Sharing.{AppendsTo, SignalsOn};
+ghost use Rattle.world_locks.specs.acts.Acting.{IsPlacedAt, told_in, told_of};
+ghost use Rattle.world_locks.specs.acts.Sharing.{AppendsTo, SignalsOn};
 ghost use Rattle.task_frame.specs.Tasks.{ArePassesOf};
 
 use crate::world::World;
-use grow_list::OutOfMemory;
 use inode_events::{Deed, Told};
 use inode_meta::Who;
 use policy_text::Rule;
+use std::alloc::AllocError as OutOfMemory;
 use task_frame::Passes;
-use world_deeds::Answered;
+use world_locks::acts::Answered;
 
 impl World {
     /// Posts to a semaphore or waits for one. `None` is blocked.

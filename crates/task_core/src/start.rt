@@ -5,14 +5,13 @@ ghost use Rattle.world_start.specs.Start.{AreFirstPasses, Begins, IsFrameOf};
 ghost use Rattle.world_start.specs.Started.{IsFile};
 
 use crate::world::World;
-use grow_list::OutOfMemory;
 use ima_templates::Entry;
+use inode_events::xattrs::Bytes;
 use inode_events::{Image, Settings};
 use policy_text::{Policy, Super};
-use std::alloc::Global;
+use std::alloc::{AllocError as OutOfMemory, Global};
 use task_frame::Passes;
 use world_start::{Start, start_lists};
-use xattr_store::Bytes;
 
 impl World {
     /// The world of these inodes, each on the file system that its place names, with these rules,

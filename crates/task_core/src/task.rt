@@ -5,9 +5,8 @@ ghost use Rattle.task_frame.specs.Frame.{Frame};
 ghost use Rattle.task_frame.specs.Tasks.{AreCallsOf, ArePassesOf, AreUnused, IsTask};
 
 use call_steps::Call;
-use grow_list::OutOfMemory;
 use inode_meta::{Cred, Who};
-use std::alloc::Global;
+use std::alloc::{AllocError as OutOfMemory, Global};
 use std::marker::Model;
 use task_frame::{Gathered, Passes};
 use task_mind::TaskMind;

@@ -3,23 +3,23 @@
 ghost use Rattle.std.specs.Prelude.{◌≡◌, List, IfOk, OnErr};
 ghost use Rattle.run_model.specs.Scene.{Program};
 ghost use Rattle.run_model.specs.Turns.{go};
-ghost use Rattle.world_deeds.specs.Turning.{Reaches, turned_to};
+ghost use Rattle.world_locks.specs.acts.Turning.{Reaches, turned_to};
 ghost use Rattle.task_frame.specs.Frame.{scene_of};
 ghost use Rattle.task_frame.specs.Tasks.{IsTask};
-ghost use Rattle.task_laws.specs.Due.{slot_in};
+ghost use Rattle.world_locks.specs.laws_of_tasks.Due.{slot_in};
 ghost use Rattle.task_mind.specs.Value.{due_at};
 
 use crate::task::Task;
 use crate::world::World;
 use call_steps::Ask;
-use grow_list::OutOfMemory;
 use inode_events::{Deed, Told};
 use inode_meta::Slot;
 use run_model::Turn;
-use task_deeds::{Actor, Checks};
+use std::alloc::AllocError as OutOfMemory;
 use task_frame::{Gathered, Passes};
 use task_mind::{Step, TaskMind};
-use world_deeds::{Answered, Reached, became};
+use world_locks::acts::{Answered, Reached, became};
+use world_locks::deeds::{Actor, Checks};
 
 // The slot of a take that is due.
 pub(crate) fn slot_due(mind: &TaskMind) -> Slot

@@ -1,12 +1,12 @@
 use grow_list::Pass;
 use inode_events::Settings;
-use measure_book::Book;
 use policy_cell::{PolicyCell, RuleEntry};
 use policy_text::Super;
-use semaphore_cell::SemaphoreCell;
 use std::alloc::Global;
 use std::marker::Model;
 use task_frame::Station;
+use task_frame::books::Book;
+use world_ended::semaphores::SemaphoreCell;
 
 /// The inodes, the measurement list, the semaphores and the rules that tasks share. Contracts see
 /// its constants and its lists.

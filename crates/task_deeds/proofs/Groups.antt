@@ -7,7 +7,7 @@ use Rattle.inode_events.specs.declared.told.Event.{Event}
 use Rattle.inode_events.specs.declared.told.Told.{Told}
 use Rattle.std.specs.Prelude.{List}
 use Rattle.task_deeds.specs.Hashed.{IsAloneDeed, IsCollectingDeed, IsPlainDeed, goes_on}
-use Rattle.task_frame.specs.declared.gathered.Gathered.{Gathered}
+use Rattle.task_laws.specs.frames.declared.gathered.Gathered.{Gathered}
 use Rattle.task_laws.specs.Due.{HashesTold}
 use Rattle.task_mind.specs.Steps.{deed_in}
 use Rattle.task_mind.specs.declared.step.Doing.{Doing}

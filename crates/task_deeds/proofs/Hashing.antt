@@ -5,10 +5,10 @@ use Rattle.hash_algos.specs.Digest.{digest_of}
 use Rattle.hash_algos.specs.declared.algo.Algo.{Algo}
 use Rattle.hash_algos.specs.declared.algo.Algo.TheVariants.{Sha1}
 use Rattle.hash_algos.specs.declared.digest.Digest.{Digest}
-use Rattle.inode_cell.specs.Answers.{piece_told}
-use Rattle.inode_cell.specs.Sums.{HasSums}
-use Rattle.inode_cell.specs.declared.answers.Piece.{Piece}
-use Rattle.inode_cell.specs.declared.answers.Piece.TheVariants as piece
+use Rattle.task_laws.specs.inodes.Answers.{piece_told}
+use Rattle.task_laws.specs.inodes.Sums.{HasSums}
+use Rattle.task_laws.specs.inodes.declared.answers.Piece.{Piece}
+use Rattle.task_laws.specs.inodes.declared.answers.Piece.TheVariants as piece
 use Rattle.inode_events.specs.Asked.{made}
 use Rattle.inode_events.specs.Inode.{Inode}
 use Rattle.inode_events.specs.Integrity.{Collection, chosen_algo, collected_more, collecting, collection_of, digest_from}
@@ -22,11 +22,11 @@ use Rattle.inode_events.specs.declared.told.Told.TheVariants as told
 use Rattle.inode_hashing.specs.Hashing.{HasHashed}
 use Rattle.inode_hashing.specs.declared.hashing.Hashing.{Hashing}
 use Rattle.inode_meta.specs.declared.step.Who.{Who}
-use Rattle.inode_pages.specs.Content.{piece_at}
+use Rattle.inode_events.specs.pages.Content.{piece_at}
 use Rattle.task_deeds.specs.Hashed.{HasGathered}
-use Rattle.task_frame.specs.Tasks.{Collects, HasSummed, HasTakenIn}
-use Rattle.task_frame.specs.declared.gathered.Gathered.{Gathered}
-use Rattle.task_frame.specs.declared.gathered.Gathered.TheVariants as gathered
+use Rattle.task_laws.specs.frames.Tasks.{Collects, HasSummed, HasTakenIn}
+use Rattle.task_laws.specs.frames.declared.gathered.Gathered.{Gathered}
+use Rattle.task_laws.specs.frames.declared.gathered.Gathered.TheVariants as gathered
 use Rattle.task_laws.specs.Due.{HashesAfter}
 
 -- what was hashed depends on the algorithm and the bytes alone

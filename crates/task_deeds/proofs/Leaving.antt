@@ -4,8 +4,8 @@ use Rattle.std.specs.Prelude.{IfOk, OnErr, Result, Ok, Err}
 use Rattle.std.proofs.lemmas.List.{append-nil}
 use Rattle.grow_list.specs.Shown.{Passed}
 use Rattle.ima_templates.specs.declared.entry.Entry.{Entry}
-use Rattle.inode_cell.specs.Acts.{Acts, Stays}
-use Rattle.inode_cell.specs.Value.{CellValue}
+use Rattle.task_laws.specs.inodes.Acts.{Acts, Stays}
+use Rattle.task_laws.specs.inodes.Value.{CellValue}
 use Rattle.inode_events.specs.Asked.{outcome}
 use Rattle.inode_events.specs.Inode.{Inode}
 use Rattle.inode_events.specs.Past.{past}

@@ -1,14 +1,14 @@
 -- What a deed leaves of what its task has hashed.
 use Rattle.std.specs.Prelude.{Bool, true, false, Option, None, Some}
 use Rattle.hash_algos.specs.DigestValue.{DigestValue}
-use Rattle.inode_cell.specs.declared.answers.Piece.{Piece}
-use Rattle.inode_cell.specs.declared.answers.Piece.TheVariants as piece
+use Rattle.task_laws.specs.inodes.declared.answers.Piece.{Piece}
+use Rattle.task_laws.specs.inodes.declared.answers.Piece.TheVariants as piece
 use Rattle.inode_events.specs.Integrity.{Collection}
 use Rattle.inode_events.specs.declared.deed.Deed.{Deed}
 use Rattle.inode_events.specs.declared.deed.Deed.TheVariants as deed
-use Rattle.task_frame.specs.Tasks.{HasSummed, HasTakenIn}
-use Rattle.task_frame.specs.declared.gathered.Gathered.{Gathered}
-use Rattle.task_frame.specs.declared.gathered.Gathered.TheVariants as gathered
+use Rattle.task_laws.specs.frames.Tasks.{HasSummed, HasTakenIn}
+use Rattle.task_laws.specs.frames.declared.gathered.Gathered.{Gathered}
+use Rattle.task_laws.specs.frames.declared.gathered.Gathered.TheVariants as gathered
 
 -- the piece is taken: after the last one the digests are there
 abbrev pub HasGathered : Piece → Gathered → Collection → Type 0

@@ -2,7 +2,7 @@
 use Rattle.std.specs.Prelude.{◌≡◌, ◌++◌, List, length, Option, Some, None, Result, Ok, Err}
 use Rattle.grow_list.specs.Shown.{Passed}
 use Rattle.ima_templates.specs.declared.entry.Entry.{Entry}
-use Rattle.inode_cell.specs.Value.{CellValue, IsSameCell}
+use Rattle.task_laws.specs.inodes.Value.{CellValue, IsSameCell}
 use Rattle.inode_events.specs.Asked.{asked, entered, list_after, made}
 use Rattle.inode_events.specs.Past.{past}
 use Rattle.inode_events.specs.declared.deed.Deed.{Deed}

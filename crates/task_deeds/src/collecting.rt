@@ -3,20 +3,21 @@
 ghost use Rattle.inode_events.specs.declared.deed.Deed.TheVariants as Deed;
 ghost use Rattle.std.specs.Prelude.{◌≡◌, ℕ, ◌+◌, List, Some, IfOk, OnErr};
 ghost use Rattle.ima_templates.specs.declared.entry.Entry.{Entry as AnyEntry};
-ghost use Rattle.inode_cell.specs.Acts.{Acts, MayBy, Stays};
+ghost use Rattle.task_laws.specs.inodes.Acts.{Acts, MayBy, Stays};
 ghost use Rattle.task_deeds.specs.Hashed.{IsCollectingDeed};
 ghost use Rattle.task_laws.specs.Due.{HashesTold};
-ghost use Rattle.task_frame.specs.Tasks.{HashesBefore};
+ghost use Rattle.task_laws.specs.frames.Tasks.{HashesBefore};
 ghost use Rattle.task_mind.specs.Steps.{deed_in};
 
 use crate::gathering::{gather, sums};
 use crate::told::{finished_told, piece_told};
-use grow_list::{OutOfMemory, Pass};
-use inode_cell::{CloseTaken, InodeCell};
+use grow_list::Pass;
 use inode_events::{Event, Told};
 use inode_hashing::Hashing;
 use inode_meta::Who;
-use task_frame::Gathered;
+use std::alloc::AllocError as OutOfMemory;
+use task_laws::frames::Gathered;
+use task_laws::inodes::{CloseTaken, InodeCell};
 use task_mind::Doing;
 
 // The next piece of a take's collection.

@@ -2,15 +2,15 @@
 
 ghost use Rattle.inode_events.specs.declared.deed.Deed.TheVariants as Deed;
 ghost use Rattle.std.specs.Prelude.{◌≡◌, ◌+◌, List, length, Some, IfOk};
-ghost use Rattle.inode_cell.specs.Acts.{MayBy};
+ghost use Rattle.task_laws.specs.inodes.Acts.{MayBy};
 ghost use Rattle.inode_events.specs.Asked.{outcome};
 ghost use Rattle.inode_events.specs.Checks.{no_action};
 ghost use Rattle.inode_events.specs.Past.{past};
 ghost use Rattle.inode_events.specs.State.{metadata};
-ghost use Rattle.rule_match.specs.Decision.{access_of, decide_of};
+ghost use Rattle.task_mind.specs.matching.Decision.{access_of, decide_of};
 ghost use Rattle.ima_templates.specs.declared.entry.Entry.{Entry as AnyEntry};
 ghost use Rattle.task_deeds.specs.Hashed.{IsAloneDeed, goes_on};
-ghost use Rattle.task_frame.specs.Tasks.{HashesBefore};
+ghost use Rattle.task_laws.specs.frames.Tasks.{HashesBefore};
 ghost use Rattle.task_laws.specs.Due.{HashesTold};
 ghost use Rattle.task_deeds.specs.Leaving.{Leaves, told_by, told_in};
 ghost use Rattle.task_laws.specs.Ready.{HasLooked, IsReady};
@@ -19,15 +19,16 @@ ghost use Rattle.task_mind.specs.Steps.{deed_in};
 use crate::collecting::collect;
 use crate::listed::{self, Checks};
 use crate::plain::act;
-use grow_list::{OutOfMemory, Pass};
-use inode_cell::InodeCell;
+use grow_list::Pass;
+use inode_events::policy::{Action, Super};
 use inode_events::{Event, Told};
 use inode_meta::{Cred, Slot, Who};
-use measure_book::Book;
-use policy_text::{Action, Super};
-use rule_match::Index;
-use task_frame::Gathered;
+use std::alloc::AllocError as OutOfMemory;
+use task_laws::books::Book;
+use task_laws::frames::Gathered;
+use task_laws::inodes::InodeCell;
 use task_mind::Doing;
+use task_mind::matching::Index;
 
 /// What a task knows of itself as it does a deed.
 #[derive(Clone, Copy, Drop)]

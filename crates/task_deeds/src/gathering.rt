@@ -5,14 +5,14 @@ ghost use Rattle.hash_algos.specs.Digest.{digest_of};
 ghost use Rattle.hash_algos.specs.declared.algo.Algo.TheVariants.{Sha1};
 ghost use Rattle.inode_events.specs.Integrity.{Collection, digest_from};
 ghost use Rattle.task_deeds.specs.Hashed.{HasGathered, sums_in};
-ghost use Rattle.task_frame.specs.Tasks.{HasSummed, HasTakenIn};
+ghost use Rattle.task_laws.specs.frames.Tasks.{HasSummed, HasTakenIn};
 
 use hash_algos::Digest;
-use inode_cell::Piece;
+use inode_events::pages::Page;
 use inode_hashing::Hashing;
-use inode_pages::Page;
 use std::mem;
-use task_frame::Gathered;
+use task_laws::frames::Gathered;
+use task_laws::inodes::Piece;
 
 // The piece is hashed; after the last one the digests are computed.
 fn hashed(mut hashing: Hashing, piece: Piece, page: &Page) -> Gathered

@@ -10,6 +10,8 @@ mod told;
 
 pub use doing::{Actor, checks, does};
 pub use gathering::gather;
-pub use grow_list::OutOfMemory;
 pub use listed::Checks;
+pub use std::alloc::AllocError as OutOfMemory;
+pub use task_laws::{books, frames};
+pub use task_mind as minds;
 pub use told::piece_told;

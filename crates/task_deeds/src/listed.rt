@@ -2,26 +2,27 @@
 
 ghost use Rattle.inode_events.specs.declared.deed.Deed.TheVariants as Deed;
 ghost use Rattle.std.specs.Prelude.{◌≡◌, ℕ, ◌+◌, List, length, Some, IfOk, OnErr};
-ghost use Rattle.inode_cell.specs.Acts.{Acts, MayBy, Stays};
+ghost use Rattle.task_laws.specs.inodes.Acts.{Acts, MayBy, Stays};
 ghost use Rattle.inode_events.specs.Checks.{no_action};
 ghost use Rattle.inode_events.specs.Past.{past};
 ghost use Rattle.inode_events.specs.State.{metadata};
-ghost use Rattle.rule_match.specs.Decision.{access_of, decide_of};
+ghost use Rattle.task_mind.specs.matching.Decision.{access_of, decide_of};
 ghost use Rattle.task_laws.specs.Due.{HashesTold};
-ghost use Rattle.task_frame.specs.Tasks.{HashesBefore};
+ghost use Rattle.task_laws.specs.frames.Tasks.{HashesBefore};
 ghost use Rattle.task_laws.specs.Ready.{AsksBy};
 
 use crate::gathering::sums;
 use crate::told::found_told;
-use grow_list::{OutOfMemory, Pass};
-use inode_cell::{InodeCell, Taken};
+use grow_list::Pass;
+use inode_events::policy::{Action, Func, Super};
 use inode_events::{Event, Told};
 use inode_hashing::Hashing;
 use inode_meta::{Cred, Slot, Who};
-use measure_book::Book;
-use policy_text::{Action, Func, Super};
-use rule_match::Index;
-use task_frame::Gathered;
+use std::alloc::AllocError as OutOfMemory;
+use task_laws::books::Book;
+use task_laws::frames::Gathered;
+use task_laws::inodes::{InodeCell, Taken};
+use task_mind::matching::Index;
 
 /// A take: a digest in force grants the file, or a collection begins. `None` is blocked.
 pub fn take(

@@ -3,15 +3,16 @@
 ghost use Rattle.inode_events.specs.declared.deed.Deed.TheVariants as Deed;
 ghost use Rattle.std.specs.Prelude.{◌≡◌, ℕ, ◌+◌, List, Some, IfOk, OnErr};
 ghost use Rattle.ima_templates.specs.declared.entry.Entry.{Entry as AnyEntry};
-ghost use Rattle.inode_cell.specs.Acts.{Acts, MayBy, Stays};
+ghost use Rattle.task_laws.specs.inodes.Acts.{Acts, MayBy, Stays};
 ghost use Rattle.task_deeds.specs.Hashed.{IsPlainDeed};
 ghost use Rattle.task_mind.specs.Steps.{deed_in};
 
 use crate::told::{counted_told, set_told, wrote_told};
-use grow_list::{OutOfMemory, Pass};
-use inode_cell::InodeCell;
+use grow_list::Pass;
 use inode_events::{BoxedBytes, BoxedValue, Event, Told};
 use inode_meta::{Cred, Who};
+use std::alloc::AllocError as OutOfMemory;
+use task_laws::inodes::InodeCell;
 use task_mind::Doing;
 
 // An attribute is set, or removed.

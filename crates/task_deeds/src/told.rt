@@ -1,10 +1,10 @@
 //! What the answers of an inode are told as.
 
 ghost use Rattle.std.specs.Prelude.{◌≡◌};
-ghost use Rattle.inode_cell.specs.Answers.{counted_told, finished_told, found_told, piece_told, set_told, wrote_told};
+ghost use Rattle.task_laws.specs.inodes.Answers.{counted_told, finished_told, found_told, piece_told, set_told, wrote_told};
 
-use inode_cell::{Counted, Found, Piece, Set, Wrote};
 use inode_events::Told;
+use task_laws::inodes::{Counted, Found, Piece, Set, Wrote};
 
 /// Of a count.
 pub fn counted_told(answer: Counted) -> Told

@@ -3,15 +3,15 @@ use Rattle.std.specs.Prelude.{ℕ, false, List, [], ◌∷◌, map, get_or}
 use Rattle.grow_list.specs.Shown.{ListName}
 use Rattle.hash_algos.specs.declared.algo.Algo.TheVariants.{Sha1}
 use Rattle.hash_algos.specs.Digest.{digest_of}
-use Rattle.ima_templates.specs.declared.entry.Entry.{Entry}
-use Rattle.inode_meta.specs.declared.appraisal.Mode.{Mode}
-use Rattle.inode_meta.specs.declared.measurement.Template.TheVariants.{Ima}
-use Rattle.inode_events.specs.Inode.{Inode}
-use Rattle.inode_events.specs.declared.image.Image.{Image}
-use Rattle.inode_events.specs.declared.settings.Settings.{Settings}
-use Rattle.policy_text.specs.RuleValue.{RuleValue}
-use Rattle.policy_text.specs.declared.access.Super.{Super}
-use Rattle.run_model.specs.Scene.{Program, Scene, Station, no_super}
+use Rattle.rule_laws.specs.templates.declared.entry.Entry.{Entry}
+use Rattle.rule_laws.specs.meta.declared.appraisal.Mode.{Mode}
+use Rattle.rule_laws.specs.meta.declared.measurement.Template.TheVariants.{Ima}
+use Rattle.rule_laws.specs.events.Inode.{Inode}
+use Rattle.rule_laws.specs.events.declared.image.Image.{Image}
+use Rattle.rule_laws.specs.events.declared.settings.Settings.{Settings}
+use Rattle.rule_laws.specs.policy.RuleValue.{RuleValue}
+use Rattle.rule_laws.specs.policy.declared.access.Super.{Super}
+use Rattle.rule_laws.specs.model.Scene.{Program, Scene, Station, no_super}
 
 -- of an inode: its path, the image with which it came into being, the number of its file system,
 -- and the name of its journal

@@ -1,14 +1,14 @@
 -- The tasks of a world together, and what each has of the world's lists.
 use Rattle.std.specs.Prelude.{◌≡◌, ℕ, List, map, Some, slice_get}
-use Rattle.inode_events.specs.declared.told.Event.{Event}
-use Rattle.merged_laws.specs.Logs.{log}
-use Rattle.merged_laws.specs.Steps.{RisesWithin}
+use Rattle.rule_laws.specs.events.declared.told.Event.{Event}
+use Rattle.step_laws.specs.laws_of_merging.Logs.{log}
+use Rattle.step_laws.specs.laws_of_merging.Steps.{RisesWithin}
 use Rattle.rule_laws.specs.Checks.{ChecksFit}
 use Rattle.rule_laws.specs.Moments.{seen_in}
-use Rattle.run_model.specs.History.{Answer, Thought, own, own_rules, own_signals, thought}
-use Rattle.run_model.specs.Scene.{Program}
-use Rattle.run_model.specs.Served.{events_of, rules_of}
-use Rattle.run_model.specs.Turns.{Moment, State}
+use Rattle.rule_laws.specs.model.History.{Answer, Thought, own, own_rules, own_signals, thought}
+use Rattle.rule_laws.specs.model.Scene.{Program}
+use Rattle.rule_laws.specs.model.Served.{events_of, rules_of}
+use Rattle.rule_laws.specs.model.Turns.{Moment, State}
 use Rattle.task_frame.specs.Frame.{Frame, mode_in, scene_of}
 use Rattle.task_frame.specs.Tasks.{IsTask, Tasked}
 

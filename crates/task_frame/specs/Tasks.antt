@@ -3,26 +3,26 @@ use Rattle.std.specs.Prelude.{◌≡◌, ℕ, ◌+◌, ◌<◌, All, List, [], �
 use Rattle.grow_list.specs.Shown.{Passed}
 use Rattle.hash_algos.specs.Digest.{digest_of}
 use Rattle.hash_algos.specs.declared.algo.Algo.TheVariants.{Sha1}
-use Rattle.ima_templates.specs.declared.entry.Entry.{Entry}
-use Rattle.inode_meta.specs.declared.appraisal.Mode.{Mode}
-use Rattle.policy_text.specs.ActionValue.{ActionValue}
-use Rattle.inode_events.specs.Checks.{no_action}
-use Rattle.inode_events.specs.Inode.{Inode}
-use Rattle.inode_events.specs.Integrity.{Collection, collecting, digest_from}
-use Rattle.inode_events.specs.Past.{past}
-use Rattle.inode_events.specs.declared.deed.Deed.{Deed}
-use Rattle.inode_events.specs.declared.deed.Deed.TheVariants as deed
-use Rattle.inode_events.specs.declared.told.Event.{Event}
+use Rattle.rule_laws.specs.templates.declared.entry.Entry.{Entry}
+use Rattle.rule_laws.specs.meta.declared.appraisal.Mode.{Mode}
+use Rattle.rule_laws.specs.policy.ActionValue.{ActionValue}
+use Rattle.rule_laws.specs.events.Checks.{no_action}
+use Rattle.rule_laws.specs.events.Inode.{Inode}
+use Rattle.rule_laws.specs.events.Integrity.{Collection, collecting, digest_from}
+use Rattle.rule_laws.specs.events.Past.{past}
+use Rattle.rule_laws.specs.events.declared.deed.Deed.{Deed}
+use Rattle.rule_laws.specs.events.declared.deed.Deed.TheVariants as deed
+use Rattle.rule_laws.specs.events.declared.told.Event.{Event}
 use Rattle.inode_hashing.specs.Hashing.{HasHashed}
-use Rattle.call_steps.specs.Mind.{Step}
-use Rattle.call_steps.specs.Mind.{Does, Checks}
-use Rattle.call_steps.specs.declared.call.Call.{Call}
-use Rattle.merged_laws.specs.Logs.{log}
-use Rattle.merged_laws.specs.Steps.{RisesWithin}
-use Rattle.policy_cell.specs.declared.cell.RuleEntry.{RuleEntry}
+use Rattle.rule_laws.specs.steps.Mind.{Step}
+use Rattle.rule_laws.specs.steps.Mind.{Does, Checks}
+use Rattle.rule_laws.specs.steps.declared.call.Call.{Call}
+use Rattle.step_laws.specs.laws_of_merging.Logs.{log}
+use Rattle.step_laws.specs.laws_of_merging.Steps.{RisesWithin}
+use Rattle.rule_laws.specs.rules.declared.cell.RuleEntry.{RuleEntry}
 use Rattle.rule_laws.specs.Checks.{ChecksFit, seen_by}
-use Rattle.run_model.specs.History.{Answer, own, own_rules, own_signals, step_at, thought}
-use Rattle.run_model.specs.Scene.{Program}
+use Rattle.rule_laws.specs.model.History.{Answer, own, own_rules, own_signals, step_at, thought}
+use Rattle.rule_laws.specs.model.Scene.{Program}
 use Rattle.step_laws.specs.NextSteps.{IsFit}
 use Rattle.step_laws.specs.Stations.{IsWithin}
 use Rattle.task_frame.specs.Frame.{Frame, Site, inode_in, mode_in, scene_of}

@@ -1,13 +1,13 @@
 -- What contracts see of a world, and what its parts keep of its constants.
 use Rattle.std.specs.Prelude.{◌≡◌, ℕ, ◌+◌, ◌<◌, List, [], length, map, max, Some, slice_get}
 use Rattle.grow_list.specs.Shown.{Grown, Passed}
-use Rattle.ima_templates.specs.declared.entry.Entry.{Entry}
-use Rattle.inode_events.specs.declared.told.Event.{Event}
+use Rattle.rule_laws.specs.templates.declared.entry.Entry.{Entry}
+use Rattle.rule_laws.specs.events.declared.told.Event.{Event}
 use Rattle.inode_cell.specs.Value.{CellValue}
-use Rattle.policy_cell.specs.Policy.{PolicyValue}
-use Rattle.policy_cell.specs.declared.cell.RuleEntry.{RuleEntry}
+use Rattle.rule_laws.specs.rules.Policy.{PolicyValue}
+use Rattle.rule_laws.specs.rules.declared.cell.RuleEntry.{RuleEntry}
 use Rattle.rule_laws.specs.Stations.{StationRules}
-use Rattle.run_model.specs.Turns.{State}
+use Rattle.rule_laws.specs.model.Turns.{State}
 use Rattle.task_frame.specs.Frame.{Frame, Site}
 
 -- its constants and its lists

@@ -1,7 +1,7 @@
 use grow_list::Pass;
-use ima_templates::Entry;
-use inode_events::Event;
-use policy_cell::RuleEntry;
+use rule_laws::events::Event;
+use rule_laws::rules::RuleEntry;
+use rule_laws::templates::Entry;
 use std::marker::Model;
 
 /// The passes of one task. Contracts see the record of its fields, the vector as a list.

@@ -1,6 +1,6 @@
 use grow_list::Pass;
 use inode_cell::InodeCell;
-use policy_cell::RuleEntry;
+use rule_laws::rules::RuleEntry;
 use std::marker::Model;
 
 /// An inode of a world. Contracts see the record of its fields.

@@ -13,12 +13,12 @@ use Rattle.inode_events.specs.declared.told.Event.{Event}
 use Rattle.call_steps.specs.declared.call.Call.{Call}
 use Rattle.call_steps.specs.Mind.{Mind, Step}
 use Rattle.call_steps.specs.Mind.{Nothing, Does, Checks, Signals, Appends}
-use Rattle.merged_laws.specs.Logs.{log}
-use Rattle.merged_laws.proofs.Rising.{rises_look}
-use Rattle.rule_laws.proofs.Checking.{law_fits_with_more}
-use Rattle.rule_laws.proofs.Owned.{set_parts}
-use Rattle.rule_laws.proofs.Passing.{law_sees_by_look}
-use Rattle.rule_laws.specs.Checks.{SeesMore, seen_by}
+use Rattle.task_frame.specs.laws_of_merging.Logs.{log}
+use Rattle.task_frame.proofs.laws_of_merging.Rising.{rises_look}
+use Rattle.task_frame.proofs.laws_of_rules.Checking.{law_fits_with_more}
+use Rattle.task_frame.proofs.laws_of_rules.Owned.{set_parts}
+use Rattle.task_frame.proofs.laws_of_rules.Passing.{law_sees_by_look}
+use Rattle.task_frame.specs.laws_of_rules.Checks.{SeesMore, seen_by}
 use Rattle.run_model.specs.History.{Answer, call_at, step_at, who_at, who_in}
 use Rattle.run_model.specs.Scene.{Program}
 use Rattle.run_model.specs.Turns.{State}
@@ -31,7 +31,7 @@ use Rattle.task_laws.specs.Ready.{HasLooked, IsReady, IsStepOn}
 use Rattle.task_laws.proofs.Eventing.{get_set}
 use Rattle.task_laws.proofs.Readying.{ready_by_look}
 use Rattle.task_laws.specs.Due.{slot_in}
-use Rattle.task_mind.specs.Value.{due_at}
+use Rattle.task_frame.specs.minds.Value.{due_at}
 
 -- the Who of a step has the number of its task
 task_in : (n : ℕ) (p : Program) (m : Mind) (o : Option Call) → (who_in n p o m).task ≡ n

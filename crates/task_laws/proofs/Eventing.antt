@@ -19,16 +19,16 @@ use Rattle.inode_events.specs.declared.told.Event.{Event}
 use Rattle.inode_events.specs.declared.told.Told.{Told}
 use Rattle.call_steps.specs.Mind.{Step}
 use Rattle.call_steps.specs.Mind.{Does, Checks}
-use Rattle.merged_laws.specs.Logs.{logged}
-use Rattle.merged_laws.specs.Steps.{Made, RisesWithin, made_of}
-use Rattle.merged_laws.proofs.Rising.{rises_event}
-use Rattle.policy_cell.specs.declared.cell.RuleEntry.{RuleEntry}
+use Rattle.task_frame.specs.laws_of_merging.Logs.{logged}
+use Rattle.task_frame.specs.laws_of_merging.Steps.{Made, RisesWithin, made_of}
+use Rattle.task_frame.proofs.laws_of_merging.Rising.{rises_event}
+use Rattle.run_model.specs.rules.declared.cell.RuleEntry.{RuleEntry}
 use Rattle.policy_text.specs.declared.access.Action.{Action}
 use Rattle.policy_text.specs.declared.rule.Func.{Func}
-use Rattle.rule_laws.proofs.Checking.{law_fits_by_check, law_fits_by_step}
-use Rattle.rule_laws.proofs.Owned.{set_parts}
-use Rattle.rule_laws.proofs.Passing.{law_sees_by_look, law_stands_by_look}
-use Rattle.rule_laws.specs.Checks.{IsPlainStep, Longer, SeesMore, seen_by}
+use Rattle.task_frame.proofs.laws_of_rules.Checking.{law_fits_by_check, law_fits_by_step}
+use Rattle.task_frame.proofs.laws_of_rules.Owned.{set_parts}
+use Rattle.task_frame.proofs.laws_of_rules.Passing.{law_sees_by_look, law_stands_by_look}
+use Rattle.task_frame.specs.laws_of_rules.Checks.{IsPlainStep, Longer, SeesMore, seen_by}
 use Rattle.run_model.specs.History.{Answer, Thought, event, event_in, plain_answer, rule_in, signal_in, step_at, who_at}
 use Rattle.run_model.specs.Scene.{Program, decided, rules_with}
 use Rattle.run_model.specs.Turns.{State}
@@ -41,7 +41,7 @@ use Rattle.task_laws.specs.Plays.{CheckIsPlayed, EventIsPlayed, HasHeard, check_
 use Rattle.task_laws.specs.Steps.{Adds, HasStepped, InodeStepped}
 use Rattle.task_laws.proofs.Next.{hashes_heard}
 use Rattle.task_laws.proofs.Playing.{step_is_played}
-use Rattle.task_mind.specs.Value.{TaskValue}
+use Rattle.task_frame.specs.minds.Value.{TaskValue}
 
 -- ---- lists
 

@@ -8,3 +8,4 @@ pub mod Eventing
 pub mod Blocking
 pub mod Looking
 pub mod Quieting
+pub use Rattle.task_frame.proofs.laws_of_rules

@@ -11,13 +11,13 @@ use Rattle.ima_templates.specs.declared.entry.Entry.{Entry}
 use Rattle.inode_events.specs.declared.told.Event.{Event}
 use Rattle.call_steps.specs.Mind.{Step}
 use Rattle.call_steps.specs.Mind.{Nothing, Does, Checks, Signals, Appends}
-use Rattle.merged_laws.specs.Logs.{log}
-use Rattle.merged_laws.specs.Steps.{RisesWithin}
-use Rattle.merged_laws.proofs.Rising.{rises_look}
-use Rattle.policy_cell.specs.declared.cell.RuleEntry.{RuleEntry}
-use Rattle.rule_laws.proofs.Checking.{law_fits_with_more}
-use Rattle.rule_laws.specs.Checks.{SeesMore, seen_by}
-use Rattle.rule_laws.specs.Moments.{seen_in}
+use Rattle.task_frame.specs.laws_of_merging.Logs.{log}
+use Rattle.task_frame.specs.laws_of_merging.Steps.{RisesWithin}
+use Rattle.task_frame.proofs.laws_of_merging.Rising.{rises_look}
+use Rattle.run_model.specs.rules.declared.cell.RuleEntry.{RuleEntry}
+use Rattle.task_frame.proofs.laws_of_rules.Checking.{law_fits_with_more}
+use Rattle.task_frame.specs.laws_of_rules.Checks.{SeesMore, seen_by}
+use Rattle.task_frame.specs.laws_of_rules.Moments.{seen_in}
 use Rattle.run_model.specs.History.{Answer, own, step_at}
 use Rattle.run_model.specs.Served.{events_of}
 use Rattle.run_model.specs.Turns.{State}
@@ -28,7 +28,7 @@ use Rattle.task_laws.specs.Plays.{task_left}
 use Rattle.task_laws.specs.Ready.{IsReady, IsStepOn}
 use Rattle.task_laws.specs.Due.{slot_in}
 use Rattle.task_laws.proofs.Readying.{ready_by_look}
-use Rattle.task_mind.specs.Value.{due_at}
+use Rattle.task_frame.specs.minds.Value.{due_at}
 
 -- a place within a list has an element
 pub get_within : {A : Type 0} (xs : List A) (k : ℕ) → k < length xs

@@ -18,15 +18,15 @@ use Rattle.call_steps.specs.declared.call.Call.{Call}
 use Rattle.call_steps.specs.declared.call.Call.TheVariants as call
 use Rattle.call_steps.specs.declared.held.Handle.{Handle}
 use Rattle.call_steps.specs.declared.reply.Reply.{Reply}
-use Rattle.own_laws.specs.Own.{IsBy, counter, own_past}
-use Rattle.own_laws.proofs.Bridge.{own_bridge}
+use Rattle.task_frame.specs.laws_of_journals.Own.{IsBy, counter, own_past}
+use Rattle.task_frame.proofs.laws_of_journals.Bridge.{own_bridge}
 use Rattle.run_model.specs.History.{Answer, call_at, own, step_in, thought}
 use Rattle.run_model.specs.Scene.{Program}
 use Rattle.run_model.specs.Served.{events_of}
-use Rattle.step_laws.specs.NextSteps.{IsFit}
-use Rattle.step_laws.proofs.Ready.{IsAttr, IsWrite, Mine, Ready, mk}
-use Rattle.step_laws.proofs.Owning.{AreGood, how_in, own_counter, own_good}
-use Rattle.step_laws.proofs.Going.{Fits, fits_history, ready_now}
+use Rattle.task_frame.specs.laws_of_steps.NextSteps.{IsFit}
+use Rattle.task_frame.proofs.laws_of_steps.Ready.{IsAttr, IsWrite, Mine, Ready, mk}
+use Rattle.task_frame.proofs.laws_of_steps.Owning.{AreGood, how_in, own_counter, own_good}
+use Rattle.task_frame.proofs.laws_of_steps.Going.{Fits, fits_history, ready_now}
 
 -- the step on this inode is on files of this caller
 abbrev pub StepBy : ℕ → ℕ → List Event → Option Step → Type 0

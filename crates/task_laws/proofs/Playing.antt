@@ -9,11 +9,11 @@ use Rattle.policy_text.specs.ActionValue.{ActionValue}
 use Rattle.inode_events.specs.declared.told.Event.{Event}
 use Rattle.call_steps.specs.Mind.{Mind}
 use Rattle.call_steps.specs.Mind.{fresh}
-use Rattle.merged_laws.specs.Logs.{log, logged}
-use Rattle.merged_laws.specs.Steps.{NamesBelow, RisesWithin}
-use Rattle.policy_cell.specs.declared.cell.RuleEntry.{RuleEntry}
-use Rattle.rule_laws.proofs.Checking.{law_fits_at_first}
-use Rattle.rule_laws.specs.Checks.{seen_by}
+use Rattle.task_frame.specs.laws_of_merging.Logs.{log, logged}
+use Rattle.task_frame.specs.laws_of_merging.Steps.{NamesBelow, RisesWithin}
+use Rattle.run_model.specs.rules.declared.cell.RuleEntry.{RuleEntry}
+use Rattle.task_frame.proofs.laws_of_rules.Checking.{law_fits_at_first}
+use Rattle.task_frame.specs.laws_of_rules.Checks.{seen_by}
 use Rattle.run_model.specs.History.{Answer, Thought, call_at, event_in, hear, own, own_rules, own_signals, rule_in, signal_in, step_at, thought, who_at}
 use Rattle.run_model.specs.Scene.{Program}
 use Rattle.task_frame.specs.Frame.{Frame, mode_in, scene_of}

@@ -9,11 +9,11 @@ use Rattle.inode_meta.specs.declared.step.Who.{Who}
 use Rattle.inode_events.specs.declared.told.Event.{Event}
 use Rattle.call_steps.specs.Mind.{Mind, Step}
 use Rattle.call_steps.specs.Mind.{Nothing, Does, Checks, Signals, Appends}
-use Rattle.merged_laws.specs.Logs.{logged}
-use Rattle.merged_laws.specs.Steps.{Made, RisesWithin}
-use Rattle.policy_cell.specs.declared.cell.RuleEntry.{RuleEntry}
-use Rattle.rule_laws.proofs.Checking.{law_fits_by_step}
-use Rattle.rule_laws.specs.Checks.{IsPlainStep, SeesMore, seen_by}
+use Rattle.task_frame.specs.laws_of_merging.Logs.{logged}
+use Rattle.task_frame.specs.laws_of_merging.Steps.{Made, RisesWithin}
+use Rattle.run_model.specs.rules.declared.cell.RuleEntry.{RuleEntry}
+use Rattle.task_frame.proofs.laws_of_rules.Checking.{law_fits_by_step}
+use Rattle.task_frame.specs.laws_of_rules.Checks.{IsPlainStep, SeesMore, seen_by}
 use Rattle.run_model.specs.History.{Answer, Thought, event_in, step_at, who_at}
 use Rattle.task_frame.specs.Frame.{Frame, mode_in, scene_of}
 use Rattle.task_frame.specs.Tasks.{HashesFor, HasPlayed, PassesValue, Tasked}
@@ -24,7 +24,7 @@ use Rattle.task_laws.specs.Steps.{HasStepped, InodeStepped}
 use Rattle.task_laws.proofs.Eventing.{adds_none}
 use Rattle.task_laws.proofs.Next.{hashes_heard}
 use Rattle.task_laws.proofs.Playing.{step_is_played}
-use Rattle.task_mind.specs.Value.{TaskValue}
+use Rattle.task_frame.specs.minds.Value.{TaskValue}
 
 no_event : (o : Option Step) (j : ℕ) (who : Who) (a : Answer) → IsQuiet o → event_in j who o a ≡ []
 no_event (Some Nothing) j who a q = refl

@@ -22,14 +22,14 @@ use Rattle.call_steps.specs.declared.ask.Ask.{Ask}
 use Rattle.call_steps.specs.declared.ask.Ask.TheVariants as ask
 use Rattle.call_steps.specs.declared.call.Call.{Call}
 use Rattle.call_steps.specs.declared.call.Call.TheVariants as call
-use Rattle.own_laws.specs.Own.{IsBy, check_in, counter}
-use Rattle.own_laws.proofs.Bridge.{own_bridge}
-use Rattle.own_laws.proofs.Owning.{stage_own}
+use Rattle.task_frame.specs.laws_of_journals.Own.{IsBy, check_in, counter}
+use Rattle.task_frame.proofs.laws_of_journals.Bridge.{own_bridge}
+use Rattle.task_frame.proofs.laws_of_journals.Owning.{stage_own}
 use Rattle.run_model.specs.History.{Answer, Thought, call_at, event_in, own, step_at, step_in, thought, who_at}
 use Rattle.run_model.specs.Scene.{Program}
 use Rattle.run_model.specs.Served.{events_of}
-use Rattle.step_laws.specs.NextSteps.{MayMake}
-use Rattle.step_laws.proofs.Making.{next_step_may}
+use Rattle.task_frame.specs.laws_of_steps.NextSteps.{MayMake}
+use Rattle.task_frame.proofs.laws_of_steps.Making.{next_step_may}
 use Rattle.task_frame.specs.Frame.{Frame, Site, inode_in, mode_in}
 use Rattle.task_frame.specs.Tasks.{Collects, HashesBefore, HashesFor, HasPlayed, HasSummed, HasTakenIn, Tasked, action_by, last_action}
 use Rattle.task_frame.specs.declared.gathered.Gathered.{Gathered}
@@ -37,7 +37,7 @@ use Rattle.task_laws.specs.Due.{slot_in}
 use Rattle.task_laws.specs.Ready.{AsksBy, HasLooked, IsReady, IsStepOn, ReadyByLook}
 use Rattle.task_laws.proofs.Mine.{StepBy, next_is_by}
 use Rattle.task_laws.proofs.Takes.{ByCheck, IfTake, checked_by, take_law}
-use Rattle.task_mind.specs.Value.{due_at}
+use Rattle.task_frame.specs.minds.Value.{due_at}
 
 may_of : (inode : Inode) (n i : ℕ) (p : List Event) (d : Deed) (o : Option Step)
     → MayMake inode i p o → StepBy i n p o → IsStepOn i d o → May inode p d × IsBy n d p

@@ -3,9 +3,9 @@
 use Rattle.std.proofs.Common.{◌≡◌, Bool, true, false, cond, Option, Some, None, refl}
 use Rattle.inode_meta.specs.declared.appraisal.Mode.{Mode}
 use Rattle.inode_meta.specs.declared.appraisal.Slot.{Slot}
-use Rattle.label_values.specs.declared.verdict.Cause.{Cause}
-use Rattle.label_values.specs.declared.verdict.Verdict.{Verdict}
-use Rattle.label_values.specs.declared.verdict.Verdict.TheVariants.{Deny}
+use Rattle.inode_events.specs.labels.declared.verdict.Cause.{Cause}
+use Rattle.inode_events.specs.labels.declared.verdict.Verdict.{Verdict}
+use Rattle.inode_events.specs.labels.declared.verdict.Verdict.TheVariants.{Deny}
 use Rattle.policy_text.specs.Accesses.{func_of_purpose, slot_of}
 use Rattle.policy_text.specs.declared.access.Action.{Action}
 use Rattle.inode_events.specs.Files.{can_read, is_writer}

@@ -21,7 +21,7 @@ use Rattle.call_steps.specs.declared.ask.Ask.TheVariants as ask
 use Rattle.call_steps.specs.declared.call.Call.{Call}
 use Rattle.call_steps.specs.declared.due.Next.{Next}
 use Rattle.call_steps.specs.declared.due.Next.TheVariants.{On, Over}
-use Rattle.own_laws.specs.Own.{check_in}
+use Rattle.task_frame.specs.laws_of_journals.Own.{check_in}
 use Rattle.run_model.specs.History.{Answer, Thought, call_at, hear_in, step_at, step_in, thought}
 use Rattle.run_model.specs.Scene.{Program}
 use Rattle.task_laws.proofs.Rows.{Begins, ComesAfter, IsCheck, IsFor, IsIdle, Follows, first_begins, nothing_after, row}

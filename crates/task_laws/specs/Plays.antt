@@ -17,7 +17,7 @@ use Rattle.task_frame.specs.Frame.{Frame, Site, inode_in, mode_in, scene_of, sup
 use Rattle.task_frame.specs.Tasks.{HasPlayed, PassesValue, Tasked, action_by}
 use Rattle.task_frame.specs.declared.gathered.Gathered.{Gathered}
 use Rattle.task_laws.specs.Events.{EventOn}
-use Rattle.task_mind.specs.Value.{TaskValue}
+use Rattle.task_frame.specs.minds.Value.{TaskValue}
 
 -- the task as it was, with these passes and what it has hashed now
 abbrev pub task_left : Tasked → PassesValue → Gathered → Tasked

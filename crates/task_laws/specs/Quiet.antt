@@ -3,14 +3,14 @@ use Rattle.std.specs.Prelude.{◌≡◌, List, [], ◌∷◌, Option, Some}
 use mathlib.Core.List.{IsPrefix}
 use Rattle.call_steps.specs.Mind.{Step}
 use Rattle.call_steps.specs.Mind.{Nothing, Signals, Appends}
-use Rattle.rule_laws.specs.Checks.{IsPlainStep, seen_by}
+use Rattle.task_frame.specs.laws_of_rules.Checks.{IsPlainStep, seen_by}
 use Rattle.run_model.specs.History.{Answer, rule_in, signal_in, step_at, who_at}
 use Rattle.run_model.specs.Scene.{Program}
 use Rattle.task_frame.specs.Frame.{Frame, scene_of}
 use Rattle.task_frame.specs.Tasks.{HasPlayed, PassesValue, Tasked}
 use Rattle.task_laws.specs.Plays.{HasHeard, task_after, task_left}
 use Rattle.task_laws.specs.Steps.{Adds}
-use Rattle.task_mind.specs.Value.{TaskValue}
+use Rattle.task_frame.specs.minds.Value.{TaskValue}
 
 abbrev pub IsQuiet : Option Step → Type 0
 IsQuiet (Some Nothing) = Unit {0}

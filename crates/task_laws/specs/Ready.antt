@@ -15,14 +15,14 @@ use Rattle.inode_events.specs.declared.deed.Deed.TheVariants as deed
 use Rattle.inode_events.specs.declared.told.Event.{Event}
 use Rattle.call_steps.specs.Mind.{Step}
 use Rattle.call_steps.specs.Mind.{Does, Checks}
-use Rattle.own_laws.specs.Laws.{TellsByMine}
-use Rattle.own_laws.specs.Own.{IsBy, IsOwned}
+use Rattle.task_frame.specs.laws_of_journals.OwnLaws.{TellsByMine}
+use Rattle.task_frame.specs.laws_of_journals.Own.{IsBy, IsOwned}
 use Rattle.run_model.specs.History.{Answer, step_at}
 use Rattle.task_frame.specs.Frame.{Frame, Site, inode_in}
 use Rattle.task_frame.specs.Tasks.{HashesBefore, HasPlayed, Tasked}
 use Rattle.task_frame.specs.declared.gathered.Gathered.{Gathered}
 use Rattle.task_laws.specs.Due.{slot_in}
-use Rattle.task_mind.specs.Value.{due_at}
+use Rattle.task_frame.specs.minds.Value.{due_at}
 
 -- a take asks by what its file's last check asked for
 abbrev pub AsksBy : List Event → ActionValue → Slot → Deed → Type 0

@@ -5,9 +5,9 @@ use Rattle.inode_meta.specs.declared.step.Who.{Who}
 use Rattle.inode_events.specs.Checks.{no_action}
 use Rattle.inode_events.specs.declared.told.Event.{Event}
 use Rattle.call_steps.specs.Mind.{Step}
-use Rattle.merged_laws.specs.Logs.{logged}
-use Rattle.merged_laws.specs.Steps.{Made, RisesWithin}
-use Rattle.rule_laws.specs.Checks.{ChecksFit, seen_by}
+use Rattle.task_frame.specs.laws_of_merging.Logs.{logged}
+use Rattle.task_frame.specs.laws_of_merging.Steps.{Made, RisesWithin}
+use Rattle.task_frame.specs.laws_of_rules.Checks.{ChecksFit, seen_by}
 use Rattle.run_model.specs.History.{Answer, event_in, hear, rule_in, signal_in, start, step_at, thought, who_at}
 use Rattle.run_model.specs.Scene.{Program}
 use Rattle.task_frame.specs.Frame.{Frame, mode_in, scene_of}

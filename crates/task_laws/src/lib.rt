@@ -9,6 +9,9 @@ ghost use Rattle.task_laws.specs.Quiet.{QuietIsLeft, QuietIsPlayed};
 ghost use Rattle.task_laws.specs.Ready.{ReadyByLook};
 ghost use Rattle.task_laws.specs.Steps.{FreshIsTask, StepIsPlayed};
 
+pub use task_frame as frames;
+pub use task_frame::{books, inodes};
+
 /// A task that has made no step is a task of each world whose passes it has.
 pub fn fresh_is_task()
     ensures { FreshIsTask }

@@ -1,8 +1,8 @@
 -- The number of a step within its call.
 use Rattle.std.proofs.Common.{◌≡◌, ℕ, Bool, Option, None, Some, refl}
 use Rattle.std.specs.Prelude.{unwrap_or}
-use Rattle.call_steps.specs.Mind.{Mind, Progress, begun, number_of}
-use Rattle.call_steps.specs.declared.call.Call.{Call}
+use Rattle.run_model.specs.steps.Mind.{Mind, Progress, begun, number_of}
+use Rattle.run_model.specs.steps.declared.call.Call.{Call}
 use Rattle.task_mind.specs.Value.{step_of}
 
 -- that of a call that begins is 0

@@ -1,8 +1,8 @@
 -- What an outcome makes of the call in progress, and so of the task.
 use Rattle.std.specs.Prelude.{ℕ, ◌+◌, ◌++◌, List, Option, None, Some, if◌then◌else◌, option_to_list}
-use Rattle.call_steps.specs.Mind.{Mind, handles_left, is_done}
-use Rattle.call_steps.specs.declared.held.Handle.{Handle}
-use Rattle.call_steps.specs.declared.reply.Reply.{Reply}
+use Rattle.run_model.specs.steps.Mind.{Mind, handles_left, is_done}
+use Rattle.run_model.specs.steps.declared.held.Handle.{Handle}
+use Rattle.run_model.specs.steps.declared.reply.Reply.{Reply}
 use Rattle.run_model.specs.History.{Thought, thought_with}
 use Rattle.task_mind.specs.Value.{progress_in}
 use Rattle.task_mind.specs.declared.heard.Answer.{Answer}

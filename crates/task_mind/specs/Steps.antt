@@ -1,8 +1,8 @@
 -- The steps and deeds that a task's own words name.
 use Rattle.std.specs.Prelude.{ℕ}
-use Rattle.inode_events.specs.declared.deed.Deed.{Deed}
-use Rattle.inode_events.specs.declared.deed.Deed.TheVariants as deed
-use Rattle.call_steps.specs.Mind as minds
+use Rattle.run_model.specs.events.declared.deed.Deed.{Deed}
+use Rattle.run_model.specs.events.declared.deed.Deed.TheVariants as deed
+use Rattle.run_model.specs.steps.Mind as minds
 use Rattle.task_mind.specs.declared.step.Doing.{Doing}
 use Rattle.task_mind.specs.declared.step.Doing.TheVariants as doing
 use Rattle.task_mind.specs.declared.step.Step.{Step}

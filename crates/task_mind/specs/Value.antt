@@ -1,11 +1,11 @@
 -- What contracts see of what a task knows.
 use Rattle.std.specs.Prelude.{◌≡◌, ℕ, Bool, Option, None, Some, is_none, option_map}
-use Rattle.policy_text.specs.ActionValue.{ActionValue}
-use Rattle.call_steps.specs.Mind as minds
-use Rattle.call_steps.specs.Mind.{Mind, progress_of}
-use Rattle.call_steps.specs.declared.ask.Ask.{Ask}
-use Rattle.call_steps.specs.declared.call.Call.{Call}
-use Rattle.call_steps.specs.declared.call.Call.TheVariants as call
+use Rattle.run_model.specs.policy.ActionValue.{ActionValue}
+use Rattle.run_model.specs.steps.Mind as minds
+use Rattle.run_model.specs.steps.Mind.{Mind, progress_of}
+use Rattle.run_model.specs.steps.declared.ask.Ask.{Ask}
+use Rattle.run_model.specs.steps.declared.call.Call.{Call}
+use Rattle.run_model.specs.steps.declared.call.Call.TheVariants as call
 use Rattle.run_model.specs.History.{Thought, call_at}
 use Rattle.run_model.specs.Scene.{Program}
 use Rattle.task_mind.specs.declared.progress.Progress.{Progress}

@@ -2,9 +2,9 @@
 
 ghost use Rattle.std.specs.Prelude.{◌≡◌, suc, ◌≤◌, ◌<◌, ◌++◌, length, take, drop, option_map, MatchOption, vec_capacity, vec_len};
 ghost use Rattle.std.specs.Option.{option_and_then};
-ghost use Rattle.call_steps.specs.Handles.{hand_of, handle_of, held_by, is_free_for, name_ended, name_made, name_used, names_of, same_name, without};
+ghost use Rattle.run_model.specs.steps.Handles.{hand_of, handle_of, held_by, is_free_for, name_ended, name_made, name_used, names_of, same_name, without};
 
-use call_steps::{Call, Hand, Handle, Held, Name};
+use run_model::steps::{Call, Hand, Handle, Held, Name};
 
 fn same_name(a: Name, b: Name) -> bool
     ensures { result ≡ same_name a b }

@@ -2,17 +2,17 @@
 
 ghost use Rattle.std.specs.Prelude.{◌≡◌, ◌+◌, ◌<◌, ◌^◌, option_to_list, vec_capacity, vec_len};
 ghost use Rattle.std.specs.Option.{option_copied};
-ghost use Rattle.call_steps.specs.Mind.{Mind, file_after, handle_made, is_done, moved};
-ghost use Rattle.call_steps.specs.Steps.{given, next};
+ghost use Rattle.run_model.specs.steps.Mind.{Mind, file_after, handle_made, is_done, moved};
+ghost use Rattle.run_model.specs.steps.Steps.{given, next};
 ghost use Rattle.task_mind.specs.Hearing.{after_heard, handles_settled};
 ghost use Rattle.task_mind.specs.Value.{progress_in};
 
 use crate::handles::{name_ended, name_made, remove};
 use crate::progress::Progress;
-use call_steps::{Ask, Call, Course, Handle, Name, Next, Reply, next_by};
-use inode_events::Told;
-use inode_meta::Mode;
-use policy_text::Action;
+use run_model::events::Told;
+use run_model::meta::Mode;
+use run_model::policy::Action;
+use run_model::steps::{Ask, Call, Course, Handle, Name, Next, Reply, next_by};
 
 /// How a call is answered.
 #[derive(Clone, Copy)]

@@ -10,7 +10,8 @@ mod mind;
 mod progress;
 mod step;
 
-pub use inode_meta::OutOfMemory;
 pub use mind::TaskMind;
 pub use progress::Progress;
+pub use run_model::matching;
+pub use std::alloc::AllocError as OutOfMemory;
 pub use step::{Doing, Step};

@@ -1,9 +1,9 @@
 ghost use Rattle.std.specs.Prelude.{◌≡◌, ℕ, ◌+◌, ◌≤◌, ◌<◌, ◌^◌, ◌++◌, if◌then◌else◌, option_map, slice_get, unwrap_or, vec_capacity, vec_len, length, IfOk, OnOk, OnSome};
 ghost use Rattle.std.specs.Option.{option_copied};
-ghost use Rattle.call_steps.specs.Handles.{handle_of};
-ghost use Rattle.call_steps.specs.Mind.{progress_of};
-ghost use Rattle.call_steps.specs.Steps.{given};
-ghost use Rattle.inode_events.specs.Checks.{no_action};
+ghost use Rattle.run_model.specs.steps.Handles.{handle_of};
+ghost use Rattle.run_model.specs.steps.Mind.{progress_of};
+ghost use Rattle.run_model.specs.steps.Steps.{given};
+ghost use Rattle.run_model.specs.events.Checks.{no_action};
 ghost use Rattle.run_model.specs.Ended.{is_done};
 ghost use Rattle.run_model.specs.History.{call_at, hear, start, step_at, who_at};
 ghost use Rattle.task_mind.specs.Hearing.{thought_after};
@@ -16,12 +16,12 @@ use crate::handles::handle_of;
 use crate::heard::{Heard, heard_of, settle};
 use crate::progress::{Progress, begun};
 use crate::step::{Step, step_by};
-use call_steps::{Ask, Call, Handle, Name, Reply};
-use inode_events::Told;
-use inode_meta::{Cred, Mode, OutOfMemory, Who};
-use policy_text::Action;
 use run_model::EndedTask;
-use std::alloc::{AllocError, Global};
+use run_model::events::Told;
+use run_model::meta::{Cred, Mode, Who};
+use run_model::policy::Action;
+use run_model::steps::{Ask, Call, Handle, Name, Reply};
+use std::alloc::{AllocError as OutOfMemory, Global};
 use std::marker::Model;
 
 /// A task as it knows itself. Contracts see its program, where it stands with its replies, the
@@ -61,7 +61,7 @@ impl TaskMind {
         ensures checked { IfOk result (λ t. t.checked ≡ no_action) }
     {
         if calls.len() > u32::MAX as usize {
-            return Err(AllocError);
+            return Err(OutOfMemory);
         }
         // A reply a call, and what `reserve` asks for once all are answered.
         let replies = Vec::with_capacity(alloc, calls.len() + 1)?;
@@ -204,7 +204,7 @@ impl TaskMind {
             None => 0,
         };
         if step == u32::MAX {
-            return Err(AllocError);
+            return Err(OutOfMemory);
         }
         self.replies.reserve(1)?;
         self.handles.reserve(1)

@@ -1,13 +1,13 @@
 //! How a call begins.
 
 ghost use Rattle.std.specs.Prelude.{◌≡◌};
-ghost use Rattle.call_steps.specs.Mind.{begun, file_of, how_held, inode_of};
+ghost use Rattle.run_model.specs.steps.Mind.{begun, file_of, how_held, inode_of};
 ghost use Rattle.task_mind.specs.Value.{progress_in};
 
 use crate::handles::hand_of;
-use call_steps::{Call, Course, Due, Handle, Held, Plan};
-use inode_events::How;
-use inode_meta::Mode;
+use run_model::events::How;
+use run_model::meta::Mode;
+use run_model::steps::{Call, Course, Due, Handle, Held, Plan};
 
 /// A call in progress.
 #[derive(Clone, Copy, Debug, PartialEq, Eq)]

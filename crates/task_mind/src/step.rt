@@ -1,14 +1,14 @@
 //! The step that is due, with what the call says of it.
 
 ghost use Rattle.std.specs.Prelude.{◌≡◌};
-ghost use Rattle.call_steps.specs.Mind.{deed_of, plain_step, step_by};
+ghost use Rattle.run_model.specs.steps.Mind.{deed_of, plain_step, step_by};
 ghost use Rattle.task_mind.specs.Value.{progress_in};
 ghost use Rattle.task_mind.specs.Steps.{deed_in, step_in};
 
 use crate::progress::Progress;
-use call_steps::{Ask, Call};
-use inode_events::{BoxedBytes, BoxedValue, Change, Deed, How};
-use policy_text::{Func, Rule};
+use run_model::events::{BoxedBytes, BoxedValue, Change, Deed, How};
+use run_model::policy::{Func, Rule};
+use run_model::steps::{Ask, Call};
 
 /// An event on an inode, before it has happened. Bytes are the call's, and none is copied.
 #[derive(Clone, Copy, Drop)]

@@ -1,1 +1,4 @@
 pub mod Running
+pub mod Going
+pub mod Stopping
+pub use Rattle.task_core.proofs.about_closes

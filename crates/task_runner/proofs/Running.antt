@@ -3,14 +3,14 @@ use Rattle.std.proofs.Common.{◌≡◌, ◌<◌, ℕ, Bool, true, false, List, 
 use Rattle.std.specs.Prelude.{◌||◌, slice_get, slice_index_or}
 use Rattle.std.proofs.lemmas.List.{length-map}
 use Rattle.std.proofs.lemmas.Option.{slice_get-get_or}
-use Rattle.ending_laws.proofs.Rounds.{still as still_at_rest}
+use Rattle.task_core.proofs.laws_of_endings.Rounds.{still as still_at_rest}
 use Rattle.run_model.specs.Rounds.{RoundsTo, moves}
 use Rattle.run_model.specs.Scene.{Program}
 use Rattle.run_model.specs.Turns.{Moment}
-use Rattle.task_frame.specs.Runs.{AreTasks, program_of}
-use Rattle.task_frame.specs.Tasks.{Tasked}
-use Rattle.task_frame.specs.World.{WorldValue}
-use Rattle.turn_laws.specs.Runs.{HasTurned, StillRuns, scene_in}
+use Rattle.task_core.specs.frames.Runs.{AreTasks, program_of}
+use Rattle.task_core.specs.frames.Tasks.{Tasked}
+use Rattle.task_core.specs.frames.World.{WorldValue}
+use Rattle.task_core.specs.laws_of_turns.Runs.{HasTurned, StillRuns, scene_in}
 
 -- the task of this number is there
 pub task_there : (tasks : List Tasked) (k : ℕ) (t : Tasked) → k < length tasks

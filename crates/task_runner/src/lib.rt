@@ -1,9 +1,15 @@
-//! Runs of tasks on one thread: a schedule, and rounds until none moves.
+//! Runs of tasks: by a schedule or in rounds on one thread, and on several threads.
 #![tactic(auto)]
 
+mod parts;
 mod rounds;
+mod threads;
 mod turns;
 
-pub use grow_list::OutOfMemory;
+pub use ima_io as outer;
 pub use rounds::run_rounds;
+pub use std::alloc::AllocError as OutOfMemory;
+pub use task_core as tasks;
+pub use task_core::frames;
+pub use threads::run_threads;
 pub use turns::run_schedule;

@@ -2,13 +2,12 @@
 
 ghost use Rattle.std.specs.Prelude.{◌≡◌, ℕ, ◌<◌, ◌||◌, false, IfOk, OnOk, length};
 ghost use Rattle.run_model.specs.Rounds.{RoundsTo, is_moved, moves};
-ghost use Rattle.task_frame.specs.Runs.{AreTasks};
-ghost use Rattle.turn_laws.specs.Runs.{IsRound, StillRuns, moment_in, scene_in};
+ghost use Rattle.task_core.specs.frames.Runs.{AreTasks};
+ghost use Rattle.task_core.specs.laws_of_turns.Runs.{IsRound, StillRuns, moment_in, scene_in};
 
 use crate::turns::turn_at;
-use grow_list::OutOfMemory;
 use ima_io::Gate;
-use std::alloc::AllocError;
+use std::alloc::AllocError as OutOfMemory;
 use task_core::{Task, Turn, World};
 
 // Whether a task has moved, before or by this turn.
@@ -56,5 +55,5 @@ pub fn run_rounds<G: Gate>(
             return Ok(());
         }
     }
-    Err(AllocError)
+    Err(OutOfMemory)
 }

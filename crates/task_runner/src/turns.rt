@@ -2,11 +2,11 @@
 
 ghost use Rattle.std.specs.Prelude.{◌≡◌, ◌<◌, All, IfOk, OnOk, length};
 ghost use Rattle.run_model.specs.Turns.{turns_of};
-ghost use Rattle.task_frame.specs.Runs.{AreTasks};
-ghost use Rattle.turn_laws.specs.Runs.{IsTurn, StillRuns, moment_in, scene_in};
+ghost use Rattle.task_core.specs.frames.Runs.{AreTasks};
+ghost use Rattle.task_core.specs.laws_of_turns.Runs.{IsTurn, StillRuns, moment_in, scene_in};
 
-use grow_list::OutOfMemory;
 use ima_io::{Gate, Who};
+use std::alloc::AllocError as OutOfMemory;
 use task_core::{Task, Turn, World};
 
 /// One turn of the task of this number, behind the gate unless its program is over.

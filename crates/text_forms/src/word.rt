@@ -2,11 +2,11 @@ ghost use Rattle.std.specs.Prelude.{◌≡◌, map, IfOk};
 ghost use Rattle.std.specs.List.{list_all};
 ghost use Rattle.text_forms.specs.Words.{words, is_visible, is_word};
 
-use std::alloc::{AllocError, Global};
+use std::alloc::{AllocError as OutOfMemory, Global};
 
 /// The words of a line, parted by exactly one space each: two spaces in a row, or one at an end,
 /// leave an empty word.
-pub fn words(alloc: Global, line: &[u8]) -> Result<Vec<&[u8]>, AllocError>
+pub fn words(alloc: Global, line: &[u8]) -> Result<Vec<&[u8]>, OutOfMemory>
     ensures { IfOk result (λ v. map (λ w. w.now) v.items ≡ words line.now) }
 {
     line.split(|b| *b == b' ').collect(alloc)

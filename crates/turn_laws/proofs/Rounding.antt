@@ -7,9 +7,9 @@ use Rattle.run_model.specs.Rounds.{all_tasks, any_moves, is_moved, moves, number
 use Rattle.run_model.specs.Scene.{Scene}
 use Rattle.run_model.specs.Turns.{Moment, turn, turns_of}
 use Rattle.run_model.specs.declared.turn.Turn.{Turn}
-use Rattle.task_frame.specs.Runs.{program_of}
-use Rattle.task_frame.specs.Tasks.{Tasked}
-use Rattle.task_frame.specs.World.{WorldValue}
+use Rattle.task_laws.specs.frames.Runs.{program_of}
+use Rattle.task_laws.specs.frames.Tasks.{Tasked}
+use Rattle.task_laws.specs.frames.World.{WorldValue}
 use Rattle.turn_laws.proofs.Turning.{scene_same, still_more, turn_is_more}
 use Rattle.turn_laws.specs.Laws.{RoundIsMore, RoundIsWhole, RoundsAreOver, TurnInRound}
 use Rattle.turn_laws.specs.Runs.{IsInRound, IsTurn, StillRuns, moment_in, scene_in}

@@ -3,16 +3,16 @@ use Rattle.std.proofs.Common.{◌≡◌, ◌≢◌, ℕ, zero, suc, List, [], �
 use Rattle.std.specs.Prelude.{◌⊎◌, slice_get, slice_set}
 use Rattle.std.proofs.lemmas.List.{map-set}
 use Rattle.std.proofs.lemmas.Option.{same_Some, slice_get_within}
-use Rattle.rule_laws.proofs.Owned.{set_parts}
+use Rattle.task_laws.proofs.laws_of_rules.Owned.{set_parts}
 use Rattle.run_model.specs.History.{Thought}
 use Rattle.run_model.specs.Rounds.{is_moved, moves_at}
 use Rattle.run_model.specs.Scene.{Program, Scene}
 use Rattle.run_model.specs.Turns.{Moment, Turned, go, turned}
 use Rattle.run_model.specs.declared.turn.Turn.{Turn}
-use Rattle.task_frame.specs.Frame.{Frame}
-use Rattle.task_frame.specs.Runs.{AreTasks, IsNth, program_of, programs_of, thought_of}
-use Rattle.task_frame.specs.Tasks.{IsTask, Tasked}
-use Rattle.task_frame.specs.World.{WorldValue}
+use Rattle.task_laws.specs.frames.Frame.{Frame}
+use Rattle.task_laws.specs.frames.Runs.{AreTasks, IsNth, program_of, programs_of, thought_of}
+use Rattle.task_laws.specs.frames.Tasks.{IsTask, Tasked}
+use Rattle.task_laws.specs.frames.World.{WorldValue}
 use Rattle.task_laws.proofs.Eventing.{get_map}
 use Rattle.turn_laws.specs.Laws.{StepIsTurn}
 use Rattle.turn_laws.specs.Runs.{GoesTo, IsTurn, KeepsTask, StillRuns, moment_in, scene_in}

@@ -2,10 +2,10 @@
 use Rattle.std.proofs.Common.{◌≡◌, ℕ, List, [], ◌∷◌, ◌++◌, refl, sym, ◌∙◌, ap}
 use Rattle.run_model.specs.Scene.{Program, Scene}
 use Rattle.run_model.specs.Turns.{Moment, turn, turns_of}
-use Rattle.task_frame.specs.Frame.{Frame, scene_of}
-use Rattle.task_frame.specs.Runs.{programs_of}
-use Rattle.task_frame.specs.Tasks.{Tasked}
-use Rattle.task_frame.specs.World.{WorldValue}
+use Rattle.task_laws.specs.frames.Frame.{Frame, scene_of}
+use Rattle.task_laws.specs.frames.Runs.{programs_of}
+use Rattle.task_laws.specs.frames.Tasks.{Tasked}
+use Rattle.task_laws.specs.frames.World.{WorldValue}
 use Rattle.turn_laws.specs.Laws.{TurnIsMore}
 use Rattle.turn_laws.specs.Runs.{StillRuns, moment_in, scene_in}
 

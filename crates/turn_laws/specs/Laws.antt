@@ -2,9 +2,9 @@
 use Rattle.std.specs.Prelude.{◌≡◌, ℕ, ◌+◌, Bool, true, false, ◌||◌, List, [], ◌∷◌, ◌++◌, length, Some, slice_get, slice_set}
 use Rattle.run_model.specs.Rounds.{RoundsTo, is_moved}
 use Rattle.run_model.specs.declared.turn.Turn.{Turn}
-use Rattle.task_frame.specs.Runs.{AreTasks}
-use Rattle.task_frame.specs.Tasks.{Tasked}
-use Rattle.task_frame.specs.World.{WorldValue}
+use Rattle.task_laws.specs.frames.Runs.{AreTasks}
+use Rattle.task_laws.specs.frames.Tasks.{Tasked}
+use Rattle.task_laws.specs.frames.World.{WorldValue}
 use Rattle.turn_laws.specs.Runs.{GoesTo, HasRounded, HasTurned, IsInRound, IsRound, IsTurn, KeepsTask, StillRuns, moment_in, scene_in}
 
 -- a step of one of the tasks is a turn of all; without one, as where memory ran out, they are

@@ -4,10 +4,10 @@ use Rattle.run_model.specs.Rounds.{all_tasks, any_moves, is_moved, moves, number
 use Rattle.run_model.specs.Scene.{Program, Scene}
 use Rattle.run_model.specs.Turns.{Moment, go, turn, turns_of}
 use Rattle.run_model.specs.declared.turn.Turn.{Turn}
-use Rattle.task_frame.specs.Frame.{scene_of}
-use Rattle.task_frame.specs.Runs.{AreTasks, moment_of, programs_of}
-use Rattle.task_frame.specs.Tasks.{IsTask, Tasked}
-use Rattle.task_frame.specs.World.{WorldValue}
+use Rattle.task_laws.specs.frames.Frame.{scene_of}
+use Rattle.task_laws.specs.frames.Runs.{AreTasks, moment_of, programs_of}
+use Rattle.task_laws.specs.frames.Tasks.{IsTask, Tasked}
+use Rattle.task_laws.specs.frames.World.{WorldValue}
 
 -- the scene of these tasks in a world
 abbrev pub scene_in : WorldValue → List Tasked → Scene

@@ -5,7 +5,7 @@ use crate::cases::Case;
 use crate::outcome::{Outcome, answer, none, served};
 use ima_io::{MemSink, MemSource};
 use ima_top::{DONE, MOST_INPUT, READ_FAULT, REFUSED, TOO_LONG, USAGE, WRITE_FAULT};
-use std::alloc::{AllocError, Global};
+use std::alloc::{AllocError as OutOfMemory, Global};
 use std::sync::Wait;
 use std::thread::Threads;
 
@@ -27,7 +27,7 @@ impl Tried {
         rt: &R,
         alloc: Global,
         case: &Case<'_>,
-    ) -> Result<Tried, AllocError> {
+    ) -> Result<Tried, OutOfMemory> {
         Ok(Tried {
             reads: reads_fail(rt, alloc, case)?,
             writes: writes_fail(rt, alloc, case)?,
@@ -46,7 +46,7 @@ fn failing_read<R: Threads + Wait + Sync>(
     alloc: Global,
     case: &Case<'_>,
     call: u64,
-) -> Result<Outcome, AllocError> {
+) -> Result<Outcome, OutOfMemory> {
     let input = case.input.as_bytes().to_vec(alloc)?;
     let mut script = MemSource::new(input, 32, vec![in alloc; call]?);
     let out = MemSink::new(alloc, case.out.len(), 4096, none(alloc))?;
@@ -59,7 +59,7 @@ fn reads_fail<R: Threads + Wait + Sync>(
     rt: &R,
     alloc: Global,
     case: &Case<'_>,
-) -> Result<bool, AllocError> {
+) -> Result<bool, OutOfMemory> {
     let last = case.input.len().div_ceil(32) as u64;
     for call in 0..=last {
         if !failing_read(rt, alloc, case, call)?.is(READ_FAULT, b"", "read fault\n") {
@@ -78,7 +78,7 @@ fn failing_write<R: Threads + Wait + Sync>(
     room: usize,
     piece: usize,
     call: u64,
-) -> Result<Outcome, AllocError>
+) -> Result<Outcome, OutOfMemory>
     requires { 0 < piece }
 {
     let input = case.input.as_bytes().to_vec(alloc)?;
@@ -93,7 +93,7 @@ fn writes_fail<R: Threads + Wait + Sync>(
     rt: &R,
     alloc: Global,
     case: &Case<'_>,
-) -> Result<bool, AllocError> {
+) -> Result<bool, OutOfMemory> {
     let whole = case.out.as_bytes();
     for taken in 0..whole.len() {
         let got = failing_write(rt, alloc, case, whole.len(), 1, taken as u64)?;
@@ -110,7 +110,7 @@ fn rooms_end<R: Threads + Wait + Sync>(
     rt: &R,
     alloc: Global,
     case: &Case<'_>,
-) -> Result<bool, AllocError> {
+) -> Result<bool, OutOfMemory> {
     let whole = case.out.as_bytes();
     let Some(front) = whole.get(..30) else {
         return Ok(false);
@@ -128,7 +128,7 @@ fn notes_fail<R: Threads + Wait + Sync>(
     rt: &R,
     alloc: Global,
     case: &Case<'_>,
-) -> Result<bool, AllocError> {
+) -> Result<bool, OutOfMemory> {
     let Some((front, _)) = case.input.trim_end().rsplit_once('\n') else {
         return Ok(false);
     };
@@ -144,7 +144,7 @@ fn cuts_are_refused<R: Threads + Wait + Sync>(
     rt: &R,
     alloc: Global,
     case: &Case<'_>,
-) -> Result<bool, AllocError> {
+) -> Result<bool, OutOfMemory> {
     let script = case.input.as_bytes();
     let mut line = 1u64;
     for at in 0..script.len() {
@@ -165,7 +165,7 @@ fn behind_a_comment<R: Threads + Wait + Sync>(
     alloc: Global,
     case: &Case<'_>,
     bytes: usize,
-) -> Result<Outcome, AllocError> {
+) -> Result<Outcome, OutOfMemory> {
     let mut input = vec![in alloc; b'#'; bytes]?;
     input.push(b'\n')?;
     input.extend_from_slice(case.input.as_bytes())?;
@@ -180,7 +180,7 @@ fn limits_hold<R: Threads + Wait + Sync>(
     rt: &R,
     alloc: Global,
     case: &Case<'_>,
-) -> Result<bool, AllocError> {
+) -> Result<bool, OutOfMemory> {
     let comment = MOST_INPUT
         .saturating_sub(case.input.len())
         .saturating_sub(1);
@@ -198,7 +198,7 @@ fn words_are_usage<R: Threads + Wait + Sync>(
     rt: &R,
     alloc: Global,
     case: &Case<'_>,
-) -> Result<bool, AllocError> {
+) -> Result<bool, OutOfMemory> {
     let none_of_them = [
         "", "run x", "x run", "-run", "--help", "help", "gen", "gen 0", "gen 01", "gen x",
         "gen 1 1",

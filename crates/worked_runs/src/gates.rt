@@ -2,7 +2,7 @@
 use crate::outcome::answer_behind;
 use ima_io::{Gate, Who};
 use ima_top::DONE;
-use std::alloc::{AllocError, Global};
+use std::alloc::{AllocError as OutOfMemory, Global};
 use std::hint;
 use std::sync::Wait;
 use std::sync::atomic::{AtomicBool, AtomicUsize, Ordering};
@@ -54,7 +54,7 @@ fn is_passed_by<R: Threads + Wait + Sync>(
     script: &str,
     ending: &str,
     steps: &[Step],
-) -> Result<bool, AllocError> {
+) -> Result<bool, OutOfMemory> {
     let gate = Watch {
         steps,
         at: AtomicUsize::new(0),
@@ -68,7 +68,7 @@ fn is_passed_by<R: Threads + Wait + Sync>(
 
 /// Whether each turn of a task whose program isn't over passes the gate before it: a blocked one
 /// too, and none behind the last call.
-pub fn turns_pass<R: Threads + Wait + Sync>(rt: &R, alloc: Global) -> Result<bool, AllocError> {
+pub fn turns_pass<R: Threads + Wait + Sync>(rt: &R, alloc: Global) -> Result<bool, OutOfMemory> {
     let open = [
         (0, 0, 0),
         (0, 0, 1),
@@ -151,7 +151,7 @@ pub fn tasks_meet<R: Threads + Wait + Sync>(
     alloc: Global,
     ending: &str,
     turns: u64,
-) -> Result<bool, AllocError> {
+) -> Result<bool, OutOfMemory> {
     let gate = Meeting {
         turns,
         first: AtomicBool::new(false),

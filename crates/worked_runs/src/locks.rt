@@ -1,19 +1,18 @@
 // Steps of two tasks on threads, while a third thread holds the file of the one.
 ghost use Rattle.std.specs.Prelude.{◌≡◌, ◌<◌, All, length};
 ghost use Rattle.std.specs.Thread.{IsSync};
-ghost use Rattle.task_frame.specs.Tasks.{IsTask};
+ghost use Rattle.ima_top.specs.frames.Tasks.{IsTask};
 
 use crate::gates::sees;
 use crate::start::started;
-use grow_list::OutOfMemory;
-use script_text::{ScriptErr, parse};
-use std::alloc::Global;
+use ima_top::scripts::{ScriptErr, parse};
+use ima_top::tasks::{Live, Name, Task, Turn, World};
+use std::alloc::{AllocError as OutOfMemory, Global};
 use std::marker::Brand;
 use std::sync::Wait;
 use std::sync::atomic::{AtomicBool, Ordering};
 use std::thread;
 use std::thread::{Threads, join};
-use task_core::{Live, Name, Task, Turn, World};
 
 // Two tasks, each of which opens a file of its own.
 const OPENS: &str = "imakern 1\n\

@@ -19,7 +19,7 @@ mod start;
 use crate::cases::Case;
 use crate::outcome::Outcome;
 use anyhow::{Context, Result, ensure};
-use std::alloc::{AllocError, Global};
+use std::alloc::{AllocError as OutOfMemory, Global};
 use std::fs;
 use std::sync::Wait;
 use std::thread::Threads;
@@ -69,7 +69,7 @@ fn first_other<R: Threads + Wait + Sync>(
     alloc: Global,
     case: &Case<'_>,
     times: u32,
-) -> Result<Option<Outcome>, AllocError> {
+) -> Result<Option<Outcome>, OutOfMemory> {
     for _ in 0..times {
         let got = outcome::answer(rt, alloc, case.words, case.input.as_bytes())?;
         if !case.holds(&got) {

@@ -1,7 +1,7 @@
 // What `serve` does with words and an input in memory.
 use ima_io::{FreeGate, Gate, MemSink, MemSource};
 use ima_top::serve;
-use std::alloc::{AllocError, Global};
+use std::alloc::{AllocError as OutOfMemory, Global};
 use std::sync::Wait;
 use std::thread::Threads;
 
@@ -33,7 +33,7 @@ pub fn answer<R: Threads + Wait + Sync>(
     alloc: Global,
     words: &str,
     input: &[u8],
-) -> Result<Outcome, AllocError> {
+) -> Result<Outcome, OutOfMemory> {
     answer_behind(rt, alloc, words, input, &FreeGate)
 }
 
@@ -44,7 +44,7 @@ pub fn answer_behind<G: Gate + Sync, R: Threads + Wait + Sync>(
     words: &str,
     input: &[u8],
     gate: &G,
-) -> Result<Outcome, AllocError> {
+) -> Result<Outcome, OutOfMemory> {
     let mut script = MemSource::new(input.to_vec(alloc)?, 4096, none(alloc));
     let out = MemSink::new(alloc, 1_000_000, 4096, none(alloc))?;
     let note = MemSink::new(alloc, 200, 200, none(alloc))?;
@@ -59,7 +59,7 @@ pub fn served<R: Threads + Wait + Sync>(
     script: &mut MemSource,
     out: MemSink,
     note: MemSink,
-) -> Result<Outcome, AllocError> {
+) -> Result<Outcome, OutOfMemory> {
     served_behind(rt, alloc, words, script, out, note, &FreeGate)
 }
 
@@ -72,7 +72,7 @@ fn served_behind<G: Gate + Sync, R: Threads + Wait + Sync>(
     mut out: MemSink,
     mut note: MemSink,
     gate: &G,
-) -> Result<Outcome, AllocError> {
+) -> Result<Outcome, OutOfMemory> {
     let mut list = Vec::new(alloc);
     for word in words.split(' ').filter(|word| !word.is_empty()) {
         list.push(String::from_str(alloc, word)?)?;

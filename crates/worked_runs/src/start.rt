@@ -1,13 +1,12 @@
 // The world and the tasks of a script before their first turn.
 ghost use Rattle.std.specs.Prelude.{◌≡◌, All, IfOk, length};
-ghost use Rattle.task_frame.specs.Tasks.{IsTask};
+ghost use Rattle.ima_top.specs.frames.Tasks.{IsTask};
 
-use grow_list::OutOfMemory;
-use script_run::crew;
-use script_scene::{ScriptParts, parts_of};
-use script_text::Script;
-use std::alloc::Global;
-use task_core::{Task, World};
+use ima_top::runs::crew;
+use ima_top::scenes::{ScriptParts, parts_of};
+use ima_top::scripts::Script;
+use ima_top::tasks::{Task, World};
+use std::alloc::{AllocError as OutOfMemory, Global};
 
 /// The world and the tasks of the script, and how many inodes there are.
 pub fn started(alloc: Global, script: Script) -> Result<(World, Vec<Task>, usize), OutOfMemory>

@@ -13,24 +13,24 @@ use Rattle.inode_events.specs.Past.{past}
 use Rattle.inode_events.specs.Inode.{Inode}
 use Rattle.inode_events.specs.Legal.{EachFollows}
 use Rattle.inode_events.specs.declared.told.Event.{Event}
-use Rattle.own_laws.specs.Own.{IsOwned}
-use Rattle.ending_laws.specs.Resting.{AreLegal, IsReached, Resting}
-use Rattle.ending_laws.proofs.Ends.{ends, paid_when}
-use Rattle.merged_laws.specs.Logs.{log}
-use Rattle.merged_laws.specs.Steps.{Rises}
-use Rattle.merged_laws.proofs.Joining.{joined}
+use Rattle.task_frame.specs.laws_of_journals.Own.{IsOwned}
+use Rattle.task_frame.specs.laws_of_endings.Resting.{AreLegal, IsReached, Resting}
+use Rattle.task_frame.proofs.laws_of_endings.Ends.{ends, paid_when}
+use Rattle.task_frame.specs.laws_of_merging.Logs.{log}
+use Rattle.task_frame.specs.laws_of_merging.Steps.{Rises}
+use Rattle.task_frame.proofs.laws_of_merging.Joining.{joined}
 use Rattle.policy_cell.specs.declared.cell.RuleEntry.{RuleEntry}
-use Rattle.rule_laws.specs.Checks.{SeesMore, seen_of}
-use Rattle.rule_laws.specs.Moments.{seen_in}
-use Rattle.rule_laws.proofs.Checking.{law_fits_are_suited}
-use Rattle.run_model.specs.History.{Thought, own, own_rules, own_signals, thought}
-use Rattle.run_model.specs.Scene.{Program, Scene, Station, inode_of, mode_of}
-use Rattle.run_model.specs.Served.{IsServed, RulesRise, Run, Served, events_of, rules_of}
-use Rattle.run_model.specs.Turns.{State, run_at}
-use Rattle.step_laws.specs.NextSteps.{IsFit}
-use Rattle.step_laws.specs.Rests.{AreFit}
-use Rattle.step_laws.specs.Stations.{IsWithin}
-use Rattle.step_laws.proofs.Rests.{rests}
+use Rattle.task_frame.specs.laws_of_rules.Checks.{SeesMore, seen_of}
+use Rattle.task_frame.specs.laws_of_rules.Moments.{seen_in}
+use Rattle.task_frame.proofs.laws_of_rules.Checking.{law_fits_are_suited}
+use Rattle.task_frame.specs.model.History.{Thought, own, own_rules, own_signals, thought}
+use Rattle.task_frame.specs.model.Scene.{Program, Scene, Station, inode_of, mode_of}
+use Rattle.task_frame.specs.model.Served.{IsServed, RulesRise, Run, Served, events_of, rules_of}
+use Rattle.task_frame.specs.model.Turns.{State, run_at}
+use Rattle.task_frame.specs.laws_of_steps.NextSteps.{IsFit}
+use Rattle.task_frame.specs.laws_of_steps.Rests.{AreFit}
+use Rattle.task_frame.specs.laws_of_steps.Stations.{IsWithin}
+use Rattle.task_frame.proofs.laws_of_steps.Rests.{rests}
 use Rattle.task_frame.specs.Frame.{Frame, mode_in, scene_of, station_of}
 use Rattle.task_frame.specs.Runs.{AreTasks, HasMade, moment_of, program_of, programs_of, thought_of}
 use Rattle.task_frame.specs.Tasks.{PassesValue, Tasked}

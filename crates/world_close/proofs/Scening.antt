@@ -10,9 +10,9 @@ use Rattle.inode_events.specs.Legal.{Legal}
 use Rattle.inode_events.specs.Merged.{Journal}
 use Rattle.inode_events.specs.Past.{past}
 use Rattle.inode_events.specs.declared.told.Event.{Event}
-use Rattle.merged_laws.specs.Laws.{InodeClosed}
-use Rattle.run_model.specs.Scene.{Program, Scene, Station, inode_of}
-use Rattle.run_model.specs.Shown.{journals_of}
+use Rattle.task_frame.specs.laws_of_merging.Laws.{InodeClosed}
+use Rattle.task_frame.specs.model.Scene.{Program, Scene, Station, inode_of}
+use Rattle.task_frame.specs.model.Shown.{journals_of}
 use Rattle.task_frame.specs.Frame.{Frame, Site, scene_of, station_of}
 use Rattle.task_frame.specs.World.{StationValue, journal_of, site_of}
 use Rattle.world_close.specs.Closed.{AreStations, StationClosed}

@@ -4,7 +4,7 @@ use Rattle.std.specs.List.{AllZip}
 use Rattle.grow_list.specs.Shown.{ListName, Passed, no_name}
 use Rattle.ima_templates.specs.IsEntry.{IsEntry}
 use Rattle.ima_templates.specs.declared.entry.Entry.{Entry}
-use Rattle.pcr_bank.specs.declared.banks.Banks.{Banks}
+use Rattle.inode_events.specs.registers.declared.banks.Banks.{Banks}
 use Rattle.inode_events.specs.Callers.{caller_of}
 use Rattle.inode_events.specs.EndedInode.{EndedInodeValue, ended_inode}
 use Rattle.inode_events.specs.Legal.{Legal}
@@ -12,13 +12,13 @@ use Rattle.inode_events.specs.Past.{past}
 use Rattle.inode_events.specs.Semaphores.{LegalSemaphores}
 use Rattle.inode_events.specs.declared.told.Event.{Event}
 use Rattle.ima_templates.specs.Path.{IsMeasuredPath}
-use Rattle.inode_meta.specs.declared.measurement.Template.TheVariants.{Ima}
-use Rattle.book_laws.specs.Booked.{IsBooked}
-use Rattle.own_laws.specs.Own.{IsOwned}
-use Rattle.merged_laws.specs.Laws.{BookClosed}
+use Rattle.inode_events.specs.meta.declared.measurement.Template.TheVariants.{Ima}
+use Rattle.task_frame.specs.laws_of_journals.Booked.{IsBooked}
+use Rattle.task_frame.specs.laws_of_journals.Own.{IsOwned}
+use Rattle.task_frame.specs.laws_of_merging.Laws.{BookClosed}
 use Rattle.policy_cell.specs.declared.cell.RuleEntry.{RuleEntry}
-use Rattle.inode_cell.specs.Value.{CellValue}
-use Rattle.kept_journal.specs.Value.{nothing}
+use Rattle.task_frame.specs.inodes.Value.{CellValue}
+use Rattle.task_frame.specs.states.Value.{nothing}
 use Rattle.task_frame.specs.Frame.{Frame, Site}
 use Rattle.task_frame.specs.Tasks.{PassesValue}
 use Rattle.task_frame.specs.World.{IsStation, StationValue}

@@ -4,15 +4,15 @@ use Rattle.ima_templates.specs.declared.entry.Entry.{Entry}
 use Rattle.inode_events.specs.Legal.{Legal}
 use Rattle.inode_events.specs.Merged.{IsMerged, Journal}
 use Rattle.inode_events.specs.declared.told.Event.{Event}
-use Rattle.call_steps.specs.declared.ending.Ending.{Ending}
-use Rattle.ending_laws.specs.Resting.{IsReached}
+use Rattle.task_frame.specs.steps.declared.ending.Ending.{Ending}
+use Rattle.task_frame.specs.laws_of_endings.Resting.{IsReached}
 use Rattle.policy_cell.specs.declared.cell.RuleEntry.{RuleEntry}
-use Rattle.run_model.specs.Ended.{IsThrough, all_done, is_stuck}
-use Rattle.run_model.specs.Rounds.{moves}
-use Rattle.run_model.specs.Scene.{Scene}
-use Rattle.run_model.specs.Served.{Served}
-use Rattle.run_model.specs.Shown.{IsShown, journals_of}
-use Rattle.run_model.specs.Turns.{Moment, State, run_at}
+use Rattle.task_frame.specs.model.Ended.{IsThrough, all_done, is_stuck}
+use Rattle.task_frame.specs.model.Rounds.{moves}
+use Rattle.task_frame.specs.model.Scene.{Scene}
+use Rattle.task_frame.specs.model.Served.{Served}
+use Rattle.task_frame.specs.model.Shown.{IsShown, journals_of}
+use Rattle.task_frame.specs.model.Turns.{Moment, State, run_at}
 use Rattle.task_frame.specs.Frame.{Frame, scene_of}
 use Rattle.task_frame.specs.Runs.{AreTasks, HasMade, moment_of, programs_of}
 use Rattle.task_frame.specs.Tasks.{Tasked}

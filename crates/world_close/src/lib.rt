@@ -10,6 +10,9 @@ mod stations;
 ghost use Rattle.world_close.specs.Finished.{ClosedIsFinished, FinishedEnds, FinishedIsShown};
 
 pub use lists::{Lists, close_lists};
+pub use semaphore_cell as semaphores;
+pub use task_frame as frames;
+pub use task_frame::{books, inodes, minds};
 
 /// Where each task has looked at all lists, the closes give a run that is legal, merged and served.
 pub fn closed_is_finished()

@@ -7,15 +7,15 @@ ghost use Rattle.world_close.specs.Closed.{AreIdle, AreStations, WorldClosed, en
 
 use crate::rows::Row;
 use crate::stations::{Closed, close_stations};
-use grow_list::{OutOfMemory, Pass};
+use grow_list::Pass;
 use ima_templates::Entry;
+use inode_events::registers::Banks;
 use inode_events::{EndedInode, Event};
-use measure_book::Book;
-use pcr_bank::Banks;
 use policy_cell::{PolicyCell, RuleEntry};
 use semaphore_cell::SemaphoreCell;
-use std::alloc::Global;
+use std::alloc::{AllocError as OutOfMemory, Global};
 use std::marker::Model;
+use task_frame::books::Book;
 use task_frame::{Passes, Station};
 
 /// What is left of a world's lists. Contracts see the record of its fields, each vector as a list.

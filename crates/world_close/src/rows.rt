@@ -3,9 +3,9 @@ ghost use Rattle.std.specs.Prelude.{◌≡◌, ℕ, ◌+◌, ◌<◌, [], ◌∷
 ghost use Rattle.grow_list.specs.Shown.{ListName};
 ghost use Rattle.world_close.specs.Rows.{ColumnFits, RowsFit, RowsMid};
 
-use grow_list::{OutOfMemory, Pass};
+use grow_list::Pass;
 use inode_events::Event;
-use std::alloc::{AllocError, Global};
+use std::alloc::{AllocError as OutOfMemory, Global};
 use std::marker::Model;
 
 // The passes of one task, of each inode's journal in order.
@@ -57,7 +57,7 @@ fn take_one(
         unreachable!()
     };
     let Ok(()) = column.push(pass) else {
-        return Err(AllocError);
+        return Err(OutOfMemory);
     };
     Ok(())
 }

@@ -1,20 +1,20 @@
 // The inodes of a world, closed from the last one on.
 ghost use Rattle.std.specs.Prelude.{◌≡◌, ℕ, ◌+◌, [], ◌∷◌, ◌++◌, length, IfOk, OnOk};
 ghost use Rattle.grow_list.specs.Shown.{ListName};
-ghost use Rattle.inode_cell.specs.Ending.{HasPasses};
+ghost use Rattle.task_frame.specs.inodes.Ending.{HasPasses};
 ghost use Rattle.inode_events.specs.EndedInode.{ended_inode};
 ghost use Rattle.world_close.specs.Closed.{AreClosed, CellClosed, IsPushed, ended_station};
 ghost use Rattle.world_close.specs.Rows.{AreNamed, RowsFit};
 
 use crate::rows::{Row, take_last};
-use grow_list::{OutOfMemory, Pass};
+use grow_list::Pass;
 use ima_templates::Entry;
-use inode_cell::{EndedInode as CellEnd, InodeCell};
 use inode_events::{EndedInode, Event};
 use policy_cell::RuleEntry;
-use std::alloc::Global;
+use std::alloc::{AllocError as OutOfMemory, Global};
 use std::marker::Model;
 use task_frame::Station;
+use task_frame::inodes::{EndedInode as CellEnd, InodeCell};
 
 // What is left of the inodes, in order, and their passes of the other lists.
 #[derive(Drop)]

@@ -5,7 +5,7 @@ use Rattle.std.proofs.lemmas.List.{append-nil}
 use mathlib.Core.List.{IsPrefix}
 use Rattle.grow_list.specs.Shown.{Grown, IsSameList, Passed}
 use Rattle.ima_templates.specs.declared.entry.Entry.{Entry}
-use Rattle.inode_cell.specs.Value.{CellValue}
+use Rattle.task_deeds.specs.inodes.Value.{CellValue}
 use Rattle.inode_events.specs.Asked.{asked, list_after, outcome}
 use Rattle.inode_events.specs.Past.{past}
 use Rattle.inode_events.specs.State.{metadata}
@@ -22,10 +22,10 @@ use Rattle.run_model.specs.Scene.{decided}
 use Rattle.task_deeds.specs.Leaving as deeds
 use Rattle.task_deeds.specs.Leaving.{Leaves, told_by}
 use Rattle.task_deeds.specs.declared.listed.Checks.{Checks}
-use Rattle.task_frame.specs.World.{StationValue}
-use Rattle.task_frame.specs.declared.gathered.Gathered.{Gathered}
-use Rattle.task_laws.specs.Due.{HashesTold}
-use Rattle.task_laws.specs.Ready.{HasLooked}
+use Rattle.task_deeds.specs.frames.World.{StationValue}
+use Rattle.task_deeds.specs.frames.declared.gathered.Gathered.{Gathered}
+use Rattle.task_deeds.specs.laws_of_tasks.Due.{HashesTold}
+use Rattle.task_deeds.specs.laws_of_tasks.Ready.{HasLooked}
 use Rattle.world_deeds.specs.Acting.{IsPlacedAt, StationDid, answered_in, told_in, told_of}
 use Rattle.world_deeds.specs.Checking.{IsChecked, check_by, checked_in}
 

@@ -4,7 +4,7 @@ use Rattle.std.specs.Prelude.{IfOk, Result, Ok, Err, slice_get}
 use Rattle.std.proofs.lemmas.Option.{same_Some}
 use Rattle.grow_list.specs.Shown.{Grown, Passed}
 use Rattle.ima_templates.specs.declared.entry.Entry.{Entry}
-use Rattle.inode_cell.specs.Acts.{MayBy}
+use Rattle.task_deeds.specs.inodes.Acts.{MayBy}
 use Rattle.inode_meta.specs.declared.appraisal.Slot.{Slot}
 use Rattle.inode_events.specs.Asked.{outcome}
 use Rattle.inode_events.specs.Inode.{Inode}
@@ -15,17 +15,17 @@ use Rattle.inode_events.specs.declared.told.Event.{Event}
 use Rattle.policy_cell.specs.Policy.{PolicyValue}
 use Rattle.policy_text.specs.ActionValue.{ActionValue}
 use Rattle.policy_text.specs.declared.access.Super.{Super}
-use Rattle.rule_laws.specs.Stations.{CountsAll}
+use Rattle.task_deeds.specs.laws_of_rules.Stations.{CountsAll}
 use Rattle.run_model.specs.Turns.{State}
-use Rattle.task_frame.specs.Frame.{Frame, inode_in}
-use Rattle.task_frame.specs.Tasks.{ArePassesOf, PassesValue}
-use Rattle.task_frame.specs.World.{StationValue, journal_of, site_of}
-use Rattle.task_frame.specs.declared.gathered.Gathered.{Gathered}
-use Rattle.task_laws.proofs.Eventing.{get_map}
-use Rattle.task_laws.specs.Ready.{HasLooked, IsReady}
-use Rattle.task_mind.specs.Steps.{deed_in}
-use Rattle.task_mind.specs.declared.step.Doing.{Doing}
-use Rattle.task_mind.specs.declared.step.Doing.TheVariants as doing
+use Rattle.task_deeds.specs.frames.Frame.{Frame, inode_in}
+use Rattle.task_deeds.specs.frames.Tasks.{ArePassesOf, PassesValue}
+use Rattle.task_deeds.specs.frames.World.{StationValue, journal_of, site_of}
+use Rattle.task_deeds.specs.frames.declared.gathered.Gathered.{Gathered}
+use Rattle.task_deeds.proofs.laws_of_tasks.Eventing.{get_map}
+use Rattle.task_deeds.specs.laws_of_tasks.Ready.{HasLooked, IsReady}
+use Rattle.task_deeds.specs.minds.Steps.{deed_in}
+use Rattle.task_deeds.specs.minds.declared.step.Doing.{Doing}
+use Rattle.task_deeds.specs.minds.declared.step.Doing.TheVariants as doing
 use Rattle.world_deeds.specs.Acting.{IsPlacedAt, IsSaid, ReadyAt, told_of}
 use Rattle.world_deeds.specs.Parts.{AreParts, frame_by, state_by}
 use Rattle.world_deeds.specs.declared.answers.Answered.{Answered}

@@ -20,12 +20,12 @@ use Rattle.run_model.specs.Scene.{Program, Station, decided, rules_with}
 use Rattle.run_model.specs.Turns.{State, go_check, go_event, go_step}
 use Rattle.run_model.specs.declared.turn.Turn.TheVariants as turns
 use Rattle.task_deeds.specs.declared.listed.Checks.{Checks as Asked}
-use Rattle.task_frame.specs.Frame.{Frame, Site, inode_in, mode_in, scene_of, station_of, super_at}
-use Rattle.task_frame.specs.Tasks.{HasPlayed, PassesValue, Tasked, action_by}
-use Rattle.task_laws.proofs.Blocking.{none_is_played}
-use Rattle.task_laws.proofs.Eventing.{check_is_played, get_map}
-use Rattle.task_laws.specs.Events.{EventOn}
-use Rattle.task_laws.specs.Plays.{HasHeard, IsStepFor, check_answer, task_after}
+use Rattle.task_deeds.specs.frames.Frame.{Frame, Site, inode_in, mode_in, scene_of, station_of, super_at}
+use Rattle.task_deeds.specs.frames.Tasks.{HasPlayed, PassesValue, Tasked, action_by}
+use Rattle.task_deeds.proofs.laws_of_tasks.Blocking.{none_is_played}
+use Rattle.task_deeds.proofs.laws_of_tasks.Eventing.{check_is_played, get_map}
+use Rattle.task_deeds.specs.laws_of_tasks.Events.{EventOn}
+use Rattle.task_deeds.specs.laws_of_tasks.Plays.{HasHeard, IsStepFor, check_answer, task_after}
 use Rattle.world_deeds.proofs.Going.{goes_event}
 use Rattle.world_deeds.proofs.Reaching.{get_map_none, same_left, unmoved}
 use Rattle.world_deeds.specs.Checking.{CheckIn, IsCheckedBy}

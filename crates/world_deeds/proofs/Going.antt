@@ -19,13 +19,13 @@ use Rattle.run_model.specs.declared.turn.Turn.TheVariants as turns
 use Rattle.world_deeds.specs.Acting.{IsPlacedAt}
 use Rattle.world_deeds.specs.Turning.{Fails, Stops, Tells, answer_of, turned_to}
 use Rattle.world_deeds.specs.declared.answers.Answered.{Answered}
-use Rattle.task_frame.specs.Frame.{Frame, Site, inode_in, mode_in, scene_of, station_of}
-use Rattle.task_frame.specs.Tasks.{HasPlayed, PassesValue, Tasked, action_by}
-use Rattle.task_frame.specs.declared.gathered.Gathered.{Gathered}
-use Rattle.task_laws.proofs.Blocking.{none_is_played}
-use Rattle.task_laws.proofs.Eventing.{event_is_played, get_map}
-use Rattle.task_laws.specs.Events.{EventOn}
-use Rattle.task_laws.specs.Plays.{HasHeard, IsStepFor, task_after}
+use Rattle.task_deeds.specs.frames.Frame.{Frame, Site, inode_in, mode_in, scene_of, station_of}
+use Rattle.task_deeds.specs.frames.Tasks.{HasPlayed, PassesValue, Tasked, action_by}
+use Rattle.task_deeds.specs.frames.declared.gathered.Gathered.{Gathered}
+use Rattle.task_deeds.proofs.laws_of_tasks.Blocking.{none_is_played}
+use Rattle.task_deeds.proofs.laws_of_tasks.Eventing.{event_is_played, get_map}
+use Rattle.task_deeds.specs.laws_of_tasks.Events.{EventOn}
+use Rattle.task_deeds.specs.laws_of_tasks.Plays.{HasHeard, IsStepFor, task_after}
 
 module _ (frame : Frame) (t : Tasked) (i : ℕ) (s : Site) (d : Deed) (old new : State)
     (passes : PassesValue) (g : Gathered) (o : Option Told)

@@ -8,10 +8,10 @@ use Rattle.inode_events.specs.Inode.{Inode}
 use Rattle.inode_events.specs.declared.told.Event.{Event}
 use Rattle.policy_cell.specs.declared.cell.RuleEntry.{RuleEntry}
 use Rattle.grow_list.specs.Shown.{Passed}
-use Rattle.rule_laws.specs.Stations.{StationRules}
+use Rattle.task_deeds.specs.laws_of_rules.Stations.{StationRules}
 use Rattle.world_deeds.specs.Looking.{AreKept, IsKept, KeptAt}
-use Rattle.task_frame.specs.Frame.{Frame, Site}
-use Rattle.task_frame.specs.World.{IsStation, StationValue, journal_of, site_of}
+use Rattle.task_deeds.specs.frames.Frame.{Frame, Site}
+use Rattle.task_deeds.specs.frames.World.{IsStation, StationValue, journal_of, site_of}
 
 -- two lists of one length with the same elements at each place are the same
 same_lists : {A : Type 0} (xs ys : List A) → length xs ≡ length ys

@@ -8,3 +8,5 @@ pub mod Checked
 pub mod Sharing
 pub mod Looked
 pub mod Looks
+pub use Rattle.task_deeds.proofs as about_deeds
+pub use Rattle.task_deeds.proofs.laws_of_tasks

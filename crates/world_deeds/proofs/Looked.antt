@@ -12,12 +12,12 @@ use Rattle.policy_cell.specs.Policy.{PolicyValue, in_force, rules_in}
 use Rattle.policy_cell.specs.declared.cell.RuleEntry.{RuleEntry}
 use Rattle.policy_text.specs.RuleValue.{RuleValue}
 use Rattle.policy_text.specs.declared.access.Super.{Super}
-use Rattle.rule_laws.proofs.Owned.{set_parts}
-use Rattle.rule_laws.proofs.Risen.{law_rise_by_look}
+use Rattle.task_deeds.proofs.laws_of_rules.Owned.{set_parts}
+use Rattle.task_deeds.proofs.laws_of_rules.Risen.{law_rise_by_look}
 use Rattle.world_deeds.proofs.Worlds.{map_same}
 use Rattle.world_deeds.specs.Parts.{AreParts, frame_by}
-use Rattle.task_frame.specs.Frame.{Frame, Site}
-use Rattle.task_frame.specs.World.{AreRulesOf, IsStation, StationValue, site_of}
+use Rattle.task_deeds.specs.frames.Frame.{Frame, Site}
+use Rattle.task_deeds.specs.frames.World.{AreRulesOf, IsStation, StationValue, site_of}
 
 -- so many rules are in force
 pub force_count : (p : PolicyValue) → length (in_force p) ≡ length p.base + length p.appended.list

@@ -5,8 +5,8 @@ use Rattle.std.proofs.lemmas.List.{length-set}
 use Rattle.std.proofs.lemmas.Option.{slice_get_within}
 use Rattle.grow_list.specs.Shown.{Passed}
 use Rattle.inode_events.specs.declared.told.Event.{Event}
-use Rattle.rule_laws.proofs.Owned.{set_parts}
-use Rattle.task_frame.specs.World.{StationValue}
+use Rattle.task_deeds.proofs.laws_of_rules.Owned.{set_parts}
+use Rattle.task_deeds.specs.frames.World.{StationValue}
 use Rattle.world_deeds.specs.Looking.{HaveLooked, HaveLookedTo, IsKept, IsLooked, KeptAt, LookedAt}
 
 same_kept : (s : StationValue) → IsKept s s

@@ -14,11 +14,11 @@ use Rattle.world_deeds.proofs.Going.{does_blocks, does_fails, does_tells}
 use Rattle.world_deeds.specs.Acting.{told_in}
 use Rattle.world_deeds.specs.Turning.{Reaches, Stops, reached_by}
 use Rattle.world_deeds.specs.declared.answers.Answered.{Answered}
-use Rattle.task_frame.specs.Frame.{Frame, Site, inode_in, scene_of, station_of}
-use Rattle.task_frame.specs.Tasks.{HasPlayed, PassesValue, Tasked}
-use Rattle.task_frame.specs.declared.gathered.Gathered.{Gathered}
+use Rattle.task_deeds.specs.frames.Frame.{Frame, Site, inode_in, scene_of, station_of}
+use Rattle.task_deeds.specs.frames.Tasks.{HasPlayed, PassesValue, Tasked}
+use Rattle.task_deeds.specs.frames.declared.gathered.Gathered.{Gathered}
 use Rattle.world_deeds.specs.Acting.{EventIn, IsSaid}
-use Rattle.task_laws.specs.Plays.{task_left}
+use Rattle.task_deeds.specs.laws_of_tasks.Plays.{task_left}
 
 pub get_map_none : {A B : Type 0} (f : A → B) (xs : List A) (k : ℕ) → slice_get xs k ≡ None
     → slice_get (map f xs) k ≡ None

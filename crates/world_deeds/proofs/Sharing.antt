@@ -21,7 +21,7 @@ use Rattle.policy_text.specs.ActionValue.{ActionValue}
 use Rattle.policy_text.specs.declared.access.Action.{Action}
 use Rattle.call_steps.specs.Mind.{Step}
 use Rattle.call_steps.specs.Mind.{Nothing, Does, Checks, Signals, Appends}
-use Rattle.rule_laws.specs.Checks.{IsPlainStep, seen_by}
+use Rattle.task_deeds.specs.laws_of_rules.Checks.{IsPlainStep, seen_by}
 use Rattle.run_model.specs.History.{Answer, hear, plain_answer, rule_in, signal_in, step_at, who_at}
 use Rattle.run_model.specs.Scene.{Program}
 use Rattle.policy_text.specs.RuleValue.{RuleValue}
@@ -32,12 +32,12 @@ use Rattle.world_deeds.specs.Acting.{IsPlacedAt, told_in, told_of}
 use Rattle.world_deeds.specs.Sharing.{AppendsTo, SignalsOn}
 use Rattle.world_deeds.specs.Turning.{Reaches, Tells, answer_of, reached_by, turned_to}
 use Rattle.world_deeds.specs.declared.answers.Answered.{Answered}
-use Rattle.task_frame.specs.Frame.{Frame, mode_in, scene_of}
-use Rattle.task_frame.specs.Tasks.{PassesValue, Tasked, action_by}
-use Rattle.task_laws.proofs.Eventing.{adds_none}
-use Rattle.task_laws.proofs.Quieting.{quiet_is_left, quiet_is_played}
-use Rattle.task_laws.specs.Quiet.{IsQuiet, QuietLeft, QuietPasses}
-use Rattle.task_laws.specs.Steps.{Adds}
+use Rattle.task_deeds.specs.frames.Frame.{Frame, mode_in, scene_of}
+use Rattle.task_deeds.specs.frames.Tasks.{PassesValue, Tasked, action_by}
+use Rattle.task_deeds.proofs.laws_of_tasks.Eventing.{adds_none}
+use Rattle.task_deeds.proofs.laws_of_tasks.Quieting.{quiet_is_left, quiet_is_played}
+use Rattle.task_deeds.specs.laws_of_tasks.Quiet.{IsQuiet, QuietLeft, QuietPasses}
+use Rattle.task_deeds.specs.laws_of_tasks.Steps.{Adds}
 
 -- an answer without an action leaves the action of the last check, at a step that isn't a check
 checked_quiet : (t : ActionValue) (a : Answered) (o : Option Step) → IsQuiet o → a.action ≡ None

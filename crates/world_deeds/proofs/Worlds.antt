@@ -18,21 +18,21 @@ use Rattle.inode_events.specs.declared.told.Told.{Told}
 use Rattle.policy_cell.specs.Policy.{PolicyValue}
 use Rattle.policy_cell.specs.declared.cell.RuleEntry.{RuleEntry}
 use Rattle.policy_text.specs.declared.access.Super.{Super}
-use Rattle.rule_laws.proofs.Owned.{set_parts}
-use Rattle.rule_laws.proofs.Risen.{law_rise_by_outcome}
-use Rattle.rule_laws.specs.Stations.{CountsAll, StationRules}
+use Rattle.task_deeds.proofs.laws_of_rules.Owned.{set_parts}
+use Rattle.task_deeds.proofs.laws_of_rules.Risen.{law_rise_by_outcome}
+use Rattle.task_deeds.specs.laws_of_rules.Stations.{CountsAll, StationRules}
 use Rattle.run_model.specs.Turns.{State, state_on}
 use Rattle.world_deeds.specs.Acting.{EventIn, StationDid}
 use Rattle.world_deeds.specs.Parts.{AreParts, frame_by, state_by}
-use Rattle.task_frame.specs.Frame.{Frame, Site, boot_in, inode_in}
-use Rattle.task_frame.specs.Tasks.{PassesValue}
-use Rattle.task_frame.specs.World.{IsStation, StationValue, journal_of, site_of}
-use Rattle.task_frame.specs.declared.gathered.Gathered.{Gathered}
-use Rattle.task_laws.proofs.Eventing.{get_map}
-use Rattle.task_laws.specs.Events.{EventOn}
-use Rattle.task_laws.specs.Due.{HashesTold}
-use Rattle.task_laws.specs.Ready.{HasLooked}
-use Rattle.task_laws.specs.Steps.{Adds}
+use Rattle.task_deeds.specs.frames.Frame.{Frame, Site, boot_in, inode_in}
+use Rattle.task_deeds.specs.frames.Tasks.{PassesValue}
+use Rattle.task_deeds.specs.frames.World.{IsStation, StationValue, journal_of, site_of}
+use Rattle.task_deeds.specs.frames.declared.gathered.Gathered.{Gathered}
+use Rattle.task_deeds.proofs.laws_of_tasks.Eventing.{get_map}
+use Rattle.task_deeds.specs.laws_of_tasks.Events.{EventOn}
+use Rattle.task_deeds.specs.laws_of_tasks.Due.{HashesTold}
+use Rattle.task_deeds.specs.laws_of_tasks.Ready.{HasLooked}
+use Rattle.task_deeds.specs.laws_of_tasks.Steps.{Adds}
 
 -- ---- lists
 

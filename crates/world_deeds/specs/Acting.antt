@@ -14,14 +14,14 @@ use Rattle.policy_text.specs.ActionValue.{ActionValue}
 use Rattle.run_model.specs.Turns.{State}
 use Rattle.world_deeds.specs.declared.answers.Answered.{Answered}
 use Rattle.task_deeds.specs.Leaving.{Leaves}
-use Rattle.task_frame.specs.Frame.{Frame, Site, inode_in}
-use Rattle.task_frame.specs.World.{StationValue}
-use Rattle.task_frame.specs.declared.gathered.Gathered.{Gathered}
-use Rattle.task_frame.specs.Tasks.{PassesValue}
-use Rattle.task_laws.specs.Due.{HashesTold}
-use Rattle.task_laws.specs.Events.{EventOn}
-use Rattle.task_laws.specs.Ready.{HasLooked, IsReady}
-use Rattle.task_laws.specs.Steps.{Adds}
+use Rattle.task_deeds.specs.frames.Frame.{Frame, Site, inode_in}
+use Rattle.task_deeds.specs.frames.World.{StationValue}
+use Rattle.task_deeds.specs.frames.declared.gathered.Gathered.{Gathered}
+use Rattle.task_deeds.specs.frames.Tasks.{PassesValue}
+use Rattle.task_deeds.specs.laws_of_tasks.Due.{HashesTold}
+use Rattle.task_deeds.specs.laws_of_tasks.Events.{EventOn}
+use Rattle.task_deeds.specs.laws_of_tasks.Ready.{HasLooked, IsReady}
+use Rattle.task_deeds.specs.laws_of_tasks.Steps.{Adds}
 
 -- what the step was told, if anything
 abbrev pub told_of : Option Answered → Option Told

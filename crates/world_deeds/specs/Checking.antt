@@ -18,10 +18,10 @@ use Rattle.policy_text.specs.declared.access.Super.{Super}
 use Rattle.run_model.specs.Scene.{decided, rules_with}
 use Rattle.run_model.specs.Turns.{State}
 use Rattle.task_deeds.specs.declared.listed.Checks.{Checks}
-use Rattle.task_frame.specs.Frame.{Frame, Site, inode_in, scene_of, super_at}
-use Rattle.task_frame.specs.Tasks.{PassesValue}
-use Rattle.task_frame.specs.declared.gathered.Gathered.{Gathered}
-use Rattle.task_laws.specs.Events.{EventOn}
+use Rattle.task_deeds.specs.frames.Frame.{Frame, Site, inode_in, scene_of, super_at}
+use Rattle.task_deeds.specs.frames.Tasks.{PassesValue}
+use Rattle.task_deeds.specs.frames.declared.gathered.Gathered.{Gathered}
+use Rattle.task_deeds.specs.laws_of_tasks.Events.{EventOn}
 use Rattle.world_deeds.specs.Acting.{NoEvent, told_in}
 use Rattle.world_deeds.specs.declared.answers.Answered.{Answered}
 

@@ -1,10 +1,10 @@
 -- What a look at all journals leaves of inodes and passes.
 use Rattle.std.specs.Prelude.{◌≡◌, ℕ, ◌<◌, ◌≤◌, List, length, Some, slice_get}
 use Rattle.grow_list.specs.Shown.{Passed}
-use Rattle.inode_cell.specs.Value.{IsSameCell}
+use Rattle.task_deeds.specs.inodes.Value.{IsSameCell}
 use Rattle.inode_events.specs.declared.told.Event.{Event}
-use Rattle.task_frame.specs.World.{StationValue}
-use Rattle.task_laws.specs.Ready.{HasLooked}
+use Rattle.task_deeds.specs.frames.World.{StationValue}
+use Rattle.task_deeds.specs.laws_of_tasks.Ready.{HasLooked}
 
 -- the inode is as it was, with perhaps another room
 pub record IsKept (old new : StationValue) : Type 0 where

@@ -7,8 +7,8 @@ use Rattle.inode_events.specs.declared.told.Event.{Event}
 use Rattle.policy_cell.specs.Policy.{PolicyValue}
 use Rattle.policy_text.specs.declared.access.Super.{Super}
 use Rattle.run_model.specs.Turns.{State}
-use Rattle.task_frame.specs.Frame.{Frame, boot_in}
-use Rattle.task_frame.specs.World.{AreRulesOf, AreSignalsOf, IsBookOf, IsStation, StationValue, journal_of, site_of}
+use Rattle.task_deeds.specs.frames.Frame.{Frame, boot_in}
+use Rattle.task_deeds.specs.frames.World.{AreRulesOf, AreSignalsOf, IsBookOf, IsStation, StationValue, journal_of, site_of}
 
 -- the constants of these parts
 abbrev pub frame_by : Settings → List StationValue → List Super → Grown Entry → Grown Event

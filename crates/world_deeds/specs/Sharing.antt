@@ -7,8 +7,8 @@ use Rattle.inode_events.specs.declared.deed.Deed.{Deed}
 use Rattle.inode_events.specs.declared.told.Told.{Told}
 use Rattle.policy_cell.specs.declared.cell.RuleEntry.{RuleEntry}
 use Rattle.run_model.specs.Turns.{State}
-use Rattle.task_frame.specs.Tasks.{PassesValue}
-use Rattle.task_laws.specs.Steps.{Adds}
+use Rattle.task_deeds.specs.frames.Tasks.{PassesValue}
+use Rattle.task_deeds.specs.laws_of_tasks.Steps.{Adds}
 
 -- a post or a wait, which was told so: None where it was blocked or ran out of memory
 pub record SignalsOn (old new : State) (passes passes2 : PassesValue) (who : Who) (d : Deed)

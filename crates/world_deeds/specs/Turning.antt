@@ -9,11 +9,11 @@ use Rattle.run_model.specs.declared.turn.Turn.TheVariants as turns
 use Rattle.world_deeds.specs.declared.answers.Answered.{Answered}
 use Rattle.world_deeds.specs.declared.answers.Reached.{Reached}
 use Rattle.world_deeds.specs.declared.answers.Reached.TheVariants as reached
-use Rattle.task_frame.specs.Frame.{Frame, mode_in, scene_of}
-use Rattle.task_frame.specs.Tasks.{HasPlayed, PassesValue, Tasked, action_by}
-use Rattle.task_frame.specs.declared.gathered.Gathered.{Gathered}
-use Rattle.task_laws.specs.Plays.{HasHeard, task_after, task_left}
-use Rattle.task_mind.specs.Value.{TaskValue}
+use Rattle.task_deeds.specs.frames.Frame.{Frame, mode_in, scene_of}
+use Rattle.task_deeds.specs.frames.Tasks.{HasPlayed, PassesValue, Tasked, action_by}
+use Rattle.task_deeds.specs.frames.declared.gathered.Gathered.{Gathered}
+use Rattle.task_deeds.specs.laws_of_tasks.Plays.{HasHeard, task_after, task_left}
+use Rattle.task_deeds.specs.minds.Value.{TaskValue}
 
 abbrev pub turned_to : State → Thought → Turn → Turned
 turned_to state thought turn = record { state = state; thought = thought; turn = turn }

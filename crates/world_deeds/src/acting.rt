@@ -3,18 +3,19 @@
 ghost use Rattle.std.specs.Prelude.{◌≡◌, ◌+◌, IfOk, length};
 ghost use Rattle.inode_events.specs.Asked.{outcome};
 ghost use Rattle.inode_events.specs.Past.{past};
-ghost use Rattle.task_laws.specs.Ready.{HasLooked, IsReady};
-ghost use Rattle.task_mind.specs.Steps.{deed_in};
+ghost use Rattle.task_deeds.specs.laws_of_tasks.Ready.{HasLooked, IsReady};
+ghost use Rattle.task_deeds.specs.minds.Steps.{deed_in};
 ghost use Rattle.world_deeds.specs.Acting.{IsPlacedAt, StationDid, told_in, told_of};
 
 use crate::answers::{Answered, told_at};
-use grow_list::{OutOfMemory, Pass};
+use grow_list::Pass;
 use ima_templates::Entry;
 use inode_events::Event;
-use measure_book::Book;
+use std::alloc::AllocError as OutOfMemory;
+use task_deeds::books::Book;
+use task_deeds::frames::{Gathered, Station};
+use task_deeds::minds::Doing;
 use task_deeds::{Actor, does};
-use task_frame::{Gathered, Station};
-use task_mind::Doing;
 
 /// The deed on the inode, by its task's passes of the journal and of the measurement list. `None`
 /// is blocked.

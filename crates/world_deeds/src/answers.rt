@@ -3,9 +3,9 @@ ghost use Rattle.world_deeds.specs.Acting.{answered_in};
 ghost use Rattle.world_deeds.specs.Checking.{checked_in};
 ghost use Rattle.world_deeds.specs.Turning.{reached_by};
 
-use grow_list::OutOfMemory;
 use inode_events::Told;
 use policy_text::Action;
+use std::alloc::AllocError as OutOfMemory;
 
 /// What a step was told.
 #[derive(Drop)]

@@ -2,24 +2,25 @@
 
 ghost use Rattle.inode_events.specs.declared.deed.Deed.TheVariants as Deed;
 ghost use Rattle.std.specs.Prelude.{◌≡◌, ◌+◌};
-ghost use Rattle.inode_cell.specs.Acts.{MayBy};
+ghost use Rattle.task_deeds.specs.inodes.Acts.{MayBy};
 ghost use Rattle.inode_events.specs.Checks.{no_action};
 ghost use Rattle.inode_events.specs.Past.{past};
 ghost use Rattle.inode_events.specs.State.{metadata};
-ghost use Rattle.task_frame.specs.declared.gathered.Gathered.{Gathered as AnyGathered};
-ghost use Rattle.task_laws.specs.Ready.{HasLooked};
+ghost use Rattle.task_deeds.specs.frames.declared.gathered.Gathered.{Gathered as AnyGathered};
+ghost use Rattle.task_deeds.specs.laws_of_tasks.Ready.{HasLooked};
 ghost use Rattle.world_deeds.specs.Acting.{StationDid, told_in};
 ghost use Rattle.world_deeds.specs.Checking.{IsChecked, check_by};
 
 use crate::answers::{Answered, checked_at};
-use grow_list::{OutOfMemory, Pass};
+use grow_list::Pass;
 use ima_templates::Entry;
 use inode_events::Event;
-use measure_book::Book;
 use policy_text::Super;
-use rule_match::Index;
+use run_model::matching::Index;
+use std::alloc::AllocError as OutOfMemory;
+use task_deeds::books::Book;
+use task_deeds::frames::Station;
 use task_deeds::{Actor, Checks, checks};
-use task_frame::Station;
 
 /// The check on the inode, which lies on this file system, by its task's passes of the journal and
 /// of the measurement list.

@@ -9,5 +9,6 @@ mod looking;
 pub use acting::act_at;
 pub use answers::{Answered, Reached, became};
 pub use checking::check_at;
-pub use grow_list::OutOfMemory;
 pub use looking::look_at_inodes;
+pub use std::alloc::AllocError as OutOfMemory;
+pub use task_deeds as deeds;

@@ -3,12 +3,12 @@
 ghost use Rattle.std.specs.Prelude.{◌≡◌, ℕ, Some, length, slice_get};
 ghost use Rattle.grow_list.specs.Shown.{Passed as AnyPass};
 ghost use Rattle.inode_events.specs.declared.told.Event.{Event as AnyEvent};
-ghost use Rattle.task_frame.specs.World.{StationValue};
+ghost use Rattle.task_deeds.specs.frames.World.{StationValue};
 ghost use Rattle.world_deeds.specs.Looking.{AreKept, HaveLooked, IsKept, IsLooked};
 
 use grow_list::Pass;
 use inode_events::Event;
-use task_frame::Station;
+use task_deeds::frames::Station;
 
 /// The passes of all journals see them.
 pub fn look_at_inodes(stations: &mut Vec<Station>, passes: &mut Vec<Pass<Event>>)

@@ -2,21 +2,21 @@
 use Rattle.std.proofs.Common.{◌≡◌, ℕ, Bool, List, length, refl, ap, sym, ◌∙◌, subst, Some, None}
 use Rattle.std.specs.Prelude.{◌==◌, All, Option, false, map}
 use mathlib.Core.List.{map-map}
-use Rattle.call_steps.specs.declared.call.Call.{Call}
-use Rattle.call_steps.specs.declared.call.Call.TheVariants as call
+use Rattle.run_model.specs.steps.declared.call.Call.{Call}
+use Rattle.run_model.specs.steps.declared.call.Call.TheVariants as call
 use Rattle.ima_templates.specs.IsEntry.{IsEntry}
 use Rattle.ima_templates.specs.declared.entry.Entry.{Entry}
 use Rattle.inode_events.specs.declared.told.Event.{Event}
-use Rattle.policy_cell.specs.declared.cell.RuleEntry.{RuleEntry}
+use Rattle.run_model.specs.rules.declared.cell.RuleEntry.{RuleEntry}
 use Rattle.run_model.specs.Ended.{waits_in_vain}
 use Rattle.run_model.specs.EndedValue.{EndedValue}
 use Rattle.run_model.specs.Scene.{Scene}
 use Rattle.run_model.specs.Turns.{Moment, State}
-use Rattle.task_frame.specs.Frame.{Frame, scene_of}
-use Rattle.task_frame.specs.Runs.{AreTasks, moment_of, programs_of, thought_of}
-use Rattle.task_frame.specs.Tasks.{Tasked}
-use Rattle.task_frame.specs.World.{StationValue}
-use Rattle.task_mind.specs.Value.{TaskValue, awaited_by}
+use Rattle.world_close.specs.frames.Frame.{Frame, scene_of}
+use Rattle.world_close.specs.frames.Runs.{AreTasks, moment_of, programs_of, thought_of}
+use Rattle.world_close.specs.frames.Tasks.{Tasked}
+use Rattle.world_close.specs.frames.World.{StationValue}
+use Rattle.world_close.specs.minds.Value.{TaskValue, awaited_by}
 use Rattle.world_close.specs.Closed.{AreStations, WorldClosed}
 use Rattle.world_close.specs.Finished.{HaveMade, state_at}
 use Rattle.world_close.proofs.Finishing.{finished}

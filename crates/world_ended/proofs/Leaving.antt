@@ -4,7 +4,7 @@ use Rattle.std.specs.Prelude.{map, not, slice_get}
 use Rattle.std.specs.List.{list_all, list_any}
 use Rattle.std.proofs.lemmas.List.{length-map}
 use Rattle.std.proofs.lemmas.Option.{same_Some}
-use Rattle.ending_laws.proofs.Totals.{count_past, counted_when_reached}
+use Rattle.world_close.proofs.laws_of_endings.Totals.{count_past, counted_when_reached}
 use Rattle.ima_templates.specs.Replay.{banks_of}
 use Rattle.inode_events.specs.EndedInode.{ended_inode}
 use Rattle.inode_events.specs.Past.{past}
@@ -12,10 +12,10 @@ use Rattle.inode_events.specs.Semaphores.{left as count_left}
 use Rattle.run_model.specs.Ended.{all_done, all_wait, left}
 use Rattle.run_model.specs.EndedValue.{EndedTaskValue, appends, inodes_ended, tasks_ended}
 use Rattle.run_model.specs.Scene.{Program, Scene, Station, inode_of}
-use Rattle.task_frame.specs.Frame.{scene_of, station_of}
-use Rattle.task_frame.specs.Runs.{moment_of, program_of, programs_of, thought_of}
-use Rattle.task_frame.specs.Tasks.{Tasked}
-use Rattle.task_frame.specs.World.{StationValue, journal_of}
+use Rattle.world_close.specs.frames.Frame.{scene_of, station_of}
+use Rattle.world_close.specs.frames.Runs.{moment_of, program_of, programs_of, thought_of}
+use Rattle.world_close.specs.frames.Tasks.{Tasked}
+use Rattle.world_close.specs.frames.World.{StationValue, journal_of}
 use Rattle.world_close.specs.Closed.{ended_station}
 use Rattle.world_close.specs.Finished.{state_at}
 use Rattle.world_close.proofs.Gets.{map_get}

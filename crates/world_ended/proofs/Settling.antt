@@ -3,9 +3,9 @@ use Rattle.std.proofs.Common.{◌≡◌, ℕ, ◌+◌, ◌<◌, ◌≤◌, ◌�
 use Rattle.std.specs.Prelude.{map, slice_get, slice_set}
 use Rattle.std.proofs.lemmas.Option.{same_Some, slice_get_within}
 use Rattle.run_model.specs.Turns.{State}
-use Rattle.task_frame.specs.Frame.{Frame}
-use Rattle.task_frame.specs.Runs.{AreTasks, HasMade, IsNth}
-use Rattle.task_frame.specs.Tasks.{IsTask, Tasked}
+use Rattle.world_close.specs.frames.Frame.{Frame}
+use Rattle.world_close.specs.frames.Runs.{AreTasks, HasMade, IsNth}
+use Rattle.world_close.specs.frames.Tasks.{IsTask, Tasked}
 use Rattle.world_close.proofs.Gets.{get_set}
 use Rattle.world_close.specs.Finished.{HaveMade}
 use Rattle.world_ended.specs.Settled.{HaveLooked, mind_of}

@@ -6,14 +6,14 @@ use Rattle.ima_templates.specs.declared.entry.Entry.{Entry}
 use Rattle.inode_events.specs.Past.{past}
 use Rattle.inode_events.specs.Semaphores.{left}
 use Rattle.inode_events.specs.declared.told.Event.{Event}
-use Rattle.policy_cell.specs.declared.cell.RuleEntry.{RuleEntry}
+use Rattle.run_model.specs.rules.declared.cell.RuleEntry.{RuleEntry}
 use Rattle.run_model.specs.Ended.{is_done, waits_in_vain}
 use Rattle.run_model.specs.EndedValue.{EndedTaskValue, EndedValue, appends, ended_of}
 use Rattle.run_model.specs.Turns.{run_at}
-use Rattle.task_frame.specs.Frame.{Frame, scene_of}
-use Rattle.task_frame.specs.Runs.{moment_of, programs_of}
-use Rattle.task_frame.specs.Tasks.{Tasked}
-use Rattle.task_frame.specs.World.{StationValue}
+use Rattle.world_close.specs.frames.Frame.{Frame, scene_of}
+use Rattle.world_close.specs.frames.Runs.{moment_of, programs_of}
+use Rattle.world_close.specs.frames.Tasks.{Tasked}
+use Rattle.world_close.specs.frames.World.{StationValue}
 use Rattle.world_close.specs.Closed.{AreStations, ended_station}
 use Rattle.world_close.specs.Finished.{IsFinished, state_at}
 

@@ -5,10 +5,10 @@ use Rattle.run_model.specs.Ended.{all_done, is_stuck}
 use Rattle.run_model.specs.EndedValue.{EndedValue, ended_of}
 use Rattle.run_model.specs.Scene.{Scene}
 use Rattle.run_model.specs.Turns.{Moment, State, run_at}
-use Rattle.task_frame.specs.Frame.{Frame}
-use Rattle.task_frame.specs.Runs.{AreTasks, HasMade}
-use Rattle.task_frame.specs.Tasks.{Tasked}
-use Rattle.task_mind.specs.Value.{TaskValue}
+use Rattle.world_close.specs.frames.Frame.{Frame}
+use Rattle.world_close.specs.frames.Runs.{AreTasks, HasMade}
+use Rattle.world_close.specs.frames.Tasks.{Tasked}
+use Rattle.world_close.specs.minds.Value.{TaskValue}
 use Rattle.world_close.specs.Finished.{IsFinished}
 
 abbrev pub mind_of : Tasked → TaskValue

@@ -9,6 +9,8 @@ mod resting;
 ghost use Rattle.world_ended.specs.Leaves.{ClosedIsLeft};
 
 pub use resting::rests;
+pub use world_close as closes;
+pub use world_close::semaphores;
 
 /// What the closed lists and the tasks leave is what the run leaves.
 pub fn closed_is_left()

@@ -3,8 +3,8 @@ ghost use Rattle.inode_events.specs.Past.{past};
 ghost use Rattle.inode_events.specs.Semaphores.{left};
 ghost use Rattle.run_model.specs.Ended.{is_done, waits_in_vain};
 
-use semaphore_cell::SemaphoreCell;
-use task_mind::TaskMind;
+use world_close::minds::TaskMind;
+use world_close::semaphores::SemaphoreCell;
 
 // Whether its next call waits for a semaphore of which nothing is left.
 fn waits_in_vain(mind: &TaskMind, sems: &SemaphoreCell) -> bool

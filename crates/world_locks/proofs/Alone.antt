@@ -16,11 +16,11 @@ use Rattle.inode_events.specs.Past.{past}
 use Rattle.inode_events.specs.declared.deed.Deed.{Deed}
 use Rattle.inode_events.specs.declared.told.Event.{Event}
 use Rattle.inode_events.specs.declared.told.Told.{Told}
-use Rattle.own_laws.specs.Laws.{TellsByMine}
-use Rattle.own_laws.specs.Own.{IsBy, IsOwned}
-use Rattle.task_deeds.proofs.Leaving.{acts_leave, stays_leave}
-use Rattle.task_deeds.specs.Leaving.{Leaves, told_by}
-use Rattle.task_laws.specs.Ready.{HasLooked}
+use Rattle.inode_cell.specs.laws_of_journals.OwnLaws.{TellsByMine}
+use Rattle.inode_cell.specs.laws_of_journals.Own.{IsBy, IsOwned}
+use Rattle.world_deeds.proofs.about_deeds.Leaving.{acts_leave, stays_leave}
+use Rattle.world_deeds.specs.deeds.Leaving.{Leaves, told_by}
+use Rattle.world_deeds.specs.laws_of_tasks.Ready.{HasLooked}
 
 -- a look at the journal of a cell, which leaves the cell as it was
 pub record CellLooked (old new : CellValue) (pass pass2 : Passed Event) : Type 0 where

@@ -16,13 +16,13 @@ use Rattle.policy_cell.specs.Policy.{PolicyValue, in_force, rules_in}
 use Rattle.policy_cell.specs.declared.cell.RuleEntry.{RuleEntry}
 use Rattle.policy_text.specs.RuleValue.{RuleValue}
 use Rattle.policy_text.specs.declared.access.Super.{Super}
-use Rattle.rule_laws.specs.Stations.{CountsAll}
+use Rattle.world_close.specs.laws_of_rules.Stations.{CountsAll}
 use Rattle.run_model.specs.Scene.{no_super, rules_with}
-use Rattle.task_deeds.specs.declared.listed.Checks.{Checks}
-use Rattle.task_frame.specs.Frame.{Frame, scene_of, super_at}
-use Rattle.task_frame.specs.World.{AreRulesOf, IsBookOf, IsStation, StationValue}
-use Rattle.task_frame.specs.declared.gathered.Gathered.{Gathered}
-use Rattle.task_frame.specs.declared.gathered.Gathered.TheVariants as gathered
+use Rattle.world_deeds.specs.deeds.declared.listed.Checks.{Checks}
+use Rattle.world_close.specs.frames.Frame.{Frame, scene_of, super_at}
+use Rattle.world_close.specs.frames.World.{AreRulesOf, IsBookOf, IsStation, StationValue}
+use Rattle.world_close.specs.frames.declared.gathered.Gathered.{Gathered}
+use Rattle.world_close.specs.frames.declared.gathered.Gathered.TheVariants as gathered
 use Rattle.world_deeds.proofs.Looked.{force_count}
 use Rattle.world_deeds.proofs.Looks.{at_index}
 use Rattle.world_deeds.specs.Acting.{StationDid, told_in}

@@ -12,12 +12,12 @@ use Rattle.inode_events.specs.declared.told.Event.{Event}
 use Rattle.inode_events.specs.declared.told.Told.{Told}
 use Rattle.run_model.specs.Scene.{rules_with}
 use Rattle.run_model.specs.Turns.{State}
-use Rattle.task_deeds.specs.declared.listed.Checks.{Checks}
-use Rattle.task_frame.specs.Frame.{Frame, Site, scene_of, super_at}
-use Rattle.task_frame.specs.Tasks.{PassesValue}
-use Rattle.task_frame.specs.declared.gathered.Gathered.{Gathered}
-use Rattle.task_frame.specs.declared.gathered.Gathered.TheVariants as gathered
-use Rattle.task_laws.specs.Events.{EventOn}
+use Rattle.world_deeds.specs.deeds.declared.listed.Checks.{Checks}
+use Rattle.world_close.specs.frames.Frame.{Frame, Site, scene_of, super_at}
+use Rattle.world_close.specs.frames.Tasks.{PassesValue}
+use Rattle.world_close.specs.frames.declared.gathered.Gathered.{Gathered}
+use Rattle.world_close.specs.frames.declared.gathered.Gathered.TheVariants as gathered
+use Rattle.world_deeds.specs.laws_of_tasks.Events.{EventOn}
 use Rattle.world_deeds.proofs.Worlds.{map_same}
 use Rattle.world_deeds.specs.Acting.{EventIn, told_in}
 use Rattle.world_deeds.specs.Checking.{CheckIn, check_by}

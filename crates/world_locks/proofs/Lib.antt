@@ -8,3 +8,5 @@ pub mod Paging
 pub mod Opening
 pub mod Locking
 pub mod Idle
+pub use Rattle.world_deeds.proofs.laws_of_tasks
+pub use Rattle.world_deeds.proofs as about_acts

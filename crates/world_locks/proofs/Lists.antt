@@ -14,9 +14,9 @@ use Rattle.inode_events.specs.declared.told.Event.{Event}
 use Rattle.inode_events.specs.declared.told.Told.{Told}
 use Rattle.policy_cell.specs.Policy.{PolicyValue}
 use Rattle.policy_cell.specs.declared.cell.RuleEntry.{RuleEntry}
-use Rattle.task_frame.specs.Frame.{Frame}
-use Rattle.task_frame.specs.World.{AreRulesOf, IsBookOf, StationValue}
-use Rattle.task_frame.specs.declared.gathered.Gathered.{Gathered}
+use Rattle.world_close.specs.frames.Frame.{Frame}
+use Rattle.world_close.specs.frames.World.{AreRulesOf, IsBookOf, StationValue}
+use Rattle.world_close.specs.frames.declared.gathered.Gathered.{Gathered}
 use Rattle.world_deeds.specs.Acting.{StationDid}
 
 -- ---- the measurement list

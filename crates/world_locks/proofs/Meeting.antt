@@ -19,16 +19,16 @@ use Rattle.inode_events.specs.declared.told.Told.{Told}
 use Rattle.policy_cell.specs.declared.cell.RuleEntry.{RuleEntry}
 use Rattle.run_model.specs.Scene.{rules_with}
 use Rattle.run_model.specs.Turns.{State, state_on}
-use Rattle.task_deeds.specs.declared.listed.Checks.{Checks}
-use Rattle.task_frame.specs.Frame.{Frame, Site, inode_in, scene_of, super_at}
-use Rattle.task_frame.specs.Tasks.{PassesValue}
-use Rattle.task_frame.specs.World.{IsStation, StationValue, site_of}
-use Rattle.task_frame.specs.declared.gathered.Gathered.{Gathered}
-use Rattle.task_laws.proofs.Eventing.{adds_none, get_map, get_set}
-use Rattle.task_laws.specs.Due.{HashesTold}
-use Rattle.task_laws.specs.Events.{EventOn}
-use Rattle.task_laws.specs.Ready.{HasLooked}
-use Rattle.task_laws.specs.Steps.{Adds}
+use Rattle.world_deeds.specs.deeds.declared.listed.Checks.{Checks}
+use Rattle.world_close.specs.frames.Frame.{Frame, Site, inode_in, scene_of, super_at}
+use Rattle.world_close.specs.frames.Tasks.{PassesValue}
+use Rattle.world_close.specs.frames.World.{IsStation, StationValue, site_of}
+use Rattle.world_close.specs.frames.declared.gathered.Gathered.{Gathered}
+use Rattle.world_deeds.proofs.laws_of_tasks.Eventing.{adds_none, get_map, get_set}
+use Rattle.world_deeds.specs.laws_of_tasks.Due.{HashesTold}
+use Rattle.world_deeds.specs.laws_of_tasks.Events.{EventOn}
+use Rattle.world_deeds.specs.laws_of_tasks.Ready.{HasLooked}
+use Rattle.world_deeds.specs.laws_of_tasks.Steps.{Adds}
 use Rattle.world_deeds.proofs.Worlds.{map_set}
 use Rattle.world_deeds.specs.Acting.{EventIn, IsPlacedAt, IsSaid, StationDid, told_in, told_of}
 use Rattle.world_deeds.specs.Checking.{CheckIn, IsChecked, check_by}

@@ -10,10 +10,10 @@ use Rattle.inode_events.specs.declared.deed.Deed.{Deed}
 use Rattle.inode_events.specs.declared.told.Event.{Event}
 use Rattle.policy_cell.specs.declared.cell.RuleEntry.{RuleEntry}
 use Rattle.policy_text.specs.ActionValue.{ActionValue}
-use Rattle.task_deeds.specs.declared.listed.Checks.{Checks}
-use Rattle.task_frame.specs.Frame.{Frame}
-use Rattle.task_frame.specs.Tasks.{ArePassesOf, PassesValue}
-use Rattle.task_frame.specs.declared.gathered.Gathered.{Gathered}
+use Rattle.world_deeds.specs.deeds.declared.listed.Checks.{Checks}
+use Rattle.world_close.specs.frames.Frame.{Frame}
+use Rattle.world_close.specs.frames.Tasks.{ArePassesOf, PassesValue}
+use Rattle.world_close.specs.frames.declared.gathered.Gathered.{Gathered}
 use Rattle.world_close.proofs.Gets.{got}
 use Rattle.world_close.specs.Closed.{no_site}
 use Rattle.world_deeds.proofs.Looks.{at_index}

@@ -23,17 +23,17 @@ use Rattle.inode_events.specs.declared.told.Told.{Told}
 use Rattle.inode_events.specs.declared.told.Told.TheVariants as told
 use Rattle.inode_meta.specs.declared.step.Who.{Who}
 use Rattle.inode_pages.specs.Content.{piece_at}
-use Rattle.own_laws.specs.Own.{IsBy}
-use Rattle.task_deeds.proofs.Hashing.{close_piece_left, piece_left}
-use Rattle.task_deeds.specs.Hashed.{HasGathered}
-use Rattle.task_deeds.specs.Leaving.{Leaves, told_by}
-use Rattle.task_frame.specs.Frame.{Frame}
-use Rattle.task_frame.specs.Tasks.{HashesBefore, HasTakenIn}
-use Rattle.task_frame.specs.World.{IsStation, StationValue, site_of}
-use Rattle.task_frame.specs.declared.gathered.Gathered.{Gathered}
-use Rattle.task_laws.proofs.Eventing.{adds_none}
-use Rattle.task_laws.specs.Due.{HashesAfter, HashesTold}
-use Rattle.task_laws.specs.Ready.{HasLooked}
+use Rattle.inode_cell.specs.laws_of_journals.Own.{IsBy}
+use Rattle.world_deeds.proofs.about_deeds.Hashing.{close_piece_left, piece_left}
+use Rattle.world_deeds.specs.deeds.Hashed.{HasGathered}
+use Rattle.world_deeds.specs.deeds.Leaving.{Leaves, told_by}
+use Rattle.world_close.specs.frames.Frame.{Frame}
+use Rattle.world_close.specs.frames.Tasks.{HashesBefore, HasTakenIn}
+use Rattle.world_close.specs.frames.World.{IsStation, StationValue, site_of}
+use Rattle.world_close.specs.frames.declared.gathered.Gathered.{Gathered}
+use Rattle.world_deeds.proofs.laws_of_tasks.Eventing.{adds_none}
+use Rattle.world_deeds.specs.laws_of_tasks.Due.{HashesAfter, HashesTold}
+use Rattle.world_deeds.specs.laws_of_tasks.Ready.{HasLooked}
 use Rattle.world_deeds.specs.Acting.{StationDid}
 use Rattle.world_deeds.specs.declared.answers.Answered.{Answered}
 use Rattle.world_locks.proofs.Stations.{inode_same, its_pass}

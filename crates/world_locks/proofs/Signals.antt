@@ -12,8 +12,8 @@ use Rattle.inode_events.specs.declared.told.Event.{Event}
 use Rattle.inode_events.specs.declared.told.Told.{Told}
 use Rattle.inode_events.specs.declared.told.Told.TheVariants as told
 use Rattle.policy_cell.specs.declared.cell.RuleEntry.{RuleEntry}
-use Rattle.task_frame.specs.Tasks.{PassesValue}
-use Rattle.task_laws.proofs.Eventing.{adds_none}
+use Rattle.world_close.specs.frames.Tasks.{PassesValue}
+use Rattle.world_deeds.proofs.laws_of_tasks.Eventing.{adds_none}
 use Rattle.world_deeds.specs.Acting.{IsPlacedAt, told_of}
 use Rattle.world_deeds.specs.declared.answers.Answered.{Answered}
 use Rattle.world_locks.specs.Kept.{AppendMet, SignalMet, signalled_at}

@@ -16,13 +16,13 @@ use Rattle.inode_events.specs.declared.told.Event.{Event}
 use Rattle.inode_events.specs.declared.told.Told.{Told}
 use Rattle.policy_cell.specs.declared.cell.RuleEntry.{RuleEntry}
 use Rattle.policy_text.specs.ActionValue.{ActionValue}
-use Rattle.rule_laws.proofs.Risen.{law_rise_by_look, law_rise_by_outcome}
-use Rattle.rule_laws.specs.Stations.{CountsAll, StationRules}
-use Rattle.task_frame.specs.Frame.{Frame, Site, inode_in}
-use Rattle.task_frame.specs.World.{IsStation, StationValue, site_of}
-use Rattle.task_deeds.specs.Leaving.{Leaves}
-use Rattle.task_frame.specs.declared.gathered.Gathered.{Gathered}
-use Rattle.task_laws.specs.Ready.{HasLooked, IsReady}
+use Rattle.world_close.proofs.laws_of_rules.Risen.{law_rise_by_look, law_rise_by_outcome}
+use Rattle.world_close.specs.laws_of_rules.Stations.{CountsAll, StationRules}
+use Rattle.world_close.specs.frames.Frame.{Frame, Site, inode_in}
+use Rattle.world_close.specs.frames.World.{IsStation, StationValue, site_of}
+use Rattle.world_deeds.specs.deeds.Leaving.{Leaves}
+use Rattle.world_close.specs.frames.declared.gathered.Gathered.{Gathered}
+use Rattle.world_deeds.specs.laws_of_tasks.Ready.{HasLooked, IsReady}
 use Rattle.world_deeds.specs.Acting.{StationDid}
 use Rattle.world_locks.specs.Kept.{IsPassAt, IsReadyBy, NumberedStation}
 

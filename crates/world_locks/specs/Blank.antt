@@ -1,11 +1,11 @@
 -- The constants of no world.
 use Rattle.std.specs.Prelude.{[], None, refl}
 use Rattle.grow_list.specs.Shown.{no_name}
-use Rattle.hash_algos.specs.declared.algo.Algo.TheVariants.{Sha1}
+use Rattle.inode_events.specs.hashes.declared.algo.Algo.TheVariants.{Sha1}
 use Rattle.inode_meta.specs.declared.appraisal.Mode.TheVariants.{Log}
 use Rattle.inode_meta.specs.declared.measurement.Template.TheVariants.{Ima}
 use Rattle.inode_events.specs.declared.settings.Settings.{Settings}
-use Rattle.task_frame.specs.Frame.{Frame, no_entry}
+use Rattle.world_close.specs.frames.Frame.{Frame, no_entry}
 
 abbrev pub no_settings : Settings
 no_settings = record {

@@ -17,12 +17,12 @@ use Rattle.policy_cell.specs.Policy.{PolicyValue}
 use Rattle.policy_cell.specs.declared.cell.RuleEntry.{RuleEntry}
 use Rattle.policy_text.specs.ActionValue.{ActionValue}
 use Rattle.run_model.specs.Scene.{rules_with}
-use Rattle.task_deeds.specs.declared.listed.Checks.{Checks}
-use Rattle.task_frame.specs.Frame.{Frame, Site, inode_in, scene_of, super_at}
-use Rattle.task_frame.specs.World.{AreRulesOf, IsStation, StationValue}
-use Rattle.task_frame.specs.declared.gathered.Gathered.{Gathered}
-use Rattle.task_laws.specs.Ready.{HasLooked, IsReady}
-use Rattle.task_laws.specs.Steps.{Adds}
+use Rattle.world_deeds.specs.deeds.declared.listed.Checks.{Checks}
+use Rattle.world_close.specs.frames.Frame.{Frame, Site, inode_in, scene_of, super_at}
+use Rattle.world_close.specs.frames.World.{AreRulesOf, IsStation, StationValue}
+use Rattle.world_close.specs.frames.declared.gathered.Gathered.{Gathered}
+use Rattle.world_deeds.specs.laws_of_tasks.Ready.{HasLooked, IsReady}
+use Rattle.world_deeds.specs.laws_of_tasks.Steps.{Adds}
 use Rattle.world_close.specs.Closed.{AreIdle}
 use Rattle.world_deeds.specs.Acting.{IsPlacedAt, StationDid, told_in, told_of}
 use Rattle.world_deeds.specs.Checking.{IsChecked, check_by}

@@ -12,10 +12,10 @@ use Rattle.inode_events.specs.declared.told.Event.{Event}
 use Rattle.inode_events.specs.declared.told.Told.TheVariants as told
 use Rattle.policy_cell.specs.declared.cell.RuleEntry.{RuleEntry}
 use Rattle.run_model.specs.Turns.{State}
-use Rattle.task_deeds.specs.declared.listed.Checks.{Checks}
-use Rattle.task_frame.specs.Frame.{Frame}
-use Rattle.task_frame.specs.Tasks.{PassesValue}
-use Rattle.task_frame.specs.declared.gathered.Gathered.{Gathered}
+use Rattle.world_deeds.specs.deeds.declared.listed.Checks.{Checks}
+use Rattle.world_close.specs.frames.Frame.{Frame}
+use Rattle.world_close.specs.frames.Tasks.{PassesValue}
+use Rattle.world_close.specs.frames.declared.gathered.Gathered.{Gathered}
 use Rattle.world_deeds.specs.Acting.{EventIn, IsPlacedAt, IsSaid, told_in, told_of}
 use Rattle.world_deeds.specs.Checking.{CheckIn}
 use Rattle.world_deeds.specs.Sharing.{AppendsTo, SignalsOn}

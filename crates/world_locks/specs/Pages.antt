@@ -17,11 +17,11 @@ use Rattle.inode_events.specs.declared.told.Told.{Told}
 use Rattle.inode_events.specs.declared.told.Told.TheVariants as told
 use Rattle.inode_meta.specs.declared.step.Who.{Who}
 use Rattle.inode_pages.specs.Content.{piece_at}
-use Rattle.own_laws.specs.Own.{IsBy}
-use Rattle.task_deeds.specs.Leaving.{Leaves, told_by}
-use Rattle.task_frame.specs.Frame.{Frame, Site, inode_in}
-use Rattle.task_frame.specs.World.{IsStation, StationValue}
-use Rattle.task_laws.specs.Ready.{HasLooked}
+use Rattle.inode_cell.specs.laws_of_journals.Own.{IsBy}
+use Rattle.world_deeds.specs.deeds.Leaving.{Leaves, told_by}
+use Rattle.world_close.specs.frames.Frame.{Frame, Site, inode_in}
+use Rattle.world_close.specs.frames.World.{IsStation, StationValue}
+use Rattle.world_deeds.specs.laws_of_tasks.Ready.{HasLooked}
 use Rattle.world_deeds.specs.declared.answers.Answered.{Answered}
 use Rattle.world_locks.specs.declared.pages.TakenPage.{TakenPage}
 

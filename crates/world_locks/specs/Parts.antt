@@ -1,7 +1,7 @@
 -- The lists of a world, each one of its constants.
 use Rattle.std.specs.Prelude.{◌≡◌, List, Some, ℕ, slice_get}
-use Rattle.task_frame.specs.Frame.{Frame}
-use Rattle.task_frame.specs.World.{AreRulesOf, AreSignalsOf, IsBookOf, IsStation, StationValue}
+use Rattle.world_close.specs.frames.Frame.{Frame}
+use Rattle.world_close.specs.frames.World.{AreRulesOf, AreSignalsOf, IsBookOf, IsStation, StationValue}
 use Rattle.world_close.specs.Closed.{AreIdle, AreStations}
 use Rattle.world_deeds.specs.Parts.{frame_by, state_by}
 use Rattle.run_model.specs.Turns.{State}

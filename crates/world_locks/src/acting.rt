@@ -3,8 +3,8 @@
 ghost use Rattle.inode_events.specs.declared.deed.Deed.TheVariants as Deed;
 ghost use Rattle.std.specs.Prelude.{◌≡◌, ◌<◌, length};
 ghost use Rattle.inode_events.specs.Checks.{no_action};
-ghost use Rattle.task_frame.specs.Tasks.{ArePassesOf};
-ghost use Rattle.task_frame.specs.declared.gathered.Gathered.{Gathered as AnyGathered};
+ghost use Rattle.world_close.specs.frames.Tasks.{ArePassesOf};
+ghost use Rattle.world_close.specs.frames.declared.gathered.Gathered.{Gathered as AnyGathered};
 ghost use Rattle.task_mind.specs.Steps.{deed_in};
 ghost use Rattle.world_deeds.specs.Acting.{ReadyAt};
 ghost use Rattle.world_locks.specs.Met.{CheckMet, EventMet};
@@ -14,13 +14,13 @@ use crate::locks::Locks;
 use crate::name::Name;
 use crate::order::Order;
 use crate::pages::alone;
-use grow_list::OutOfMemory;
 use inode_meta::Who;
+use std::alloc::AllocError as OutOfMemory;
 use std::sync::Wait;
-use task_deeds::{Actor, Checks, gather, piece_told};
-use task_frame::{Gathered, Passes};
 use task_mind::Doing;
+use world_close::frames::{Gathered, Passes};
 use world_deeds::Answered;
+use world_deeds::deeds::{Actor, Checks, gather, piece_told};
 
 impl<N: Name> Locks<N> {
     /// Does the deed on the inode of this number, by the task's passes. `None` is blocked.

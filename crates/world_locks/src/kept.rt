@@ -2,19 +2,19 @@
 //! the constants.
 
 ghost use Rattle.std.specs.Prelude.{◌≡◌, ◌+◌, IfOk, OnErr};
-ghost use Rattle.task_frame.specs.World.{AreSignalsOf, IsBookOf};
+ghost use Rattle.world_close.specs.frames.World.{AreSignalsOf, IsBookOf};
 ghost use Rattle.world_locks.specs.Kept.{AppendMet, RulesKeep, SignalMet, signalled_at};
 
 use crate::name::Name;
-use grow_list::{OutOfMemory, Pass};
+use grow_list::Pass;
+use inode_cell::books::Book;
 use inode_events::{Deed, Event, Told};
 use inode_meta::Who;
-use measure_book::Book;
 use policy_cell::{PolicyCell, RuleEntry};
 use policy_text::Rule;
-use semaphore_cell::SemaphoreCell;
-use std::alloc::Global;
+use std::alloc::{AllocError as OutOfMemory, Global};
 use std::marker::{Model, PhantomData};
+use world_close::semaphores::SemaphoreCell;
 use world_deeds::Answered;
 
 /// The measurement list.
@@ -27,7 +27,7 @@ pub struct KeptBook<N: Name> {
 impl<N: Name> Model for KeptBook<N> {
     ghost use Rattle.grow_list.specs.Shown.{Grown};
     ghost use Rattle.ima_templates.specs.declared.entry.Entry.{Entry};
-    ghost use Rattle.task_frame.specs.World.{IsBookOf};
+    ghost use Rattle.world_close.specs.frames.World.{IsBookOf};
 
     ghost Value = { Grown Entry };
 
@@ -68,7 +68,7 @@ pub struct KeptSemaphores<N: Name> {
 impl<N: Name> Model for KeptSemaphores<N> {
     ghost use Rattle.grow_list.specs.Shown.{Grown};
     ghost use Rattle.inode_events.specs.declared.told.Event.{Event};
-    ghost use Rattle.task_frame.specs.World.{AreSignalsOf};
+    ghost use Rattle.world_close.specs.frames.World.{AreSignalsOf};
 
     ghost Value = { Grown Event };
 

@@ -2,7 +2,7 @@
 
 ghost use Rattle.std.specs.Prelude.{◌≡◌, ◌<◌, IfOk, length};
 ghost use Rattle.std.specs.Sync.Mutex.{mutex_guard_value};
-ghost use Rattle.task_frame.specs.World.{IsStation};
+ghost use Rattle.world_close.specs.frames.World.{IsStation};
 ghost use Rattle.world_close.specs.Closed.{AreStations};
 ghost use Rattle.world_locks.specs.Parts.{KeepFrame, frame_of_parts};
 
@@ -11,13 +11,12 @@ use crate::name::Name;
 use crate::order::Order;
 use crate::parts::Parts;
 use crate::station::KeptStation;
-use grow_list::OutOfMemory;
 use inode_events::Settings;
 use inode_meta::Mode;
 use policy_text::Super;
-use std::alloc::{AllocError, Global};
+use std::alloc::{AllocError as OutOfMemory, Global};
 use std::sync::{Mutex, MutexGuard, Wait};
-use task_frame::Station;
+use world_close::frames::Station;
 
 /// The lists of a world, each inode under a lock of its own, and one lock each for the measurement
 /// list, the semaphores and the rules. They are those of the constants that `N` names.
@@ -42,7 +41,7 @@ fn lock_at<N: Name>(place: usize, station: Station) -> Result<Mutex<KeptStation<
     requires { IsStation N.frame place station }
 {
     let Ok(number) = u32::try_from(place) else {
-        return Err(AllocError);
+        return Err(OutOfMemory);
     };
     Ok(Mutex::new(KeptStation::<N>::new(number, station)))
 }
@@ -72,7 +71,7 @@ fn unlock_at<N: Name>(place: usize, mutex: Mutex<KeptStation<N>>) -> Result<Stat
     let (number, station) = mutex.into_inner().open();
     // It stands in its place, but the type of a lock doesn't tell it.
     if number as usize != place {
-        return Err(AllocError);
+        return Err(OutOfMemory);
     }
     Ok(station)
 }

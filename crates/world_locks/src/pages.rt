@@ -11,16 +11,17 @@ ghost use Rattle.inode_events.specs.Integrity.{Collection as AnyCollection, coll
 ghost use Rattle.inode_events.specs.Past.{past};
 ghost use Rattle.inode_events.specs.State.{content};
 ghost use Rattle.inode_pages.specs.Content.{piece_at};
-ghost use Rattle.task_deeds.specs.Leaving.{Leaves, told_by};
-ghost use Rattle.task_laws.specs.Ready.{HasLooked};
+ghost use Rattle.world_deeds.specs.deeds.Leaving.{Leaves, told_by};
+ghost use Rattle.world_deeds.specs.laws_of_tasks.Ready.{HasLooked};
 ghost use Rattle.task_mind.specs.Steps.{deed_in};
 ghost use Rattle.world_locks.specs.Pages.{IsPageDeed, alone_in, read_in, taken_in};
 
-use grow_list::{OutOfMemory, Pass};
+use grow_list::Pass;
 use inode_cell::{Got, InodeCell, Piece};
 use inode_events::{Event, Told};
 use inode_meta::Who;
 use inode_pages::Page;
+use std::alloc::AllocError as OutOfMemory;
 use task_mind::Doing;
 use world_deeds::Answered;
 

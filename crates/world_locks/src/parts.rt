@@ -1,11 +1,11 @@
 use grow_list::Pass;
+use inode_cell::books::Book;
 use inode_events::Settings;
-use measure_book::Book;
 use policy_cell::{PolicyCell, RuleEntry};
 use policy_text::Super;
-use semaphore_cell::SemaphoreCell;
 use std::alloc::Global;
-use task_frame::Station;
+use world_close::frames::Station;
+use world_close::semaphores::SemaphoreCell;
 
 /// The lists of a world.
 #[derive(Drop)]

@@ -1,18 +1,18 @@
 //! The steps of a task on the semaphores and the rules, each under its lock alone.
 
 ghost use Rattle.std.specs.Prelude.{◌≡◌, IfOk, OnErr};
-ghost use Rattle.task_frame.specs.Tasks.{ArePassesOf};
+ghost use Rattle.world_close.specs.frames.Tasks.{ArePassesOf};
 ghost use Rattle.world_locks.specs.Met.{AppendsMet, SignalsMet};
 
 use crate::locks::Locks;
 use crate::name::Name;
 use crate::order::Order;
-use grow_list::OutOfMemory;
 use inode_events::Deed;
 use inode_meta::Who;
 use policy_text::Rule;
+use std::alloc::AllocError as OutOfMemory;
 use std::sync::Wait;
-use task_frame::Passes;
+use world_close::frames::Passes;
 use world_deeds::Answered;
 
 impl<N: Name> Locks<N> {

@@ -3,8 +3,8 @@
 ghost use Rattle.inode_events.specs.declared.deed.Deed.TheVariants as Deed;
 ghost use Rattle.std.specs.Prelude.{◌≡◌, ◌+◌};
 ghost use Rattle.inode_events.specs.Checks.{no_action};
-ghost use Rattle.task_frame.specs.World.{IsStation};
-ghost use Rattle.task_frame.specs.declared.gathered.Gathered.{Gathered as AnyGathered};
+ghost use Rattle.world_close.specs.frames.World.{IsStation};
+ghost use Rattle.world_close.specs.frames.declared.gathered.Gathered.{Gathered as AnyGathered};
 ghost use Rattle.task_mind.specs.Steps.{deed_in};
 ghost use Rattle.world_locks.specs.Kept.{AskMet, DeedMet, IsPassAt, IsReadyBy};
 ghost use Rattle.world_locks.specs.Pages.{IsPageDeed, MayByLook, PageMet, ReadMet};
@@ -12,16 +12,17 @@ ghost use Rattle.world_locks.specs.Pages.{IsPageDeed, MayByLook, PageMet, ReadMe
 use crate::kept::{KeptBook, KeptRules};
 use crate::name::Name;
 use crate::pages::{TakenPage, read, read_at, take_page, taken_at};
-use grow_list::{OutOfMemory, Pass};
+use grow_list::Pass;
 use ima_templates::Entry;
 use inode_events::Event;
 use inode_meta::Who;
 use policy_cell::RuleEntry;
 use policy_text::Super;
+use std::alloc::AllocError as OutOfMemory;
 use std::marker::{Model, PhantomData};
-use task_deeds::{Actor, Checks};
-use task_frame::{Gathered, Station};
 use task_mind::Doing;
+use world_close::frames::{Gathered, Station};
+use world_deeds::deeds::{Actor, Checks};
 use world_deeds::{Answered, act_at, check_at};
 
 /// An inode with its number.
@@ -33,7 +34,7 @@ pub struct KeptStation<N: Name> {
 }
 
 impl<N: Name> Model for KeptStation<N> {
-    ghost use Rattle.task_frame.specs.World.{IsStation};
+    ghost use Rattle.world_close.specs.frames.World.{IsStation};
     ghost use Rattle.world_locks.specs.Kept.{NumberedStation};
 
     ghost Value = { NumberedStation };

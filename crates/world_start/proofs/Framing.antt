@@ -10,16 +10,16 @@ use Rattle.ima_templates.specs.declared.entry.Entry.{Entry}
 use Rattle.inode_events.specs.declared.image.Image.{Image}
 use Rattle.inode_events.specs.declared.settings.Settings.{Settings}
 use Rattle.inode_events.specs.declared.told.Event.{Event}
-use Rattle.kept_journal.specs.Value.{birth_of}
+use Rattle.world_close.specs.states.Value.{birth_of}
 use Rattle.policy_cell.specs.Policy.{PolicyValue}
 use Rattle.policy_cell.specs.declared.cell.RuleEntry.{RuleEntry}
 use Rattle.policy_text.specs.declared.access.Super.{Super}
-use Rattle.rule_laws.specs.Stations.{StationRules}
-use Rattle.rule_laws.proofs.Risen.{law_rise_at_first}
-use Rattle.run_model.specs.Turns.{newborn}
-use Rattle.task_frame.specs.Frame.{Frame, Site, boot_in, station_of}
-use Rattle.task_frame.specs.Tasks.{ArePassesOf, AreUnused, PassesValue}
-use Rattle.task_frame.specs.World.{AreRulesOf, AreSignalsOf, IsBookOf, IsStation, StationValue, journal_of, site_of}
+use Rattle.world_close.specs.laws_of_rules.Stations.{StationRules}
+use Rattle.world_close.proofs.laws_of_rules.Risen.{law_rise_at_first}
+use Rattle.world_close.specs.model.Turns.{newborn}
+use Rattle.world_close.specs.frames.Frame.{Frame, Site, boot_in, station_of}
+use Rattle.world_close.specs.frames.Tasks.{ArePassesOf, AreUnused, PassesValue}
+use Rattle.world_close.specs.frames.World.{AreRulesOf, AreSignalsOf, IsBookOf, IsStation, StationValue, journal_of, site_of}
 use Rattle.world_close.specs.Closed.{AreIdle, AreStations}
 use Rattle.world_close.proofs.Gets.{all_by_get, get_map, map_get}
 use Rattle.world_close.proofs.Listing.{all_at}

@@ -5,10 +5,10 @@ use Rattle.inode_events.specs.declared.image.Image.{Image}
 use Rattle.inode_events.specs.declared.settings.Settings.{Settings}
 use Rattle.policy_text.specs.RuleValue.{RuleValue}
 use Rattle.policy_text.specs.declared.access.Super.{Super}
-use Rattle.run_model.specs.Scene.{Program}
-use Rattle.run_model.specs.Turns.{State, start_of}
-use Rattle.task_frame.specs.Frame.{Frame, Site, scene_of}
-use Rattle.task_frame.specs.Tasks.{ArePassesOf, AreUnused, PassesValue}
+use Rattle.world_close.specs.model.Scene.{Program}
+use Rattle.world_close.specs.model.Turns.{State, start_of}
+use Rattle.world_close.specs.frames.Frame.{Frame, Site, scene_of}
+use Rattle.world_close.specs.frames.Tasks.{ArePassesOf, AreUnused, PassesValue}
 use Rattle.world_deeds.specs.Parts.{frame_by, state_by}
 use Rattle.world_start.specs.declared.lists.Start.{Start}
 

@@ -3,15 +3,15 @@ use Rattle.std.specs.Prelude.{◌≡◌, ℕ, ◌+◌, ◌<◌, ◌≤◌, All, 
 use Rattle.grow_list.specs.Shown.{ListName, Passed, fresh}
 use Rattle.ima_templates.specs.Path.{IsMeasuredPath}
 use Rattle.ima_templates.specs.declared.entry.Entry.{Entry}
-use Rattle.inode_meta.specs.declared.measurement.Template.TheVariants.{Ima}
+use Rattle.inode_events.specs.meta.declared.measurement.Template.TheVariants.{Ima}
 use Rattle.inode_events.specs.declared.image.Image.{Image}
 use Rattle.inode_events.specs.declared.settings.Settings.{Settings}
 use Rattle.inode_events.specs.declared.told.Event.{Event}
-use Rattle.inode_pages.specs.Content.{most_bytes}
-use Rattle.kept_journal.specs.Value.{birth_of, new_pass}
+use Rattle.inode_events.specs.pages.Content.{most_bytes}
+use Rattle.world_close.specs.states.Value.{birth_of, new_pass}
 use Rattle.policy_cell.specs.declared.cell.RuleEntry.{RuleEntry}
-use Rattle.task_frame.specs.World.{StationValue}
-use Rattle.task_frame.specs.Tasks.{PassesValue}
+use Rattle.world_close.specs.frames.World.{StationValue}
+use Rattle.world_close.specs.frames.Tasks.{PassesValue}
 
 -- a file that a world can have: each template can show its path, and it isn't too long
 pub record IsFile (x : List ℕ × Image) : Type 0 where

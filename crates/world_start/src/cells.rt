@@ -2,14 +2,14 @@
 ghost use Rattle.std.specs.Prelude.{◌≡◌, ℕ, ◌+◌, ◌-◌, ◌<◌, ◌^◌, [], ◌∷◌, IfOk, max};
 ghost use Rattle.world_start.specs.Started.{AreFresh};
 
-use grow_list::{OutOfMemory, Pass};
+use grow_list::Pass;
 use ima_templates::Entry;
 use inode_events::Event;
-use measure_book::Book;
 use policy_cell::{PolicyCell, RuleEntry};
 use policy_text::Policy;
-use semaphore_cell::SemaphoreCell;
-use std::alloc::Global;
+use std::alloc::{AllocError as OutOfMemory, Global};
+use world_close::books::Book;
+use world_close::semaphores::SemaphoreCell;
 
 // The lists, with the passes of the inodes and those of the tasks.
 #[derive(Drop)]

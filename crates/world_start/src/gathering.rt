@@ -1,17 +1,17 @@
 // The passes of each task, from those of each list.
 ghost use Rattle.std.specs.Prelude.{◌≡◌, ℕ, IfNone, IfOk, IfSome, length, map};
-ghost use Rattle.task_frame.specs.Tasks.{PassesValue};
+ghost use Rattle.world_close.specs.frames.Tasks.{PassesValue};
 ghost use Rattle.world_start.specs.Started.{HasTaken};
 
 use crate::rows::Row;
-use grow_list::{OutOfMemory, Pass};
+use grow_list::Pass;
 use ima_templates::Entry;
 use inode_events::Event;
 use policy_cell::RuleEntry;
-use std::alloc::Global;
+use std::alloc::{AllocError as OutOfMemory, Global};
 use std::collections::VecDeque;
 use std::marker::Model;
-use task_frame::Passes;
+use world_close::frames::Passes;
 
 // The passes of all tasks, by their lists.
 #[derive(Drop)]

@@ -1,5 +1,5 @@
 ghost use Rattle.std.specs.Prelude.{◌≡◌, ℕ, ◌+◌, ◌<◌, ◌^◌, All, IfOk, length};
-ghost use Rattle.task_frame.specs.World.{AreRulesOf, AreSignalsOf, IsBookOf};
+ghost use Rattle.world_close.specs.frames.World.{AreRulesOf, AreSignalsOf, IsBookOf};
 ghost use Rattle.world_close.specs.Closed.{AreIdle, AreStations};
 ghost use Rattle.world_start.specs.Start.{AreFirstPasses, Begins, IsFrameOf, frame_of_start, state_of_start};
 ghost use Rattle.world_start.specs.Started.{IsFile};
@@ -8,16 +8,16 @@ use crate::cells::start_cells;
 use crate::gathering::{Columns, gather};
 use crate::seats::Seats;
 use crate::stations::start_stations;
-use grow_list::{OutOfMemory, Pass};
+use grow_list::Pass;
 use ima_templates::Entry;
+use inode_events::xattrs::Bytes;
 use inode_events::{Image, Settings};
-use measure_book::Book;
 use policy_cell::{PolicyCell, RuleEntry};
 use policy_text::{Policy, Super};
-use semaphore_cell::SemaphoreCell;
-use std::alloc::Global;
-use task_frame::{Passes, Station};
-use xattr_store::Bytes;
+use std::alloc::{AllocError as OutOfMemory, Global};
+use world_close::books::Book;
+use world_close::frames::{Passes, Station};
+use world_close::semaphores::SemaphoreCell;
 
 /// What a world starts with: its lists, and the passes of its tasks, in order.
 #[derive(Drop)]

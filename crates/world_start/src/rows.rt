@@ -4,11 +4,12 @@ ghost use Rattle.grow_list.specs.Shown.{Passed};
 ghost use Rattle.inode_events.specs.declared.told.Event.{Event as AnyEvent};
 ghost use Rattle.world_start.specs.Started.{pass_of};
 
-use grow_list::{OutOfMemory, Pass};
+use grow_list::Pass;
 use inode_events::Event;
+use std::alloc::AllocError as OutOfMemory;
 use std::collections::VecDeque;
 use std::marker::Model;
-use task_frame::Station;
+use world_close::frames::Station;
 
 // The passes of one task, of each inode's journal in order.
 #[derive(Drop)]

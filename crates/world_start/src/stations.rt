@@ -7,13 +7,13 @@ ghost use Rattle.world_start.specs.Started.{AreRows, AreStarted, IsFile, IsStart
 
 use crate::rows::{Row, share_out};
 use crate::seats::{Seat, Seats};
-use grow_list::{OutOfMemory, Pass};
-use inode_cell::InodeCell;
+use grow_list::Pass;
+use inode_events::xattrs::Bytes;
 use inode_events::{Event, Image, Settings};
-use std::alloc::Global;
+use std::alloc::{AllocError as OutOfMemory, Global};
 use std::collections::VecDeque;
-use task_frame::Station;
-use xattr_store::Bytes;
+use world_close::frames::Station;
+use world_close::inodes::InodeCell;
 
 // One inode, and the passes of its journal.
 fn start_station(

@@ -6,8 +6,7 @@ ghost use Rattle.xattr_store.specs.Attrs.{Fits, changed, put, value, without};
 use crate::bytes::Bytes;
 use crate::changes::NewValue;
 use crate::places::{change_within, find, put_value, value_in};
-use inode_meta::OutOfMemory;
-use std::alloc::{AllocError, Global};
+use std::alloc::{AllocError as OutOfMemory, Global};
 use std::marker::Model;
 
 /// The most bytes that the value of an attribute may have.
@@ -22,10 +21,10 @@ pub enum SetErr {
     OutOfMemory,
 }
 
-impl From<AllocError> for SetErr {
+impl From<OutOfMemory> for SetErr {
     ghost from_gives = { λ _ e. e ≡ OutOfMemory };
 
-    fn from(_want: AllocError) -> SetErr {
+    fn from(_want: OutOfMemory) -> SetErr {
         SetErr::OutOfMemory
     }
 }

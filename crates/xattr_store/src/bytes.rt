@@ -1,7 +1,6 @@
 ghost use Rattle.std.specs.Prelude.{◌≡◌, ℕ, List, IfOk};
 
-use inode_meta::OutOfMemory;
-use std::alloc::Global;
+use std::alloc::{AllocError as OutOfMemory, Global};
 use std::marker::Model;
 
 /// A byte string that owns its memory, as a path, a name or the value of an attribute. Contracts

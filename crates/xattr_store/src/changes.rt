@@ -6,8 +6,7 @@ ghost use Rattle.xattr_store.specs.Attrs.{changed, value};
 
 use crate::attrs::Attrs;
 use crate::bytes::Bytes;
-use inode_meta::OutOfMemory;
-use std::alloc::Global;
+use std::alloc::{AllocError as OutOfMemory, Global};
 use std::marker::Model;
 
 /// What a name is to have: a value, or none.

@@ -10,5 +10,5 @@ mod places;
 pub use attrs::{Attrs, MAX_VALUE, NoData, SetErr};
 pub use bytes::Bytes;
 pub use changes::{After, NewValue};
-pub use inode_meta::OutOfMemory;
 pub use names::{EVM_NAME, IMA_NAME};
+pub use std::alloc::AllocError as OutOfMemory;

@@ -6,7 +6,7 @@ ghost use Rattle.std.specs.Option.{option_copied};
 ghost use Rattle.xattr_store.specs.Places.{IsFoundAt, IsGapAt};
 
 use crate::bytes::Bytes;
-use inode_meta::OutOfMemory;
+use std::alloc::AllocError as OutOfMemory;
 use std::cmp::Ordering;
 
 // `Ok` of the place of the name, or `Err` of the place where it is to be inserted.

@@ -4,8 +4,7 @@ ghost use Rattle.ima_io.specs.Counts.{Rose, counted_on};
 ghost use Rattle.ima_io.specs.Memory.{fails_at};
 
 use crate::outside::{Failed, Sink};
-use inode_meta::OutOfMemory;
-use std::alloc::Global;
+use std::alloc::{AllocError as OutOfMemory, Global};
 use std::marker::Model;
 
 /// A sink into memory of a fixed room. It takes at most `piece` bytes in one call. The calls whose

@@ -1,7 +1,7 @@
 -- The command `gen`: the summary of the run of the script that is made of a number. It reads
 -- nothing, and nothing refuses it.
 use Rattle.std.specs.Prelude.{ℕ, List}
-use Rattle.load_run.specs.Summarized.{IsSummary}
+use Rattle.ima_top.specs.Summarized.{IsSummary}
 
 -- the output for a number is the summary of its script's run
 unfoldable pub IsGenOutput : ℕ → List ℕ → Type 0

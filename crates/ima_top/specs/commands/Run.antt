@@ -2,7 +2,7 @@
 -- cause.
 use Rattle.std.specs.Prelude.{◌≡◌, ℕ, Bool, List, Option, Some, None, Result, Ok, Err, IsOkAnd}
 use Rattle.report_text.specs.Report.{report_of}
-use Rattle.run_model.specs.EndedValue.{EndedValue}
+use Rattle.script_run.specs.model.EndedValue.{EndedValue}
 use Rattle.script_run.specs.Run.{HasRun}
 use Rattle.script_text.specs.Grammar.{script_of}
 use Rattle.script_text.specs.ScriptValue.{ScriptValue}

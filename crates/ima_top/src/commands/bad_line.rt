@@ -2,9 +2,8 @@
 ghost use Rattle.std.specs.Prelude.{◌≡◌, IfOk};
 ghost use Rattle.ima_top.specs.commands.BadLine.{bad_line};
 
-use ima_io::OutOfMemory;
 use script_text::Fault;
-use std::alloc::Global;
+use std::alloc::{AllocError as OutOfMemory, Global};
 
 /// `line L: CAUSE`
 pub fn bad_line(alloc: Global, fault: Fault) -> Result<Vec<u8>, OutOfMemory>

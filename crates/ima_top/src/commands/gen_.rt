@@ -2,9 +2,9 @@
 ghost use Rattle.std.specs.Prelude.{IfOk};
 ghost use Rattle.ima_top.specs.commands.Gen.{IsGenOutput};
 
-use ima_io::{Gate, OutOfMemory};
-use load_run::summarize;
-use std::alloc::Global;
+use crate::summary::summarize;
+use ima_io::Gate;
+use std::alloc::{AllocError as OutOfMemory, Global};
 use std::sync::Wait;
 use std::thread::Threads;
 

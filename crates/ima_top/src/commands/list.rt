@@ -12,14 +12,13 @@ ghost use Rattle.ima_top.specs.commands.List.{boot_entry, file_entry, list_refus
 use crate::commands::bad_line::bad_line;
 use crate::not_done::NotDone;
 use hash_algos::{Algo, Digest, digest_of};
-use ima_io::OutOfMemory;
+use ima_templates::xattrs::Bytes;
 use ima_templates::{Entry, build};
 use inode_meta::{Bank, DEFAULT_PCR, Template};
 use list_format::ascii;
 use pcr_bank::Banks;
 use script_text::{ScriptErr, parse_list};
-use std::alloc::Global;
-use xattr_store::Bytes;
+use std::alloc::{AllocError as OutOfMemory, Global};
 
 /// The measurement list of the files, or the line that tells the first bad line.
 #[tactic(auto, unfolding(crate::specs::commands::List::list_refusal, crate::specs::commands::List::IsListOutput))]

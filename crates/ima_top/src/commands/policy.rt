@@ -5,9 +5,8 @@ ghost use Rattle.ima_top.specs.declared.top.TheConstants.{MOST_INPUT};
 ghost use Rattle.ima_top.specs.commands.Policy.{fault_line, policy_refusal, IsPolicyOutput};
 
 use crate::not_done::NotDone;
-use ima_io::OutOfMemory;
 use policy_text::{Fault, PolicyErr, parse, print};
-use std::alloc::Global;
+use std::alloc::{AllocError as OutOfMemory, Global};
 
 /// The canonical text of the policy, or the line that tells its first bad line.
 #[tactic(auto, unfolding(crate::specs::commands::Policy::policy_refusal, crate::specs::commands::Policy::IsPolicyOutput))]

@@ -7,11 +7,11 @@ ghost use Rattle.ima_top.specs.commands.Run.{IsReport, IsRunOutput, run_refusal}
 use crate::commands::Answer;
 use crate::commands::bad_line::bad_line;
 use crate::not_done::NotDone;
-use ima_io::{Gate, OutOfMemory};
+use ima_io::Gate;
 use report_text::report;
 use script_run::run;
 use script_text::{Script, ScriptErr, parse};
-use std::alloc::Global;
+use std::alloc::{AllocError as OutOfMemory, Global};
 use std::sync::Wait;
 use std::thread::Threads;
 

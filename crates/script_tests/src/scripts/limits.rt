@@ -2,7 +2,7 @@
 //! accepted, and the first that isn't.
 
 use super::{FILE, HEAD, SUPER, TASK, answer, wanted};
-use std::alloc::{AllocError, Global};
+use std::alloc::{AllocError as OutOfMemory, Global};
 use std::process::Abort;
 use std::test::Fail;
 
@@ -125,7 +125,7 @@ fn push_numbered(
     before: &str,
     number: usize,
     after: &str,
-) -> Result<(), AllocError> {
+) -> Result<(), OutOfMemory> {
     write!(text, "{before}{number}{after}")
 }
 

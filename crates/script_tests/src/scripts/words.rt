@@ -1,7 +1,7 @@
 //! Lines with a word of many bytes, and a number of many digits.
 
 use super::{FILE, HEAD, SUPER, TASK, answer, wanted};
-use std::alloc::{AllocError, Global};
+use std::alloc::{AllocError as OutOfMemory, Global};
 use std::test::Fail;
 
 // The front, what stands before the byte, the byte, how often it stands, what stands behind it, and
@@ -133,7 +133,7 @@ fn stretched(
     part: &str,
     times: usize,
     after: &str,
-) -> Result<String, AllocError> {
+) -> Result<String, OutOfMemory> {
     let mut text = String::from_str(alloc, front)?;
     text.push_str(before)?;
     for _ in 0..times {

@@ -1,5 +1,5 @@
 use Rattle.std.proofs.Common.{Some, None, ◌∙◌}
-use Rattle.kept_journal.proofs.Keeping.{held_at}
+use Rattle.inode_cell.proofs.about_states.Keeping.{held_at}
 use Rattle.cell_rows.proofs.story.opened.Goals as goal
 
 pub returns-in-Some : goal.returns-in-Some

@@ -1,6 +1,6 @@
 use Rattle.std.proofs.Common.{ap, ◌∙◌}
-use Rattle.label_values.specs.Labels.{label_of}
-use Rattle.script_text.proofs.Labels.{shown}
+use Rattle.script_text.specs.labels.Labels.{label_of}
+use Rattle.script_text.proofs.LabelFront.{shown}
 use Rattle.label_text.proofs.seal.sealed_attrs.Goals as goal
 
 pub returns : goal.returns

@@ -1,8 +1,8 @@
 use Rattle.std.proofs.Common.{◌≡◌, ℕ, ◌<◌, All, List, length, map, sym, subst, rules}
 use Rattle.std.proofs.lemmas.List.Elements.{All-from_recursion}
-use Rattle.inode_events.specs.declared.image.Image.{Image}
+use Rattle.run_model.specs.events.declared.image.Image.{Image}
 use Rattle.policy_text.specs.declared.access.Super.{Super}
-use Rattle.world_start.specs.Started.{IsFile}
+use Rattle.task_runner.specs.starts.Started.{IsFile}
 use Rattle.script_scene.specs.Scene.{file_of, fs_of}
 use Rattle.script_run.proofs.Fits.{files_fit, places_fit}
 use Rattle.script_run.proofs.Starting.{started_is}

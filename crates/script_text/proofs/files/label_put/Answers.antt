@@ -1,6 +1,6 @@
 use Rattle.std.proofs.Common.{ap, ◌∙◌}
 use Rattle.label_values.specs.Labels.{label_of}
-use Rattle.script_text.proofs.Labels.{shown, shown_from_start}
+use Rattle.script_text.proofs.LabelFront.{shown, shown_from_start}
 use Rattle.script_text.proofs.files.label_put.Goals as goal
 
 pub returns-clause-ok : goal.returns-clause-ok

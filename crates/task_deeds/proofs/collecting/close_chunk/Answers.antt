@@ -1,5 +1,5 @@
 use Rattle.std.proofs.Common.{[], Some, sym, subst}
-use Rattle.inode_cell.specs.Acts.{Acts}
+use Rattle.task_laws.specs.inodes.Acts.{Acts}
 use Rattle.inode_events.specs.declared.deed.Deed.TheVariants as deed
 use Rattle.inode_events.specs.declared.told.Told.{Told}
 use Rattle.task_laws.specs.Due.{HashesAfter}

@@ -1,8 +1,8 @@
 use Rattle.std.proofs.Common.{[], subst}
-use Rattle.inode_cell.specs.Acts.{Acts}
+use Rattle.task_laws.specs.inodes.Acts.{Acts}
 use Rattle.inode_events.specs.declared.deed.Deed.TheVariants as deed
-use Rattle.inode_cell.specs.Answers.{CloseBeginsBy, close_taken_told}
-use Rattle.inode_cell.specs.declared.answers.CloseTaken.{CloseTaken}
+use Rattle.task_laws.specs.inodes.Answers.{CloseBeginsBy, close_taken_told}
+use Rattle.task_laws.specs.inodes.declared.answers.CloseTaken.{CloseTaken}
 use Rattle.task_deeds.proofs.Hashing.{close_left}
 use Rattle.task_deeds.proofs.collecting.close_take.Goals as goal
 

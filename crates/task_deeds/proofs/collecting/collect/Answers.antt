@@ -1,5 +1,5 @@
 use Rattle.std.proofs.Common.{List, Some, sym, subst}
-use Rattle.inode_cell.specs.Acts.{Acts}
+use Rattle.task_laws.specs.inodes.Acts.{Acts}
 use Rattle.std.specs.Prelude.{IfOk}
 use Rattle.ima_templates.specs.declared.entry.Entry.{Entry}
 use Rattle.task_mind.specs.Steps.{deed_in}

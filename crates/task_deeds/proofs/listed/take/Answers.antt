@@ -1,8 +1,8 @@
 use Rattle.std.proofs.Common.{subst}
-use Rattle.inode_cell.specs.Acts.{Acts}
+use Rattle.task_laws.specs.inodes.Acts.{Acts}
 use Rattle.inode_events.specs.declared.deed.Deed.TheVariants as deed
-use Rattle.inode_cell.specs.Answers.{BeginsBy, taken_told}
-use Rattle.inode_cell.specs.declared.answers.Taken.{Taken}
+use Rattle.task_laws.specs.inodes.Answers.{BeginsBy, taken_told}
+use Rattle.task_laws.specs.inodes.declared.answers.Taken.{Taken}
 use Rattle.inode_events.specs.Integrity.{chosen_algo}
 use Rattle.inode_events.specs.Past.{past}
 use Rattle.task_deeds.proofs.Hashing.{take_left}

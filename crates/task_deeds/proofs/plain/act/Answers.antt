@@ -1,12 +1,12 @@
 use Rattle.std.proofs.Common.{ℕ, List, Option, Some, sym, subst}
-use Rattle.inode_cell.specs.Acts.{Acts}
+use Rattle.task_laws.specs.inodes.Acts.{Acts}
 use Rattle.inode_events.specs.declared.deed.Deed.TheVariants as deed
 use Rattle.inode_events.specs.declared.told.Told.{Told}
 use Rattle.std.specs.Prelude.{IfOk}
 use Rattle.ima_templates.specs.declared.entry.Entry.{Entry}
 use Rattle.task_mind.specs.Steps.{deed_in}
 use Rattle.task_mind.specs.declared.step.Doing.{Doing}
-use Rattle.inode_cell.specs.Answers.{wrote_told as answered}
+use Rattle.task_laws.specs.inodes.Answers.{wrote_told as answered}
 use Rattle.task_mind.specs.declared.step.Doing.TheVariants as doing
 use Rattle.inode_events.specs.declared.told.Told.TheVariants as told
 use Rattle.task_deeds.proofs.plain.act.Goals as goal

@@ -1,8 +1,8 @@
 use Rattle.std.proofs.Common.{ℕ, List, Option, Some, sym, ◌∙◌, ap, subst}
-use Rattle.inode_cell.specs.Acts.{Acts}
+use Rattle.task_laws.specs.inodes.Acts.{Acts}
 use Rattle.inode_events.specs.declared.deed.Deed.TheVariants as deed
 use Rattle.inode_events.specs.declared.told.Told.{Told}
-use Rattle.inode_cell.specs.Answers.{set_told as answered}
+use Rattle.task_laws.specs.inodes.Answers.{set_told as answered}
 use Rattle.std.specs.Option.{option_copied}
 use Rattle.task_deeds.proofs.plain.set_attr.Goals.{in-Some, in-None}
 use Rattle.task_deeds.proofs.plain.set_attr.Goals as goal

@@ -1,5 +1,5 @@
 use Rattle.std.proofs.Common.{◌≡◌, drop}
-use Rattle.call_steps.specs.Handles.{handle_of}
+use Rattle.run_model.specs.steps.Handles.{handle_of}
 use Rattle.task_mind.proofs.handles.handle_of.Given as goal
 
 -- none so far has the name

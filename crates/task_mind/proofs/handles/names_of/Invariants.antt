@@ -1,5 +1,5 @@
 use Rattle.std.proofs.Common.{◌≡◌, ◌+◌, ◌≤◌, drop}
-use Rattle.call_steps.specs.Handles.{names_of}
+use Rattle.run_model.specs.steps.Handles.{names_of}
 use Rattle.task_mind.proofs.handles.names_of.Given as goal
 
 -- so many so far, and those to come

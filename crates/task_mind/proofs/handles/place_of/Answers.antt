@@ -1,8 +1,8 @@
 -- The first handle of the name is the one that is left out.
 use Rattle.std.proofs.Common.{◌≡◌, ℕ, suc, ◌<◌, Bool, true, cond, List, ◌∷◌, ◌++◌, length, get_or, take, drop, sym, ap, ◌∙◌, arith, drop-cons}
-use Rattle.call_steps.specs.Handles.{same_name, without}
-use Rattle.call_steps.specs.declared.held.Handle.{Handle}
-use Rattle.call_steps.specs.declared.held.Name.{Name}
+use Rattle.run_model.specs.steps.Handles.{same_name, without}
+use Rattle.run_model.specs.steps.declared.held.Handle.{Handle}
+use Rattle.run_model.specs.steps.declared.held.Name.{Name}
 use Rattle.task_mind.proofs.handles.place_of.Goals as goal
 
 -- the handle at this place has the name

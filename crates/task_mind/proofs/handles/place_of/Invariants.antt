@@ -1,5 +1,5 @@
 use Rattle.std.proofs.Common.{◌≡◌, ◌++◌, take, drop}
-use Rattle.call_steps.specs.Handles.{without}
+use Rattle.run_model.specs.steps.Handles.{without}
 use Rattle.task_mind.proofs.handles.place_of.Given as goal
 
 -- none so far has the name

@@ -1,9 +1,9 @@
 -- The turn of the next task.
 use Rattle.std.proofs.Common.{◌≡◌, ◌+◌, ℕ, Bool, length, refl, sym, ◌∙◌, subst, arith}
 use Rattle.run_model.specs.Rounds.{is_moved}
-use Rattle.turn_laws.specs.Runs.{IsInRound}
-use Rattle.turn_laws.proofs.Rounding.{round_is_whole, turn_in_round}
-use Rattle.turn_laws.proofs.Turning.{still_more}
+use Rattle.task_core.specs.laws_of_turns.Runs.{IsInRound}
+use Rattle.task_core.proofs.laws_of_turns.Rounding.{round_is_whole, turn_in_round}
+use Rattle.task_core.proofs.laws_of_turns.Turning.{still_more}
 use Rattle.task_runner.proofs.Running.{no_turns, or_swap, still_even}
 use Rattle.task_runner.proofs.rounds.round.Goals as goal
 

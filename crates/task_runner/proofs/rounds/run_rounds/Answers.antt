@@ -1,8 +1,8 @@
 -- A round more, or the last one.
 use Rattle.std.proofs.Common.{◌≡◌, Bool, true, false, refl, subst, arith, rules}
-use Rattle.turn_laws.specs.Runs.{IsRound, moment_in}
-use Rattle.turn_laws.proofs.Rounding.{round_is_more, rounds_are_over}
-use Rattle.turn_laws.proofs.Turning.{still_more}
+use Rattle.task_core.specs.laws_of_turns.Runs.{IsRound, moment_in}
+use Rattle.task_core.proofs.laws_of_turns.Rounding.{round_is_more, rounds_are_over}
+use Rattle.task_core.proofs.laws_of_turns.Turning.{still_more}
 use Rattle.task_runner.proofs.Running.{none_moves, still_here}
 use Rattle.task_runner.proofs.rounds.run_rounds.Goals as goal
 

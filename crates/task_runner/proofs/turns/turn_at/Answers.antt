@@ -2,8 +2,8 @@
 use Rattle.std.specs.Prelude.{slice_set}
 use Rattle.std.proofs.lemmas.Result.{IfOk-weaker}
 use Rattle.run_model.specs.declared.turn.Turn.{Turn}
-use Rattle.turn_laws.specs.Runs.{GoesTo, IsTurn}
-use Rattle.turn_laws.proofs.Stepping.{step_is_turn}
+use Rattle.task_core.specs.laws_of_turns.Runs.{GoesTo, IsTurn}
+use Rattle.task_core.proofs.laws_of_turns.Stepping.{step_is_turn}
 use Rattle.task_runner.proofs.Running.{task_there}
 use Rattle.task_runner.proofs.turns.turn_at.Goals as goal
 

@@ -2,14 +2,14 @@
 use Rattle.std.proofs.Common.{◌≡◌, ◌∙◌, ℕ, ◌<◌, All, List, ap, length, map, refl, sym, subst, rules}
 use Rattle.std.proofs.lemmas.List.{length-map}
 use Rattle.std.proofs.lemmas.List.Elements.{All-from_recursion}
-use Rattle.inode_events.specs.declared.image.Image.{Image}
-use Rattle.policy_text.specs.declared.access.Super.{Super}
-use Rattle.script_run.proofs.Fits.{files_fit, places_fit}
-use Rattle.script_run.proofs.Starting.{started_is}
-use Rattle.script_scene.specs.Scene.{file_of, fs_of}
-use Rattle.task_frame.specs.Frame.{Site}
-use Rattle.thread_runner.proofs.Going.{all_tasks}
-use Rattle.world_start.specs.Started.{IsFile}
+use Rattle.ima_top.specs.events.declared.image.Image.{Image}
+use Rattle.ima_top.specs.policy.declared.access.Super.{Super}
+use Rattle.ima_top.proofs.about_runs.Fits.{files_fit, places_fit}
+use Rattle.ima_top.proofs.about_runs.Starting.{started_is}
+use Rattle.ima_top.specs.scenes.Scene.{file_of, fs_of}
+use Rattle.ima_top.specs.frames.Frame.{Site}
+use Rattle.ima_top.proofs.about_runners.Going.{all_tasks}
+use Rattle.ima_top.specs.starts.Started.{IsFile}
 use Rattle.worked_runs.proofs.start.started.Goals as goal
 
 pub start-requires-clause-files : goal.start-requires-clause-files

@@ -9,7 +9,7 @@ use Rattle.grow_list.specs.Shown.{HasEach, HasItsOwn, Passed}
 use Rattle.inode_events.specs.Callers.{caller_of}
 use Rattle.inode_events.specs.declared.told.Event.{Event}
 use Rattle.ima_templates.specs.declared.entry.Entry.{Entry}
-use Rattle.kept_journal.specs.Value.{beside_own}
+use Rattle.task_frame.specs.states.Value.{beside_own}
 use Rattle.policy_cell.specs.declared.cell.RuleEntry.{RuleEntry}
 use Rattle.task_frame.specs.Tasks.{PassesValue}
 use Rattle.task_frame.specs.World.{StationValue}

@@ -1,5 +1,5 @@
 use Rattle.std.proofs.Common.{sym, subst, ◌∙◌, ap, ◌+◌, ℕ}
-use Rattle.inode_cell.specs.Ending.{HasPasses}
+use Rattle.task_frame.specs.inodes.Ending.{HasPasses}
 use Rattle.task_frame.specs.World.{StationValue}
 use Rattle.world_close.proofs.Rowing.{column_others}
 use Rattle.world_close.proofs.stations.close_last.Goals as goal

@@ -6,7 +6,7 @@ use Rattle.inode_events.specs.declared.image.Image.{Image}
 use Rattle.inode_events.specs.declared.settings.Settings.{Settings}
 use Rattle.inode_events.specs.declared.told.Event.{Event}
 use Rattle.grow_list.specs.Shown.{Passed}
-use Rattle.task_frame.specs.World.{StationValue}
+use Rattle.world_close.specs.frames.World.{StationValue}
 use Rattle.world_close.proofs.Listing.{all_at}
 use Rattle.world_start.specs.Started.{AreRows, IsFile, IsStarted, StartsBefore}
 use Rattle.world_start.proofs.Starting.{rows_more, started_all, started_more, started_none}

@@ -3,8 +3,8 @@ use Rattle.inode_events.specs.Checks.{last_check}
 use Rattle.inode_events.specs.Integrity.{collecting}
 use Rattle.inode_events.specs.Past.{past}
 use Rattle.inode_events.specs.Stage.{is_collecting, stage}
-use Rattle.inode_kept.specs.Collecting.{IsAsked}
-use Rattle.journal_laws.proofs.Stages.{Collects as CollectsFile, stages}
+use Rattle.inode_state.specs.Collecting.{IsAsked}
+use Rattle.inode_state.proofs.laws_of_journals.Stages.{Collects as CollectsFile, stages}
 use Rattle.inode_cell.specs.Granting.{Collects, collected_stage}
 use Rattle.inode_cell.specs.Value.{CellValue}
 use Rattle.inode_cell.proofs.GrantLemmas.{asked_of_open, asked_there}

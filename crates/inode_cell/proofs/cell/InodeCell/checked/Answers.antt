@@ -10,10 +10,10 @@ use Rattle.inode_events.specs.declared.deed.Deed.TheVariants as deed
 use Rattle.inode_events.specs.declared.deed.How.{How}
 use Rattle.inode_events.specs.declared.told.Event.{Event}
 use Rattle.inode_events.specs.declared.told.Told.{Told}
-use Rattle.journal_laws.proofs.Lives.{check_alive}
-use Rattle.policy_text.specs.ActionInside.{action_value}
-use Rattle.policy_text.specs.declared.access.Action.{Action}
-use Rattle.book_laws.specs.Booked.{Books}
+use Rattle.inode_state.proofs.laws_of_journals.Lives.{check_alive}
+use Rattle.inode_events.specs.policy.ActionInside.{action_value}
+use Rattle.inode_events.specs.policy.declared.access.Action.{Action}
+use Rattle.inode_state.specs.laws_of_journals.Booked.{Books}
 use Rattle.inode_cell.specs.Acts.{Acts}
 use Rattle.inode_cell.specs.Answers.{found_told}
 use Rattle.inode_cell.specs.Fields.{value_of}

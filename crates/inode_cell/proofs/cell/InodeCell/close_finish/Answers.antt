@@ -13,11 +13,11 @@ use Rattle.inode_events.specs.Says.{close_finish_told}
 use Rattle.inode_events.specs.Stage.{is_collecting, is_gone}
 use Rattle.inode_events.specs.State.{metadata}
 use Rattle.inode_events.specs.declared.told.Event.{Event}
-use Rattle.inode_kept.specs.Known.{IsKnown}
-use Rattle.inode_kept.specs.declared.known.Known.{Known}
-use Rattle.own_laws.specs.Own.{IsBy}
+use Rattle.inode_state.specs.Known.{IsKnown}
+use Rattle.inode_state.specs.declared.known.Known.{Known}
+use Rattle.inode_state.specs.laws_of_journals.Own.{IsBy}
 use Rattle.inode_cell.proofs.Acting.{sums_from}
-use Rattle.journal_laws.proofs.Stages.{stages}
+use Rattle.inode_state.proofs.laws_of_journals.Stages.{stages}
 use Rattle.inode_cell.proofs.cell.InodeCell.close_finish.Goals as goal
 
 pub returns-in_ok-step_with-clause-acts : goal.returns-in_ok-step_with-clause-acts

@@ -9,9 +9,9 @@ use Rattle.inode_events.specs.State.{metadata}
 use Rattle.inode_events.specs.declared.deed.Deed.TheVariants as deed
 use Rattle.inode_events.specs.declared.deed.How.{How}
 use Rattle.inode_events.specs.declared.told.Told.TheVariants as told
-use Rattle.inode_kept.specs.Collecting.{IsAsked}
-use Rattle.inode_kept.specs.Known.{IsKnown}
-use Rattle.inode_kept.specs.declared.known.Known.{Known}
+use Rattle.inode_state.specs.Collecting.{IsAsked}
+use Rattle.inode_state.specs.Known.{IsKnown}
+use Rattle.inode_state.specs.declared.known.Known.{Known}
 use Rattle.inode_cell.specs.Granting.{Collects}
 use Rattle.inode_cell.specs.Value.{CellValue}
 use Rattle.inode_cell.proofs.GrantLemmas.{finish_asks, finish_digest, finish_sums, finish_tells}

@@ -3,7 +3,7 @@ use Rattle.inode_events.specs.Integrity.{collecting}
 use Rattle.inode_events.specs.Legal.{May}
 use Rattle.inode_events.specs.Past.{past}
 use Rattle.inode_events.specs.declared.deed.Deed.{Deed}
-use Rattle.inode_kept.specs.Collecting.{shorts_seen}
+use Rattle.inode_state.specs.Collecting.{shorts_seen}
 use Rattle.inode_cell.specs.Fields.{value_of}
 use Rattle.inode_cell.specs.Value.{CellValue}
 use Rattle.inode_cell.proofs.GrantLemmas.{none_open, piece_open}

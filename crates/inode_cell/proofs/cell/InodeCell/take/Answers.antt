@@ -12,8 +12,8 @@ use Rattle.inode_events.specs.State.{metadata}
 use Rattle.inode_events.specs.declared.deed.Deed.TheVariants as deed
 use Rattle.inode_events.specs.declared.told.Event.{Event}
 use Rattle.inode_events.specs.declared.told.Told.TheVariants as told
-use Rattle.inode_kept.specs.Known.{IsKnown}
-use Rattle.own_laws.specs.Own.{IsBy}
+use Rattle.inode_state.specs.Known.{IsKnown}
+use Rattle.inode_state.specs.laws_of_journals.Own.{IsBy}
 use Rattle.inode_cell.specs.Acts.{MayBy}
 use Rattle.inode_cell.specs.Granting.{sums_in_force}
 use Rattle.inode_cell.proofs.Acting.{acts_from, blocked, may_from}

@@ -6,7 +6,7 @@ use Rattle.grow_list.proofs.Others.{HasOthers-rest, first_is, rest_fresh, split_
 use Rattle.ima_templates.specs.IsEntry.{IsEntry}
 use Rattle.ima_templates.specs.Replay.{extended_by}
 use Rattle.ima_templates.specs.declared.entry.Entry.{Entry}
-use Rattle.pcr_bank.specs.declared.banks.Banks.{Banks}
+use Rattle.ima_templates.specs.registers.declared.banks.Banks.{Banks}
 use Rattle.measure_book.proofs.Keeping.{IsBook-start}
 use Rattle.measure_book.proofs.book.Book.start.Goals as goal
 

@@ -4,8 +4,8 @@ use Rattle.grow_list.specs.Shown.{Grown}
 use Rattle.ima_templates.specs.Replay.{replay}
 use Rattle.ima_templates.specs.declared.entry.Entry.{Entry}
 use Rattle.ima_templates.proofs.ReplayLemmas.{register-banks_of}
-use Rattle.pcr_bank.specs.Banks.{register}
-use Rattle.pcr_bank.specs.declared.banks.Banks.{Banks}
+use Rattle.ima_templates.specs.registers.Banks.{register}
+use Rattle.ima_templates.specs.registers.declared.banks.Banks.{Banks}
 use Rattle.measure_book.proofs.book.Book.value.Goals as goal
 
 pub returns : goal.returns

@@ -1,8 +1,8 @@
 -- The lists that come out of their locks make a world of the same constants.
 use Rattle.std.proofs.Common.{sym, subst}
 use Rattle.task_frame.specs.Frame.{Frame}
-use Rattle.world_close.specs.Closed.{AreIdle}
-use Rattle.world_deeds.specs.Parts.{AreParts}
+use Rattle.world_ended.specs.closes.Closed.{AreIdle}
+use Rattle.world_locks.specs.acts.Parts.{AreParts}
 use Rattle.task_core.proofs.live.Live.back.Goals as goal
 
 pub invariant_of-world : goal.invariant_of-world

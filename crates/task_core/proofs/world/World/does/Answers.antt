@@ -2,8 +2,8 @@
 use Rattle.std.proofs.Common.{◌<◌, length, refl, arith}
 use Rattle.task_core.proofs.Opens.{done_event, done_idle, done_parts, done_said, done_view, open_book, open_found, open_ready}
 use Rattle.task_mind.specs.Steps.{deed_in}
-use Rattle.world_deeds.proofs.Calls.{does_count}
-use Rattle.world_deeds.specs.Acting.{told_in}
+use Rattle.world_locks.proofs.about_acts.Calls.{does_count}
+use Rattle.world_locks.specs.acts.Acting.{told_in}
 use Rattle.task_core.proofs.world.World.does.Goals as goal
 
 pub act_at-requires-clause-name : goal.act_at-requires-clause-name

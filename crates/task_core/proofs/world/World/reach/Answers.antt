@@ -6,7 +6,7 @@ use Rattle.run_model.specs.History.{step_at}
 use Rattle.task_frame.specs.Tasks.{Tasked}
 use Rattle.task_mind.specs.Steps.{deed_in}
 use Rattle.task_mind.specs.declared.step.Step.TheVariants as step
-use Rattle.world_deeds.proofs.Sharing.{nothing_tells}
+use Rattle.world_locks.proofs.about_acts.Sharing.{nothing_tells}
 use Rattle.task_core.proofs.Turns.{appends_fail, appends_turn, check_turn, checks_ready, does_ready, does_turn, due_is, signals_turn}
 use Rattle.task_core.proofs.world.World.reach.Goals as goal
 

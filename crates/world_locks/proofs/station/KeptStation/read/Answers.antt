@@ -5,8 +5,8 @@ use Rattle.std.specs.declared.alloc.AllocError.{AllocError}
 use Rattle.inode_cell.specs.declared.writing.Got.{Got}
 use Rattle.inode_events.specs.declared.deed.Deed.TheVariants as deed
 use Rattle.inode_events.specs.declared.told.Told.TheVariants as told
-use Rattle.task_deeds.specs.Leaving.{told_by}
-use Rattle.task_frame.specs.World.{IsStation, StationValue}
+use Rattle.world_deeds.specs.deeds.Leaving.{told_by}
+use Rattle.world_close.specs.frames.World.{IsStation, StationValue}
 use Rattle.world_deeds.specs.declared.answers.Answered.{Answered}
 use Rattle.world_locks.proofs.Paging.{may_alone, read_is_met}
 use Rattle.world_locks.proofs.Stations.{station_left, station_opened}

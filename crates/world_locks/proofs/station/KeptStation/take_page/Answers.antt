@@ -4,8 +4,8 @@ use Rattle.std.specs.Prelude.{Result}
 use Rattle.std.specs.declared.alloc.AllocError.{AllocError}
 use Rattle.inode_cell.specs.Answers.{piece_told}
 use Rattle.inode_cell.specs.declared.answers.Piece.{Piece}
-use Rattle.task_deeds.specs.Leaving.{told_by}
-use Rattle.task_frame.specs.World.{IsStation, StationValue}
+use Rattle.world_deeds.specs.deeds.Leaving.{told_by}
+use Rattle.world_close.specs.frames.World.{IsStation, StationValue}
 use Rattle.task_mind.specs.Steps.{deed_in}
 use Rattle.world_deeds.proofs.Calls.{does_count}
 use Rattle.world_locks.proofs.Paging.{may_alone, page_is_met}

@@ -1,3 +1,0 @@
-pub mod Prefixed
-pub mod Asking
-pub mod Keeping

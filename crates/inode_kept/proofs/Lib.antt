@@ -1,4 +1,0 @@
-pub mod CountsLemmas
-pub mod CollectingLemmas
-pub mod InForceLemmas
-pub mod VerdictsLemmas

@@ -1,0 +1,11 @@
+pub mod Counts
+pub mod Marks
+pub mod Writes
+pub mod Collecting
+pub mod InForce
+pub mod Verdicts
+pub mod Known
+pub mod State
+pub mod Value
+pub mod Fields
+pub use Rattle.journal_laws.specs as laws_of_journals

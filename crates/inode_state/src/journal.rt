@@ -1,0 +1,233 @@
+ghost use Rattle.std.specs.Prelude.{◌≡◌, ℕ, ◌+◌, ◌<◌, ◌≤◌, ◌^◌, All, [], ◌∷◌, ◌++◌, count_by, false, length, map, option_copied, slice_get, IfOk, OnOk, Some};
+ghost use mathlib.Core.List.{IsPrefix};
+ghost use Rattle.grow_list.specs.Entries.{entries_of, has_place};
+ghost use Rattle.inode_events.specs.Callers.{caller_of};
+ghost use Rattle.inode_events.specs.Files.{held};
+ghost use Rattle.inode_events.specs.Legal.{Legal, May};
+ghost use Rattle.inode_events.specs.Stage.{is_gone, stage};
+ghost use Rattle.inode_events.specs.Says.{placed_in, says};
+ghost use Rattle.inode_events.specs.Past.{past};
+ghost use Rattle.inode_state.specs.Known.{IsKnown};
+ghost use Rattle.inode_state.specs.State.{IsState};
+ghost use Rattle.journal_laws.specs.OwnLaws.{TellsByMine};
+ghost use Rattle.journal_laws.specs.Own.{IsBy, IsOwned};
+ghost use Rattle.inode_state.specs.Value.{HasOthers, IsSameJournal, beside_own, birth_of, new_pass};
+
+use crate::showing::show;
+use crate::{Known, State, counted};
+use grow_list::{Grow, Pass};
+use inode_events::xattrs::Bytes;
+use inode_events::{BoxedImage, Deed, Event, How, Image, Settings, Told};
+use inode_meta::Who;
+use std::alloc::{AllocError as OutOfMemory, Global};
+use std::marker::Model;
+
+/// The journal of one inode.
+#[derive(Drop)]
+pub struct KeptJournal {
+    path: Bytes,
+    settings: Settings,
+    journal: Grow<Event>,
+    own: Pass<Event>,
+    state: State,
+}
+
+impl Model for KeptJournal {
+    ghost use Rattle.inode_state.specs.Value.{KeptValue};
+
+    ghost Value = { KeptValue };
+
+    ghost use Rattle.inode_state.specs.Fields.{IsKept, value_of};
+
+    ghost view = { value_of };
+
+    ghost invariant = { IsKept };
+}
+
+impl KeptJournal {
+    /// The path of the inode.
+    pub fn path(&self) -> &[u8]
+        ensures { result.now ≡ self.now.inode.path }
+    {
+        self.path.as_slice()
+    }
+
+    /// The settings of the script.
+    pub fn settings(&self) -> &Settings
+        ensures { result.now ≡ self.now.inode.settings }
+    {
+        &self.settings
+    }
+
+    /// What is kept of the inode.
+    pub fn state(&self) -> &State
+        ensures kept { IsState self.now.inode (past self.now.list) result.now }
+        ensures legal { Legal self.now.inode (past self.now.list) }
+    {
+        &self.state
+    }
+
+    /// The number of events.
+    pub fn len(&self) -> u64
+        ensures { result ≡ length self.now.list }
+    {
+        self.journal.len()
+    }
+
+    /// The event at a place, from 0 on. None from `len` on.
+    pub fn at(&self, place: u64) -> Option<&Event>
+        ensures { option_copied result ≡ slice_get self.now.list place }
+    {
+        self.journal.at(place)
+    }
+
+    /// How the file was opened. It is found by its place in the journal.
+    pub fn how_at(&self, file: u64) -> Option<How>
+        ensures { is_gone (stage self.now.inode file (past self.now.list)) ≡ false
+            → result ≡ held file (past self.now.list) }
+    {
+        match self.journal.at(file) {
+            Some(e) => counted(e),
+            None => None,
+        }
+    }
+
+    /// Makes room for the next event. The journal stays, also where there is no memory.
+    pub fn reserve(&mut self) -> Result<(), OutOfMemory>
+        ensures room { OnOk result (1 ≤ self.new.spare) }
+        ensures same { IsSameJournal self.old self.new }
+    {
+        self.journal.reserve(1)?;
+        self.state.verdicts.reserve()
+    }
+
+    /// Adds an event in room that was reserved, and keeps everything else in step with it. The pass
+    /// is that of the event's caller, and has then seen the journal.
+    pub fn enter(&mut self, pass: &mut Pass<Event>, event: Event, known: &Known)
+        requires name { pass.old.name ≡ self.old.name }
+        requires number { pass.old.number ≡ caller_of event }
+        requires room { 1 ≤ self.old.spare }
+        requires may { May self.old.inode (past self.old.list) event.deed }
+        requires told { says self.old.inode (past self.old.list) (placed_in event.told) event.deed
+            ≡ Some event.told }
+        requires by { IsBy (caller_of event) event.deed (past self.old.list) }
+        requires known { IsKnown self.old.inode (past self.old.list) event known.now }
+        ensures list { self.new.list ≡ self.old.list ++ event ∷ [] }
+        ensures inode { self.new.inode ≡ self.old.inode }
+        ensures same { (self.new.name ≡ self.old.name) × (self.new.callers ≡ self.old.callers) }
+        ensures before { IsPrefix pass.old.seen self.old.list }
+        ensures seen { pass.new.seen ≡ self.new.list }
+        ensures mine { pass.new.mine ≡ pass.old.mine ++ (length self.old.list, event) ∷ [] }
+        ensures pass { (pass.new.name ≡ pass.old.name) × (pass.new.number ≡ pass.old.number) }
+    {
+        self.journal.push(pass, event);
+        let place = self.journal.len() - 1;
+        match self.journal.at(place) {
+            Some(event) => self.state.advance(event, place, known),
+            None => unreachable!(),
+        }
+    }
+
+    /// A pass of this journal sees it. The journal's events of its number are then its own.
+    pub fn look(&mut self, pass: &mut Pass<Event>)
+        requires { pass.old.name ≡ self.old.name }
+        ensures same { IsSameJournal self.old self.new }
+        ensures before { IsPrefix pass.old.seen self.old.list }
+        ensures seen { pass.new.seen ≡ self.new.list }
+        ensures mine { pass.new.mine ≡ pass.old.mine }
+        ensures pass { (pass.new.name ≡ pass.old.name) × (pass.new.number ≡ pass.old.number) }
+        ensures tells { TellsByMine self.old.inode pass.new.number pass.old.seen self.old.list
+            pass.new.mine }
+        ensures own { entries_of pass.new.number (map caller_of self.old.list) self.old.list
+            ≡ pass.new.mine }
+        ensures legal { Legal self.old.inode (past self.old.list) }
+        ensures owned { IsOwned (past self.old.list) }
+        ensures within { All (λ e. caller_of e < self.old.callers) self.old.list }
+    {
+        self.journal.look(pass);
+    }
+
+    /// The journal of an inode that comes into being, with a pass for each task: that of the task t
+    /// has the number t + 1, has seen the birth and has no event of its own. The birth is by the
+    /// journal's own pass, which has the number 0.
+    pub fn start(
+        alloc: Global,
+        path: Bytes,
+        settings: Settings,
+        image: Image,
+        tasks: u32,
+    ) -> Result<(KeptJournal, Vec<Pass<Event>>), OutOfMemory>
+        requires { tasks + 1 < 2 ^ 32 }
+        ensures inode { IfOk result (λ r. r.0.inode ≡ record {
+          path = path;
+          settings = settings;
+          birth = image;
+        }) }
+        ensures list { IfOk result (λ r. r.0.list ≡ birth_of image ∷ []) }
+        ensures callers { IfOk result (λ r. r.0.callers ≡ tasks + 1) }
+        ensures count { IfOk result (λ r. length r.1.items ≡ tasks) }
+        ensures passes { IfOk result (λ r. (k : ℕ) → k < tasks
+            → slice_get r.1.items k ≡ Some (new_pass r.0.name r.0.list (k + 1))) }
+        ensures others { IfOk result (λ r. HasOthers r.0 r.1.items) }
+    {
+        let (mut journal, mut passes) = Grow::start(alloc, tasks + 1)?;
+        let mut own = passes.remove(0);
+        journal.reserve(1)?;
+        let state = State::born(alloc, &image);
+        let birth = born(alloc, image)?;
+        journal.push(&mut own, birth);
+        show(&mut journal, &mut passes);
+        let kept = KeptJournal {
+            path,
+            settings,
+            journal,
+            own,
+            state,
+        };
+        Ok((kept, passes))
+    }
+
+    /// Hands out the path, the events and what is kept, and takes back the passes that `start`
+    /// answered. What each pass saw begins the journal, the journal's events of its number are its
+    /// own, and each event but the birth is one pass's.
+    pub fn close(self, passes: Vec<Pass<Event>>) -> (Bytes, Vec<Event>, State)
+        requires { HasOthers self passes.items }
+        ensures path { result.0 ≡ self.inode.path }
+        ensures list { result.1.items ≡ self.list }
+        ensures state { IsState self.inode (past self.list) result.2 }
+        ensures seen { All (λ p. IsPrefix p.seen self.list) passes.items }
+        ensures own { All (λ p. entries_of p.number (map caller_of self.list) self.list ≡ p.mine)
+            passes.items }
+        ensures places { (k : ℕ) → k < length self.list
+            → count_by (λ p. has_place k p.mine) passes.items ≡ beside_own k }
+        ensures legal { Legal self.inode (past self.list) }
+        ensures owned { IsOwned (past self.list) }
+        ensures within { All (λ e. caller_of e < self.callers) self.list }
+    {
+        let KeptJournal {
+            path,
+            settings: _,
+            journal,
+            own,
+            state,
+        } = self;
+        (path, journal.close_with(own, passes), state)
+    }
+}
+
+// The birth of an inode with this image.
+fn born(alloc: Global, image: Image) -> Result<Event, OutOfMemory>
+    ensures { IfOk result (λ birth. birth ≡ birth_of image) }
+{
+    let image = BoxedImage::new(alloc, image)?;
+    let who = Who {
+        task: 0,
+        call: 0,
+        step: 0,
+    };
+    Ok(Event {
+        who,
+        deed: Deed::Birth,
+        told: Told::Image(image),
+    })
+}

@@ -1,0 +1,39 @@
+//! The journal of one inode, with what is kept of the inode beside it, and how each event changes
+//! that.
+//!
+//! The definitions of a journal search it. The values here are what they say, moved along event by
+//! event: open files by kind, marks, metadata, whether there were writes, the open collection, the
+//! digest in force and the verdicts in force. Attributes and content are none of them: whoever
+//! holds those changes them.
+//!
+//! A journal has one private way to grow: `enter` adds an event and moves all that is kept on with
+//! it. So it is legal, each event on a file is by the caller who counted the file, and what is kept
+//! is what the journal says.
+#![tactic(auto)]
+
+mod collecting;
+mod counts;
+mod events;
+mod in_force;
+mod journal;
+mod keys;
+mod known;
+mod marks;
+mod metadata;
+mod showing;
+mod state;
+mod verdicts;
+mod writes;
+
+pub use collecting::{Asked, Collecting, copied};
+pub use counts::{Counts, Kind, counts_as};
+pub use events::counted;
+pub use in_force::{InForce, Sums};
+pub use journal::KeptJournal;
+pub use keys::{Key, key_of};
+pub use known::Known;
+pub use marks::{Marks, is_last_drop};
+pub use metadata::{changed, metadata_after};
+pub use state::State;
+pub use verdicts::{Kept, Verdicts};
+pub use writes::Writes;

@@ -1,0 +1,102 @@
+// All values together.
+ghost use Rattle.std.specs.Prelude.{◌≡◌, ◌+◌, ◌<◌, ◌≤◌, ◌^◌, List, [], ◌∷◌, length, vec_len, vec_capacity};
+ghost use Rattle.inode_events.specs.Inode.{Inode as AnyInode};
+ghost use Rattle.inode_events.specs.Legal.{EachFollows};
+ghost use Rattle.inode_events.specs.declared.told.Event.{Event as AnyEvent};
+ghost use Rattle.inode_meta.specs.declared.step.Who.{Who as AnyWho};
+ghost use Rattle.inode_state.specs.Collecting.{pieces_taken};
+ghost use Rattle.inode_state.specs.Known.{IsKnown};
+ghost use Rattle.inode_state.specs.State.{IsState, changed_now};
+
+use crate::collecting::{Collecting, collecting_after};
+use crate::counts::Counts;
+use crate::in_force::{InForce, in_force_after, is_stale, voids_digest};
+use crate::known::Known;
+use crate::marks::{Marks, is_last_drop};
+use crate::metadata::metadata_after;
+use crate::verdicts::Verdicts;
+use crate::writes::Writes;
+use inode_events::{Deed, Event, Image, Told};
+use inode_meta::Meta;
+use std::alloc::Global;
+
+/// What is kept of an inode beside its journal, but for attributes and content.
+#[derive(Drop)]
+pub struct State {
+    /// The open files by kind.
+    pub counts: Counts,
+    /// The marks.
+    pub marks: Marks,
+    /// The writes.
+    pub writes: Writes,
+    /// The metadata.
+    pub meta: Meta,
+    /// The open collection.
+    pub collecting: Option<Collecting>,
+    /// The digest in force.
+    pub in_force: Option<InForce>,
+    /// The verdicts in force.
+    pub verdicts: Verdicts,
+}
+
+impl State {
+    /// What is kept behind a birth with this image.
+    pub fn born(alloc: Global, image: &Image) -> State
+        ensures { (i : AnyInode) (who : AnyWho)
+            → IsState i (record { who = who; deed = Deed.Birth; told = Told.Image image.now } ∷ [])
+            result }
+    {
+        State {
+            counts: Counts {
+                writers: 0,
+                readers: 0,
+                execs: 0,
+            },
+            marks: Marks {
+                present: image.present,
+                new: false,
+                must: false,
+                update: false,
+                versions: image.versions,
+            },
+            writes: Writes {
+                last: None,
+                in_span: false,
+            },
+            meta: image.meta,
+            collecting: None,
+            in_force: None,
+            verdicts: Verdicts::new(alloc),
+        }
+    }
+
+    // A last writer's close would leave a content that is taken as changed.
+    fn is_changed(&self) -> bool
+        ensures { result ≡ changed_now self.now.marks self.now.writes self.now.in_force }
+    {
+        self.marks.new || !self.marks.versions || is_stale(&self.in_force, self.writes)
+    }
+
+    /// Moves on by an event at the place.
+    pub fn advance(&mut self, e: &Event, place: u64, known: &Known)
+        requires writers { self.old.counts.writers + 1 < 2 ^ 64 }
+        requires readers { self.old.counts.readers + 1 < 2 ^ 64 }
+        requires execs { self.old.counts.execs + 1 < 2 ^ 64 }
+        requires pieces { pieces_taken self.old.collecting + 1 < 2 ^ 64 }
+        requires room { vec_len self.old.verdicts.kept + 1 ≤ vec_capacity self.old.verdicts.kept }
+        ensures { (i : AnyInode) (p : List AnyEvent) → place ≡ length p → EachFollows i (e.now ∷ p)
+            → IsKnown i p e.now known.now → IsState i p self.old → IsState i (e.now ∷ p) self.new }
+    {
+        let last = is_last_drop(e, self.counts.writers);
+        let voids = voids_digest(e, last, self.is_changed());
+        let old = self.in_force.take();
+        self.in_force = in_force_after(e, voids, &self.collecting, &known.sums, old);
+        self.verdicts.advance(e, voids, &known.asked);
+        let collecting = self.collecting.take();
+        self.collecting = collecting_after(e, place, known, collecting);
+        self.meta = metadata_after(e, self.meta);
+        self.writes = self.writes.after(e, place, self.counts.writers);
+        self.marks = self.marks.after(e, last, known.writing);
+        self.counts = self.counts.after(e, known.gone);
+    }
+}

@@ -1,5 +1,0 @@
-use Rattle.own_laws.proofs.Looking.{tells}
-use Rattle.own_laws.proofs.look_tells.Goals as goal
-
-pub returns : goal.returns
-returns c = tells

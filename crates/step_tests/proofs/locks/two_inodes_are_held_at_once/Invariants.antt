@@ -1,5 +1,0 @@
-use Rattle.step_tests.proofs.locks.two_inodes_are_held_at_once.Given as goal
-use Rattle.world_locks.specs.Parts.{frame_of_parts}
-
-abbrev pub ghosts-hold_both : goal.ghosts-hold_both
-ghosts-hold_both g a = record { frame = frame_of_parts a.parts }

@@ -1,0 +1,191 @@
+-- Tasks that went on are those of their world.
+use Rattle.std.proofs.Common.{◌≡◌, ℕ, zero, suc, ◌<◌, ◌⊎◌, inl, inr, List, [], ◌∷◌, ◌++◌, length, map, get_or, take, Some, refl, sym, ◌∙◌, ap, subst, arith}
+use Rattle.std.specs.Prelude.{All, slice_get, slice_set}
+use Rattle.std.proofs.lemmas.List.{length-set, take-append-le, take_all}
+use Rattle.std.proofs.lemmas.List.Elements.{All-head, All-tail}
+use Rattle.std.proofs.lemmas.Option.{same_Some, slice_get_within}
+use Rattle.run_model.specs.Scene.{Program}
+use Rattle.task_core.specs.frames.Frame.{Frame}
+use Rattle.task_core.specs.frames.Runs.{AreTasks, program_of, programs_of}
+use Rattle.task_core.specs.frames.Tasks.{IsTask, Tasked}
+use Rattle.task_core.specs.frames.World.{WorldValue}
+use Rattle.task_runner.specs.Parts.{AreStill, GoneFrom, HaveGone}
+use Rattle.task_core.specs.laws_of_turns.Runs.{StillRuns}
+use Rattle.task_core.proofs.about_closes.Gets.{all_by_get, get_set, got}
+
+-- what holds of all holds of the one at a place
+all_at : {A : Type 0} (P : A → Type 0) (xs : List A) (k : ℕ) (x : A) → All P xs
+    → slice_get xs k ≡ Some x → P x
+all_at P [] k x all h = absurd (cc)
+all_at P (y ∷ xs) zero x all h = subst P (same_Some y x h) (All-head P y xs all)
+all_at P (y ∷ xs) (suc k) x all h = all_at P xs k x (All-tail P y xs all) h
+
+-- those that stay have gone on
+pub gone_none : (frame : Frame) (tasks : List Tasked) → All (IsTask frame) tasks
+    → HaveGone frame tasks tasks
+gone_none frame tasks all = record {
+  even = refl;
+  each = λ k t at. record {
+    before = t;
+    at = at;
+    number = refl;
+    program = refl;
+    task = all_at (IsTask frame) tasks k t all at;
+  };
+}
+
+-- all of them are tasks of the world
+pub gone_all : (frame : Frame) (old new : List Tasked) → HaveGone frame old new
+    → All (IsTask frame) new
+gone_all frame old new g =
+    all_by_get (IsTask frame) new (λ k t at. (g.each k t at).task)
+
+-- and go on
+pub gone_more : (frame : Frame) (a b c : List Tasked) → HaveGone frame a b → HaveGone frame b c
+    → HaveGone frame a c
+gone_more frame a b c x y = record {
+  even = y.even ∙ x.even;
+  each = λ k t at.
+      let later = y.each k t at in
+      let first = x.each k later.before later.at in
+      record {
+        before = first.before;
+        at = first.at;
+        number = later.number ∙ first.number;
+        program = later.program ∙ first.program;
+        task = later.task;
+      };
+}
+
+-- one of them made a step
+pub gone_step : (frame : Frame) (tasks : List Tasked) (k : ℕ) (t t2 : Tasked)
+    → All (IsTask frame) tasks → slice_get tasks k ≡ Some t → t2.number ≡ t.number
+    → t2.mind.program ≡ t.mind.program → IsTask frame t2
+    → HaveGone frame tasks (slice_set tasks k t2)
+gone_step frame tasks k t t2 all there number program task = record {
+  even = length-set tasks k t2;
+  each = λ j x h. gone j x (get_set tasks k j t2 x h);
+} where
+  gone : (j : ℕ) (x : Tasked)
+      → ((k ≡ j) × (t2 ≡ x)) ⊎ ((k ≡ j → ⊥) × (slice_get tasks j ≡ Some x))
+      → GoneFrom frame tasks j x
+  gone j x (inl w) =
+      subst (λ (y : ℕ × Tasked). GoneFrom frame tasks y.0 y.1) (λ i. (w.0 i, w.1 i))
+      (record { before = t; at = there; number = number; program = program; task = task })
+  gone j x (inr w) = record {
+    before = x;
+    at = w.1;
+    number = refl;
+    program = refl;
+    task = all_at (IsTask frame) tasks j x all w.1;
+  }
+
+-- ---- parts of them
+
+-- the task of this place stands in a part that went on
+pub record InPart (frame : Frame) (old new : List Tasked) (i : ℕ) (d : Tasked) : Type 0 where
+  pub part : List Tasked
+  pub after : List Tasked
+  pub offset : ℕ
+  pub gone : HaveGone frame part after
+  pub within : offset < length part
+  pub was : get_or part offset d ≡ get_or old i d
+  pub is : get_or after offset d ≡ get_or new i d
+
+-- where each part of them went on, they have gone on
+pub gone_parts : (frame : Frame) (old new : List Tasked) → length new ≡ length old
+    → ((i : ℕ) (d : Tasked) → i < length old → InPart frame old new i d)
+    → HaveGone frame old new
+gone_parts frame old new even parts = record {
+  even = even;
+  each = λ k t at.
+      let below : k < length new = slice_get_within new k t at in
+      let within : k < length old = omega arith in
+      let p = parts k t within in
+      let inside : p.offset < length p.after =
+      subst (λ (n : ℕ). p.offset < n) (sym p.gone.even) p.within in
+      let here : get_or new k t ≡ t =
+      same_Some (get_or new k t) t (sym (got new k t below) ∙ at) in
+      let there : slice_get p.after p.offset ≡ Some t =
+      got p.after p.offset t inside ∙ ap (λ (x : Tasked). Some x) (p.is ∙ here) in
+      let gone = p.gone.each p.offset t there in
+      record {
+        before = gone.before;
+        at = got old k t within ∙ ap (λ (x : Tasked). Some x) (sym p.was)
+            ∙ sym (got p.part p.offset t p.within) ∙ gone.at;
+        number = gone.number;
+        program = gone.program;
+        task = gone.task;
+      };
+}
+
+-- ---- all of them
+
+-- the tasks of a world, in order, are tasks of it
+pub all_tasks : (frame frame2 : Frame) (tasks : List Tasked) → frame ≡ frame2
+    → AreTasks frame tasks → All (IsTask frame2) tasks
+all_tasks frame frame2 tasks same are =
+    subst (λ (f : Frame). All (IsTask f) tasks) same
+    (all_by_get (IsTask frame) tasks (λ k t at. (are.each k t at).task))
+
+-- two lists of one length, of which a map makes the same at each place
+maps_same : {A B : Type 0} (f : A → B) (xs ys : List A) → length ys ≡ length xs
+    → ((k : ℕ) (y : A) → slice_get ys k ≡ Some y
+    → (x : A) × ((slice_get xs k ≡ Some x) × (f y ≡ f x)))
+    → map f ys ≡ map f xs
+maps_same f [] [] e each = refl
+maps_same f [] (y ∷ ys) e each = absurd (omega arith)
+maps_same f (x ∷ xs) [] e each = absurd (omega arith)
+maps_same f (x ∷ xs) (y ∷ ys) e each =
+    let first = each zero y refl in
+    let head : f y ≡ f x = first.1.1 ∙ ap f (sym (same_Some x first.0 first.1.0)) in
+    let rest : map f ys ≡ map f xs =
+    maps_same f xs ys (omega arith) (λ k z h. each (suc k) z h) in
+    λ i. head i ∷ rest i
+
+-- those that have gone on are all tasks of the world, with the same programs
+pub gone_still : (frame : Frame) (old new : List Tasked) → AreTasks frame old
+    → HaveGone frame old new → AreStill frame old new
+gone_still frame old new are gone = record {
+  programs = maps_same program_of old new gone.even (λ k t at.
+      let g = gone.each k t at in (g.before, (g.at, g.program)));
+  each = record {
+    each = λ k t at.
+        let g = gone.each k t at in
+        record {
+          number = g.number ∙ (are.each k g.before g.at).number;
+          task = g.task;
+        };
+  };
+}
+
+-- and run on in another world of the same constants
+pub still_runs : (world after : WorldValue) (old new : List Tasked) → after.frame ≡ world.frame
+    → AreStill world.frame old new → StillRuns world after old new
+still_runs world after old new same still = record {
+  frame = same;
+  programs = still.programs;
+  each = subst (λ (f : Frame). AreTasks f new) (sym same) still.each;
+}
+
+-- those that run on are all tasks of the world
+pub runs_still : (world after : WorldValue) (old new : List Tasked)
+    → StillRuns world after old new → AreStill world.frame old new
+runs_still world after old new runs = record {
+  programs = runs.programs;
+  each = subst (λ (f : Frame). AreTasks f new) runs.frame runs.each;
+}
+
+-- a part of so many elements is the front of the whole
+pub front_is : {A : Type 0} (xs ys : List A) (n : ℕ) → length xs ≡ n → take n (xs ++ ys) ≡ xs
+front_is xs ys n e = take-append-le n xs ys (omega arith) ∙ take_all n xs (omega arith)
+
+-- the same of constants that a name has, and of tasks that were lent and are back
+pub gone_named : (frame frame2 : Frame) (old lent new back : List Tasked) → frame ≡ frame2
+    → lent ≡ old → back ≡ new → AreTasks frame old → HaveGone frame2 lent new
+    → AreStill frame old back
+gone_named frame frame2 old lent new back same is are_back are gone =
+    subst (λ (f : Frame). AreStill f old back) (sym same)
+    (gone_still frame2 old back (subst (λ (f : Frame). AreTasks f old) same are)
+    (subst (λ (x : List Tasked × List Tasked). HaveGone frame2 x.0 x.1)
+    (λ i. (is i, sym are_back i)) gone))

@@ -1,0 +1,38 @@
+-- What the end of a run tells of its start.
+use Rattle.std.proofs.Common.{◌≡◌, ◌<◌, ℕ, false, List, length, map, sym, ◌∙◌, ap, subst}
+use mathlib.Core.List.{map-map}
+use Rattle.run_model.specs.Rounds.{moves}
+use Rattle.run_model.specs.Scene.{Program, Scene}
+use Rattle.run_model.specs.Turns.{Moment}
+use Rattle.task_core.specs.frames.Frame.{Frame}
+use Rattle.task_core.specs.frames.Runs.{AreTasks}
+use Rattle.task_core.specs.frames.Tasks.{Tasked}
+use Rattle.task_core.specs.frames.World.{WorldValue}
+use Rattle.task_core.specs.minds.Value.{TaskValue}
+use Rattle.task_runner.proofs.Running.{still_even}
+use Rattle.task_core.proofs.laws_of_turns.Turning.{scene_same}
+use Rattle.task_core.specs.laws_of_turns.Runs.{StillRuns, scene_in}
+use Rattle.task_core.specs.ends.Settled.{HaveSameMinds, mind_of}
+
+-- no task moves, by the scene at the start
+pub none_stirs : (world after : WorldValue) (old new : List Tasked) (m : Moment)
+    → StillRuns world after old new
+    → ((k : ℕ) → k < length new → moves (scene_in after new) m k ≡ false)
+    → (k : ℕ) → k < length old → moves (scene_in world old) m k ≡ false
+none_stirs world after old new m runs stops k below =
+    subst (λ (x : Scene). moves x m k ≡ false) (scene_same world after old new runs)
+    (stops k (subst (λ (n : ℕ). k < n) (sym (still_even world after old new runs)) below))
+
+-- the tasks that looked at all lists are those of the same world
+pub settled_runs : (world after : WorldValue) (old new : List Tasked)
+    → after.frame ≡ world.frame → AreTasks world.frame new → HaveSameMinds old new
+    → StillRuns world after old new
+settled_runs world after old new same tasks minds =
+    let own : TaskValue → Program = λ m. m.program in
+    record {
+      frame = same;
+      programs = sym (map-map own mind_of new)
+          ∙ ap (λ (ms : List TaskValue). map own ms) minds
+          ∙ map-map own mind_of old;
+      each = subst (λ (f : Frame). AreTasks f new) (sym same) tasks;
+    }

@@ -1,0 +1,54 @@
+-- The tasks look, and rounds of them end the run.
+use Rattle.std.proofs.Common.{sym, subst}
+use Rattle.task_core.specs.frames.Frame.{Frame}
+use Rattle.task_core.specs.frames.Runs.{AreTasks}
+use Rattle.task_core.proofs.laws_of_turns.Turning.{still_more}
+use Rattle.task_core.specs.laws_of_turns.Runs.{moment_in}
+use Rattle.task_runner.proofs.Going.{runs_still}
+use Rattle.task_runner.proofs.Stopping.{none_stirs, settled_runs}
+use Rattle.task_runner.proofs.threads.run_threads.Goals as goal
+
+pub settle-requires : goal.settle-requires
+settle-requires g c = c.in_ok-after.ensures.still.each
+
+pub run_rounds-requires : goal.run_rounds-requires
+run_rounds-requires g c =
+    subst (λ (f : Frame). AreTasks f c.settle.new.tasks.items) (sym c.settle.ensures.frame)
+    c.settle.ensures.tasks
+
+pub returns-in_err-run_rounds-clause-tasks : goal.returns-in_err-run_rounds-clause-tasks
+returns-in_err-run_rounds-clause-tasks g c =
+    let old = c.args.tasks.now.items in
+    let looked = still_more c.args.world c.in_ok-after.after c.settle.new.world old
+    c.run_shared.new.tasks.items c.settle.new.tasks.items c.in_ok-after.ensures.still
+    (settled_runs c.in_ok-after.after c.settle.new.world c.run_shared.new.tasks.items
+    c.settle.new.tasks.items c.settle.ensures.frame c.settle.ensures.tasks c.settle.ensures.same) in
+    runs_still c.args.world c.run_rounds.new.world old c.run_rounds.new.tasks.items
+    (still_more c.args.world c.settle.new.world c.run_rounds.new.world old
+    c.settle.new.tasks.items c.run_rounds.new.tasks.items looked c.run_rounds.ensures.still)
+
+pub returns-clause-still : goal.returns-clause-still
+returns-clause-still g c =
+    let old = c.args.tasks.now.items in
+    let looked = still_more c.args.world c.in_ok-after.after c.settle.new.world old
+    c.run_shared.new.tasks.items c.settle.new.tasks.items c.in_ok-after.ensures.still
+    (settled_runs c.in_ok-after.after c.settle.new.world c.run_shared.new.tasks.items
+    c.settle.new.tasks.items c.settle.ensures.frame c.settle.ensures.tasks c.settle.ensures.same) in
+    still_more c.args.world c.settle.new.world c.run_rounds.new.world old
+    c.settle.new.tasks.items c.run_rounds.new.tasks.items looked c.run_rounds.ensures.still
+
+pub returns-clause-stops : goal.returns-clause-stops
+returns-clause-stops g c =
+    let old = c.args.tasks.now.items in
+    let looked = still_more c.args.world c.in_ok-after.after c.settle.new.world old
+    c.run_shared.new.tasks.items c.settle.new.tasks.items c.in_ok-after.ensures.still
+    (settled_runs c.in_ok-after.after c.settle.new.world c.run_shared.new.tasks.items
+    c.settle.new.tasks.items c.settle.ensures.frame c.settle.ensures.tasks c.settle.ensures.same) in
+    none_stirs c.args.world c.settle.new.world old c.settle.new.tasks.items
+    (moment_in c.run_rounds.new.world c.run_rounds.new.tasks.items) looked
+    c.in_ok-run_rounds.ensures.stops
+
+pub returns-clause-tasks : goal.returns-clause-tasks
+returns-clause-tasks g c =
+    runs_still c.args.world c.run_rounds.new.world c.args.tasks.now.items
+    c.run_rounds.new.tasks.items (returns-clause-still g c)

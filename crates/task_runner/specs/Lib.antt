@@ -1,0 +1,6 @@
+pub mod Parts
+pub use Rattle.task_core.specs.laws_of_steps
+pub use Rattle.task_core.specs.frames
+pub use Rattle.task_core.specs.laws_of_turns
+pub use Rattle.task_core.specs.ends
+pub use Rattle.task_core.specs.starts

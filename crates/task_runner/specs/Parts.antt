@@ -1,0 +1,23 @@
+-- What threads leave of the tasks that they run.
+use Rattle.std.specs.Prelude.{◌≡◌, ℕ, List, length, Some, slice_get}
+use Rattle.run_model.specs.Scene.{Program}
+use Rattle.task_core.specs.frames.Frame.{Frame}
+use Rattle.task_core.specs.frames.Runs.{AreTasks, programs_of}
+use Rattle.task_core.specs.frames.Tasks.{IsTask, Tasked}
+
+-- the task was one of the world, and still is, with its number and its program
+pub record GoneFrom (frame : Frame) (old : List Tasked) (k : ℕ) (t : Tasked) : Type 0 where
+  pub before : Tasked
+  pub at : slice_get old k ≡ Some before
+  pub number : t.number ≡ before.number
+  pub program : t.mind.program ≡ before.mind.program
+  pub task : IsTask frame t
+
+pub record HaveGone (frame : Frame) (old new : List Tasked) : Type 0 where
+  pub even : length new ≡ length old
+  pub each : (k : ℕ) (t : Tasked) → slice_get new k ≡ Some t → GoneFrom frame old k t
+
+-- they are all tasks of the world, with the same programs
+pub record AreStill (frame : Frame) (old new : List Tasked) : Type 0 where
+  pub programs : programs_of new ≡ programs_of old
+  pub each : AreTasks frame new

@@ -1,0 +1,63 @@
+//! A run on several threads, and its end on one.
+
+ghost use Rattle.std.specs.Prelude.{◌≡◌, ℕ, ◌<◌, ◌≤◌, false, IfOk, length};
+ghost use Rattle.run_model.specs.Rounds.{moves};
+ghost use Rattle.task_core.specs.frames.Runs.{AreTasks};
+ghost use Rattle.task_runner.specs.Parts.{AreStill};
+ghost use Rattle.task_core.specs.laws_of_turns.Runs.{StillRuns, moment_in, scene_in};
+
+use crate::parts::run_parts;
+use crate::rounds::run_rounds;
+use ima_io::Gate;
+use std::alloc::AllocError as OutOfMemory;
+use std::sync::Wait;
+use std::thread::Threads;
+use task_core::{Name, Task, World, settle};
+
+// Shares the world, runs the tasks in parts, and takes the world back.
+fn run_shared<N: Name, G: Gate + Sync, R: Threads + Wait + Sync>(
+    rt: &R,
+    world: World,
+    tasks: &mut Vec<Task>,
+    n: u32,
+    gate: &G,
+) -> Result<World, OutOfMemory>
+    requires threads { 1 ≤ n }
+    requires frame { world.frame ≡ N.frame }
+    requires tasks { AreTasks world.frame tasks.old.items }
+    ensures still { IfOk result (λ w. StillRuns world w tasks.old.items tasks.new.items) }
+    ensures tasks { AreStill world.frame tasks.old.items tasks.new.items }
+{
+    let live = world.share::<N>()?;
+    if run_parts(rt, &live, tasks.as_mut_slice(), n, gate) {
+        return Err(OutOfMemory);
+    }
+    let after = live.back()?;
+    Ok(after)
+}
+
+/// Runs the tasks on at most `n` threads. The world is shared, and the tasks are cut into
+/// contiguous parts, each of which makes steps of its tasks in turn until a pass over them moves
+/// none. Then the world is taken back, each task looks at it, and rounds of all tasks go on until
+/// one moves none. Where memory runs out, the tasks have made some of their steps, and the world is
+/// given up.
+pub fn run_threads<N: Name, G: Gate + Sync, R: Threads + Wait + Sync>(
+    rt: &R,
+    world: World,
+    tasks: &mut Vec<Task>,
+    n: u32,
+    gate: &G,
+) -> Result<World, OutOfMemory>
+    requires threads { 1 ≤ n }
+    requires frame { world.frame ≡ N.frame }
+    requires tasks { AreTasks world.frame tasks.old.items }
+    ensures still { IfOk result (λ w. StillRuns world w tasks.old.items tasks.new.items) }
+    ensures stops { IfOk result (λ w. (k : ℕ) → k < length tasks.old.items
+        → moves (scene_in world tasks.old.items) (moment_in w tasks.new.items) k ≡ false) }
+    ensures tasks { AreStill world.frame tasks.old.items tasks.new.items }
+{
+    let mut after = run_shared::<N, G, R>(rt, world, tasks, n, gate)?;
+    settle(&mut after, tasks);
+    run_rounds(&mut after, tasks, gate)?;
+    Ok(after)
+}

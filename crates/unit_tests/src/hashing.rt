@@ -1,0 +1,52 @@
+// Digests of 5,000 bytes `a` that other programs computed (`md5sum`, `sha1sum`, `sha256sum`).
+
+use hash_algos::{Algo, Digest};
+use inode_hashing::pages::Content;
+use inode_hashing::{Hashing, digest_of_content};
+use std::test::Fail;
+
+const MD5: &[u8] = b"\x7a\xaa\x7d\xec\x70\x9f\xa4\xfa\x82\xf3\x74\x6a\xbf\xd8\x0b\xdb";
+
+const SHA1: &[u8] =
+    b"\x6a\xa9\xbf\x7d\xf2\x24\x2e\xf8\x67\x55\x85\x84\xc0\x21\x60\x02\x3a\x96\xf2\xf9";
+
+const SHA256: &[u8] =
+    b"\xc5\x26\xc6\x22\x20\x44\xda\xb5\x67\x4d\xe9\xc4\xac\x7f\x45\x66\xeb\xb5\xe4\xd8\xbf\x9d\x8e\xa3\x4c\x9c\xc8\xa7\xcc\x3c\x86\x9c";
+
+// Both digests of the bytes, of which the first `cut` come as one piece.
+fn by_pieces(algo: Algo, bytes: &[u8], cut: usize) -> (Digest, Digest) {
+    let mut hashing = Hashing::begin(algo);
+    hashing.next(&bytes[..cut.min(bytes.len())]);
+    hashing.next(&bytes[cut.min(bytes.len())..]);
+    hashing.finish()
+}
+
+#[test]
+fn both_digests_are_those_of_other_programs(rt: HostRuntime) -> Result<(), Fail> {
+    let bytes = vec![in rt.alloc(); b'a'; 5000]?;
+    for (algo, wanted) in [(Algo::Md5, MD5), (Algo::Sha1, SHA1), (Algo::Sha256, SHA256)] {
+        for cut in [0, 1, 4096] {
+            let (chosen, sha1) = by_pieces(algo, bytes.as_slice(), cut);
+            assert_eq!(rt; chosen.as_slice(), wanted);
+            assert_eq!(rt; sha1.as_slice(), SHA1);
+        }
+    }
+    Ok(())
+}
+
+#[test]
+fn pages_are_hashed_as_their_bytes(rt: HostRuntime) -> Result<(), Fail> {
+    let bytes = vec![in rt.alloc(); b'a'; 5000]?;
+    let content = Content::from_slice(rt.alloc(), bytes.as_slice())?;
+    let mut hashing = Hashing::begin(Algo::Md5);
+    hashing.next_page(&content.page(rt.alloc(), 0)?);
+    hashing.next_page(&content.page(rt.alloc(), 1)?);
+    let (chosen, sha1) = hashing.finish();
+    assert_eq!(rt; chosen.as_slice(), MD5);
+    assert_eq!(rt; sha1.as_slice(), SHA1);
+    assert_eq!(rt;
+        digest_of_content(Algo::Sha256, &content).as_slice(),
+        SHA256
+    );
+    Ok(())
+}

@@ -1,0 +1,25 @@
+use inode_events::policy::Func;
+use inode_events::{How, Told};
+use inode_meta::Mode;
+use world_locks::steps::*;
+
+#[test]
+fn an_open_that_no_rule_concerns_is_counted_and_checked(rt: HostRuntime) {
+    let call = Call::Open {
+        fd: 0,
+        inode: 0,
+        how: How::Read { create: false },
+        trunc: false,
+    };
+    let hand = Hand {
+        held: None,
+        free: true,
+        admin: false,
+    };
+    let mut plan = Plan::start(&call, hand, Mode::Enforce);
+    assert_eq!(rt; plan.next(), Ask::Count);
+    assert_eq!(rt; plan.told(&Told::Held, None), None);
+    let func = Func::FileCheck;
+    assert_eq!(rt; plan.next(), Ask::Check { func, mask: 4 });
+    assert_eq!(rt; plan.told(&Told::Quiet, None), Some(Reply::Done));
+}

@@ -1,0 +1,103 @@
+ghost use Rattle.std.specs.Prelude.{◌≡◌, ◌+◌};
+
+use super::start::{Start, cell_of};
+use inode_events::{Change, Event, How};
+use inode_meta::{Cred, Who};
+use std::alloc::{AllocError as OutOfMemory, Global};
+use std::process::Abort;
+use std::test::Fail;
+use world_locks::growing::Pass;
+use world_locks::inodes::{Counted, InodeCell, Set};
+
+#[derive(Clone, Copy)]
+pub enum Step {
+    Open(How),
+    Set(&'static [u8], &'static [u8]),
+    // By a task that may administer.
+    AdminSet(&'static [u8], &'static [u8]),
+    Remove(&'static [u8]),
+    SetMeta(Change),
+}
+
+#[derive(Clone, Copy, Debug, PartialEq, Eq)]
+pub enum Answer {
+    Opened(Counted),
+    Changed(Set),
+}
+
+// Each step is by the task of its number.
+pub type Steps = &'static [(u32, Step, Answer)];
+
+fn cred(admin: bool) -> Cred {
+    Cred {
+        uid: 0,
+        euid: 0,
+        gid: 0,
+        egid: 0,
+        admin,
+    }
+}
+
+fn does(
+    cell: &mut InodeCell,
+    pass: &mut Pass<Event>,
+    task: u32,
+    step: Step,
+) -> Result<Answer, OutOfMemory>
+    requires name { pass.old.name ≡ cell.old.journal }
+    requires number { pass.old.number ≡ task + 1 }
+    ensures cell { cell.new.journal ≡ cell.old.journal }
+    ensures pass { (pass.new.name ≡ pass.old.name) × (pass.new.number ≡ pass.old.number) }
+{
+    let who = Who {
+        task,
+        call: 0,
+        step: 0,
+    };
+    match step {
+        Step::Open(how) => Ok(Answer::Opened(cell.count(pass, who, how)?)),
+        Step::Set(name, value) => {
+            let set = cell.set_attr(pass, who, &cred(false), name, Some(value))?;
+            Ok(Answer::Changed(set))
+        }
+        Step::AdminSet(name, value) => {
+            let set = cell.set_attr(pass, who, &cred(true), name, Some(value))?;
+            Ok(Answer::Changed(set))
+        }
+        Step::Remove(name) => {
+            let set = cell.set_attr(pass, who, &cred(false), name, None)?;
+            Ok(Answer::Changed(set))
+        }
+        Step::SetMeta(change) => Ok(Answer::Changed(cell.set_meta(pass, who, change)?)),
+    }
+}
+
+// The step of one of two tasks.
+fn step_of(
+    cell: &mut InodeCell,
+    first: &mut Pass<Event>,
+    second: &mut Pass<Event>,
+    task: u32,
+    step: Step,
+) -> Result<Answer, OutOfMemory>
+    requires first { (first.old.name ≡ cell.old.journal) × (first.old.number ≡ 1) }
+    requires second { (second.old.name ≡ cell.old.journal) × (second.old.number ≡ 2) }
+    ensures first { (first.new.name ≡ cell.new.journal) × (first.new.number ≡ 1) }
+    ensures second { (second.new.name ≡ cell.new.journal) × (second.new.number ≡ 2) }
+{
+    if task == 0 {
+        does(cell, first, 0, step)
+    } else {
+        does(cell, second, 1, step)
+    }
+}
+
+// Each step answers what the table says, on one cell.
+pub fn goes(rt: &impl Abort, alloc: Global, from: &Start, steps: Steps) -> Result<(), Fail> {
+    let (mut cell, mut first, mut second) = cell_of(rt, alloc, from)?;
+    for (task, step, answer) in steps {
+        let got = step_of(&mut cell, &mut first, &mut second, *task, *step)?;
+        assert_eq!(rt; got, *answer);
+    }
+    Ok(())
+}

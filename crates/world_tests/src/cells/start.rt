@@ -1,0 +1,143 @@
+ghost use Rattle.std.specs.Prelude.{◌≡◌, [], IfOk};
+
+use inode_events::evm::Evm;
+use inode_events::hashes::{Algo, Digest};
+use inode_events::pages::Content;
+use inode_events::templates::{Entry, build, can_show};
+use inode_events::xattrs::{Attrs, Bytes};
+use inode_events::{Event, Image, Settings};
+use inode_meta::{Meta, Mode, Template};
+use std::alloc::{AllocError as OutOfMemory, Global};
+use std::process::Abort;
+use std::test::Fail;
+use world_locks::books::Book;
+use world_locks::growing::Pass;
+use world_locks::inodes::InodeCell;
+
+// An inode of one file system, and the script's settings beside sha256 and ima-ng.
+#[derive(Clone, Copy)]
+pub struct Start {
+    pub key: Option<&'static [u8]>,
+    pub present: bool,
+    pub content: &'static [u8],
+    pub attrs: &'static [(&'static [u8], &'static [u8])],
+}
+
+// The file `abc` without attributes, under no key.
+pub const PLAIN: Start = Start {
+    key: None,
+    present: true,
+    content: b"abc",
+    attrs: &[],
+};
+
+// No file.
+pub const ABSENT: Start = Start {
+    present: false,
+    content: b"",
+    ..PLAIN
+};
+
+pub const KEYED: Start = Start {
+    key: Some(&[0x5a; 32]),
+    ..PLAIN
+};
+
+// The label of `abc` by sha256.
+pub const LABEL: &[u8] =
+    b"\x04\x04\xba\x78\x16\xbf\x8f\x01\xcf\xea\x41\x41\x40\xde\x5d\xae\x22\x23\xb0\x03\x61\xa3\x96\x17\x7a\x9c\xb4\x10\xff\x61\xf2\x00\x15\xad";
+
+// With the HMAC as openssl gives it.
+pub const SEALED: Start = Start {
+    attrs: &[
+        (
+            b"security.evm",
+            b"\x02\x08\x14\x8d\x46\x7f\x9f\x60\xd7\x8f\xda\x86\x34\x91\x94\xd0\xd1\xd1\x55\xf5\x04",
+        ),
+        (b"security.ima", LABEL),
+    ],
+    ..KEYED
+};
+
+const META: Meta = Meta {
+    ino: 12,
+    generation: 1,
+    uid: 0,
+    gid: 0,
+    mode: 0o100644,
+    place: 1,
+};
+
+fn settings(alloc: Global, start: &Start) -> Result<Settings, OutOfMemory> {
+    let none: [Bytes; 0] = [];
+    let evm = Evm::new(alloc, start.key, &none, 1)?;
+    Ok(Settings {
+        hash: Algo::Sha256,
+        template: Template::ImaNg,
+        mode: Mode::Enforce,
+        evm,
+    })
+}
+
+fn image(alloc: Global, start: &Start) -> Result<Image, Fail>
+    ensures { IfOk result (λ i. i.content ≡ start.now.content.now) }
+{
+    let mut attrs = Attrs::new(alloc);
+    for (name, value) in start.attrs {
+        attrs.set(name, value)?;
+    }
+    let content = Content::from_slice(alloc, start.content)?;
+    Ok(Image {
+        present: start.present,
+        content,
+        attrs,
+        meta: META,
+        versions: true,
+    })
+}
+
+// The pass of a list for its one inode.
+fn book_pass(rt: &impl Abort, alloc: Global) -> Result<Pass<Entry>, OutOfMemory>
+    ensures { IfOk result (λ p. p.mine ≡ []) }
+{
+    assert!(rt; can_show(Template::ImaNg, b"boot_aggregate"));
+    let zeros = Digest::zeros(Algo::Sha1);
+    let boot = build(
+        alloc,
+        10,
+        Template::ImaNg,
+        &zeros,
+        &zeros,
+        b"boot_aggregate",
+        b"",
+    )?;
+    let (_book, mut passes) = Book::start(alloc, 2, boot)?;
+    let Some(pass) = passes.pop() else {
+        unreachable!()
+    };
+    Ok(pass)
+}
+
+// An inode and the passes of the tasks 0 and 1.
+pub fn cell_of(
+    rt: &impl Abort,
+    alloc: Global,
+    start: &Start,
+) -> Result<(InodeCell, Pass<Event>, Pass<Event>), Fail>
+    ensures first { IfOk result (λ r. (r.1.name ≡ r.0.journal) × (r.1.number ≡ 1)) }
+    ensures second { IfOk result (λ r. (r.2.name ≡ r.0.journal) × (r.2.number ≡ 2)) }
+{
+    assert!(rt; can_show(Template::Ima, b"/f"));
+    assert!(rt; start.content.len() <= 4096);
+    let book = book_pass(rt, alloc)?;
+    let settings = settings(alloc, start)?;
+    let image = image(alloc, start)?;
+    let (cell, mut passes) = InodeCell::start(alloc, b"/f", image, settings, 2, book)?;
+    let Some(second) = passes.pop() else {
+        unreachable!()
+    };
+    let Some(first) = passes.pop() else {
+        unreachable!()
+    };
+    Ok((cell, first, second))
+}

@@ -1,0 +1,186 @@
+ghost use Rattle.std.specs.Prelude.{◌≡◌, ◌<◌, All, IfOk, length};
+ghost use Rattle.world_locks.specs.Parts.{KeepFrame, frame_of_parts};
+ghost use Rattle.world_start.specs.Started.{IsFile};
+
+use inode_events::evm::Evm;
+use inode_events::hashes::{Algo, Digest};
+use inode_events::pages::Content;
+use inode_events::policy::{Policy, Super};
+use inode_events::templates::{Entry, build, can_show};
+use inode_events::xattrs::{Attrs, Bytes};
+use inode_events::{Image, Settings};
+use inode_meta::{Meta, Mode, Template};
+use std::alloc::{AllocError as OutOfMemory, Global};
+use std::marker::Brand;
+use std::process::Abort;
+use std::sync::Wait;
+use std::sync::atomic::{AtomicBool, Ordering};
+use std::test::Fail;
+use std::thread::{Threads, join};
+use world_locks::{Locks, Name, Parts};
+use world_start::{Start, start_lists};
+
+const META: Meta = Meta {
+    ino: 12,
+    generation: 1,
+    uid: 0,
+    gid: 0,
+    mode: 0o100644,
+    place: 0,
+};
+
+fn settings(alloc: Global) -> Result<Settings, OutOfMemory> {
+    let none: [Bytes; 0] = [];
+    Ok(Settings {
+        hash: Algo::Sha256,
+        template: Template::ImaNg,
+        mode: Mode::Enforce,
+        evm: Evm::new(alloc, None, &none, 1)?,
+    })
+}
+
+fn boot(rt: &impl Abort, alloc: Global) -> Result<Entry, OutOfMemory> {
+    assert!(rt; can_show(Template::ImaNg, b"boot_aggregate"));
+    let zeros = Digest::zeros(Algo::Sha1);
+    build(
+        alloc,
+        10,
+        Template::ImaNg,
+        &zeros,
+        &zeros,
+        b"boot_aggregate",
+        b"",
+    )
+}
+
+// An empty file of this path.
+fn file(rt: &impl Abort, alloc: Global, path: &[u8]) -> Result<(Bytes, Image), OutOfMemory>
+    ensures { IfOk result IsFile }
+{
+    assert!(rt; can_show(Template::Ima, path));
+    let image = Image {
+        present: true,
+        content: Content::new(alloc),
+        attrs: Attrs::new(alloc),
+        meta: META,
+        versions: true,
+    };
+    Ok((Bytes::from_slice(alloc, path)?, image))
+}
+
+// Two files on one file system.
+fn files(rt: &impl Abort, alloc: Global) -> Result<(Vec<(Bytes, Image)>, Vec<u32>), OutOfMemory>
+    ensures files { IfOk result (λ r. (All IsFile r.0.items) × (length r.0.items ≡ 2)) }
+    ensures places { IfOk result (λ r. (All (λ place. place < 1) r.1.items)
+        × (length r.1.items ≡ 2)) }
+{
+    let mut files = Vec::new(alloc);
+    files.push(file(rt, alloc, b"/a")?)?;
+    files.push(file(rt, alloc, b"/b")?)?;
+    let mut places = Vec::new(alloc);
+    places.push(0)?;
+    places.push(0)?;
+    Ok((files, places))
+}
+
+// The lists of a world with two inodes.
+fn parts(rt: &impl Abort, alloc: Global) -> Result<Parts, OutOfMemory>
+    ensures keep { IfOk result (λ p. KeepFrame (frame_of_parts p) p) }
+    ensures two { IfOk result (λ p. length p.stations.items ≡ 2) }
+{
+    let (files, places) = files(rt, alloc)?;
+    let mut supers = Vec::new(alloc);
+    supers.push(Super {
+        magic: 1,
+        uuid: 0,
+        name: Bytes::from_slice(alloc, b"a")?,
+        versions: true,
+    })?;
+    let rules = Policy::new(alloc);
+    let start = start_lists(
+        alloc,
+        settings(alloc)?,
+        boot(rt, alloc)?,
+        files,
+        supers,
+        places,
+        rules,
+        2,
+    )?;
+    let Start {
+        stations,
+        book,
+        sems,
+        rules,
+        idle,
+        supers,
+        settings,
+        tasks,
+        passes: _,
+    } = start;
+    Ok(Parts {
+        stations,
+        book,
+        sems,
+        rules,
+        idle,
+        supers,
+        settings,
+        tasks,
+        alloc,
+    })
+}
+
+// Whether the flag is set within 100,000,000 looks.
+fn sees(flag: &AtomicBool) -> bool {
+    for _ in 0..100_000_000 {
+        if flag.load(Ordering::SeqCst) {
+            return true;
+        }
+    }
+    false
+}
+
+// One thread holds the inode 0 till the other has held the inode 1.
+fn hold_both<N: Name, R: Threads + Wait + Sync>(
+    rt: &R,
+    parts: Parts,
+) -> Result<(Parts, bool), OutOfMemory>
+    requires keep { KeepFrame N.frame parts }
+    requires two { length N.frame.sites ≡ 2 }
+{
+    let locks = Locks::<N>::new(parts)?;
+    let shared = &locks;
+    let first = AtomicBool::new(false);
+    let second = AtomicBool::new(false);
+    let seen = AtomicBool::new(false);
+    join(
+        rt,
+        ||
+            requires { length N.frame.sites ≡ 2 }
+        {
+            shared.hold(rt, 0, || {
+                first.store(true, Ordering::SeqCst);
+                seen.store(sees(&second), Ordering::SeqCst);
+            })
+        },
+        ||
+            requires { length N.frame.sites ≡ 2 }
+        {
+            sees(&first);
+            shared.hold(rt, 1, || second.store(true, Ordering::SeqCst))
+        },
+    );
+    let saw = seen.load(Ordering::SeqCst);
+    let parts = locks.into_parts()?;
+    Ok((parts, saw))
+}
+
+#[test]
+fn two_inodes_are_held_at_once(rt: HostRuntime) -> Result<(), Fail> {
+    let parts = parts(&rt, rt.alloc())?;
+    let (parts, saw) = hold_both::<Brand, _>(&rt, parts)?;
+    assert!(rt; saw);
+    assert_eq!(rt; parts.stations.len(), 2);
+    Ok(())
+}
