@@ -16,8 +16,9 @@ use crate::outcome::Outcome;
 /// ```
 ///
 /// In place of `writes` stands `has`, where only some lines of the output are to be looked at: each
-/// of them stands in it, in this order. The part `anywhere` is for what the fall of threads' steps
-/// leaves open: in which order their events stand, and under which numbers.
+/// of them stands in it, in this order. One that ends in ` ..` is any line that begins with what is
+/// before these. The part `anywhere` is for what the fall of threads' steps leaves open: in which
+/// order their events stand, and under which numbers.
 #[derive(Clone, Copy, Debug)]
 pub struct Case<'a> {
     pub name: &'a str,
@@ -70,11 +71,19 @@ fn has_lines(out: &[u8], lines: &str) -> bool {
     let mut wanted = lines.lines();
     let mut next = wanted.next();
     for line in out.split(|b| *b == b'\n') {
-        if next.is_some_and(|want| want.as_bytes() == line) {
+        if next.is_some_and(|want| is_wanted(line, want)) {
             next = wanted.next();
         }
     }
     next.is_none()
+}
+
+// Whether the line is the wanted one, or begins with what is before ` ..` in that.
+fn is_wanted(line: &[u8], want: &str) -> bool {
+    match want.split_once(" ..") {
+        Some((front, _)) => line.starts_with(front.as_bytes()),
+        None => want.as_bytes() == line,
+    }
 }
 
 // Whether each of these is the end of a line of the output.

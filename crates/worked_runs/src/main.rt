@@ -2,11 +2,17 @@
 //!
 //! Each file of `data/` is a family of cases: an input, and what the command has to answer. What a
 //! case must write comes from outside: from a second program that follows `docs/RULES.md` and
-//! `docs/FORMATS.md`, with the digests of Python's hashlib. `cases` reads a family, `outcome` calls
-//! `serve`, and `faults` cuts the input of the first case short, fails its reads and writes, and
-//! makes it too long. `gates` watches the steps of runs, and lets two tasks wait for each other;
-//! `locks` makes steps on one file while another is held. A line is printed for each case, and the
-//! status is 1 where one differs.
+//! `docs/FORMATS.md`, with the digests of Python's hashlib. Two families have other sources. The
+//! cases of `kernels` were run on Debian's Linux kernels under qemu, with the versions and boot
+//! words that the first line of each script names: they have the kernel's measurement list, the
+//! registers that follow from it, and the first word of each reply. Those of `examples` repeat the
+//! files of `examples/` and what this program made of them; `bench/examples.py` compares the
+//! copies.
+//!
+//! `cases` reads a family, `outcome` calls `serve`, and `faults` cuts the input of the first case
+//! short, fails its reads and writes, and makes it too long. `gates` watches the steps of runs, and
+//! lets two tasks wait for each other; `locks` makes steps on one file while another is held. A
+//! line is printed for each case, and the status is 1 where one differs.
 #![tactic(auto)]
 
 mod cases;
@@ -26,7 +32,7 @@ use std::thread::Threads;
 
 // The families, and how often each of their cases is run. Those of the last one run on threads,
 // and the order of their steps is fixed, so the whole report is the same however the threads fall.
-const FAMILIES: [(&str, u32); 12] = [
+const FAMILIES: [(&str, u32); 14] = [
     ("measuring", 1),
     ("violations", 1),
     ("appraisal", 1),
@@ -37,6 +43,8 @@ const FAMILIES: [(&str, u32); 12] = [
     ("lists", 1),
     ("policies", 1),
     ("summaries", 1),
+    ("kernels", 1),
+    ("examples", 1),
     ("threads", 1),
     ("repeats", 1000),
 ];
