@@ -1,13 +1,16 @@
 #!/usr/bin/env python3
 """bench/threads.py [RUNS]: what `threads 4` takes beside `threads 1`, by wall time.
 
-It needs crates/imakern/out/imakern, which `rt ci` or `./imakern` builds. 64 tasks each open, read
-and close a file of 262,144 bytes, once each a file of its own and once all the same one. RUNS (41)
-runs on four threads, as many on one, and as many times four runs on one thread each at once make a
-block; three blocks follow one another. It prints medians and least times, and ends with status 1
-where a ratio of medians is above its limit. Run it with nothing else on the machine: a quarter of
-what four runs at once take is the least that the machine gave just then, and where that is more
-than a quarter of one run, others had a part of its processors.
+It needs crates/imakern/out/imakern, which `rt ci` or `./imakern` builds. There are four scripts of
+64 tasks each. In two of them each task opens, reads and closes a file of 262,144 bytes, once each a
+file of its own and once all the same one. In the third each task opens a file of its own, cuts it
+to no byte and lengthens it again to 262,144 bytes, 250 times, and closes it. In the fourth each
+task opens a file of its own of three bytes, writes, reads, sets its length and closes it, 100
+times. RUNS (41) runs on four threads, as many on one, and as many times four runs on one thread
+each at once make a block; three blocks follow one another. It prints medians and least times, and
+ends with status 1 where a ratio of medians is above its limit. Run it with nothing else on the
+machine: a quarter of what four runs at once take is the least that the machine gave just then, and
+where that is more than a quarter of one run, others had a part of its processors.
 """
 import os, statistics, subprocess, sys, time
 
@@ -15,15 +18,18 @@ TOP = os.path.dirname(os.path.dirname(os.path.abspath(__file__)))
 IMAKERN = os.path.join(TOP, 'crates', 'imakern', 'out', 'imakern')
 RUNS = int(sys.argv[1]) if len(sys.argv) > 1 else 41
 EXT4 = 'fs magic=0xef53 uuid=00000000-0000-0000-0000-000000000001 name=ext4 versions'
-FILE = 'file /f%d fs=0 ino=%d gen=1 uid=0 gid=0 mode=100644 content=fill:262144:%02x'
-TASK = ['task uid=0 euid=0 gid=0 egid=0', 'open 0 /f%d r', 'read 0 0 262144', 'close 0']
+FILE = 'file /f%d fs=0 ino=%d gen=1 uid=0 gid=0 mode=100644 content=fill:%d:%02x'
+TASK = 'task uid=0 euid=0 gid=0 egid=0'
+READS = ['open 0 /f%d r', 'read 0 0 262144', 'close 0']
+CUTS = ['open 0 /f%d rw'] + ['ftruncate 0 0', 'ftruncate 0 262144'] * 250 + ['close 0']
+CHANGES = ['open 0 /f%d rw', 'write 0 0 txt:abc', 'read 0 0 3', 'ftruncate 0 3', 'close 0'] * 100
 
 
-def script(files, threads):
-    lines = ['imakern 1', EXT4] + [FILE % (k, 100 + k, k) for k in range(files)]
+def script(files, length, calls, threads):
+    lines = ['imakern 1', EXT4] + [FILE % (k, 100 + k, length, k) for k in range(files)]
     lines.append('rule measure func=FILE_CHECK mask=MAY_READ')
     for task in range(64):
-        lines += [line.replace('%d', str(task % files)) for line in TASK]
+        lines += [line.replace('%d', str(task % files)) for line in [TASK] + calls]
     return ('\n'.join(lines + ['threads %d' % threads]) + '\n').encode()
 
 
@@ -40,8 +46,8 @@ def at_once(text, count):
     return time.perf_counter() - begun
 
 
-def measure(name, files, limit):
-    four, one = script(files, 4), script(files, 1)
+def measure(name, files, length, calls, limit):
+    four, one = [script(files, length, calls, threads) for threads in (4, 1)]
     at_once(four, 1), at_once(one, 1)
     fours, ones, quarters = [], [], []
     for _ in range(3):
@@ -60,5 +66,10 @@ def measure(name, files, limit):
 
 
 print('%d processors' % os.cpu_count())
-met = [measure('a file each', 64, 0.4), measure('all on one', 1, 1.3)]
+met = [
+    measure('a file each', 64, 262144, READS, 0.4),
+    measure('all on one', 1, 262144, READS, 1.3),
+    measure('cut and lengthened', 64, 262144, CUTS, 0.45),
+    measure('three bytes', 64, 3, CHANGES, 1.0),
+]
 sys.exit(0 if all(met) else 1)

@@ -29,7 +29,7 @@ use Rattle.call_steps.specs.declared.reply.Reply.TheVariants as reply
 use Rattle.call_steps.specs.declared.due.Next.{Next}
 use Rattle.call_steps.specs.declared.due.Next.TheVariants.{On, Over}
 
--- what a step is told, and of a check the action
+-- the outcome of a step, and for a check its action
 abbrev Heard : Type 0
 Heard = Told × Action
 
@@ -42,7 +42,7 @@ measured t = (t, record no_action { measure = true })
 abbrev appraised : Told → Heard
 appraised t = (t, record no_action { appraise = true })
 
--- the steps of a call that hears this, one after the other, and its reply
+-- the steps of a call that is given these outcomes, one after the other, and its reply
 abbrev steps_from : Mode → Call → Next → List Heard → List Ask × Option Reply
 steps_from mode c (Over r) heard = ([], Some r)
 steps_from mode c (On s) [] = (s.ask ∷ [], None)
@@ -94,7 +94,7 @@ refused_open : steps mode.Enforce [] (call.Open 0 0 (how.Write false false) true
     )
 refused_open = refl
 
--- one that no rule concerns is cut at once
+-- an open for writing that no rule concerns truncates at once
 cut_open : steps mode.Enforce [] (call.Open 0 0 (how.Write false false) true) (plain told.Held
     ∷ plain told.Quiet ∷ plain told.Done ∷ [])
     ≡ (ask.Count ∷ ask.Check func.FileCheck 2 ∷ ask.Trunc 0 ∷ [], Some reply.Done)

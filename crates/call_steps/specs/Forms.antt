@@ -6,24 +6,25 @@ use Rattle.inode_events.specs.forms.Words.{is_word}
 use Rattle.call_steps.specs.declared.call.Call.{Call}
 use Rattle.call_steps.specs.declared.call.Call.TheVariants as call
 
--- offsets and lengths
+-- whether an offset or length is in range
 abbrev pub is_offset : ℕ → Bool
 is_offset n = nat_le n 0xffff_ffff
 
--- maps, runs and semaphores
+-- whether the number of a map, run or semaphore is in range
 abbrev pub is_small : ℕ → Bool
 is_small n = nat_lt n 64
 
--- so many bytes may be read or written at once
+-- whether this number of bytes may be read or written at once
 abbrev pub is_portion : ℕ → Bool
 is_portion n = nat_le 1 n && nat_le n most_bytes
 
--- an attribute may be set to more bytes than it can have
+-- whether a value may be given for an attribute; it may be longer than an attribute can hold
 abbrev pub is_set_value : Option (List ℕ) → Bool
 is_set_value None = true
 is_set_value (Some value) = nat_le (length value) 8192
 
--- a call of a script with so many files; the other numbers have no limit but that of their type
+-- whether a call is one of a script with this number of files; numbers not mentioned are limited
+-- only by their type
 abbrev pub is_call : ℕ → Call → Bool
 is_call files (call.Open fd inode how trunc) = nat_lt inode files && (is_writer how || not trunc)
 is_call files (call.Read fd from len) = is_offset from && is_portion len

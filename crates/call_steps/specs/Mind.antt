@@ -1,4 +1,4 @@
--- Where a task stands among its calls, and what it makes of the outcome of its next step.
+-- The position of a task among its calls, and the effect of the outcome of its next step.
 use Rattle.std.specs.Prelude.{ℕ, ◌+◌, Bool, true, false, List, [], ◌∷◌, ◌++◌, Option, Some, None, unwrap_or, if◌then◌else◌}
 use Rattle.inode_events.specs.meta.declared.appraisal.Mode.{Mode}
 use Rattle.inode_events.specs.policy.RuleValue.{RuleValue}
@@ -23,7 +23,7 @@ use Rattle.call_steps.specs.declared.due.Next.{Next}
 use Rattle.call_steps.specs.declared.due.Next.TheVariants.{On, Over}
 use Rattle.call_steps.specs.declared.due.Due.{Due}
 
--- a call in progress: its next step with the step's number, and the file that its steps act on
+-- a call in progress: its next step with that step's number, and the file that its steps act on
 pub record Progress : Type 0 where
   pub due : Due
   pub step : ℕ
@@ -31,8 +31,8 @@ pub record Progress : Type 0 where
   pub file : ℕ
   pub how : How
 
--- a task between two steps: the number of the call that it makes or is to make, how far that call
--- is, and its files
+-- a task between two steps: the number of its present or next call, the progress of that call, and
+-- the files that the task holds
 pub record Mind : Type 0 where
   pub at : ℕ
   pub progress : Option Progress
@@ -43,7 +43,7 @@ fresh = record { at = 0; progress = None; handles = [] }
 
 -- ---- how a call begins
 
--- the inode of a call that names one; of the others that of the file which they use
+-- the inode that the call names, or else that of the file which it uses
 abbrev pub inode_of : Call → Option Held → ℕ
 inode_of (call.Open fd inode h trunc) held = inode
 inode_of (call.Exec run inode) held = inode
@@ -54,7 +54,7 @@ inode_of (call.Firmware inode) held = inode
 inode_of c (Some h) = h.inode
 inode_of c None = 0
 
--- the file that the call uses; one that it counts has no place yet
+-- the file that the call uses; a file that it is to count has no place yet
 abbrev pub file_of : Option Held → ℕ
 file_of (Some h) = h.file
 file_of None = 0
@@ -74,14 +74,14 @@ begun admin hs c =
       how = how_held c hand.held;
     }
 
--- how far the call is
+-- the progress of the present call, or of one that is to begin
 abbrev pub progress_of : Bool → Call → Mind → Progress
 progress_of admin c m = unwrap_or m.progress (begun admin m.handles c)
 
 -- ---- the next step
 
--- what a step does: nothing, an event on an inode, a check of one, whose action the rules are to
--- give, a deed on the semaphores, or a rule more
+-- the kinds of step: nothing, an event on an inode, a check of an inode, whose action the rules are
+-- to give, a deed on the semaphores, or appending a rule
 pub data Step : Type 0 where
   Nothing : Step
   Does : ℕ → Deed → Step
@@ -89,14 +89,14 @@ pub data Step : Type 0 where
   Signals : Deed → Step
   Appends : RuleValue → Step
 
--- the one event of a call that writes, or changes attributes or metadata
+-- the only event of a call that writes, or changes attributes or metadata
 abbrev pub deed_of : Bool → Call → ℕ → Deed
 deed_of admin (call.Write fd from bytes) file = deed.Write file from bytes
 deed_of admin (call.SetAttr inode name value) file = deed.SetAttr name value admin
 deed_of admin (call.SetMeta inode change) file = deed.SetMeta change
 deed_of admin _ file = deed.Birth
 
--- what a step does that isn't an event on an inode
+-- the step of a call that needs no event on an inode
 abbrev pub plain_step : Bool → Call → Step
 plain_step admin (call.Post sem) = Signals (deed.Post sem)
 plain_step admin (call.Wait sem) = Signals (deed.Wait sem)
@@ -124,11 +124,11 @@ step_by admin c g ask.Plain = plain_step admin c
 abbrev pub ask_of : Bool → Call → Mind → Step
 ask_of admin c m = let g = progress_of admin c m in step_by admin c g g.due.ask
 
--- its number within the call
+-- the number of the next step within its call
 abbrev pub number_of : Bool → Call → Mind → ℕ
 number_of admin c m = (progress_of admin c m).step
 
--- ---- what the step's outcome makes of the task
+-- ---- the effect of the step's outcome on the task
 
 -- a file that was counted is named by the place of its count
 abbrev pub file_after : Ask → ℕ → ℕ → ℕ
@@ -148,7 +148,7 @@ abbrev pub handles_left : Option Name → List Handle → List Handle
 handles_left None hs = hs
 handles_left (Some n) hs = without n hs
 
--- the files after an answered call: where it was done, it made a name or ended one
+-- the files after an answered call: if it was done, it made a name or ended one
 abbrev pub handles_after : Call → Progress → Reply → List Handle → List Handle
 handles_after c g r hs = if is_done r then handles_left (name_ended c) hs
     ++ handle_made (name_made c) g else hs
@@ -164,8 +164,8 @@ moved c m g place (On s) = (
 moved c m g place (Over r) =
     (record { at = m.at + 1; progress = None; handles = handles_after c g r m.handles }, Some r)
 
--- the task after its next step: by the place of the event, by what it was told, and after a check
--- by its action. At the call's last step there is a reply
+-- the task after its next step, given the place of the event, its outcome, and for a check its
+-- action; the last step of a call gives a reply
 abbrev pub after_of : Mode → Bool → Call → Mind → ℕ → Told → Action → Mind × Option Reply
 after_of mode admin c m place t action =
     let g = progress_of admin c m in moved c m g place (next mode c g.due t action)

@@ -1,5 +1,5 @@
--- The steps of a call, one after the other: which comes first, and which comes after what the step
--- before was told.
+-- The steps of a call, one after the other: which comes first, and which comes next given the
+-- outcome of the step before.
 use Rattle.std.specs.Prelude.{Bool, true, false, ◌&&◌, ◌||◌, not, Option, Some, None, unwrap_or, if◌then◌else◌}
 use Rattle.inode_events.specs.meta.declared.appraisal.Mode.{Mode}
 use Rattle.inode_events.specs.labels.declared.verdict.Cause.{Cause}
@@ -32,7 +32,7 @@ use Rattle.call_steps.specs.declared.due.Next.{Next}
 use Rattle.call_steps.specs.declared.due.Next.TheVariants.{On, Over}
 use Rattle.call_steps.specs.declared.due.Due.{Due}
 
--- a further step, and the reply that comes with the call's last one unless a step to come decides
+-- a further step, and the reply that comes with the call's last one unless a later step decides
 -- another
 abbrev pub due : Ask → Reply → Due
 due a r = record { ask = a; reply = r }
@@ -51,18 +51,18 @@ course_of (call.Module inode) = course.Module
 course_of (call.Firmware inode) = course.Firmware
 course_of _ = course.Other
 
--- how the call counts its file
+-- how the call's file is counted
 abbrev pub how_of : Course → How
 how_of (course.Open h trunc) = h
 how_of _ = how.Exec
 
--- for what an open opens its file
+-- the purpose for which an open opens its file
 abbrev pub purpose_of_open : How → Purpose
 purpose_of_open (how.Write true create) = purpose.ReadWrite
 purpose_of_open (how.Write false create) = purpose.Write
 purpose_of_open _ = purpose.Read
 
--- what the call wants of its file; a call of another course raises no check
+-- the purpose of the call's access; a call of another course makes no check
 abbrev pub purpose_of : Course → Purpose
 purpose_of (course.Open h trunc) = purpose_of_open h
 purpose_of course.Mmap = purpose.Map
@@ -77,41 +77,43 @@ check c = ask.Check (func_of_purpose (purpose_of c)) (mask_of_purpose (purpose_o
 abbrev pub take : Course → Ask
 take c = ask.Take (slot_of (func_of_purpose (purpose_of c)))
 
--- the whole content
+-- read the whole content
 abbrev pub whole : Ask
 whole = ask.Read 0 most_bytes
 
--- how the close of a file begins
+-- the first step of closing a file
 abbrev pub close : How → Ask
 close h = if is_writer h then ask.CloseTake else ask.Close
 
 -- ---- the first step
 
--- one step without an event answers the call
+-- one step without an event, with which the call is answered
 abbrev pub at_once : Reply → Due
 at_once r = due ask.Plain r
 
--- `EBADF` comes before all else: here where the name is made anew while it is there
+-- a call that makes a name is refused with `EBADF`, before all else, if the name exists
 abbrev pub if_free : Bool → Due → Due
 if_free true s = s
 if_free false s = at_once reply.BadFile
 
--- and here where the file isn't there, or can't be read
+-- a call that reads is refused with `EBADF`, before all else, if the file isn't there or isn't
+-- readable
 abbrev pub if_readable : Option Held → Due → Due
 if_readable None s = at_once reply.BadFile
 if_readable (Some h) s = if can_read h.how then s else at_once reply.BadFile
 
--- or can't be written
+-- a call that writes is refused with `EBADF`, before all else, if the file isn't there or isn't
+-- writable
 abbrev pub if_writable : Option Held → Due → Due
 if_writable None s = at_once reply.BadFile
 if_writable (Some h) s = if is_writer h.how then s else at_once reply.BadFile
 
--- the file is closed with its last name
+-- a close drops the file only if the name is the file's last
 abbrev pub close_held : Option Held → Due
 close_held None = at_once reply.BadFile
 close_held (Some h) = if h.last then due (close h.how) reply.Done else at_once reply.Done
 
--- a mapping counts nothing, and only one for execution is checked
+-- a mapping counts nothing, and only a mapping for execution is checked
 abbrev pub map_held : Bool → Hand → Due
 map_held exec hand =
     if_free hand.free
@@ -137,9 +139,9 @@ first (call.AddRule rule) hand = at_once (if hand.admin then reply.Done else rep
 first (call.Module inode) hand = due ask.Count reply.Done
 first (call.Firmware inode) hand = due ask.Count reply.Done
 
--- ---- the steps after it
+-- ---- the steps after the first
 
--- the reply that an outcome gives
+-- the reply for an outcome
 abbrev pub reply_of : Told → Reply
 reply_of (told.Read n digest) = reply.Bytes n digest
 reply_of told.NotFound = reply.NotFound
@@ -153,8 +155,8 @@ reply_of told.NotAdmin = reply.NotAdmin
 reply_of (told.Status status) = reply.Status status
 reply_of _ = reply.Done
 
--- what follows where the file is admitted: an open may cut it, and an execution and the kernel read
--- it
+-- the next step once the file is admitted: an open may truncate it, and an execution and the kernel
+-- read it
 abbrev pub admitted : Course → Next
 admitted (course.Open h true) = goes (ask.Trunc 0) reply.Done
 admitted course.Exec = goes whole reply.Done
@@ -162,12 +164,13 @@ admitted course.Module = goes whole reply.Done
 admitted course.Firmware = goes whole reply.Done
 admitted _ = Over reply.Done
 
--- what follows where it isn't: what the call counted is closed. A mapping counted nothing
+-- the next step once the file is refused: the file that the call counted is closed; a mapping
+-- counted none
 abbrev pub refused : Course → Cause → Next
 refused course.Mmap cause = Over (reply.Denied cause)
 refused c cause = goes (close (how_of c)) (reply.Denied cause)
 
--- a grant that isn't admitted has the cause
+-- a grant that isn't admitted gives the cause in its verdict
 abbrev pub refused_by : Course → Option Verdict → Next
 refused_by c (Some (Deny cause)) = refused c cause
 refused_by c _ = admitted c
@@ -175,13 +178,13 @@ refused_by c _ = admitted c
 abbrev pub granted : Course → Grant → Next
 granted c g = if g.admitted then admitted c else refused_by c g.verdict
 
--- the kernel closes what it has read
+-- the next step after a read: the kernel closes the file that it has read
 abbrev pub has_read : Course → Reply → Next
 has_read course.Module r = goes ask.Close r
 has_read course.Firmware r = goes ask.Close r
 has_read _ r = Over r
 
--- the file is measured, or appraised in a mode that appraises
+-- whether a take follows the check: the file is measured, or appraised in a mode other than off
 abbrev pub asks_in : Mode → Action → Bool
 asks_in mode action = action.measure || (action.appraise && not (is_off mode))
 
@@ -196,7 +199,7 @@ abbrev pub after_take : Course → Reply → Told → Next
 after_take c r (told.Grant grant) = granted c grant
 after_take c r t = goes ask.Chunk r
 
--- a collection goes on to its last piece, and then ends
+-- a collection takes pieces up to the last one, and then ends
 abbrev pub after_chunk : Ask → Ask → Reply → Told → Next
 after_chunk again end r told.More = goes again r
 after_chunk again end r t = goes end r
@@ -209,8 +212,8 @@ abbrev pub after_close : Reply → Told → Next
 after_close r told.Begun = goes ask.CloseChunk r
 after_close r t = Over r
 
--- what comes after a step: by the step, by the reply that its call has so far, by what the step was
--- told, and after a check by its action
+-- the effect of a step on its call, given the step, the reply so far, the outcome, and for a check
+-- its action
 abbrev pub next_by : Mode → Course → Ask → Reply → Told → Action → Next
 next_by mode c ask.Count r t action = after_count c r t
 next_by mode c (ask.Check func mask) r t action = after_check mode c r action
@@ -231,7 +234,7 @@ next_by mode c ask.Plain r t action = Over r
 abbrev pub next : Mode → Call → Due → Told → Action → Next
 next mode c s t action = next_by mode (course_of c) s.ask s.reply t action
 
--- ---- the same of a plan
+-- ---- the same steps, through a plan
 
 abbrev pub plan_of : Mode → Call → Due → Plan
 plan_of mode c s = record { course = course_of c; mode = mode; due = s }

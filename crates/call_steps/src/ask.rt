@@ -1,38 +1,38 @@
 use inode_events::meta::Slot;
 use inode_events::policy::Func;
 
-/// The next step of a call: which event it is to be, or that it is none. The event's other fields
-/// come from the call, from the file that it uses, from the task's credentials and from the rules.
+/// The next step of a call: the event to make, or none. The event's other fields come from the
+/// call, from the file that it uses, from the task's credentials and from the rules.
 #[derive(Clone, Copy, Debug, PartialEq, Eq)]
 pub enum Ask {
-    /// A file is counted.
+    /// Count a file, for an open or an execution.
     Count,
-    /// The rules are asked about an access.
+    /// Ask the rules about an access.
     Check { func: Func, mask: u8 },
-    /// The digest in force is asked for.
+    /// Ask for the digest in force, for the check in this slot.
     Take { slot: Slot },
-    /// A collection takes its next piece.
+    /// Take the next piece into the collection of a take.
     Chunk,
-    /// A collection ends.
+    /// End the collection of a take.
     Finish,
-    /// Bytes are read.
+    /// Read at most `len` bytes, starting at the byte `from`.
     Read { from: u64, len: u64 },
-    /// The call's bytes are written.
+    /// Write the bytes that the call gives.
     Write,
-    /// The content is cut, or lengthened by zeros.
+    /// Set the length of the content, adding zeros if it was shorter.
     Trunc { len: u64 },
-    /// The call's attribute is set or removed.
+    /// Set or remove the attribute that the call names.
     SetAttr,
-    /// The mode or the owner is changed.
+    /// Change the mode, or the owner and group.
     SetMeta,
-    /// A file that isn't open for writing is dropped.
+    /// Drop a file that isn't open for writing.
     Close,
-    /// A writer's close begins.
+    /// Begin the close of a file that is open for writing.
     CloseTake,
-    /// The collection of a close takes its next piece.
+    /// Take the next piece into the collection of a close.
     CloseChunk,
-    /// The collection of a close ends.
+    /// End the collection of a close, and drop the file.
     CloseFinish,
-    /// No inode is concerned.
+    /// No event on an inode.
     Plain,
 }

@@ -4,8 +4,7 @@ use inode_events::policy::Rule;
 use std::alloc::{AllocError as OutOfMemory, Global};
 use std::marker::Model;
 
-/// A rule that lies outside of the call that appends it, so that other calls take no room for one.
-/// Contracts see the rule.
+/// A rule on the heap, so that calls which append none stay small. Contracts see the rule.
 #[derive(Drop)]
 pub struct BoxedRule {
     rule: Box<Rule>,
@@ -20,7 +19,7 @@ impl Model for BoxedRule {
 }
 
 impl BoxedRule {
-    /// The rule, moved to memory of its own.
+    /// Moves a rule to the heap.
     pub fn new(alloc: Global, rule: Rule) -> Result<BoxedRule, OutOfMemory>
         ensures { IfOk result (λ b. b ≡ rule) }
     {
@@ -28,7 +27,7 @@ impl BoxedRule {
         Ok(BoxedRule { rule })
     }
 
-    /// The rule.
+    /// Borrows the rule from the heap.
     pub fn get(&self) -> &Rule
         ensures { result.now ≡ self.now }
     {

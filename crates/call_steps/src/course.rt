@@ -6,25 +6,25 @@ use crate::call::Call;
 use inode_events::How;
 use inode_events::policy::Purpose;
 
-/// What a call does beyond its one event: those that raise a check go on by its answer.
+/// The course of a call's steps. A call that makes a check goes on by the check's answer.
 #[derive(Clone, Copy, Debug, PartialEq, Eq)]
 pub enum Course {
-    /// A file is opened, and with `trunc` cut to nothing.
+    /// Open a file, and truncate it if `trunc` is set.
     Open { how: How, trunc: bool },
-    /// A file is mapped for execution.
+    /// Map a file for execution.
     Mmap,
-    /// A file is executed.
+    /// Execute a file.
     Exec,
-    /// The kernel reads a module.
+    /// Read a module into the kernel.
     Module,
-    /// The kernel reads a firmware.
+    /// Read a firmware file into the kernel.
     Firmware,
-    /// No check is raised.
+    /// Make no check.
     Other,
 }
 
 impl Course {
-    /// The course of a call.
+    /// The course that a call takes.
     pub fn of(call: &Call) -> Course
         ensures { result ≡ course_of call.now }
     {
@@ -41,7 +41,7 @@ impl Course {
         }
     }
 
-    /// How the call counts its file.
+    /// How the call's file is counted.
     pub fn how(self) -> How
         ensures { result ≡ how_of self }
     {
@@ -64,7 +64,7 @@ impl Course {
         }
     }
 
-    /// The check of the call's access.
+    /// The step that checks the call's access.
     pub fn check(self) -> Ask
         ensures { result ≡ check self }
     {
@@ -75,7 +75,7 @@ impl Course {
         }
     }
 
-    /// The take after its check, in the slot of the check's function.
+    /// The take that follows the check, in the slot of the check's function.
     pub fn take(self) -> Ask
         ensures { result ≡ take self }
     {

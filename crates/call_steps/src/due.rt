@@ -1,19 +1,19 @@
 use crate::ask::Ask;
 use crate::reply::Reply;
 
-/// A call before its next step.
+/// A call between two steps.
 #[derive(Clone, Copy, Debug, PartialEq, Eq)]
 pub struct Due {
-    /// The next step.
+    /// The step that the call makes next.
     pub ask: Ask,
-    /// The reply that comes with the call's last step, unless a step to come decides another.
+    /// The reply that comes with the call's last step, unless a later step decides another.
     pub reply: Reply,
 }
 
-/// What a step makes of its call.
+/// The effect of a step on its call.
 #[derive(Clone, Copy, Debug, PartialEq, Eq)]
 pub enum Next {
-    /// A further step comes.
+    /// The call makes another step.
     On(Due),
     /// The call is answered.
     Over(Reply),

@@ -15,14 +15,14 @@ impl Model for Turns {
 }
 
 impl Turns {
-    /// The turns of these tasks, by a vector that is taken over.
+    /// The turns of these tasks, in the order of the vector.
     pub fn from_vec(tasks: Vec<u32>) -> Turns
         ensures { result ≡ tasks.items }
     {
         Turns { tasks }
     }
 
-    /// The numbers of the tasks.
+    /// The task numbers, in the order of their turns.
     pub fn as_slice(&self) -> &[u32]
         ensures { result.now ≡ self.now }
     {
@@ -30,13 +30,13 @@ impl Turns {
     }
 }
 
-/// How a script has its tasks run.
+/// How the tasks of a script run, and when they stop.
 #[derive(Debug, Drop)]
 pub enum Ending {
-    /// One turn of each task that is named, in order. The run may stop anywhere.
+    /// One turn of each task that the schedule names, in order. The run may stop anywhere.
     Schedule(Turns),
-    /// Rounds of one turn of each task, until a round moves none.
+    /// Rounds of one turn of each task, until a round moves no task.
     Rounds,
-    /// So many threads, from 1 to 16, until no task can move.
+    /// This number of threads, from 1 to 16, until no task can move.
     Threads(u32),
 }

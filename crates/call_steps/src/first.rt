@@ -12,7 +12,7 @@ use crate::held::{Hand, Held};
 use crate::reply::Reply;
 use inode_events::How;
 
-/// The first step of the call, by what the task holds.
+/// The first step of a call, given what the task holds.
 pub fn first(call: &Call, hand: Hand) -> Due
     ensures { result ≡ first call.now hand }
 {
@@ -38,7 +38,7 @@ pub fn first(call: &Call, hand: Hand) -> Due
     }
 }
 
-// The step, and the reply of a call that nothing stops.
+// The step, with the reply of a call that runs to its end.
 fn due(ask: Ask) -> Due
     ensures { result ≡ record { ask = ask; reply = Reply.Done } }
 {
@@ -102,7 +102,7 @@ fn map_held(exec: bool, hand: Hand) -> Due
     if_free(hand.free, if_readable(hand.held, mapped))
 }
 
-/// How the close of a file begins.
+/// The first step of closing a file.
 pub fn close(how: How) -> Ask
     ensures { result ≡ close how }
 {

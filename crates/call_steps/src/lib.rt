@@ -1,10 +1,10 @@
-//! The steps of a task's calls: which step comes next, what its outcome makes of the call, and the
-//! reply at the last.
+//! The steps of a task's calls: the step that comes next, the effect of its outcome on the call,
+//! and the final reply.
 //!
-//! A [`Plan`] is started from a call and from what the task holds, names the next step, and takes
-//! what that step was told. The definitions of `specs/` speak of one task and of nothing else: from
-//! its calls, from the files that it holds and from what each earlier step was told they give the
-//! next step. No call here takes memory.
+//! A [`Plan`] starts from a call and from what the task holds, names the next step, and takes the
+//! outcome of that step. The definitions of `specs/` speak of one task only: its calls, the files
+//! that it holds and the outcome of each earlier step determine the next one. No call here
+//! allocates memory.
 #![tactic(auto)]
 
 mod ask;

@@ -16,7 +16,7 @@ use inode_events::pages::MOST_BYTES;
 use inode_events::policy::Action;
 use inode_events::{Grant, Told};
 
-/// What comes after a step, by what it was told, and after a check by its action.
+/// The effect of a step on its call, given the step's outcome, and for a check also its action.
 pub fn next_by(
     mode: Mode,
     course: Course,
@@ -110,7 +110,8 @@ fn granted(course: Course, grant: &Grant) -> Next
     }
 }
 
-// An open may cut the file, and an execution and the kernel read it.
+// The next step once the file is admitted: an open may truncate it, and an execution and the kernel
+// read it.
 fn admitted(course: Course) -> Next
     ensures { result ≡ admitted course }
 {
@@ -127,7 +128,8 @@ fn admitted(course: Course) -> Next
     }
 }
 
-// What the call counted is closed. A mapping counted nothing.
+// The next step once the file is refused: the file that the call counted is closed. A mapping
+// counted none.
 fn refused(course: Course, cause: Cause) -> Next
     ensures { result ≡ refused course cause }
 {
@@ -137,7 +139,7 @@ fn refused(course: Course, cause: Cause) -> Next
     }
 }
 
-// The kernel closes what it has read.
+// The next step after a read: the kernel closes the file that it has read.
 fn has_read(course: Course, reply: Reply) -> Next
     ensures { result ≡ has_read course reply }
 {

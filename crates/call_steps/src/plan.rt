@@ -14,19 +14,19 @@ use inode_events::Told;
 use inode_events::meta::Mode;
 use inode_events::policy::Action;
 
-/// A call in progress. After a reply it is of no further use.
+/// A call in progress. It is of no further use once the call is answered.
 #[derive(Clone, Copy, Debug, PartialEq, Eq)]
 pub struct Plan {
-    /// What the call does beyond its one event.
+    /// The course of the call's steps.
     pub course: Course,
     /// The appraisal mode of the run.
     pub mode: Mode,
-    /// Where the call stands.
+    /// The next step, and the reply so far.
     pub due: Due,
 }
 
 impl Plan {
-    /// The plan of a call, by what the task holds and by its right to administer.
+    /// The plan of a call, given what the task holds and whether it may administer.
     pub fn start(call: &Call, hand: Hand, mode: Mode) -> Plan
         ensures { result ≡ plan_of mode call.now (first call.now hand) }
     {
@@ -37,15 +37,15 @@ impl Plan {
         }
     }
 
-    /// The next step.
+    /// The step that the call makes next.
     pub fn next(&self) -> Ask
         ensures { result ≡ self.now.due.ask }
     {
         self.due.ask
     }
 
-    /// Takes what the step was told, and of a check the action. The call's reply comes exactly with
-    /// its last step.
+    /// Takes the outcome of the step, and for a check its action. The reply comes exactly with the
+    /// call's last step.
     pub fn told(&mut self, t: &Told, action: Option<&Action>) -> Option<Reply>
         ensures { (self.new, result) ≡ told_of self.old t.now (option_copied action.entry) }
     {

@@ -6,17 +6,17 @@ use inode_events::hashes::Sha256Digest;
 use inode_events::labels::Cause;
 use inode_events::meta::EvmStatus;
 
-/// What a call replies.
+/// The reply to a call.
 #[derive(Clone, Copy, Debug, PartialEq, Eq)]
 pub enum Reply {
-    /// Done.
+    /// The call was done.
     Done,
-    /// So many bytes were read; the digest is their SHA-256.
+    /// This number of bytes was read; `digest` is their SHA-256.
     Bytes { n: u32, digest: Sha256Digest },
     /// The file is absent (`ENOENT`).
     NotFound,
-    /// The descriptor, map or run isn't there, is of the wrong mode, or is made anew while it is
-    /// there (`EBADF`).
+    /// The descriptor, map or run isn't there, has the wrong mode, or would be made although it
+    /// exists (`EBADF`).
     BadFile,
     /// A writer meets an execution, or an execution a writer (`ETXTBSY`).
     TextBusy,
@@ -30,16 +30,16 @@ pub enum Reply {
     Invalid,
     /// The attribute is `security.evm` (`EPERM`).
     EvmName,
-    /// The right to administer is wanted (`EPERM`).
+    /// The right to administer is needed (`EPERM`).
     NotAdmin,
-    /// EVM forbids the change (`EPERM`), with its status.
+    /// EVM forbids the change (`EPERM`), because of this status of the inode.
     Status(EvmStatus),
-    /// Appraisal refuses the file (`EACCES`), with the cause.
+    /// Appraisal refuses the file (`EACCES`), for this cause.
     Denied(Cause),
 }
 
 impl Reply {
-    /// The reply that the outcome of a call's one event gives.
+    /// The reply for the outcome of a call's only event.
     pub fn of(told: &Told) -> Reply
         ensures { result ≡ reply_of told.now }
     {

@@ -1,4 +1,4 @@
--- What the words are, by what the parser answers.
+-- The parser's answer is the command that the words name.
 use Rattle.std.proofs.Common.{◌≡◌, ◌||◌, ◌==◌, ℕ, Bool, true, false, List, [], ◌∷◌, Option, Some, None, refl, sym, ap, ◌∙◌}
 use Rattle.std.specs.Prelude.{codes, cond, option_map, unwrap_or}
 use Rattle.std.specs.Str.{bytes_eq}
@@ -16,17 +16,17 @@ use Rattle.command_line.specs.Program.{program}
 use Rattle.command_line.specs.Words.{command_by, command_named, command_numbered, command_of, is_option, script_number}
 use Rattle.command_line.proofs.Outcomes.{Outcome, met_in, outcome, refused, taken}
 
--- the firsts of pairs
+-- mapping to pairs and then to the first of each is mapping to the firsts
 firsts : {X A B : Type 0} (f : X → A) (g : X → B) (o : Option X)
     → option_map (λ (p : A × B). p.0) (option_map (λ (x : X). (f x, g x)) o) ≡ option_map f o
 firsts f g None = refl
 firsts f g (Some x) = refl
 
--- the name of the subcommand that a parse entered
+-- the name that the matches have is that of the subcommand that the parse entered
 rows_name : (m : ArgMatches) → option_map (λ p. p.0) (subcommand_rows_of m) ≡ subcommand_name_of m
 rows_name m = firsts _ _ _
 
--- what was met, of a name and of rows that were found
+-- a name and rows that were found give the pair of the name and its number
 met_pair : (o : Option (Text × List Row)) (name : Text) (rows : List Row)
     → option_map (λ p. p.0) o ≡ Some name → option_map (λ p. p.1) o ≡ Some rows
     → met_in o ≡ Some (name, first_of (codes "number") rows)
@@ -34,7 +34,7 @@ met_pair None name rows n r = absurd (cc)
 met_pair (Some p) name rows n r =
     let is : p.0 ≡ name = cc in let are : p.1 ≡ rows = cc in rw (is, are) refl
 
--- the name and the number that the parser gives are those that the definition of its matches has
+-- the name and the number that the parser returns are those that `clap` defines for the words
 pub name_met : (a : App) (words : List Text) (m : ArgMatches) (name : Text) (rows : List Row)
     → a ≡ program → HasMatchesOf a words m → Some name ≡ subcommand_name_of m
     → Some rows ≡ option_map (λ p. p.1) (subcommand_rows_of m)
@@ -43,7 +43,7 @@ name_met a words m name rows is has named found =
     sym (ap met_in ((has (ap is_simple is ∙ refl)).1 ∙ ap (λ (b : App). subcommand_of b words) is))
     ∙ met_pair (subcommand_rows_of m) name rows (rows_name m ∙ sym named) (sym found)
 
--- no kind is among none
+-- no kind of error is among an empty list of faults
 none_among : (k : ErrorKind) (kinds : Kinds) → kinds ≡ [] → IsAmong k kinds → ⊥
 none_among k [] e h = h
 none_among k (x ∷ xs) e h = absurd (cc)
@@ -57,7 +57,7 @@ same_pair {A} {B} o a c b d h k =
       ap (λ (x : Option (A × B)). (unwrap_or x (a, b)).1) e,
     )
 
--- words that are taken with a subcommand are the command that it names
+-- words that the parser takes are the command of the subcommand that it met
 by_met : (words : List Text) (name : Text) (number : Option Text) → Outcome words
     → fault_of program words ≡ []
     → met_in (subcommand_of program words) ≡ Some (name, number)
@@ -74,7 +74,7 @@ pub met_command : (words : List Text) (name : Text) (number : Option Text)
     → command_by name number ≡ command_of words
 met_command words name number e none met = by_met words name number (outcome words e) none met
 
--- words that are refused aren't a command
+-- words that the parser refuses aren't a command
 by_refused : (words : List Text) (k : ErrorKind) → Outcome words
     → IsAmong k (fault_of program words) → command_of words ≡ None
 by_refused words k (refused r) among = r.none
@@ -84,7 +84,7 @@ pub refused_command : (words : List Text) (k : ErrorKind) → list_any is_option
     → IsAmong k (fault_of program words) → command_of words ≡ None
 refused_command words k e among = by_refused words k (outcome words e) among
 
--- one test of one
+-- a test that holds of the one element of a list
 or_false : (b : Bool) → (b || false) ≡ true → b ≡ true
 or_false true h = refl
 or_false false h = absurd (cc)
@@ -101,12 +101,12 @@ hyphen_takes_none : (b : ℕ) (bs number : List ℕ) → b ≡ 45
     → command_numbered (b ∷ bs) number ≡ None
 hyphen_takes_none b bs number h = rw h refl
 
--- nor is it a number
+-- a word that begins with a hyphen isn't a number
 hyphen_is_no_number : (b : ℕ) (bs : List ℕ) → b ≡ 45 → script_number (b ∷ bs) ≡ None
 hyphen_is_no_number b [] h = rw h refl
 hyphen_is_no_number b (d ∷ more) h = rw h refl
 
--- a word with such a number is no command
+-- no command has a number that isn't one
 unnumbered : (is : Bool) (n : Option ℕ) → n ≡ None
     → cond is (option_map command.Gen n) None ≡ None
 unnumbered true n h = rw h refl
@@ -121,7 +121,7 @@ numbered_none (x ∷ xs) (y ∷ ys) false e h =
     unnumbered (bytes_eq (x ∷ xs) (codes "gen")) (script_number (y ∷ ys))
     (hyphen_is_no_number y ys (eqb-true y 45 (or_false (y == 45) h)))
 
--- nor are words with one a command
+-- words of which one begins with a hyphen aren't a command
 pub option_command : (words : List Text) → list_any is_option words ≡ true
     → command_of words ≡ None
 option_command [] h = refl

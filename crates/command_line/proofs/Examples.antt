@@ -1,4 +1,4 @@
--- Words, each with the command that they are.
+-- Examples of words, each with the command that they name.
 use Rattle.std.proofs.Common.{◌≡◌, [], ◌∷◌, Some, None, refl}
 use Rattle.std.specs.Prelude.{codes}
 use Rattle.command_line.specs.declared.command.Command.TheVariants as command

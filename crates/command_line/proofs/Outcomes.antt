@@ -1,4 +1,4 @@
--- What the parser makes of each list of words without options.
+-- The parser takes just those lists of words without options that are a command.
 use Rattle.std.proofs.Common.{◌≡◌, ◌||◌, Bool, true, false, List, [], ◌∷◌, Option, Some, None, refl, sym, ap, ◌∙◌}
 use Rattle.std.specs.Prelude.{codes, find, is_some, option_map}
 use Rattle.std.specs.List.{fold, list_any}
@@ -14,8 +14,10 @@ use Rattle.clap.specs.Faults.{check_fault, defaults_fault, entered_fault, fault_
 use Rattle.clap.proofs.FaultLemmas.{stopped_fault}
 use Rattle.clap.proofs.WalkLemmas.{walk_stopped}
 use Rattle.clap.proofs.OnLiterals.{clap_on_literals}
+use Rattle.text_forms.specs.Tables.{look_up}
 use Rattle.command_line.specs.Program.{numbered, program}
-use Rattle.command_line.specs.Words.{command_by, command_numbered, command_of, is_option}
+use Rattle.command_line.specs.Words.{command_by, command_numbered, command_of, is_option, lone_commands}
+use Rattle.command_line.specs.declared.command.Command.{Command}
 use Rattle.command_line.proofs.Strays.{stray_words, value_turn, value_walked, walk_at}
 
 -- the parser refuses the words, and they aren't a command
@@ -25,11 +27,11 @@ pub record IsRefused (words : List Text) : Type 0 where
   pub is : fault_of program words ≡ kind ∷ others
   pub none : command_of words ≡ None
 
--- the subcommand that was met, and the number behind it
+-- the name of the subcommand that was met, and its number if there is one
 abbrev pub met_in : Option (Text × List Row) → Option (Text × Option Text)
 met_in = option_map (λ p. (p.0, first_of (codes "number") p.1))
 
--- the parser takes the words, and meets the subcommand of the command that they are, with the
+-- the parser takes the words, and meets the subcommand of the command that they name, with the
 -- command's number
 pub record IsMet (words : List Text) : Type 0 where
   pub name : Text
@@ -38,27 +40,27 @@ pub record IsMet (words : List Text) : Type 0 where
   pub met : met_in (subcommand_of program words) ≡ Some (name, number)
   pub named : command_by name number ≡ command_of words
 
--- the one or the other
+-- the parser refuses the words or takes them
 pub data Outcome (words : List Text) : Type 0 where
   refused : IsRefused words → Outcome words
   taken : IsMet words → Outcome words
 
--- no argument has a rule on another, and there is none
+-- the program is one for which `clap` states what it parses: no argument depends on another
 pub simple : is_simple_and_free program ≡ true
 simple = refl
 
--- the program as it is built, and a subcommand of it
+-- the program as the parser builds it
 abbrev whole : App
 whole = built program
 
 abbrev leaf_of : Shape → Shape
 leaf_of s = built_leaf (inherited (with_leaf_noted (marked_built program.top)) s)
 
--- where the walk stands behind the word of a subcommand
+-- the walk after the word of a subcommand, where it stops
 abbrev stopped_at : Text → List Text → Walk
 stopped_at name words = record (walk_from nothing_held) { stopped = Some (name, words) }
 
--- what fails behind the walk, by where it ended: first the subcommand
+-- the faults at the end of a walk: first those of the subcommand
 abbrev by_end : Kinds → Walk → Kinds
 by_end below w =
     or_else below
@@ -69,14 +71,14 @@ by_end below w =
 abbrev by_walk : Kinds → Walk → Kinds
 by_walk first w = or_else first (by_end (entered_fault whole w.stopped) w)
 
--- the walk on from here
+-- the walk after further words
 abbrev walk_on : Walk → List Text → Walk
 walk_on w words = fold (walked whole.top.rules (names_of whole)) w words
 
 abbrev fault_on : Walk → List Text → Kinds
 fault_on w words = walk_fault whole.top (names_of whole) w words
 
--- behind the word of a subcommand the other words are its own
+-- the words after that of a subcommand are the subcommand's own
 entered_words : (name : Text) (rest : List Text)
     → turn_fault whole.top (names_of whole) (walk_from nothing_held) name ≡ []
     → walked whole.top.rules (names_of whole) (walk_from nothing_held) name ≡ stopped_at name []
@@ -92,7 +94,7 @@ entered_words name rest turns stops =
     ∙ ap (λ (w : Walk). by_walk [] w) (sym (walk_stopped whole.top.rules (names_of whole)
     (walk_from nothing_held) name [] rest))
 
--- a word that names a subcommand
+-- a word that names a subcommand without arguments
 record IsWord (name : Text) : Type 0 where
   turns : turn_fault whole.top (names_of whole) (walk_from nothing_held) name ≡ []
   stops : walked whole.top.rules (names_of whole) (walk_from nothing_held) name
@@ -103,23 +105,23 @@ record IsWord (name : Text) : Type 0 where
   met : met_in (subcommand_of program (name ∷ [])) ≡ Some (name, None)
   numberless : (number : Text) → command_numbered name number ≡ None
 
--- neither of two tests holds
+-- if it is false that one of two tests holds, both are false
 neither : (a b : Bool) → (a || b) ≡ false → (a ≡ false) × (b ≡ false)
 neither true b h = absurd (cc)
 neither false b h = (refl, h)
 
--- the first of the words that are no options is none
+-- if no word is an option, the first isn't
 first_is_none : (v : Text) (more : List Text) → list_any is_option (v ∷ more) ≡ false
     → is_option v ≡ false
 first_is_none v more e = (neither (is_option v) (list_any is_option more) e).0
 
--- with more words behind it it isn't a command
+-- a word that takes no number isn't a command together with more words
 no_more : (name v : Text) (more : List Text) → command_numbered name v ≡ None
     → command_of (name ∷ v ∷ more) ≡ None
 no_more name v [] h = h
 no_more name v (u ∷ more) h = refl
 
--- alone it is a command, and with more words behind it it isn't
+-- a word that takes no number is a command alone, and refused together with more words
 word_outcome : (name : Text) (rest : List Text) → IsWord name → list_any is_option rest ≡ false
     → Outcome (name ∷ rest)
 word_outcome name [] w e = taken (record {
@@ -140,51 +142,46 @@ word_outcome name (v ∷ more) w e = refused (record {
   none = no_more name v more (w.numberless v);
 })
 
-list_is_word : IsWord (codes "list")
-unfolding clap_on_literals
-list_is_word = record {
-  turns = refl;
-  stops = refl;
-  lone = refl;
-  found = λ rest. refl;
-  met = refl;
-  numberless = λ number. refl;
+-- a word of which this holds names a subcommand without arguments
+is_word : (name : Text)
+    → turn_fault whole.top (names_of whole) (walk_from nothing_held) name ≡ []
+    → walked whole.top.rules (names_of whole) (walk_from nothing_held) name ≡ stopped_at name []
+    → by_end (entered_fault whole (Some (name, []))) (stopped_at name []) ≡ []
+    → ((rest : List Text) → entered_fault whole (Some (name, rest))
+    ≡ level_fault (leaf_of (new_shape name)) [] nothing_held rest false [])
+    → met_in (subcommand_of program (name ∷ [])) ≡ Some (name, None)
+    → ((number : Text) → command_numbered name number ≡ None) → IsWord name
+is_word name turns stops lone found met numberless = record {
+  turns = turns;
+  stops = stops;
+  lone = lone;
+  found = found;
+  met = met;
+  numberless = numberless;
 }
 
-policy_is_word : IsWord (codes "policy")
-unfolding clap_on_literals
-policy_is_word = record {
-  turns = refl;
-  stops = refl;
-  lone = refl;
-  found = λ rest. refl;
-  met = refl;
-  numberless = λ number. refl;
-}
+-- each word of the table names a subcommand without arguments
+abbrev AreWords : List (Text × Command) → Type 0
+AreWords [] = Unit {0}
+AreWords (e ∷ es) = IsWord e.0 × AreWords es
 
-label_is_word : IsWord (codes "label")
+are_words : AreWords lone_commands
 unfolding clap_on_literals
-label_is_word = record {
-  turns = refl;
-  stops = refl;
-  lone = refl;
-  found = λ rest. refl;
-  met = refl;
-  numberless = λ number. refl;
-}
+are_words = (
+  is_word (codes "list") refl refl refl (λ rest. refl) refl (λ number. refl),
+  (
+    is_word (codes "policy") refl refl refl (λ rest. refl) refl (λ number. refl),
+    (
+      is_word (codes "label") refl refl refl (λ rest. refl) refl (λ number. refl),
+      (
+        is_word (codes "run") refl refl refl (λ rest. refl) refl (λ number. refl),
+        tt,
+      ),
+    ),
+  ),
+)
 
-run_is_word : IsWord (codes "run")
-unfolding clap_on_literals
-run_is_word = record {
-  turns = refl;
-  stops = refl;
-  lone = refl;
-  found = λ rest. refl;
-  met = refl;
-  numberless = λ number. refl;
-}
-
--- ---- the word with a number behind it
+-- ---- the word that takes a number
 
 abbrev gen_leaf : Shape
 gen_leaf = leaf_of (numbered (codes "gen"))
@@ -198,13 +195,13 @@ gen_stops : walked whole.top.rules (names_of whole) (walk_from nothing_held) (co
 unfolding clap_on_literals
 gen_stops = refl
 
--- what fails behind the word is what fails in its subcommand
+-- the faults of the words after `gen` are those of its subcommand
 gen_words : (rest : List Text) → fault_of program (codes "gen" ∷ rest)
     ≡ by_end (level_fault gen_leaf [] nothing_held rest false []) (stopped_at (codes "gen") rest)
 unfolding clap_on_literals
 gen_words rest = entered_words (codes "gen") rest gen_turns gen_stops
 
--- where the walk stands behind the number
+-- the walk after the number
 abbrev behind_number : Text → Walk
 behind_number number =
     walk_at (record { rows = []; pending = Some (codes "number", number ∷ []); skip = 0 }) 2
@@ -217,14 +214,14 @@ number_walked : (number : Text) → is_option number ≡ false
     → walked gen_leaf.rules [] (walk_from nothing_held) number ≡ behind_number number
 number_walked number e = value_walked gen_leaf.rules [] number 1 nothing_held e refl
 
--- what fails at the end of the subcommand's words
+-- the faults at the end of the subcommand's words
 abbrev at_end : Walk → Kinds
 at_end w =
     or_else (settle_fault gen_leaf.rules gen_leaf.args_override_self w.held)
     (or_else (defaults_fault (settled gen_leaf.rules w.held).rows gen_leaf.rules)
     (check_fault gen_leaf (finished gen_leaf.rules w.held) false))
 
--- the number alone is taken
+-- a number alone is taken
 number_taken : (number : Text) → is_option number ≡ false
     → level_fault gen_leaf [] nothing_held (number ∷ []) false [] ≡ []
 unfolding clap_on_literals
@@ -241,7 +238,7 @@ number_met number e =
     ap (λ (w : Walk). met_in (Some (codes "gen", finished gen_leaf.rules w.held)))
     (number_walked number e)
 
--- another word behind it isn't
+-- a further word after the number is refused
 number_stray : (number v : Text) (more : List Text) → is_option number ≡ false
     → is_option v ≡ false
     → level_fault gen_leaf [] nothing_held (number ∷ v ∷ more) false [] ≡ UnknownArgument ∷ []
@@ -265,7 +262,7 @@ gen_ended : (number : Text) → by_end [] (stopped_at (codes "gen") (number ∷ 
 unfolding clap_on_literals
 gen_ended number = refl
 
--- with one word behind it, it is taken, and else refused
+-- `gen` is taken with one word after it, and otherwise refused
 gen_outcome : (rest : List Text) → list_any is_option rest ≡ false → Outcome (codes "gen" ∷ rest)
 gen_outcome [] e = refused (record {
   kind = MissingRequiredArgument;
@@ -293,9 +290,9 @@ gen_outcome (number ∷ v ∷ more) e = refused (record {
   none = refl;
 })
 
--- ---- other words
+-- ---- all other words
 
--- unequal texts are unequal either way
+-- if one text differs from another, the second differs from the first
 unequal_by : (a b : Text) (r : Bool) → bytes_eq b a ≡ r → bytes_eq a b ≡ false → r ≡ false
 unequal_by a b true e h =
     sym ((bytes_eq-Decides a b).1 (sym ((bytes_eq-Decides b a).0 e))) ∙ h
@@ -304,43 +301,52 @@ unequal_by a b false e h = refl
 unequal : (a b : Text) → bytes_eq a b ≡ false → bytes_eq b a ≡ false
 unequal a b h = unequal_by a b (bytes_eq b a) refl h
 
--- a word that names no command
+-- the word is none of the table
+abbrev IsNone : Text → List (Text × Command) → Type 0
+IsNone word [] = Unit {0}
+IsNone word (e ∷ es) = (bytes_eq word e.0 ≡ false) × IsNone word es
+
+-- the word names no command
 pub record IsOther (word : Text) : Type 0 where
-  pub list : bytes_eq word (codes "list") ≡ false
-  pub policy : bytes_eq word (codes "policy") ≡ false
-  pub label : bytes_eq word (codes "label") ≡ false
-  pub run : bytes_eq word (codes "run") ≡ false
+  pub lone : IsNone word lone_commands
   pub gen : bytes_eq word (codes "gen") ≡ false
 
--- none of these is found
-none_of : (p : Text × List Text → Bool) (a b c d e : Text × List Text) → p a ≡ false
-    → p b ≡ false → p c ≡ false → p d ≡ false → p e ≡ false
-    → option_map (λ s. s.0) (find p (a ∷ b ∷ c ∷ d ∷ e ∷ [])) ≡ None
-none_of p a b c d e f g h i j = rw (f, g, h, i, j) refl
-
--- the word isn't the subcommand's
+-- a word other than the subcommand's name doesn't select it
 not_it : (word name : Text) → bytes_eq word name ≡ false → answers_to word (name, []) ≡ false
 not_it word name h = ap (λ (b : Bool). b || false) (unequal word name h)
 
--- such a word names no subcommand
-no_subcommand : (word : Text) → IsOther word → subcommand_met (names_of whole) idle word ≡ None
-no_subcommand word o =
-    none_of (answers_to word) (codes "list", []) (codes "policy", []) (codes "label", [])
-    (codes "run", []) (codes "gen", []) (not_it word (codes "list") o.list)
-    (not_it word (codes "policy") o.policy) (not_it word (codes "label") o.label)
-    (not_it word (codes "run") o.run) (not_it word (codes "gen") o.gen)
+-- the names of the subcommands: those of the table, and `gen`
+abbrev subcommands : List (Text × Command) → List (Text × List Text)
+subcommands [] = (codes "gen", []) ∷ []
+subcommands (e ∷ es) = (e.0, []) ∷ subcommands es
 
--- nor is it a command, alone or not
+-- a word that isn't in the table and isn't `gen` selects none of them
+none_found : (word : Text) (es : List (Text × Command)) → IsNone word es
+    → bytes_eq word (codes "gen") ≡ false
+    → option_map (λ s. s.0) (find (answers_to word) (subcommands es)) ≡ None
+none_found word [] o gen = rw (not_it word (codes "gen") gen) refl
+none_found word (e ∷ es) o gen = rw (not_it word e.0 o.0) (none_found word es o.1 gen)
+
+-- a word that names no command selects no subcommand
+no_subcommand : (word : Text) → IsOther word → subcommand_met (names_of whole) idle word ≡ None
+no_subcommand word o = none_found word lone_commands o.lone o.gen
+
+-- a word that isn't in the table has no entry there
+no_entry : (word : Text) (es : List (Text × Command)) → IsNone word es → look_up es word ≡ None
+no_entry word [] o = refl
+no_entry word (e ∷ es) o = rw o.0 (no_entry word es o.1)
+
+-- words that begin with a word that names no command aren't a command
 no_command : (word : Text) (rest : List Text) → IsOther word → command_of (word ∷ rest) ≡ None
-no_command word [] o = rw (o.list, o.policy, o.label, o.run) refl
+no_command word [] o = no_entry word lone_commands o.lone
 no_command word (v ∷ []) o = rw o.gen refl
 no_command word (v ∷ u ∷ more) o = refl
 
--- equal texts
+-- texts that the test finds equal are equal
 text_is : (a b : Text) → bytes_eq a b ≡ true → a ≡ b
 text_is a b h = (bytes_eq-Decides a b).0 h
 
--- the outcome of a word that names no command
+-- the parser refuses words that begin with a word that names no command
 other_outcome : (word : Text) (rest : List Text) → IsOther word → is_option word ≡ false
     → Outcome (word ∷ rest)
 other_outcome word rest o e = refused (record {
@@ -353,34 +359,35 @@ other_outcome word rest o e = refused (record {
   none = no_command word rest o;
 })
 
--- the outcome by which of the words the first is
-by_word : (word : Text) (rest : List Text) (list policy label run gen : Bool)
-    → bytes_eq word (codes "list") ≡ list → bytes_eq word (codes "policy") ≡ policy
-    → bytes_eq word (codes "label") ≡ label → bytes_eq word (codes "run") ≡ run
-    → bytes_eq word (codes "gen") ≡ gen → is_option word ≡ false
-    → list_any is_option rest ≡ false → Outcome (word ∷ rest)
-by_word word rest true policy label run gen l p b r g e more =
-    rw (text_is word (codes "list") l) (word_outcome (codes "list") rest list_is_word more)
-by_word word rest false true label run gen l p b r g e more =
-    rw (text_is word (codes "policy") p)
-    (word_outcome (codes "policy") rest policy_is_word more)
-by_word word rest false false true run gen l p b r g e more =
-    rw (text_is word (codes "label") b)
-    (word_outcome (codes "label") rest label_is_word more)
-by_word word rest false false false true gen l p b r g e more =
-    rw (text_is word (codes "run") r) (word_outcome (codes "run") rest run_is_word more)
-by_word word rest false false false false true l p b r g e more =
-    rw (text_is word (codes "gen") g) (gen_outcome rest more)
-by_word word rest false false false false false l p b r g e more =
-    other_outcome word rest
-    (record { list = l; policy = p; label = b; run = r; gen = g }) e
+-- the outcome of words of which the first is this word of the table, or else
+by_first : (word : Text) (rest : List Text) (name : Text) (is : Bool) → bytes_eq word name ≡ is
+    → IsWord name → list_any is_option rest ≡ false
+    → (bytes_eq word name ≡ false → Outcome (word ∷ rest)) → Outcome (word ∷ rest)
+by_first word rest name true h w more next =
+    rw (text_is word name h) (word_outcome name rest w more)
+by_first word rest name false h w more next = next h
 
--- each list of words without options is taken as the command that it is, or refused
+-- the outcome of words of which the first is in the table, or else
+by_table : (word : Text) (rest : List Text) (es : List (Text × Command)) → AreWords es
+    → list_any is_option rest ≡ false → (IsNone word es → Outcome (word ∷ rest))
+    → Outcome (word ∷ rest)
+by_table word rest [] w more next = next tt
+by_table word rest (e ∷ es) w more next =
+    by_first word rest e.0 (bytes_eq word e.0) refl w.0 more
+    (λ h. by_table word rest es w.1 more (λ o. next (h, o)))
+
+-- the outcome of words of which the first isn't in the table
+by_gen : (word : Text) (rest : List Text) (is : Bool) → bytes_eq word (codes "gen") ≡ is
+    → IsNone word lone_commands → is_option word ≡ false → list_any is_option rest ≡ false
+    → Outcome (word ∷ rest)
+by_gen word rest true h o e more = rw (text_is word (codes "gen") h) (gen_outcome rest more)
+by_gen word rest false h o e more = other_outcome word rest (record { lone = o; gen = h }) e
+
+-- each list of words without options is either taken as its command or refused
 pub outcome : (words : List Text) → list_any is_option words ≡ false → Outcome words
 unfolding clap_on_literals
 outcome [] e = refused (record { kind = MissingSubcommand; others = []; is = refl; none = refl })
 outcome (word ∷ rest) e =
-    by_word word rest (bytes_eq word (codes "list")) (bytes_eq word (codes "policy"))
-    (bytes_eq word (codes "label")) (bytes_eq word (codes "run")) (bytes_eq word (codes "gen"))
-    refl refl refl refl refl (first_is_none word rest e)
-    (neither (is_option word) (list_any is_option rest) e).1
+    let none = neither (is_option word) (list_any is_option rest) e in
+    by_table word rest lone_commands are_words none.1
+    (λ o. by_gen word rest (bytes_eq word (codes "gen")) refl o none.0 none.1)

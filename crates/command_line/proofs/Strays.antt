@@ -13,7 +13,7 @@ use Rattle.clap.specs.Simple.{Shape}
 use Rattle.clap.specs.Faults.{bundle_fault, check_fault, defaults_fault, flag_word_fault, level_fault, other_fault, positional_fault, settle_fault, step_fault, stray_fault, turn_fault, walk_fault}
 use Rattle.command_line.specs.Words.{is_option}
 
--- it has no first hyphen
+-- a word that isn't an option doesn't begin with a hyphen
 no_hyphen : (word : Text) → is_option word ≡ false → strip_byte 45 word ≡ None
 no_hyphen [] e = refl
 no_hyphen (b ∷ bs) e = ap (λ (is : Bool). cond is (Some bs) None) e
@@ -29,7 +29,7 @@ no_dashes : (word : Text) → is_option word ≡ false → bytes_eq word (45 ∷
 no_dashes [] e = refl
 no_dashes (b ∷ bs) e = ap (λ (is : Bool). is && bytes_eq bs (45 ∷ [])) e
 
--- so it is a value of a positional
+-- a stray word is met as the value of a positional
 is_value : (c : List Rule) (names : Names) (word : Text) (position : ℕ) (h : Held)
     → is_option word ≡ false → subcommand_met names idle word ≡ None
     → word_met c names false idle position word h ≡ (h, value)
@@ -40,7 +40,7 @@ is_value c names word position h e none =
     ∙ ap (λ l. long_or_other c idle word l h) (no_long word e)
     ∙ ap (λ s. short_or_plain c idle word s h) (no_short word e)
 
--- and no flag that is refused
+-- a word that isn't an option has no fault of a flag
 is_no_flag : (s : Shape) (word : Text) (h : Held) → is_option word ≡ false
     → other_fault s None word h ≡ []
 is_no_flag s word h e =
@@ -51,12 +51,12 @@ is_no_flag s word h e =
     ∙ ap (λ o. option_map_or (λ flags. bundle_fault s.rules s.args_override_self flags h) o [])
     (no_short word e)
 
--- a walk between two words, with nothing that waits
+-- a walk between two words, with no argument that waits for its value
 abbrev pub walk_at : Held → ℕ → Walk
 walk_at h position =
     record { held = h; waiting = idle; position = position; is_trailing = false; stopped = None }
 
--- its turn is that of a positional
+-- the turn of a stray word is that of the value of a positional
 pub value_turn : (s : Shape) (names : Names) (word : Text) (position : ℕ) (h : Held)
     → is_option word ≡ false → subcommand_met names idle word ≡ None
     → turn_fault s names (walk_at h position) word ≡ step_fault s position h value
@@ -67,7 +67,7 @@ value_turn s names word position h e none =
     ∙ ap (λ (m : Held × Step). step_fault s position m.0 m.1)
     (is_value s.rules names word position h e none)
 
--- and so the walk goes on
+-- after a stray word the walk goes on as after the value of a positional
 pub value_walked : (c : List Rule) (names : Names) (word : Text) (position : ℕ) (h : Held)
     → is_option word ≡ false → subcommand_met names idle word ≡ None
     → walked c names (walk_at h position) word ≡ after_step c word (walk_at h position) h value
@@ -76,7 +76,7 @@ value_walked c names word position h e none =
     ap (λ (m : Held × Step). after_step c word (walk_at h position) m.0 m.1)
     (is_value c names word position h e none)
 
--- a command without arguments has no place for it
+-- a command without arguments has no positional for a stray word
 stray_turn : (s : Shape) (names : Names) (word : Text) → s.rules ≡ [] → is_option word ≡ false
     → subcommand_met names idle word ≡ None
     → turn_fault s names (walk_from nothing_held) word ≡ stray_fault s
@@ -86,7 +86,7 @@ stray_turn s names word bare e none =
     (λ a. positional_fault s.rules s.args_override_self a nothing_held) (arg_by_index rules 1)
     (stray_fault s)) bare
 
--- what else may fail at one level, behind the walk over its words
+-- the other faults at one level, found after the walk over its words
 abbrev pub behind_walk : Shape → Names → List Text → Bool → Kinds → Kinds
 behind_walk s names words met below =
     let end = (walk s.rules names nothing_held words).held in
@@ -94,7 +94,7 @@ behind_walk s names words met below =
     (or_else (defaults_fault (settled s.rules end).rows s.rules)
     (check_fault s (finished s.rules end) met)))
 
--- and so the words are refused, whatever follows
+-- words that begin with a stray word are refused, whatever follows
 pub stray_words : (s : Shape) (names : Names) (word : Text) (rest : List Text) (met : Bool)
     (below : Kinds) (k : ErrorKind) (ks : Kinds) → s.rules ≡ [] → is_option word ≡ false
     → subcommand_met names idle word ≡ None → stray_fault s ≡ k ∷ ks

@@ -1,26 +1,26 @@
-// The commands and their words.
+// The commands of the program and the words that name them.
 ghost use Rattle.std.specs.Prelude.{◌≡◌, ◌≤◌, IfSome, option_map};
 ghost use Rattle.command_line.specs.Words.{command_by, command_named, command_numbered, script_number};
 
 use text_forms::short_number_of;
 
-/// A command.
+/// A command of the program.
 #[derive(Clone, Copy, Debug, PartialEq, Eq)]
 pub enum Command {
-    /// The measurement list of a list text's files.
+    /// Prints the measurement list of the files of a list text.
     List,
-    /// The canonical text of a policy.
+    /// Prints the canonical text of a policy.
     Policy,
-    /// The values that a seal would write on the files of a script.
+    /// Prints the values that a seal would write on the files of a script.
     Label,
-    /// The report of the run of a script.
+    /// Runs a script and prints the report of its run.
     Run,
-    /// The summary of the run of the script of a number, from 1 to 1,000,000.
+    /// Runs the generated script of a number from 1 to 1,000,000 and prints the summary of its run.
     Gen(u32),
 }
 
 impl Command {
-    /// The command that a word names, with the number behind it where there is one.
+    /// The command that `word` names, with the number after it if there is one.
     pub fn by(word: &str, number: Option<&str>) -> Option<Command>
         ensures { result ≡ command_by word.now (option_map (λ n. n.now) number.entry) }
     {

@@ -1,7 +1,7 @@
 //! The words of the command line, read with `clap`.
 //!
-//! Which command the words are is a definition of its own (`specs/Words.antt`), apart from the
-//! parser, and [`command_of`] answers what it says over every list of words. A command has a
+//! The definition of the command that the words name (`specs/Words.antt`) doesn't mention the
+//! parser, and [`command_of`] returns what it says for every list of words. Each command has a
 //! variant of [`Command`], a word in [`Command::by`], and a subcommand of the parser.
 #![tactic(auto)]
 

@@ -1,4 +1,4 @@
-// The parser: one program with a subcommand for each command, without options, help and version.
+// The parser: a program with one subcommand for each command, and no options, help or version.
 ghost use Rattle.std.specs.Prelude.{◌≡◌, map, string_bytes, IfOk};
 ghost use Rattle.std.specs.List.{list_any};
 ghost use Rattle.clap.specs.Words.{app_of};
@@ -10,9 +10,9 @@ use crate::command::Command;
 use clap::error::ErrorKind;
 use std::alloc::{AllocError as OutOfMemory, Global};
 
-/// The command that the words are. They don't hold the program's name.
+/// The command that the words name, if any. The words don't include the program's name.
 ///
-/// Words of which one begins with a hyphen aren't parsed: the program has no options, so they
+/// If a word begins with a hyphen, nothing is parsed: the program has no options, so the words
 /// aren't a command.
 pub fn command_of(alloc: Global, words: &[String]) -> Result<Option<Command>, OutOfMemory>
     ensures { IfOk result (λ command. command ≡ command_of (map string_bytes words.now)) }
@@ -82,7 +82,7 @@ fn with_command<'a>(
     program.subcommand(command)
 }
 
-// A command with a number behind it.
+// Adds a subcommand that takes one number.
 fn with_numbered<'a>(
     alloc: Global,
     program: clap::Command<'a>,

@@ -1,4 +1,4 @@
--- A task with an open collection goes on with it.
+-- A task with an open collection continues it.
 use Rattle.std.proofs.Common.{◌≡◌, ℕ, zero, suc, ◌+◌, ◌<◌, Bool, true, false, cond, List, [], ◌∷◌, ◌++◌, length, map, Option, Some, None, refl, sym, ◌∙◌, ap, subst, arith, inl, inr}
 use Rattle.std.specs.Prelude.{◌⊎◌, ◌==◌, All, Contains, reverse, unwrap_or}
 use Rattle.std.proofs.lemmas.Bool.{eqb-true, eq-eqb}
@@ -107,12 +107,12 @@ IsGoing _ = ⊥
 abbrev Going : Progress → ℕ → ℕ → Type 0
 Going g i f = (g.inode ≡ i) × (g.file ≡ f) × IsGoing g.due.ask
 
--- the call in progress goes on with the file
+-- the call in progress acts on this file
 abbrev GoesAt : Program → Mind → ℕ → ℕ → Type 0
 GoesAt p m i f =
     (c : Call) × (g : Progress) × (call_at p m ≡ Some c) × (m.progress ≡ Some g) × Going g i f
 
--- events that don't open a collection
+-- whether the event opens no collection
 abbrev calm : Deed → Told → Bool
 calm (deed.Take f) told.Begun = false
 calm (deed.CloseTake f) told.Begun = false
@@ -152,7 +152,7 @@ calm_lived inode f place d t true l c h = at (touches f place d) h where
   at true g = calm_life inode d t l c g
   at false g = g
 
--- the event is the file's, or the file was collecting before
+-- a file that collects after the event is the event's, or collected before
 split : (gi gf i f : ℕ) (x l : Stage) → (is_collecting l ≡ true → (gi ≡ i) × (gf ≡ f))
     → is_collecting (cond (gi == i) (cond (gf == f) x l) l) ≡ true
     → (gi ≡ i) × (gf ≡ f) × (is_collecting x ≡ true)
@@ -168,7 +168,7 @@ abbrev mk : Ask → Reply → ℕ → ℕ → ℕ → How → Progress
 mk k r step gi gf how =
     record { due = record { ask = k; reply = r }; step = step; inode = gi; file = gf; how = how }
 
--- what a step makes of the stage of the file f in the journal i
+-- the stage of file f in journal i after a step
 abbrev after_step : Inode → ℕ → ℕ → Step → Answer → Stage → Stage
 after_step inode i f (Does j d) a l = cond (j == i) (next_stage inode f a.place d a.told l) l
 after_step inode i f (Checks j file func mask) a l =

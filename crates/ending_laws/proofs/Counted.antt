@@ -1,4 +1,4 @@
--- The posts and waits of a task, by its history and by its replies.
+-- The posts and waits of a task, counted by its history and by its replies.
 use Rattle.std.proofs.Common.{◌≡◌, ℕ, zero, suc, ◌+◌, ◌<◌, ◌≤◌, Bool, true, false, cond, List, [], ◌∷◌, ◌++◌, length, map, Option, Some, None, refl, sym, ◌∙◌, ap, subst, arith, length-append}
 use Rattle.std.specs.Prelude.{◌==◌, slice_get, take, unwrap_or}
 use Rattle.std.proofs.lemmas.List.{append-nil, map-append}
@@ -26,18 +26,18 @@ use Rattle.merged_laws.specs.model.Scene.{Program}
 use Rattle.call_steps.specs.declared.due.Next.{Next}
 use Rattle.call_steps.specs.declared.due.Next.TheVariants.{On, Over}
 
--- the deed on the semaphores that a call is
+-- the deed on the semaphores that the call makes, if any
 abbrev pub signal_of : Call → Option Deed
 signal_of (call.Post sem) = Some (deed.Post sem)
 signal_of (call.Wait sem) = Some (deed.Wait sem)
 signal_of _ = None
 
--- a test of deeds and one of calls that agree
+-- a test of deeds and a test of calls that agree
 pub record Agree (on_deed : Deed → Bool) (on_call : Call → Bool) : Type 0 where
   pub quiet : (c : Call) → signal_of c ≡ None → on_call c ≡ false
   pub signal : (c : Call) (d : Deed) → signal_of c ≡ Some d → on_call c ≡ on_deed d
 
--- so many of these events pass
+-- the number of these events that pass
 abbrev pub passing : (Deed → Bool) → List (ℕ × Event) → ℕ
 passing on_deed [] = 0
 passing on_deed (x ∷ xs) = cond (on_deed x.1.deed) (1 + passing on_deed xs) (passing on_deed xs)
@@ -58,8 +58,7 @@ step_quiet admin c g k q who a = refl
 abbrev pub bit : Bool → ℕ
 bit b = cond b 1 0
 
--- the task stands where its replies say, and these of its deeds on the semaphores are its answered
--- calls
+-- the task's position matches its replies, and its deeds on the semaphores match its answered calls
 pub record Fits (on_deed : Deed → Bool) (on_call : Call → Bool) (p : Program) (t : Thought)
     (xs : List (ℕ × Event)) : Type 0 where
   pub even : length t.replies ≡ t.mind.at
@@ -90,7 +89,7 @@ passing_append on_deed (x ∷ xs) ys = at (on_deed x.1.deed) (passing_append on_
   at true e = omega arith
   at false e = e
 
--- the call is answered
+-- answering the call keeps the match
 answered_fits : (on_deed : Deed → Bool) (on_call : Call → Bool) (p : Program) (t : Thought)
     (xs ys : List (ℕ × Event)) (c : Call) (r : Reply) (hs : List Handle)
     → Fits on_deed on_call p t xs → call_at p t.mind ≡ Some c → passing on_deed ys ≡ bit (on_call c)
@@ -121,7 +120,7 @@ answered_fits on_deed on_call p t xs ys c r hs f at e =
       counted = ap (λ (n : ℕ). how_many on_call (take n p.calls)) next ∙ whole;
     }
 
--- a call that is neither a post nor a wait
+-- a call that is neither a post nor a wait keeps the match
 quiet_fits : (on_deed : Deed → Bool) (on_call : Call → Bool) → Agree on_deed on_call
     → (p : Program) (t : Thought) (xs : List (ℕ × Event)) (c : Call) (g : Progress) (place : ℕ)
     (x : Next)
@@ -139,7 +138,7 @@ quiet_fits on_deed on_call agree p t xs c g place (Over r) f at q =
     answered_fits on_deed on_call p t xs [] c r (handles_after c g r t.mind.handles) f at
     (sym (ap bit (agree.quiet c q)))
 
--- a post or a wait
+-- a post or a wait keeps the match
 signal_fits : (on_deed : Deed → Bool) (on_call : Call → Bool) → Agree on_deed on_call
     → (mode : Mode) (p : Program) (t : Thought) (a : Answer) (who : Who) (xs : List (ℕ × Event))
     (c : Call) (d : Deed)

@@ -1,4 +1,4 @@
--- Where no task moves, each is done or waits in vain.
+-- If no task moves, each is done or waits for a semaphore that is at 0.
 use Rattle.std.proofs.Common.{◌≡◌, ℕ, zero, suc, ◌+◌, ◌<◌, ◌≤◌, Bool, true, false, ◌&&◌, ◌||◌, not, cond, List, [], ◌∷◌, ◌++◌, length, Option, Some, None, refl, sym, ◌∙◌, ap, subst, arith, inl, inr}
 use Rattle.std.specs.Prelude.{◌==◌, ◌-◌, nat_lt, slice_get, unwrap_or}
 use Rattle.std.proofs.lemmas.Bool.{and_from, eq-eqb, ltb-false, or_left, or_right}
@@ -213,7 +213,7 @@ through : (a w : Bool) → w ≡ true → (a || (not a && w)) ≡ true
 through true w e = refl
 through false w e = e
 
--- what was taken from a semaphore was there
+-- every wait that was answered had its post
 pub paid_when : PaidWhenReached
 paid_when scene m r sem =
     let both = counted_when_reached scene m r sem in

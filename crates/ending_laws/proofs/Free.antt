@@ -1,4 +1,4 @@
--- Where no task moves, no collection is open.
+-- If no task moves, no collection is open.
 use Rattle.std.proofs.Common.{◌≡◌, ℕ, zero, suc, ◌+◌, ◌<◌, ◌≤◌, Bool, true, false, cond, List, [], ◌∷◌, ◌++◌, length, Option, Some, None, refl, sym, ◌∙◌, ap, subst, arith, inl, inr}
 use Rattle.std.specs.Prelude.{◌⊎◌, ◌==◌, All, reverse, slice_get, option_map, unwrap_or}
 use Rattle.std.proofs.lemmas.Bool.{eqb-true, eq-eqb, ne_eqb}
@@ -42,7 +42,7 @@ get_within [] k l = absurd (omega arith)
 get_within (x ∷ xs) zero l = (x, refl)
 get_within (x ∷ xs) (suc k) l = get_within xs k (omega arith)
 
--- ---- whose a file is
+-- ---- the owner of a file
 
 counter_there : (f : ℕ) (p : List Event) → f < length p → (m : ℕ) × (counter f p ≡ Some m)
 counter_there f [] l = absurd (omega arith)
@@ -103,7 +103,7 @@ busy_collects Settled h = h
 busy_collects CloseCollecting h = h
 busy_collects CloseCollected h = h
 
--- ---- what a step that goes on with a collection is told
+-- ---- the outcome of a step that continues a collection
 
 pub goes_told : (i : Inode) (p : List Event) (placed : Placed) (f : ℕ) (c : Collection) (d : Deed)
     → GoesOn f d → collecting i p ≡ Some c → (t : Told) × (says i p placed d ≡ Some t)
@@ -134,7 +134,7 @@ does_turn scene n p s t i d station journal a b c =
     (outcome (inode_of scene station) s.list d (past l))))
     (get_or_from_slice_get s.journals i journal [] c)
 
--- the owner of an open collection moves
+-- the owner of an open collection can move
 owner_moves : (scene : Scene) (m : Moment) (r : AtRest scene m) (i : ℕ) (station : Station)
     (journal : List Event) (c : Collection) (k : ℕ)
     → slice_get scene.stations i ≡ Some station → slice_get m.state.journals i ≡ Some journal

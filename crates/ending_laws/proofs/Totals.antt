@@ -1,4 +1,4 @@
--- The posts and waits of all tasks are those of their list.
+-- The posts and waits of all tasks add up to those of the list.
 use Rattle.std.proofs.Common.{◌≡◌, ℕ, zero, suc, ◌+◌, ◌<◌, ◌≤◌, Bool, true, false, cond, List, [], ◌∷◌, ◌++◌, length, map, Option, Some, None, refl, sym, ◌∙◌, ap, subst, arith, inl, inr}
 use Rattle.std.specs.Prelude.{◌⊎◌, ◌==◌, ◌-◌, All, nat_lt, reverse, slice_get, take}
 use Rattle.std.proofs.lemmas.Bool.{ne_eqb, eq-eqb, eqb-true, cases_eq, cases_order, cond-false, ltb-true, ltb-false}
@@ -22,7 +22,7 @@ use Rattle.merged_laws.specs.model.Turns.{Moment, State}
 use Rattle.ending_laws.specs.Resting.{AreLegal, IsReached, Resting, SignalsCounted, SignalsCountedWhenReached}
 use Rattle.ending_laws.proofs.Counted.{Agree, Fits, bit, history_fits, passing, posts_agree, waits_agree}
 
--- the events that pass, and those of one caller
+-- the number of events that pass, and of one caller's events that pass
 abbrev pub tally : (Deed → Bool) → List Event → ℕ
 tally on_deed [] = 0
 tally on_deed (e ∷ es) = bit (on_deed e.deed) + tally on_deed es
@@ -74,7 +74,7 @@ totals_same f g e zero = refl
 totals_same f g e (suc k) = let ih = totals_same f g e k in let here : f k ≡ g k =
     e k in omega arith
 
--- a number that one place adds
+-- a function that is increased at one place
 abbrev one_more : ℕ → ℕ → (ℕ → ℕ) → ℕ → ℕ
 one_more c w r j = cond ((j + 1) == c) (w + r j) (r j)
 
@@ -114,7 +114,7 @@ totals_one c w r (suc k) p l = at (λ m. totals_one c w r k p m) (cases_eq (k + 
 abbrev pub IsSigned : ℕ → Event → Type 0
 IsSigned count e = (0 < caller_of e) × (caller_of e ≤ count)
 
--- each event is of one of the tasks
+-- the tasks' events are all events
 tally_total : (on_deed : Deed → Bool) (count : ℕ) (es : List Event) → All (IsSigned count) es
     → totals (λ j. tally_by on_deed (j + 1) es) count ≡ tally on_deed es
 tally_total on_deed count [] s = none count where
@@ -174,12 +174,12 @@ counted_when_reached scene m r sem = (
       ∙ sym (waits_tally sem m.state.signals),
 )
 
--- the same where no task moves
+-- the law at a moment at which no task moves
 pub counted : SignalsCounted
 counted scene m r sem =
     counted_when_reached scene m (record { legal = r.legal; tasks = r.tasks }) sem
 
--- ---- the two orders of a list
+-- ---- the list and its reverse
 
 tally_append : (on_deed : Deed → Bool) (xs ys : List Event)
     → tally on_deed (xs ++ ys) ≡ tally on_deed xs + tally on_deed ys

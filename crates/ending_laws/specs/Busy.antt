@@ -1,4 +1,4 @@
--- A task with an open collection goes on with it.
+-- A task with an open collection continues it.
 use Rattle.std.specs.Prelude.{◌≡◌, ℕ, Bool, true, false, List, reverse, Option, Some}
 use Rattle.inode_meta.specs.declared.appraisal.Mode.{Mode}
 use Rattle.inode_events.specs.Inode.{Inode}
@@ -17,7 +17,7 @@ use Rattle.merged_laws.specs.model.Served.{events_of}
 use Rattle.ending_laws.specs.Resting.{GoesOn}
 use Rattle.inode_events.specs.Stage.{is_collecting, stage_in}
 
--- a collection's last event ends it
+-- the outcome of a finish is one that ends the collection
 abbrev pub finish_fits : Deed → Told → Bool
 finish_fits (deed.Finish file) (told.Grant grant) = true
 finish_fits (deed.Finish file) _ = false
@@ -26,8 +26,8 @@ finish_fits (deed.CloseFinish file) told.LabelledDropped = true
 finish_fits (deed.CloseFinish file) _ = false
 finish_fits _ _ = true
 
--- whatever the history, where its events in a legal journal leave a file's collection open, the
--- next step goes on with it
+-- if the events of any history in a legal journal leave a file's collection open, the next step
+-- continues it
 abbrev pub BusyOfHistory : Type 0
 BusyOfHistory =
     (inode : Inode) (mode : Mode) (n : ℕ) (p : Program) (h : List Answer) (i : ℕ)

@@ -1,4 +1,4 @@
--- A moment at which no task moves.
+-- Moments at which no task moves.
 use Rattle.std.specs.Prelude.{◌≡◌, ℕ, ◌+◌, ◌<◌, ◌≤◌, Bool, true, false, ◌||◌, All, List, [], ◌∷◌, length, reverse, Option, Some, None, slice_get}
 use Rattle.inode_meta.specs.declared.appraisal.Mode.{Mode}
 use Rattle.inode_events.specs.Callers.{caller_of}
@@ -20,7 +20,7 @@ use Rattle.merged_laws.specs.model.Scene.{Program, Scene, Station, inode_of, mod
 use Rattle.merged_laws.specs.model.Turns.{Moment, State, go}
 use Rattle.inode_events.specs.Stage.{is_collecting, stage_in}
 
--- the deed goes on with a collection of the file
+-- the deed continues or ends the collection of the file
 abbrev pub GoesOn : ℕ → Deed → Type 0
 GoesOn f (deed.Chunk g) = g ≡ f
 GoesOn f (deed.Finish g) = g ≡ f
@@ -28,7 +28,7 @@ GoesOn f (deed.CloseChunk g) = g ≡ f
 GoesOn f (deed.CloseFinish g) = g ≡ f
 GoesOn f _ = ⊥
 
--- the next step may be made: its inode is there, and what the deed asks for holds
+-- the next step may be made: its inode exists, and its deed may be done
 abbrev pub MayStep : Scene → State → Option Step → Type 0
 MayStep scene s (Some (Does i d)) =
     (station : Station) × (journal : List Event) × (slice_get scene.stations i ≡ Some station)
@@ -37,7 +37,7 @@ MayStep scene s (Some (Checks i file func mask)) =
     (station : Station) × (slice_get scene.stations i ≡ Some station)
 MayStep scene s _ = Unit {0}
 
--- the task n has made the steps of a history, and its next step fits the lists
+-- task n has made the steps of a history, and its next step may be made
 pub record Resting (scene : Scene) (s : State) (n : ℕ) (p : Program) (t : Thought) : Type 0 where
   pub history : List Answer
   pub stands : thought (mode_of scene) p history ≡ t
@@ -46,7 +46,7 @@ pub record Resting (scene : Scene) (s : State) (n : ℕ) (p : Program) (t : Thou
   pub signals : events_of n s.signals ≡ own_signals (mode_of scene) n p history
   pub may : MayStep scene s (step_at p t.mind)
 
--- the lists are legal, and each event is of one of the tasks
+-- the lists are legal, and each event is by one of the tasks
 pub record AreLegal (scene : Scene) (s : State) (thoughts : List Thought) : Type 0 where
   pub thoughts_even : length thoughts ≡ length scene.programs
   pub follows : (i : ℕ) (station : Station) (journal : List Event)
@@ -62,7 +62,7 @@ pub record IsReached (scene : Scene) (m : Moment) : Type 0 where
   pub tasks : (n : ℕ) (p : Program) (t : Thought) → slice_get scene.programs n ≡ Some p
       → slice_get m.thoughts n ≡ Some t → Resting scene m.state n p t
 
--- a moment at which no task moves is an end
+-- a moment of a run at which no task moves
 pub record AtRest (scene : Scene) (m : Moment) : Type 0 where
   pub legal : AreLegal scene m.state m.thoughts
   pub tasks : (n : ℕ) (p : Program) (t : Thought) → slice_get scene.programs n ≡ Some p
@@ -71,19 +71,19 @@ pub record AtRest (scene : Scene) (m : Moment) : Type 0 where
 
 -- ---- the laws
 
--- the answered posts and waits are those of the list of posts and waits
+-- at rest, the answered posts and waits are those in the list of posts and waits
 abbrev pub SignalsCounted : Type 0
 SignalsCounted = (scene : Scene) (m : Moment) → AtRest scene m → (sem : ℕ)
     → (posted sem scene.programs m.thoughts ≡ posts sem m.state.signals)
     × (waited sem scene.programs m.thoughts ≡ waits sem m.state.signals)
 
--- the same at each moment of a run
+-- at each moment of a run, the answered posts and waits are those in the list of posts and waits
 abbrev pub SignalsCountedWhenReached : Type 0
 SignalsCountedWhenReached = (scene : Scene) (m : Moment) → IsReached scene m → (sem : ℕ)
     → (posted sem scene.programs m.thoughts ≡ posts sem m.state.signals)
     × (waited sem scene.programs m.thoughts ≡ waits sem m.state.signals)
 
--- nobody has taken from a semaphore what wasn't there
+-- at each moment of a run, every wait that was answered had its post
 abbrev pub PaidWhenReached : Type 0
 PaidWhenReached = (scene : Scene) (m : Moment) → IsReached scene m → (sem : ℕ)
     → waited sem scene.programs m.thoughts ≤ posted sem scene.programs m.thoughts
@@ -93,7 +93,7 @@ EndsAtRest = (scene : Scene) (m : Moment) → AtRest scene m
     → ((sem : ℕ) → waited sem scene.programs m.thoughts ≤ posted sem scene.programs m.thoughts)
     × ((all_done scene.programs m.thoughts || is_stuck scene.programs m.thoughts) ≡ true)
 
--- where a round moves no task, none moves
+-- if a round moves no task, no task can move
 abbrev pub StillAtRest : Type 0
 StillAtRest =
     (scene : Scene) (m : Moment) → any_moves scene m (all_tasks scene) ≡ false → (n : ℕ)

@@ -1,7 +1,7 @@
--- How the pieces of a message come together.
+-- The concatenation of a message from its pieces.
 use Rattle.std.proofs.Common.{◌≡◌, List, ℕ, ◌++◌, append_assoc}
 
--- pieces that were fed one after the other are fed as one
+-- feeding six pieces one after another is feeding their concatenation
 pub six_fed : (m a b c d e f : List ℕ) → m ++ a ++ b ++ c ++ d ++ e ++ f ≡ m
     ++ (a ++ b ++ c ++ d ++ e ++ f)
 six_fed m a b c d e f = simp append_assoc

@@ -1,4 +1,4 @@
--- What renewal gives, by the key and by what is present.
+-- The result of a renewal, by the key and the attributes that are present.
 use Rattle.std.proofs.Common.{◌≡◌, ◌∙◌, ap, sym, true, false, ℕ, List, ◌++◌, take, drop, refl}
 use Rattle.std.specs.Prelude.{Some, None, Result, Ok, Err, OnOk, OnErr, IsErr}
 use Rattle.std.proofs.lemmas.List.{take-append-drop}
@@ -10,7 +10,7 @@ use Rattle.evm_verify.specs.Input.{any_present, evm_input, evm_name, evm_value, 
 use Rattle.evm_verify.specs.Setup.{Setup}
 use Rattle.evm_verify.specs.Status.{renewed}
 
--- the five names and those behind them are all names
+-- the five fixed names and those after them are all names
 pub names_are : (names : List (List ℕ)) → take 5 names ≡ five_names → five_names ++ drop 5 names
     ≡ names
 names_are names h = ap (λ front. front ++ drop 5 names) (sym h) ∙ take-append-drop 5 names
@@ -27,7 +27,7 @@ pub renewed_absent : (evm : Setup) (key : List ℕ) (attrs : List Pair) (meta : 
     ≡ without evm_name attrs
 renewed_absent evm key attrs meta k none = rw (k, none) refl
 
--- a removal gives the list without the name, also where it was refused
+-- the result of a removal is the list without the name, even if the removal was refused
 pub removed : (name : List ℕ) (old new : List Pair) (r : Result (Unit {0}) NoData)
     → OnOk r (new ≡ without name old) →
     (IsErr r → value name old ≡ None) → OnErr r (new ≡ old) → new ≡ without name old

@@ -13,7 +13,8 @@ abbrev pub is_blank : Option (List ℕ) → Bool
 is_blank None = true
 is_blank (Some bytes) = length bytes == 21 && slice_index bytes 0 == 2
 
--- whether the value of `security.evm` is the HMAC of the inode as it is, or that of the older form
+-- the status by the value of `security.evm`: it is the HMAC of the inode as it is, or that in the
+-- older form, or neither
 abbrev pub compared : Option (List ℕ) → List ℕ → List ℕ → EvmStatus
 compared None now old = status.NoLabel
 compared (Some bytes) now old =
@@ -21,7 +22,7 @@ compared (Some bytes) now old =
     else if bytes_eq bytes old then status.Old
     else status.Fail
 
--- the status under a key
+-- the EVM status if there is a key
 abbrev pub keyed_status : List ℕ → Setup → List Pair → Meta → EvmStatus
 keyed_status key evm attrs meta =
     if not (any_present (protected_names evm) attrs) && is_blank (value evm_name attrs)
@@ -29,7 +30,7 @@ keyed_status key evm attrs meta =
     else compared (value evm_name attrs) (evm_value key (evm_input evm attrs meta))
     (evm_value key (old_input attrs meta))
 
--- the status: the first case that holds
+-- the EVM status, by the first case that applies
 abbrev pub status_under : Option (List ℕ) → Setup → List Pair → Meta → EvmStatus
 status_under None evm attrs meta = status.Unknown
 status_under (Some key) evm attrs meta = keyed_status key evm attrs meta
@@ -37,8 +38,8 @@ status_under (Some key) evm attrs meta = keyed_status key evm attrs meta
 abbrev pub evm_status : Setup → List Pair → Meta → EvmStatus
 evm_status evm attrs meta = status_under evm.key evm attrs meta
 
--- the attributes after the HMAC was written anew: it goes where nothing is protected any more, and
--- without a key nothing changes
+-- the attributes after the HMAC is computed again: it is removed if no protected attribute is left,
+-- and without a key nothing changes
 abbrev pub renewed_under : Option (List ℕ) → Setup → List Pair → Meta → List Pair
 renewed_under None evm attrs meta = attrs
 renewed_under (Some key) evm attrs meta =

@@ -12,14 +12,14 @@ use std::alloc::{AllocError as OutOfMemory, Global};
 use std::marker::Model;
 use xattr_store::{After, Attrs, Bytes, EVM_NAME, NewValue};
 
-// How many names are always protected.
+// The number of names that are always protected.
 const FIVE: usize = 5;
 
-/// EVM with a script's settings. Contracts see its key, the added names and the format.
+/// EVM under a script's settings. Contracts see its key, the added names and the format.
 #[derive(Debug, Drop)]
 pub struct Evm {
     key: Option<Bytes>,
-    // The five names, and then the added ones.
+    // The five fixed names, followed by the added ones.
     names: Vec<Bytes>,
     format: u8,
 }
@@ -36,7 +36,7 @@ impl Model for Evm {
     ghost invariant = { λ e. take 5 e.names.items ≡ five_names };
 }
 
-// No value, or one of the form of an HMAC.
+// Whether the value is absent or has the form of an HMAC.
 fn is_blank(value: Option<&[u8]>) -> bool
     ensures { result ≡ is_blank (option_copied value.entry) }
 {
@@ -46,7 +46,7 @@ fn is_blank(value: Option<&[u8]>) -> bool
     }
 }
 
-// Whether EVM lets a call change a protected attribute of an inode of this status.
+// Whether EVM lets a call change a protected attribute of an inode with this status.
 fn allows_attr(status: EvmStatus, new: bool) -> bool
     ensures { result ≡ allows_attr status new }
 {
@@ -57,7 +57,7 @@ fn allows_attr(status: EvmStatus, new: bool) -> bool
     }
 }
 
-// Whether EVM lets a call change the mode or the owner of an inode of this status.
+// Whether EVM lets a call change the mode or the owner of an inode with this status.
 fn allows_meta(status: EvmStatus) -> bool
     ensures { result ≡ allows_meta status }
 {
@@ -68,9 +68,9 @@ fn allows_meta(status: EvmStatus) -> bool
 }
 
 impl Evm {
-    /// EVM with a key, if there is one, the names that are protected beside the kernel's five, in
-    /// the order in which they were added, and the format of the HMAC's message: 1, or 2 with the
-    /// file system's UUID.
+    /// EVM with its key, if there is one, the names that are protected in addition to the kernel's
+    /// five, in the order in which they were added, and the format of the HMAC's message: 1, or 2
+    /// with the file system's UUID.
     pub fn new(
         alloc: Global,
         key: Option<&[u8]>,
@@ -88,7 +88,7 @@ impl Evm {
         Ok(Evm { key, names, format })
     }
 
-    /// An equal value.
+    /// A copy with equal settings, in its own memory.
     pub fn copy(&self) -> Result<Evm, OutOfMemory>
         ensures { IfOk result (λ copy. copy ≡ self.now) }
     {
@@ -109,29 +109,30 @@ impl Evm {
         is_among(name, &self.names)
     }
 
-    // The value of `security.evm` for the inode as it is.
+    // The right value of `security.evm` for the inode as it is.
     fn value_now(&self, key: &[u8], attrs: &Attrs, meta: &Meta) -> [u8; VALUE_LEN]
         ensures { result ≡ evm_value key.now (evm_input self.now attrs.now meta.now) }
     {
         self.value_after(key, &After::none(attrs), meta)
     }
 
-    // Its value for the attributes as they are, or as a change would leave them.
+    // The right value of `security.evm` for the attributes as they are, or as a change would leave
+    // them.
     fn value_after(&self, key: &[u8], attrs: &After<'_>, meta: &Meta) -> [u8; VALUE_LEN]
         ensures { result ≡ evm_value key.now (evm_input self.now attrs.now meta.now) }
     {
         value_of(key, &self.names, self.format, attrs, meta)
     }
 
-    // Its value in the older form: the five names alone, and no UUID.
+    // The value of `security.evm` in the older form: the five names only, and no UUID.
     fn value_old(&self, key: &[u8], attrs: &Attrs, meta: &Meta) -> [u8; VALUE_LEN]
         ensures { result ≡ evm_value key.now (old_input attrs.now meta.now) }
     {
         value_of(key, &self.names[..FIVE], 1, &After::none(attrs), meta)
     }
 
-    /// What EVM says of an inode: whether `security.evm` is the HMAC of its protected attributes
-    /// and metadata as they are, is the HMAC of the older form, is missing or doesn't fit, or
+    /// The EVM status of an inode: whether `security.evm` is the HMAC of its protected attributes
+    /// and metadata as they are, is the HMAC in the older form, is missing or doesn't match, or
     /// whether there is nothing to protect or no key.
     pub fn status(&self, attrs: &Attrs, meta: &Meta) -> EvmStatus
         ensures { result ≡ evm_status self.now attrs.now meta.now }
@@ -139,7 +140,7 @@ impl Evm {
         let Some(key) = &self.key else {
             return EvmStatus::Unknown;
         };
-        let value = attrs.get(EVM_NAME);
+        let value = attrs.hmac();
         if !any_present(&self.names, attrs) && is_blank(value) {
             return EvmStatus::NoXattrs;
         }
@@ -155,8 +156,8 @@ impl Evm {
         }
     }
 
-    /// Writes the HMAC anew, or takes `security.evm` away where nothing is protected any more.
-    /// Without a key nothing changes. After memory ran out the attributes are as before.
+    /// Recomputes the HMAC, or removes `security.evm` if no protected attribute is left. Without a
+    /// key nothing changes. If memory runs out, the attributes don't change.
     pub fn renew(&self, attrs: &mut Attrs, meta: &Meta) -> Result<(), OutOfMemory>
         ensures ok { OnOk result (attrs.new ≡ renewed self.now attrs.old meta.now) }
         ensures err { OnErr result (attrs.new ≡ attrs.old) }
@@ -171,13 +172,13 @@ impl Evm {
         let value = self.value_now(key.as_slice(), attrs, meta);
         match attrs.set(EVM_NAME, &value) {
             Ok(()) => Ok(()),
-            // A value of 21 bytes is never too long.
+            // The error must be memory: a value of 21 bytes is never too long.
             Err(_) => Err(OutOfMemory),
         }
     }
 
-    /// Makes the change and then renews as [`Evm::renew`] does, or neither: after memory ran out
-    /// the attributes are as before.
+    /// Applies the change and then renews the HMAC as [`Evm::renew`] does, or does neither: if
+    /// memory runs out, the attributes don't change.
     pub fn change(
         &self,
         attrs: &mut Attrs,
@@ -208,8 +209,8 @@ impl Evm {
         attrs.change_both(change, renewed)
     }
 
-    /// Whether a call may change the attribute: refused, with the status, exactly where the name is
-    /// protected and the status is neither Pass nor Unknown, nor NoXattrs of a new file.
+    /// Whether a call may change the attribute. It is refused, with the status, exactly if the name
+    /// is protected and the status is neither Pass, nor Unknown, nor NoXattrs on a new file.
     pub fn may_change(
         &self,
         name: &[u8],
@@ -230,8 +231,8 @@ impl Evm {
         }
     }
 
-    /// Whether a call may change mode or owner: refused, with the status, exactly at NoLabel, Fail
-    /// and Old.
+    /// Whether a call may change the mode or the owner. It is refused, with the status, exactly if
+    /// the status is NoLabel, Fail or Old.
     pub fn may_set_meta(&self, attrs: &Attrs, meta: &Meta) -> Result<(), EvmStatus>
         ensures { result ≡ may_set_meta self.now attrs.now meta.now }
     {

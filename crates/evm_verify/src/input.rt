@@ -9,13 +9,13 @@ use hmac_core::{HmacSha1, MAC_LEN};
 use inode_meta::Meta;
 use xattr_store::{After, Bytes};
 
-/// The length of the value of `security.evm`: its type, and an HMAC-SHA1.
+/// The length in bytes of the value of `security.evm`: one for its type, and an HMAC-SHA1.
 pub const VALUE_LEN: usize = 1 + MAC_LEN;
 
-// The type of an HMAC in `security.evm` (the kernel's `EVM_XATTR_HMAC`).
+// The type byte of an HMAC in `security.evm` (the kernel's `EVM_XATTR_HMAC`).
 pub const HMAC_TYPE: u8 = 2;
 
-// Feeds the value of an attribute, or nothing where it is absent.
+// Feeds the value of an attribute, or nothing if the attribute is absent.
 fn feed_value(state: &mut HmacSha1, value: Option<&[u8]>)
     ensures { (key m : List ℕ) → Holds state.old key m
         → Holds state.new key (m ++ unwrap_or (option_copied value.entry) []) }
@@ -25,7 +25,7 @@ fn feed_value(state: &mut HmacSha1, value: Option<&[u8]>)
     }
 }
 
-// Feeds the values of those of the names that are present.
+// Feeds the values of the named attributes that are present.
 fn feed_values(state: &mut HmacSha1, names: &[Bytes], attrs: &After<'_>)
     ensures { (key m : List ℕ) → Holds state.old key m
         → Holds state.new key (m ++ values_under names.now attrs.now) }
@@ -35,7 +35,7 @@ fn feed_values(state: &mut HmacSha1, names: &[Bytes], attrs: &After<'_>)
     }
 }
 
-// Feeds the metadata.
+// Feeds the inode's metadata.
 fn feed_meta(state: &mut HmacSha1, meta: &Meta)
     ensures { (key m : List ℕ) → Holds state.old key m
         → Holds state.new key (m ++ meta_bytes meta.now) }
@@ -48,7 +48,7 @@ fn feed_meta(state: &mut HmacSha1, meta: &Meta)
     state.feed(&[0, 0]);
 }
 
-// Feeds the UUID of the file system under format 2.
+// Feeds the UUID of the file system, under format 2 only.
 fn feed_place(state: &mut HmacSha1, meta: &Meta, format: u8)
     ensures { (key m : List ℕ) → Holds state.old key m
         → Holds state.new key (m ++ place_bytes format meta.now) }
@@ -58,7 +58,7 @@ fn feed_place(state: &mut HmacSha1, meta: &Meta, format: u8)
     }
 }
 
-// The HMAC behind its type.
+// The value of `security.evm`: the type byte, then the HMAC.
 fn with_type(mac: &[u8; MAC_LEN]) -> [u8; VALUE_LEN]
     ensures { result ≡ 2 ∷ mac.now }
 {
@@ -67,7 +67,7 @@ fn with_type(mac: &[u8; MAC_LEN]) -> [u8; VALUE_LEN]
     value
 }
 
-/// The value of `security.evm` for these protected names, under this format.
+/// The right value of `security.evm` for these protected names, under this format.
 pub fn value_of(
     key: &[u8],
     names: &[Bytes],

@@ -1,6 +1,6 @@
 //! EVM, the extended verification module: an HMAC over the protected attributes and the metadata of
-//! an inode (Documentation/ABI/testing/evm), its status and renewal, and the changes that it lets a
-//! call make.
+//! an inode (Documentation/ABI/testing/evm), its status and renewal, and the changes that it
+//! permits.
 #![tactic(auto)]
 
 mod evm;
@@ -11,3 +11,4 @@ pub use evm::Evm;
 pub use hmac_core as hmacs;
 pub use input::VALUE_LEN;
 pub use names::is_protected;
+pub use std::alloc::AllocError as OutOfMemory;

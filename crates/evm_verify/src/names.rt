@@ -1,4 +1,4 @@
-// The protected attributes.
+// The names of the protected attributes.
 
 ghost use Rattle.std.specs.List.{list_any};
 ghost use Rattle.std.specs.Prelude.{◌≡◌, ◌++◌, IfOk, is_some};
@@ -19,7 +19,7 @@ const FIVE_NAMES: [&[u8]; 5] = [
     b"security.capability",
 ];
 
-// The five names.
+// The five names that are always protected, as byte strings that own their memory.
 fn five_names(alloc: Global) -> Result<Vec<Bytes>, OutOfMemory>
     ensures { IfOk result (λ names. names.items ≡ five_names) }
 {
@@ -30,7 +30,7 @@ fn five_names(alloc: Global) -> Result<Vec<Bytes>, OutOfMemory>
     Ok(names)
 }
 
-// Appends copies of the names.
+// Appends copies of the names `more`.
 fn append(alloc: Global, names: &mut Vec<Bytes>, more: &[Bytes]) -> Result<(), OutOfMemory>
     ensures { IfOk result (λ _. names.new.items ≡ names.old.items ++ more.now) }
 {
@@ -40,7 +40,7 @@ fn append(alloc: Global, names: &mut Vec<Bytes>, more: &[Bytes]) -> Result<(), O
     Ok(())
 }
 
-// All protected names: the five, and then the added ones.
+// All protected names: the five fixed ones, and then the added ones.
 pub fn protected_names(alloc: Global, added: &[Bytes]) -> Result<Vec<Bytes>, OutOfMemory>
     ensures { IfOk result (λ names. names.items ≡ five_names ++ added.now) }
 {
@@ -49,7 +49,7 @@ pub fn protected_names(alloc: Global, added: &[Bytes]) -> Result<Vec<Bytes>, Out
     Ok(names)
 }
 
-// A copy of the names.
+// A copy of the list of names.
 pub fn copy_names(alloc: Global, names: &[Bytes]) -> Result<Vec<Bytes>, OutOfMemory>
     ensures { IfOk result (λ copy. copy.items ≡ names.now) }
 {
@@ -58,14 +58,14 @@ pub fn copy_names(alloc: Global, names: &[Bytes]) -> Result<Vec<Bytes>, OutOfMem
     Ok(copy)
 }
 
-// Whether the name is one of these.
+// Whether the name is in the list.
 pub fn is_among(name: &[u8], names: &[Bytes]) -> bool
     ensures { result ≡ list_any (bytes_eq name.now) names.now }
 {
     names.iter().any(|other| name == other.as_slice())
 }
 
-/// Whether the name is a protected attribute where these names are added to the kernel's five.
+/// Whether the name is a protected attribute, if these names are added to the kernel's five.
 pub fn is_protected(name: &[u8], added: &[Bytes]) -> bool
     ensures { result ≡ is_protected added.now name.now }
 {
@@ -78,7 +78,7 @@ fn is_one_of(name: &[u8], names: &[&[u8]]) -> bool
     names.iter().any(|other| name == *other)
 }
 
-// Whether some of the names are present, or would be after a change.
+// Whether at least one of the names is present, or would be after a change.
 pub fn any_present_after(names: &[Bytes], attrs: &After<'_>) -> bool
     ensures { result ≡ any_present names.now attrs.now }
 {
@@ -87,7 +87,7 @@ pub fn any_present_after(names: &[Bytes], attrs: &After<'_>) -> bool
         .any(|name| attrs.get(name.as_slice()).is_some())
 }
 
-// Whether some of the names are present.
+// Whether at least one of the names is present.
 pub fn any_present(names: &[Bytes], attrs: &Attrs) -> bool
     ensures { result ≡ any_present names.now attrs.now }
 {

@@ -1,4 +1,4 @@
--- The passes of a list, one of each number: each place of the list is one pass's.
+-- The passes of a list, one for each number: each index of the list belongs to one pass.
 use Rattle.std.proofs.Common.{◌≡◌, ◌≢◌, ℕ, zero, suc, ◌+◌, ◌<◌, ◌≤◌, ◌==◌, List, [], ◌∷◌, ◌++◌, length, get_or, Some, Bool, true, false, cond, ◌||◌, eqb, refl, sym, ap, ◌∙◌, subst, ⊎_elim, arith, eq-eqb, ne_eqb}
 use Rattle.std.specs.Prelude.{All, count_by, slice_get}
 use Rattle.std.proofs.lemmas.Bool.{cases_eq}
@@ -23,7 +23,7 @@ module _ {E : Type 0} where
       ap (λ (t : Bool). t || has_place k ys) (ne_eqb low k (λ e. absurd (omega arith))) ∙ rest
   absent_in false k low y ys before rest = rest
 
-  -- no entry stands before the first place
+  -- no entry has an index below the first one
   absent : (k n low : ℕ) (ms : List ℕ) (xs : List E) → k < low
       → has_place k (entries_from n low ms xs) ≡ false
   absent k n low [] xs before = refl
@@ -57,7 +57,7 @@ module _ {E : Type 0} where
       ∙ ap (λ (k : ℕ). has_place k (entries_from n (low + 1) ms xs)) place
       ∙ has_place_from n (low + 1) ms xs j (omega arith) (omega arith)
 
-  -- an entry of the number n stands at the place k, where n stands beside it
+  -- the entry at index k belongs to the pass n exactly if its number is n
   pub has_place-entries : (n k : ℕ) (ms : List ℕ) (xs : List E) → length ms ≡ length xs
       → k < length xs → has_place k (entries_of n ms xs) ≡ eqb n (get_or ms k 0)
   has_place-entries n k ms xs even within =
@@ -71,7 +71,7 @@ one_at a b e = ap (λ (t : Bool). cond t 1 0) (eq-eqb a b e)
 none_at : (a b : ℕ) → a ≢ b → ◌≡◌ {A = ℕ} (cond (eqb a b) 1 0) 0
 none_at a b ne = ap (λ (t : Bool). cond t 1 0) (ne_eqb a b ne)
 
--- two tests that agree on each element count as many
+-- two tests that agree on each element give the same count
 pub count_by-same : {X : Type 0} (p q : X → Bool) (xs : List X) → All (λ x. p x ≡ q x) xs
     → count_by p xs ≡ count_by q xs
 count_by-same p q [] same = refl
@@ -84,7 +84,7 @@ count_by-same p q (x ∷ xs) same =
     plus : {a b c d : ℕ} → a ≡ b → c ≡ d → a + c ≡ b + d
     plus e f = λ i. e i + f i
 
--- what holds of each item that came holds of all, once none is left
+-- if no item is left, a fact about each item that was yielded holds for all items
 pub All-yielded : {X : Type 0} (P : X → Type 0) (items yielded rest : List X) → items ≡ yielded
     ++ rest → length rest ≡ 0 → All P yielded → All P items
 All-yielded P items yielded rest split none all =
@@ -117,7 +117,7 @@ module _ {E : Type 0} where
             (cases_eq low n)),
       )
 
-  -- passes of this list, of which the k-th has the number k
+  -- if the k-th of the passes of this list has the number k, each number occurs once
   pub each_in_order : (g : Grown E) (passes : List (Passed E)) → length passes ≡ g.callers
       → All (λ p. p.name ≡ g.name) passes
       → ((k : ℕ) (p : Passed E) → slice_get passes k ≡ Some p → p.number ≡ k) → HasEach g passes
@@ -128,7 +128,8 @@ module _ {E : Type 0} where
         (omega arith);
   }
 
-  -- the owner's pass, of the number 0, and the others, of which the k-th has the number k + 1
+  -- if the owner's pass has the number 0, and the k-th of the others has the number k + 1, each
+  -- number occurs once
   pub each_after_own : (g : Grown E) (own : Passed E) (passes : List (Passed E)) → length passes + 1
       ≡ g.callers → own.name ≡ g.name → own.number ≡ 0
       → All (λ p. p.name ≡ g.name) passes
@@ -142,7 +143,7 @@ module _ {E : Type 0} where
       at zero p e = ap (λ (q : Passed E). q.number) (sym (same_Some own p e)) ∙ number
       at (suc k) p e = let is = numbered k p e in omega (arith, is)
 
-  -- fresh passes in the order of their numbers
+  -- fresh passes in the order of their numbers are one for each number
   pub fresh_in_order : (g : Grown E) (passes : List (Passed E)) → length passes ≡ g.callers
       → ((k : ℕ) → k < length passes → slice_get passes k ≡ Some (fresh g.name k))
       → HasEach g passes
@@ -161,7 +162,7 @@ module _ {E : Type 0} where
     ap (λ (n : ℕ). entries_in n l) number ∙ t.own ∙ sym mine,
   )
 
-  -- the same of a view that is equal
+  -- a pass that agrees with a view agrees with an equal view
   pub tallies_at : (v w : Known E) (h : Held E) → v ≡ w → Tallies (listed v) h
       → Tallies (listed w) h
   tallies_at v w h e t = subst (λ (x : Known E). Tallies (listed x) h) e t
@@ -170,21 +171,21 @@ module _ {E : Type 0} where
       → All (Accounts (listed v)) passes → All (Accounts (listed w)) passes
   accounts_at v w passes e all = subst (λ (x : Known E). All (Accounts (listed x)) passes) e all
 
-  -- what each pass saw begins the list
+  -- the list begins with what each pass saw
   pub all_saw : (g : Grown E) (l : Listed E) (passes : List (Passed E)) → l.list ≡ g.list
       → All (Accounts l) passes → All (λ p. IsPrefix p.seen g.list) passes
   all_saw g l passes list all =
       All-weaker (Accounts l) (λ p. IsPrefix p.seen g.list)
       (λ p a. subst (λ (xs : List E). IsPrefix p.seen xs) list a.0) passes all
 
-  -- the list's entries of each pass's number are its own
+  -- the list's entries with each pass's number are its own
   pub all_own : (g : Grown E) (l : Listed E) (passes : List (Passed E)) → l.list ≡ g.list
       → l.numbers ≡ g.numbers → All (Accounts l) passes → All (λ p. HasItsOwn g p) passes
   all_own g l passes list numbers all =
       All-weaker (Accounts l) (λ p. HasItsOwn g p)
       (λ p a. (λ i. entries_of p.number (sym numbers i) (sym list i)) ∙ a.1) passes all
 
-  -- each place of the list is exactly one pass's
+  -- each index of the list belongs to exactly one pass
   pub places : (g : Grown E) (l : Listed E) (passes : List (Passed E)) → l.list ≡ g.list → l.numbers
       ≡ g.numbers → l.callers ≡ g.callers → IsComplete l → HasEach g passes
       → All (Accounts l) passes

@@ -26,7 +26,7 @@ module _ {A : Type 0} where
       (at_end xs a b j e)
 
 module _ {E : Type 0} where
-  -- A split: a copy's seat is new, so it is neither the list's own nor the one that drew a number
+  -- A split: a copy's seat is new, so it is neither the list's own seat nor one that drew a number.
   copy_fits : (t : Story E) (seat : ℕ) (views : List (Known E)) (v : Known E) → seat < length views
       → ((n : ℕ) → n < t.next → t.owner n < length views) → Fits t seat v → Fits t (length views) v
   copy_fits t seat views Spent there owned f = tt

@@ -1,4 +1,4 @@
--- The entries of one number, in a list that grows.
+-- The entries with one number, in a list that grows.
 use Rattle.std.proofs.Common.{◌≡◌, ◌≢◌, ℕ, suc, ◌+◌, ◌<◌, List, [], ◌∷◌, ◌++◌, length, Bool, true, false, cond, eqb, refl, sym, ap, ◌∙◌, arith, eq-eqb, ne_eqb}
 use mathlib.Core.List.{IsPrefix}
 use Rattle.std.specs.Prelude.{All}
@@ -29,7 +29,7 @@ module _ {E : Type 0} where
       ∙ either_part (eqb n m) (k, x) (entries_from n (k + 1) ms xs)
       (entries_from n (k + suc (length xs)) rs ys)
 
-  -- one entry more, of this number or of another
+  -- the entries with one number, after one more entry with the same or another number
   pub entries-same : (n : ℕ) (ms : List ℕ) (xs : List E) (x : E) → length ms ≡ length xs
       → entries_of n (ms ++ n ∷ []) (xs ++ x ∷ []) ≡ entries_of n ms xs ++ (length xs, x) ∷ []
   entries-same n ms xs x even =
@@ -72,7 +72,7 @@ module _ {E : Type 0} where
       (λ (y : ℕ × E). y.0 < k + suc (length xs)) (λ y below. omega arith)
       (entries_from n (k + 1) ms xs) (entries_from-below n (k + 1) ms xs))
 
-  -- each entry's place lies below the length of the list
+  -- the index of each entry is below the length of the list
   pub entries-below : (n : ℕ) (ms : List ℕ) (xs : List E)
       → All (λ x. x.0 < length xs) (entries_of n ms xs)
   entries-below n ms xs =

@@ -1,4 +1,4 @@
--- The loads by which two views that met become one keep the rule, and so does the closing load.
+-- The loads by which two views that met become one keep the rule, and the closing load keeps it.
 use Rattle.std.proofs.Common.{◌≡◌, ◌≢◌, ℕ, ◌<◌, ◌≤◌, List, [], ◌∷◌, ◌++◌, length, Option, None, Some, Bool, true, false, cond, ◌&&◌, eqb, leb, refl, sym, ap, ◌∙◌, subst, inl, ⊎_elim, arith, length-append, length-set, eq-eqb, ne_eqb}
 use Rattle.std.specs.Prelude.{slice_index}
 use mathlib.Core.List.{IsPrefix}
@@ -26,14 +26,14 @@ marks_is n None e = absurd (cc)
 marks_is n (Some m) e = ap Some (sym (eqb-true n m e))
 
 module _ {E : Type 0} where
-  -- At the list: the mark stays
+  -- The list's seat hears a pass, and the mark stays.
   hears_only : (k : ℕ) (s : State (Unit {0}) (Known E)) (h : Kept k s) (l : Listed E) (p : Held E)
       (c : List (ℕ × Unit {0})) → get_elem? s.views 0 ≡ some (ListBeside l p)
       → Kept k (stepped s 0 (slice_index s.words 0) 0 c (OfList l) keeps)
   hears_only k s h l p c at = let f = h.each 0 (ListBeside l p) at
       in stays k s h 0 0 c (OfList l) (f.0, f.1)
 
-  -- At the list: the mark is cleared, since its entry stands in the pass's own
+  -- The list's seat hears a pass, and the mark is cleared, since the pass has taken its entry in.
   unmarked : Listed E → Listed E
   unmarked l = record { list = l.list; numbers = l.numbers; callers = l.callers; pending = None }
 
@@ -169,8 +169,8 @@ module _ {E : Type 0} where
         ),
       )
 
-  -- At a pass: the list's entries of its number are its own, or its own and the pending one behind
-  -- them
+  -- A pass's seat learns the list: the list's entries with its number are its own, or its own
+  -- followed by the pending one.
   abbrev Takes : Story E → Held E → List (ℕ × E) → Type 0
   Takes t p mine = IsPrefix p.mine mine
       × Counts t.pending p.number (entries_of p.number t.numbers t.list) mine
@@ -228,7 +228,7 @@ module _ {E : Type 0} where
       (takes_old t p own counts))
       (cases_lt (length p.mine) (length (entries_in p.number l)))
 
-  -- the story where the number n has these entries of its own
+  -- the story after the number n gets these own entries
   with_mine : Story E → ℕ → List (ℕ × E) → Story E
   with_mine t n mine = record {
     list = t.list;
@@ -323,7 +323,7 @@ module _ {E : Type 0} where
         ),
       )
 
-  -- the closing load
+  -- the closing load keeps the rule
   pub closes : (k slots : ℕ) (l : Listed E) (c : List (ℕ × Unit {0}))
       → Allows (Kept k) slots 0 (OfList l, c) 0 (λ n. n) (λ n w. (w ≡ (OfList l, c)) × IsComplete l)
   closes k slots l c s h homes at small =

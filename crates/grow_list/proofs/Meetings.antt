@@ -1,4 +1,4 @@
--- What the views become when the list and a pass meet, and when an entry is added.
+-- The views after the list and a pass meet, and after an entry is added.
 use Rattle.std.proofs.Common.{◌≡◌, ℕ, ◌<◌, ◌≤◌, List, [], ◌∷◌, ◌++◌, length, Option, None, Some, Bool, true, false, cond, ◌&&◌, eqb, leb, refl, sym, ap, ◌∙◌, ⊎_elim, arith, length-append, eq-eqb}
 use mathlib.Core.List.{IsPrefix}
 use Rattle.std.proofs.lemmas.List.Elements.{All-same}
@@ -12,7 +12,7 @@ use Rattle.grow_list.proofs.Prefixes.{prefix_append, prefix_same, prefix_whole, 
 use Rattle.grow_list.proofs.Counting.{entries-same, entries-below}
 
 module _ {X : Type 0} where
-  -- of a prefix and the whole, the whole is the longest
+  -- the longest of a list and its prefix is the list
   longest_whole : (xs ys : List X) → IsPrefix xs ys → longest xs ys ≡ ys
   longest_whole xs ys pre =
       ⊎_elim
@@ -26,7 +26,7 @@ module _ {X : Type 0} where
   either_none false mark none = refl
 
 module _ {E : Type 0} where
-  -- where nothing is pending, the list's view stays
+  -- if nothing is pending, the list's view doesn't change
   pub heard-settled : (l : Listed E) (p : Held E) → l.pending ≡ None → heard l p ≡ l
   heard-settled l p none =
       let e = either_none (marks p.number l.pending
@@ -65,7 +65,7 @@ module _ {E : Type 0} where
   entries-longer l p e t = entries-same p.number l.numbers l.list e t.even
       ∙ ap (λ (xs : List (ℕ × E)). xs ++ (length l.list, e) ∷ []) t.own
 
-  -- the pass takes the pending entry in
+  -- after a push, the pass takes the pending entry in
   pub learned-longer : (l : Listed E) (p : Held E) (e : E) → Tallies l p
       → learned (caught_up p l) (longer l p.number (e ∷ [])) ≡ enlarged p l e
   learned-longer l p e t =
@@ -82,7 +82,7 @@ module _ {E : Type 0} where
             mine i;
       }
 
-  -- and the mark is cleared
+  -- after a push, the pending mark is cleared
   pub heard-longer : (l : Listed E) (p : Held E) (e : E) → Tallies l p
       → heard (longer l p.number (e ∷ [])) (enlarged p l e) ≡ grown l p.number e
   heard-longer l p e t =
@@ -103,7 +103,7 @@ module _ {E : Type 0} where
         pending = mark i;
       }
 
-  -- and they agree again
+  -- after a push, the list and the pass agree again
   pub tallies-grown : (l : Listed E) (p : Held E) (e : E) → Tallies l p
       → Tallies (grown l p.number e) (enlarged p l e)
   tallies-grown l p e t = record {

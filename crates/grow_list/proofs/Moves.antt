@@ -1,5 +1,4 @@
--- Each kind of step keeps the rule, at a view that is known by what it knows of the list and of a
--- pass.
+-- Each kind of step keeps the rule, for a view given by the list and the pass that it knows.
 use Rattle.std.proofs.Common.{◌≡◌, ℕ, ◌+◌, ◌<◌, List, [], ◌∷◌, length, None, eqb, sym, subst}
 use prog.Atomic.{either}
 use Rattle.atomic_table.specs.Table.{Me, Allows, Joins}

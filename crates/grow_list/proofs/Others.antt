@@ -1,4 +1,4 @@
--- The owner's pass beside the others.
+-- The owner's pass and the other passes.
 use Rattle.std.proofs.Common.{◌≡◌, ℕ, suc, add-one, ◌+◌, ◌<◌, ◌==◌, Bool, false, cond, List, [], ◌∷◌, length, All, get_or, Some, refl, ap, subst, sym, ◌∙◌, arith, ◌⊎◌, inl, inr, eq-eqb, ne_eqb}
 use Rattle.std.proofs.lemmas.Bool.{cases_eq}
 use Rattle.std.proofs.lemmas.List.Elements.{All-cons, All-tail}
@@ -11,24 +11,24 @@ use Rattle.grow_list.specs.Shown.{Grown, HasEach, ListName, Passed, fresh}
 use Rattle.grow_list.specs.Entries.{has_place}
 use Rattle.grow_list.proofs.Closing.{each_after_own}
 
--- one more
+-- the number 1 or 0, for true or false
 abbrev pub bit : Bool → ℕ
 bit b = cond b 1 0
 
--- the owner's pass has the number 0
+-- there is one pass for each number, and the owner's has the number 0
 pub beside : (n : ℕ) → bit (0 == n) + beside_own n ≡ 1
 beside n = at (cases_eq 0 n) where
   at : (0 ≡ n) ⊎ (0 ≡ n → ⊥) → bit (0 == n) + beside_own n ≡ 1
   at (inl is) = (λ i. bit (eq-eqb 0 n is i) + cond (eq-eqb n 0 (sym is) i) 0 1)
   at (inr not) = (λ i. bit (ne_eqb 0 n not i) + cond (ne_eqb n 0 (λ e. not (sym e)) i) 0 1)
 
--- a test counts its first item and the others
+-- the count of a list is that of its first item plus that of the rest
 pub count_by-cons : {X : Type 0} (test : X → Bool) (x : X) (xs : List X)
     → count_by test (x ∷ xs) ≡ bit (test x) + count_by test xs
 count_by-cons test x xs = sum_by-cons (λ y. cond (test y) 1 0) x xs
 
 module _ {E : Type 0} where
-  -- all passes are the owner's and the others
+  -- the owner's pass and the others are all passes
   pub HasEach-others : (list g : Grown E) (own : Passed E) (passes : List (Passed E))
       → g.name ≡ list.name → g.callers ≡ list.callers → own.name ≡ list.name → own.number ≡ 0
       → HasOthers g passes → HasEach list (own ∷ passes)
@@ -42,7 +42,7 @@ module _ {E : Type 0} where
         ∙ beside n;
   }
 
-  -- and the others without the owner's
+  -- all passes without the owner's are the others
   pub HasOthers-rest : (list g : Grown E) (own : Passed E) (passes : List (Passed E))
       → g.name ≡ list.name → g.callers ≡ list.callers → own.number ≡ 0
       → HasEach list (own ∷ passes) → HasOthers g passes
@@ -58,7 +58,7 @@ module _ {E : Type 0} where
         omega (arith, parts, beside n);
   }
 
-  -- ---- the owner's pass is the first of those that the list gave
+  -- ---- the owner's pass is the first of those that the list created
 
   pub first_is : (passes : List (Passed E)) (own p : Passed E) → slice_get passes 0 ≡ Some p
       → own ≡ get_or passes 0 own → own ≡ p
@@ -82,7 +82,7 @@ module _ {E : Type 0} where
       ∙ each (suc k) (omega (arith, longer, count, below))
       ∙ (λ i. Some (fresh (sym same i) (sym (add-one k) i)))
 
-  -- the passes in the order of their numbers, from 1 on, are the others
+  -- passes whose numbers are 1, 2 and so on, in this order, are the others
   pub others_in_order : (g : Grown E) (passes : List (Passed E)) → length passes + 1 ≡ g.callers
       → All (λ p. p.name ≡ g.name) passes
       → ((k : ℕ) (p : Passed E) → slice_get passes k ≡ Some p → p.number ≡ k + 1)
@@ -91,7 +91,7 @@ module _ {E : Type 0} where
       HasOthers-rest g g (fresh g.name 0) passes refl refl refl
       (each_after_own g (fresh g.name 0) passes count refl refl of_list numbered)
 
-  -- an owner's pass that has added nothing leaves each place to the others
+  -- if the owner's pass has added nothing, each index belongs to one of the others
   pub places-idle : (own : Passed E) (passes : List (Passed E)) (k : ℕ) → own.mine ≡ []
       → count_by (λ p. has_place k p.mine) (own ∷ passes) ≡ 1
       → count_by (λ p. has_place k p.mine) passes ≡ 1

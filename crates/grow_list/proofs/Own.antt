@@ -1,5 +1,5 @@
--- What `HasItsOwn` gives: a pass's own entries stand in the list at their places, none is missing,
--- and their places rise.
+-- The consequences of `HasItsOwn`: a pass's own entries are in the list at their indices, none is
+-- missing, and their indices increase.
 use Rattle.std.proofs.Common.{◌≡◌, ℕ, zero, suc, ◌+◌, ◌<◌, List, [], ◌∷◌, ◌++◌, length, Some, Bool, true, false, cond, eqb, refl, sym, ap, ◌∙◌, arith, eq-eqb}
 use Rattle.std.specs.Prelude.{slice_get}
 use Rattle.std.proofs.lemmas.Bool.{eqb-true}
@@ -7,14 +7,14 @@ use Rattle.std.proofs.lemmas.Option.{none-some, same_Some, some_pair_parts}
 use Rattle.grow_list.specs.Entries.{entries_from}
 use Rattle.grow_list.specs.Shown.{Grown, Passed, HasItsOwn}
 
--- the last element
+-- the last element of a list
 pub slice_get-push : {X : Type 0} (xs : List X) (x : X) → slice_get (xs ++ x ∷ []) (length xs)
     ≡ Some x
 slice_get-push [] x = refl
 slice_get-push (y ∷ ys) x = slice_get-push ys x
 
 module _ {E : Type 0} where
-  -- the entry (k, x) is one of the number n, where the first place is low
+  -- the entry (k, x) is one of those with the number n, if the first index is low
   Stands : ℕ → ℕ → List ℕ → List E → ℕ → E → Type 0
   Stands n low ms xs k x = (j : ℕ) × (k ≡ low + j) × (slice_get xs j ≡ Some x)
       × (slice_get ms j ≡ Some n)
@@ -97,7 +97,7 @@ module _ {E : Type 0} where
           → slice_get (entries_from n (low + 1) ms ys) i ≡ Some (k, x) → low < k
       above n low ms ys i k x e = let s = (stands n (low + 1) ms ys i k x e).1 in omega arith
 
-  -- an own entry stands in the list at its place, beside the pass's number
+  -- an own entry is in the list at its index, and has the pass's number there
   pub own_stands : (g : Grown E) (p : Passed E) → HasItsOwn g p → (i k : ℕ) (x : E)
       → slice_get p.mine i ≡ Some (k, x)
       → (slice_get g.list k ≡ Some x) × (slice_get g.numbers k ≡ Some p.number)
@@ -108,7 +108,7 @@ module _ {E : Type 0} where
       let at : s.0 ≡ k = omega (arith, s.1) in
       (ap (slice_get g.list) (sym at) ∙ s.2, ap (slice_get g.numbers) (sym at) ∙ s.3)
 
-  -- an entry beside the pass's number is one of its own
+  -- an entry with the pass's number is one of its own
   pub own_has : (g : Grown E) (p : Passed E) → HasItsOwn g p → (k : ℕ) (x : E) → slice_get g.list k
       ≡ Some x → slice_get g.numbers k ≡ Some p.number
       → (i : ℕ) × (slice_get p.mine i ≡ Some (k, x))
@@ -120,7 +120,7 @@ module _ {E : Type 0} where
             ∙ ap (λ (j : ℕ). Some (j, x)) place,
       )
 
-  -- the places of the own entries rise
+  -- the indices of the own entries increase
   pub own_rises : (g : Grown E) (p : Passed E) → HasItsOwn g p → (i j k m : ℕ) (x y : E) → i < j
       → slice_get p.mine i ≡ Some (k, x) → slice_get p.mine j ≡ Some (m, y) → k < m
   own_rises g p own i j k m x y before e f =

@@ -1,4 +1,4 @@
--- Lists that begin with others.
+-- Prefixes of lists.
 use Rattle.std.proofs.Common.{◌≡◌, ◌≤◌, ℕ, zero, suc, Some, List, [], ◌∷◌, ◌++◌, length, cond, ltb, true, false, refl, sym, ap, ◌∙◌, arith, length-append}
 use mathlib.Core.List.{IsPrefix}
 use Rattle.std.proofs.Math.ListN.{take}
@@ -27,7 +27,7 @@ module _ {X : Type 0} where
   pub prefix_length : (xs ys : List X) → IsPrefix xs ys → length xs ≤ length ys
   prefix_length xs ys a = omega (arith, length-append xs a.0, ap length a.1)
 
-  -- of two that begin one list, the shorter begins the longer
+  -- of two prefixes of a list, the shorter is a prefix of the longer
   pub prefix_compare : (xs ys zs : List X) → IsPrefix xs zs → IsPrefix ys zs → length xs ≤ length ys
       → IsPrefix xs ys
   prefix_compare [] ys zs a b short = (ys, refl)
@@ -43,7 +43,7 @@ module _ {X : Type 0} where
       let h : x ≡ y = cc in
       (r.0, (λ i. h i ∷ t i))
 
-  -- a prefix that isn't shorter is the whole
+  -- a prefix that isn't shorter is the whole list
   pub prefix_whole : (xs ys : List X) → IsPrefix xs ys → length ys ≤ length xs → xs ≡ ys
   prefix_whole xs ys a long =
       let none : length a.0 ≡ 0 = omega (arith, length-append xs a.0, ap length a.1) in
@@ -58,7 +58,7 @@ module _ {X : Type 0} where
       elim (ltb (length xs) (length ys)) as (λ t. IsPrefix (cond t ys xs) zs)
       [ true ↦ b | false ↦ a ]
 
-  -- what stands at a place of a prefix stands there in the whole
+  -- an element of a prefix is at the same index in the whole list
   pub prefix_get : (xs ys : List X) (k : ℕ) (x : X) → IsPrefix xs ys → slice_get xs k ≡ Some x
       → slice_get ys k ≡ Some x
   prefix_get [] ys k x a e = absurd (none-some x e)

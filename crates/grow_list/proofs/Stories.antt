@@ -1,4 +1,4 @@
--- The story goes on, and views go on to fit it.
+-- The story grows, and views still fit it.
 use Rattle.std.proofs.Common.{◌≡◌, ◌≢◌, ℕ, ◌<◌, ◌≤◌, List, [], ◌∷◌, ◌++◌, set, None, Some, sym, ◌∙◌, subst, ⊎_elim, arith, length-set}
 use Rattle.std.specs.Prelude.{slice_index}
 use mathlib.Core.List.{IsPrefix}
@@ -17,7 +17,7 @@ use Rattle.grow_list.specs.Views.{entries_in}
 use Rattle.grow_list.specs.Rule.{Story, WasList, IsList, WasPass, Fits, Counts, Kept}
 use Rattle.grow_list.proofs.Prefixes.{prefix_trans}
 
--- the story goes on
+-- the second story continues the first
 pub record Grows {E : Type 0} (t u : Story E) : Type 0 where
   pub list : IsPrefix t.list u.list
   pub numbers : IsPrefix t.numbers u.numbers
@@ -26,7 +26,7 @@ pub record Grows {E : Type 0} (t u : Story E) : Type 0 where
   pub owner : (n : ℕ) → n < t.next → u.owner n ≡ t.owner n
   pub mine : (n : ℕ) → IsPrefix (t.mine n) (u.mine n)
 
--- the list's own view stays
+-- the list's own view doesn't change
 pub record SameList {E : Type 0} (t u : Story E) : Type 0 where
   pub list : u.list ≡ t.list
   pub numbers : u.numbers ≡ t.numbers
@@ -60,7 +60,7 @@ module _ {E : Type 0} where
     mine = prefix_trans p.mine (t.mine p.number) (u.mine p.number) w.mine (g.mine p.number);
   }
 
-  -- a view goes on to fit, where its seat's own part of the story stays
+  -- a view still fits a longer story, if its seat's own part of the story doesn't change
   pub fits_on : (t u : Story E) (seat : ℕ) (v : Known E) → Grows t u → (seat ≡ 0 → SameList t u)
       → ((n : ℕ) → n < t.next → t.owner n ≡ seat → u.mine n ≡ t.mine n) → Fits t seat v
       → Fits u seat v
@@ -77,7 +77,7 @@ module _ {E : Type 0} where
     was_list t u l g f.2,
   )
 
-  -- the view of one seat changes, and the others' go on to fit
+  -- after the view of one seat changes, the views of the others still fit
   pub each_set : (t u : Story E) (views : List (Known E)) (seat : ℕ) (w : Known E)
       → ((j : ℕ) (v : Known E) → j ≢ seat → Fits t j v → Fits u j v) → Fits u seat w
       → ((j : ℕ) (v : Known E) → get_elem? views j ≡ some v → Fits t j v) → (j : ℕ) (v : Known E)
@@ -89,7 +89,7 @@ module _ {E : Type 0} where
       (λ (x : (j ≢ seat) × (get_elem? views j ≡ some v)). on j v x.0 (each j v x.1))
       (at_set views seat j w v e)
 
-  -- a load: the view of one seat changes, and the story stays
+  -- a load changes the view of one seat, and not the story
   pub stays : (k : ℕ) (s : State (Unit {0}) (Known E)) (h : Kept k s) (i seat : ℕ)
       (c : List (ℕ × Unit {0})) (w : Known E) → Fits h.story seat w
       → Kept k (stepped s i (slice_index s.words i) seat c w keeps)

@@ -1,4 +1,4 @@
--- The store of an entry and the draw of a number keep the rule, and it holds at the start.
+-- The store of an entry and the draw of a number keep the rule, and the rule holds at the start.
 use Rattle.std.proofs.Common.{◌≡◌, ◌≢◌, ℕ, zero, suc, ◌+◌, ◌<◌, List, [], ◌∷◌, ◌++◌, length, set, None, Some, Bool, cond, eqb, refl, sym, ap, ◌∙◌, subst, inl, inr, ⊎_elim, arith, length-append, length-set, eq-eqb, ne_eqb}
 use Rattle.std.specs.Prelude.{slice_index}
 use mathlib.Core.Option.{some, some-ne-none, some-injective}
@@ -233,7 +233,7 @@ module _ {E : Type 0} where
         λ hit. absurd (miss hit),
       ))
 
-  -- the start
+  -- the rule holds at the start
   pub begins : (callers : ℕ)
       → Kept {E = E} callers (opening {S = Unit {0}} (0 ∷ 0 ∷ []) [] (newborn callers))
   begins callers = record {

@@ -1,9 +1,9 @@
--- The entries of a list by the pass that added them: beside the list stands a list of numbers, in
--- which each entry has the number of its pass.
+-- The entries of a list, sorted by the pass that added them: a second list of the same length has,
+-- for each entry, the number of its pass.
 use Rattle.std.specs.Prelude.{ℕ, ◌+◌, ◌==◌, ◌||◌, Bool, false, if◌then◌else◌, List, [], ◌∷◌}
 
 module _ {E : Type 0} where
-  -- the entries of the number n, each with its place, where the first place is k
+  -- the entries of the pass n, each with its index, if the first index is k
   abbrev pub entries_from : ℕ → ℕ → List ℕ → List E → List (ℕ × E)
   entries_from n k [] xs = []
   entries_from n k (m ∷ ms) [] = []
@@ -13,7 +13,7 @@ module _ {E : Type 0} where
   abbrev pub entries_of : ℕ → List ℕ → List E → List (ℕ × E)
   entries_of n numbers list = entries_from n 0 numbers list
 
-  -- one of these entries stands at this place
+  -- one of these entries has this index
   abbrev pub has_place : ℕ → List (ℕ × E) → Bool
   has_place k [] = false
   has_place k (x ∷ xs) = (x.0 == k) || has_place k xs

@@ -1,4 +1,4 @@
--- What comes of a meeting both ways, and of a push.
+-- The effects of a meeting in both directions, and of a push.
 use Rattle.std.specs.Prelude.{◌≡◌, ℕ, ◌<◌, None, [], ◌∷◌, ◌++◌, length, All}
 use mathlib.Core.List.{IsPrefix}
 use Rattle.atomic_table.specs.declared.shared.Seat.{Seat}
@@ -8,7 +8,7 @@ use Rattle.grow_list.specs.declared.known.Known.{Known}
 use Rattle.grow_list.specs.declared.known.Known.TheVariants.{OfList, OfPass}
 use Rattle.grow_list.specs.Views.{listed, held, entries_in}
 
--- the seat has this view now, and is at the same table
+-- the seat has moved to this view, at the same table
 pub record IsMoved {E : Type 0} (old new : Seat (Unit {0}) (Known E)) (view : Known E) : Type 0
   where
     pub table_id : new.table_id ≡ old.table_id
@@ -26,8 +26,8 @@ pub record IsPassSeat {E : Type 0} (seat : Seat (Unit {0}) (Known E)) : Type 0 w
   pub own : seat.id ≡ (held seat.me.0).seat
   pub view : seat.me.0 ≡ OfPass (held seat.me.0)
 
--- what the pass saw begins the list, and the list's entries of its number are its own, at places of
--- the list
+-- the list begins with what the pass saw, the list's entries with the pass's number are its own,
+-- and their indices are within the list
 pub record Tallies {E : Type 0} (l : Listed E) (p : Held E) : Type 0 where
   pub seen : IsPrefix p.seen l.list
   pub own : entries_in p.number l ≡ p.mine
@@ -36,7 +36,7 @@ pub record Tallies {E : Type 0} (l : Listed E) (p : Held E) : Type 0 where
   pub even : length l.numbers ≡ length l.list
 
 module _ {E : Type 0} where
-  -- the pass has seen the list
+  -- the pass, after it has seen the whole list
   abbrev pub caught_up : Held E → Listed E → Held E
   caught_up p l = record {
     seat = p.seat;

@@ -1,4 +1,4 @@
--- The rule: what holds of the words and of all views between any two steps.
+-- The rule: an invariant of the words and of all views between any two steps.
 use Rattle.std.specs.Prelude.{◌≡◌, ◌⊎◌, ℕ, ◌<◌, ◌≤◌, Option, None, Some, List, [], ◌∷◌, ◌++◌, length, All}
 use mathlib.Core.List.{IsPrefix}
 use mathlib.Core.Option.{some}
@@ -11,8 +11,8 @@ use Rattle.grow_list.specs.declared.known.Known.TheVariants.{Spent, OfList, OfPa
 use Rattle.grow_list.specs.Entries.{entries_of}
 use Rattle.grow_list.specs.Views.{entries_in}
 
--- the list with the number of each entry's pass, the pending mark, the number of callers, the next
--- number, the seat that drew a number, and the own entries of each pass
+-- the list, the number of each entry's pass, the pending mark, the number of callers, the next
+-- number, the seat that drew each number, and each pass's own entries
 pub record Story (E : Type 0) : Type 0 where
   pub list : List E
   pub numbers : List ℕ
@@ -22,7 +22,7 @@ pub record Story (E : Type 0) : Type 0 where
   pub owner : ℕ → ℕ
   pub mine : ℕ → List (ℕ × E)
 
--- a view of the list, perhaps an old one
+-- a view of the list, which may be out of date
 pub record WasList {E : Type 0} (t : Story E) (l : Listed E) : Type 0 where
   pub list : IsPrefix l.list t.list
   pub numbers : IsPrefix l.numbers t.numbers
@@ -36,7 +36,7 @@ pub record IsList {E : Type 0} (t : Story E) (l : Listed E) : Type 0 where
   pub numbers : l.numbers ≡ t.numbers
   pub pending : l.pending ≡ t.pending
 
--- a view of a pass, perhaps an old one
+-- a view of a pass, which may be out of date
 pub record WasPass {E : Type 0} (t : Story E) (p : Held E) : Type 0 where
   pub owner : t.owner p.number ≡ p.seat
   pub drawn : p.number < t.next
@@ -44,7 +44,7 @@ pub record WasPass {E : Type 0} (t : Story E) (p : Held E) : Type 0 where
   pub seen : IsPrefix p.seen t.list
   pub mine : IsPrefix p.mine (t.mine p.number)
 
--- The list's own seat is the first, and a pass's own seat is the one that drew its number
+-- The list's own seat is the first one, and a pass's own seat is the one that drew its number.
 abbrev pub Fits : {E : Type 0} → Story E → ℕ → Known E → Type 0
 Fits t seat Spent = Unit {0}
 Fits t seat (OfList l) = WasList t l × (seat ≡ 0 → IsList t l)
@@ -53,7 +53,7 @@ Fits t seat (ListBeside l p) = WasList t l × (seat ≡ 0 → IsList t l) × Was
 Fits t seat (PassBeside p l) = WasPass t p × (seat ≡ p.seat → t.mine p.number ≡ p.mine)
     × WasList t l
 
--- the list's entries of a number are its pass's own, but for one that is still pending
+-- the list's entries with a number are its pass's own, except for one that may still be pending
 abbrev pub Counts : {E : Type 0} → Option ℕ → ℕ → List (ℕ × E) → List (ℕ × E) → Type 0
 Counts {E} pending n entries mine =
     (entries ≡ mine) ⊎ ((pending ≡ Some n) × ((x : ℕ × E) × (entries ≡ mine ++ x ∷ [])))

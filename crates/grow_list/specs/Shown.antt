@@ -1,4 +1,4 @@
--- What contracts see of a growing list and of its passes.
+-- A growing list and its passes as contracts see them.
 use Rattle.std.specs.Prelude.{◌≡◌, ℕ, ◌<◌, ◌==◌, List, [], All, count_by}
 use mathlib.Core.List.{IsPrefix}
 use Rattle.atomic_table.specs.Seated.{TableId}
@@ -8,11 +8,11 @@ use Rattle.grow_list.specs.Entries.{entries_of}
 use Rattle.grow_list.specs.declared.known.Listed.{Listed}
 use Rattle.grow_list.specs.Views.{held, entries_in}
 
--- which list it is: plain data, and no two lists have one name
+-- the identity of a list: plain data, and different lists have different names
 abbrev pub ListName : Type 0
 ListName = TableId
 
--- the name of no list
+-- a name that no list has
 abbrev pub no_name : ListName
 no_name = record {
   words = 0;
@@ -25,8 +25,8 @@ no_name = record {
   slot_names = [];
 }
 
--- a list, beside each entry the number of the pass that added it, and for how many more entries
--- there is room
+-- a list with, for each entry, the number of the pass that added it, and the number of further
+-- entries it has room for
 pub record Grown (E : Type 0) : Type 0 where
   pub name : ListName
   pub callers : ℕ
@@ -34,40 +34,40 @@ pub record Grown (E : Type 0) : Type 0 where
   pub list : List E
   pub numbers : List ℕ
 
--- a pass of the list of this name: its number, the list that it has seen, and its own entries with
--- their places
+-- a pass of the list with this name: its number, the list as it last saw it, and its own entries
+-- with their indices
 pub record Passed (E : Type 0) : Type 0 where
   pub name : ListName
   pub number : ℕ
   pub seen : List E
   pub mine : List (ℕ × E)
 
--- the same list, with perhaps another room
+-- the same list, except that its room may differ
 pub record IsSameList {E : Type 0} (old new : Grown E) : Type 0 where
   pub name : new.name ≡ old.name
   pub callers : new.callers ≡ old.callers
   pub list : new.list ≡ old.list
   pub numbers : new.numbers ≡ old.numbers
 
--- the entries of this pass's number in the list are its own, in order, each once
+-- the list's entries with this pass's number are its own, in order, each once
 abbrev pub HasItsOwn : {E : Type 0} → Grown E → Passed E → Type 0
 HasItsOwn g p = entries_of p.number g.numbers g.list ≡ p.mine
 
--- the passes are of this list, and there is exactly one of each number
+-- the passes are those of this list, exactly one for each number
 pub record HasEach {E : Type 0} (g : Grown E) (passes : List (Passed E)) : Type 0 where
   pub of_list : All (λ p. p.name ≡ g.name) passes
   pub one_each : (n : ℕ) → n < g.callers → count_by (λ p. p.number == n) passes ≡ 1
 
--- a pass that has seen and added nothing
+-- a pass that hasn't seen or added any entry
 abbrev pub fresh : {E : Type 0} → ListName → ℕ → Passed E
 fresh name number = record { name = name; number = number; seen = []; mine = [] }
 
--- the pass accounts for what it saw and added: what it saw begins the list, and the list's entries
--- of its number are its own
+-- the pass accounts for what it saw and added: the list begins with what it saw, and the list's
+-- entries with its number are its own
 abbrev pub Accounts : {E : Type 0} → Listed E → Passed E → Type 0
 Accounts l p = IsPrefix p.seen l.list × (entries_in p.number l ≡ p.mine)
 
--- the pass is what its seat knows
+-- the pass agrees with the view of its seat
 pub record IsPassAt {E : Type 0} (p : Passed E) (seat : Seat (Unit {0}) (Known E)) : Type 0 where
   pub name : p.name ≡ seat.table_id
   pub number : p.number ≡ (held seat.me.0).number

@@ -1,4 +1,4 @@
--- What each kind of step tells its caller.
+-- The facts that each kind of step gives its caller.
 use Rattle.std.specs.Prelude.{◌≡◌, ℕ, ◌<◌, None, List, length, All}
 use mathlib.Core.List.{IsPrefix}
 use Rattle.atomic_table.specs.Table.{Step, Me}
@@ -8,18 +8,18 @@ use Rattle.grow_list.specs.declared.known.Known.{Known}
 use Rattle.grow_list.specs.declared.known.Known.TheVariants.{OfList, OfPass}
 use Rattle.grow_list.specs.Views.{listed, held, newcomer, longer, heard, learned, entries_in}
 
--- what the list's seat finds of a pass that it met
+-- what the list's seat learns about a pass that it met
 pub record Agrees {E : Type 0} (l : Listed E) (p : Held E) : Type 0 where
   pub seen : IsPrefix p.seen l.list
   pub mine : l.pending ≡ None → IsPrefix p.mine (entries_in p.number l)
   pub number : p.number < l.callers
   pub even : length l.numbers ≡ length l.list
 
--- what a pass's seat finds of the list that it met: the entries of its number are its own
+-- what a pass's seat learns about the list that it met: the entries with its number are its own
 abbrev pub Owns : {E : Type 0} → Held E → Listed E → Type 0
 Owns p l = l.pending ≡ None → IsPrefix (entries_in p.number l) p.mine
 
--- each entry is of one of the callers
+-- each entry belongs to one of the callers
 pub record IsComplete {E : Type 0} (l : Listed E) : Type 0 where
   pub below : All (λ m. m < l.callers) l.numbers
   pub even : length l.numbers ≡ length l.list

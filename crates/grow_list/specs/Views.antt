@@ -1,4 +1,4 @@
--- The views of seats, and how they meet.
+-- The views of seats, and the views that result when seats meet.
 use Rattle.std.specs.Prelude.{ℕ, ◌==◌, nat_lt, nat_le, ◌&&◌, Bool, false, if◌then◌else◌, Option, None, Some, List, [], ◌∷◌, ◌++◌, length}
 use Rattle.grow_list.specs.declared.known.Listed.{Listed}
 use Rattle.grow_list.specs.declared.known.Held.{Held}
@@ -6,11 +6,11 @@ use Rattle.grow_list.specs.declared.known.Known.{Known}
 use Rattle.grow_list.specs.declared.known.Known.TheVariants.{Spent, OfList, OfPass, ListBeside, PassBeside}
 use Rattle.grow_list.specs.Entries.{entries_of}
 
--- the longer list, of two of which one is a prefix of the other
+-- the longer of two lists, one of which is a prefix of the other
 abbrev pub longest : {X : Type 0} → List X → List X → List X
 longest xs ys = if nat_lt (length xs) (length ys) then ys else xs
 
--- the mark of this number
+-- the pending mark has this number
 abbrev pub marks : ℕ → Option ℕ → Bool
 marks n None = false
 marks n (Some m) = n == m
@@ -26,12 +26,12 @@ module _ {E : Type 0} where
   abbrev pub newborn : ℕ → Known E
   newborn callers = OfList (record { list = []; numbers = []; callers = callers; pending = None })
 
-  -- the pass that has drawn its number
+  -- a pass that has just drawn its number
   abbrev pub newcomer : ℕ → ℕ → ℕ → Held E
   newcomer seat number callers =
       record { seat = seat; number = number; callers = callers; seen = []; mine = [] }
 
-  -- what a view knows of the list, and of a pass
+  -- the list and the pass, as far as a view knows them
   abbrev pub listed : Known E → Listed E
   listed Spent = no_list
   listed (OfList l) = l
@@ -46,7 +46,7 @@ module _ {E : Type 0} where
   held (ListBeside l p) = p
   held (PassBeside p l) = p
 
-  -- the list's view and a pass's, in the seat of the first
+  -- the views of the list and of a pass, joined in the seat of the first
   abbrev pub met : Known E → Known E → Known E
   met (OfList l) (OfPass p) = ListBeside l p
   met (OfPass p) (OfList l) = PassBeside p l
@@ -55,7 +55,7 @@ module _ {E : Type 0} where
   abbrev pub entries_in : ℕ → Listed E → List (ℕ × E)
   entries_in n l = entries_of n l.numbers l.list
 
-  -- the list with an entry of this number behind it, marked as pending
+  -- the list after an entry with this number is appended and marked as pending
   abbrev pub longer : Listed E → ℕ → List E → Listed E
   longer l n entry =
       record {
@@ -66,7 +66,7 @@ module _ {E : Type 0} where
             Some n;
       }
 
-  -- the mark is cleared where the pass has taken the entry in
+  -- the list, whose mark is cleared if the pass has taken the entry in
   abbrev pub heard : Listed E → Held E → Listed E
   heard l p = record {
     list = l.list;
@@ -76,7 +76,7 @@ module _ {E : Type 0} where
         then None else l.pending;
   }
 
-  -- what the pass has seen and what is its own, after it has met the list
+  -- what the pass has seen, and its own entries, after it has met the list
   abbrev pub learned : Held E → Listed E → Held E
   learned p l = record {
     seat = p.seat;

@@ -1,4 +1,4 @@
--- What the fields of a growing list and of a pass keep.
+-- The invariants of the fields of a growing list and of a pass.
 use Rattle.std.specs.Prelude.{◌≡◌, ◌-◌, [], vec_len}
 use Rattle.std.specs.Vec.{vec_capacity}
 use Rattle.grow_list.specs.declared.list.Grow.TheInside.{Inside as GrowFields}
@@ -24,7 +24,7 @@ passed_of p = record {
   mine = (held p.seat.me.0).mine;
 }
 
--- the seat is the list's own, and knows its entries
+-- the seat is the list's own, and its view has the list's entries
 pub record IsWhole {E : Type 0} (g : GrowFields E) : Type 0 where
   pub board : g.seat.table_id ≡ g.table.shared.table_id
   pub words : g.table.shared.table_id.words ≡ 2

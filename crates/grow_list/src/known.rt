@@ -1,23 +1,23 @@
-//! What the seats of the table know of the list, and the rule over it: the kinds of atomic step,
-//! for the proofs alone.
+//! The views of the list that the seats of the table hold, and the rule over them: the kinds of
+//! atomic steps, which exist for the proofs only.
 ghost use Rattle.std.specs.Prelude.{ℕ, List, []};
 
 use atomic_table::{Join, Play, Split, TableRule};
 use std::collections::LinkedList;
 use std::marker::{Brand, PhantomData};
 
-/// What a view knows of the list. No value of it is made.
+/// A view's knowledge of the list. No value of this type is ever made.
 pub struct Listed<E> {
     pub list: LinkedList<E>,
-    /// Beside each entry, the number of the pass that added it.
+    /// For each entry, the number of the pass that added it.
     pub numbers: LinkedList<u32>,
     pub callers: u32,
-    /// The number of the pass that added the last entry, where that pass hasn't taken the entry in
-    /// yet.
+    /// The number of the pass that added the last entry, if that pass hasn't yet taken the entry
+    /// in.
     pub pending: Option<u32>,
 }
 
-/// What a view knows of a pass. No value of it is made.
+/// A view's knowledge of a pass. No value of this type is ever made.
 pub struct Held<E> {
     /// The seat that drew the number.
     pub seat: u64,
@@ -27,7 +27,7 @@ pub struct Held<E> {
     pub mine: LinkedList<(u64, E)>,
 }
 
-/// The view of a seat. No value of it is made.
+/// The view of a seat. No value of this type is ever made.
 pub enum Known<E> {
     Spent,
     OfList(Listed<E>),
@@ -36,8 +36,8 @@ pub enum Known<E> {
     PassBeside(Held<E>, Listed<E>),
 }
 
-/// The rule. Word 0 is the length of the list and word 1 the next number, and the first seat is the
-/// list's.
+/// The rule of the table. Word 0 is the length of the list, word 1 is the next number to draw, and
+/// the first seat is the list's.
 pub struct Growing;
 
 impl<E> TableRule<(), Known<E>, u32> for Growing {
@@ -49,7 +49,7 @@ impl<E> TableRule<(), Known<E>, u32> for Growing {
     ghost first = { newborn };
 }
 
-/// A second seat gets an equal view.
+/// The step by which a second seat gets an equal view.
 pub struct Copies;
 
 impl<E> Split<Known<E>> for Copies {
@@ -58,7 +58,7 @@ impl<E> Split<Known<E>> for Copies {
     ghost right = { λ v. v };
 }
 
-/// The seat that stays keeps both views, and the other is spent.
+/// The step that joins two seats: the one that stays gets both views, and the other is spent.
 pub struct Meets;
 
 impl<E> Join<Known<E>> for Meets {
@@ -70,7 +70,7 @@ impl<E> Join<Known<E>> for Meets {
     ghost spent = { Spent };
 }
 
-/// The seat that draws a number. Each call picks it.
+/// The seat that draws a number, which each call chooses.
 pub trait Drawing {
     ghost seat: { ℕ };
 }
@@ -88,7 +88,7 @@ impl<E, N: Drawing> Play<(), Known<E>> for Draws<N> {
     ghost then = { Drawn N.seat };
 }
 
-/// The entry that is added, alone in a list. Each call picks it.
+/// The entry to add, as a list of one, which each call chooses.
 pub trait Adding<E> {
     ghost entry: { List E };
 }
@@ -97,8 +97,8 @@ impl<E> Adding<E> for Brand {
     ghost entry = { [] };
 }
 
-/// A store on word 0 by the list's seat, with a pass beside it: the entry joins the list and is
-/// marked as pending.
+/// A store to word 0 by the list's seat, next to the view of a pass: the entry joins the list and
+/// is marked as pending.
 pub struct Adds<N>(PhantomData<N>);
 
 impl<E, N: Adding<E>> Play<(), Known<E>> for Adds<N> {
@@ -107,7 +107,7 @@ impl<E, N: Adding<E>> Play<(), Known<E>> for Adds<N> {
     ghost then = { Added N.entry };
 }
 
-/// A load by which the list's seat takes in the pass beside it.
+/// A load by which the list's seat takes in the view of the pass next to it.
 pub struct Hears;
 
 impl<E> Play<(), Known<E>> for Hears {
@@ -116,7 +116,7 @@ impl<E> Play<(), Known<E>> for Hears {
     ghost then = { Heard };
 }
 
-/// A load by which a pass's seat takes in the list beside it.
+/// A load by which a pass's seat takes in the view of the list next to it.
 pub struct Learns;
 
 impl<E> Play<(), Known<E>> for Learns {
@@ -125,7 +125,7 @@ impl<E> Play<(), Known<E>> for Learns {
     ghost then = { Learned };
 }
 
-/// The closing load of the list's seat, before the passes are joined away.
+/// The closing load of the list's seat, before the seats of the passes are joined to it.
 pub struct Closes;
 
 impl<E> Play<(), Known<E>> for Closes {

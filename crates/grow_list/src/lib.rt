@@ -1,7 +1,7 @@
-//! A list that only grows, kept under any lock, whose callers each hold a pass.
+//! A list that only grows, kept under any lock, whose callers hold one pass each.
 //!
-//! A caller that has just taken the lock knows which entries are its own, and that what it saw
-//! before still stands.
+//! A caller that has just taken the lock knows which entries are its own, and that all it saw
+//! before is still in the list.
 #![tactic(auto)]
 
 mod known;

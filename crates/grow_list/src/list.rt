@@ -12,9 +12,9 @@ use atomic_table::Table;
 use std::alloc::{AllocError as OutOfMemory, Global};
 use std::marker::Model;
 
-/// A list that only grows. Contracts see its name, its number of callers, its entries, beside each
-/// entry the number of the pass that added it, and its room: for how many more entries it has
-/// memory.
+/// A list that only grows. Contracts see its name, its number of callers, its entries, for each
+/// entry the number of the pass that added it, and its room: the number of further entries it has
+/// memory for.
 #[derive(Drop)]
 pub struct Grow<E> {
     entries: Vec<E>,
@@ -35,9 +35,9 @@ impl<E> Model for Grow<E> {
     ghost invariant = { IsWhole };
 }
 
-/// What one caller knows of a list. Contracts see the name of its list, its number, the list that
-/// it has seen, and its own entries, each with its place. It may stay with its caller while the
-/// list lies under a lock.
+/// One caller's knowledge of a list. Contracts see the name of the list, the pass's number, the
+/// list as it last saw it, and its own entries, each with its index. It may stay with its caller
+/// while the list is under a lock.
 pub struct Pass<E> {
     seat: Place<E>,
     number: u32,
@@ -62,7 +62,7 @@ impl<E> Drop for Pass<E> {
 }
 
 impl<E> Pass<E> {
-    /// The number of the pass, from 0 on.
+    /// The number of the pass, counted from 0.
     pub fn number(&self) -> u32
         ensures { result ≡ self.now.number }
     {
@@ -81,7 +81,7 @@ impl<E> Pass<E> {
     }
 }
 
-// Each pass meets the list a last time, and its seat is joined away.
+// Each pass meets the list a last time, and then its seat is joined to the list's.
 fn take_back<E>(board: &Board<E>, list: &mut Place<E>, passes: Vec<Pass<E>>)
     requires seat { list.old.table_id ≡ board.now.table_id }
     requires words { board.now.table_id.words ≡ 2 }
@@ -96,7 +96,7 @@ fn take_back<E>(board: &Board<E>, list: &mut Place<E>, passes: Vec<Pass<E>>)
 }
 
 impl<E> Grow<E> {
-    /// An empty list, and a pass for each of its callers, in the order of their numbers.
+    /// Creates an empty list, and a pass for each of its callers, in the order of their numbers.
     pub fn start(alloc: Global, callers: u32) -> Result<(Grow<E>, Vec<Pass<E>>), OutOfMemory>
         requires { 1 ≤ callers }
         ensures list { IfOk result (λ r. (r.0.list ≡ []) × (r.0.numbers ≡ [])
@@ -124,7 +124,7 @@ impl<E> Grow<E> {
         Ok((grow, passes))
     }
 
-    /// Makes room for `more` entries. The list stays, also where there is no memory.
+    /// Makes room for `more` entries. The list doesn't change, even if memory runs out.
     pub fn reserve(&mut self, more: usize) -> Result<(), OutOfMemory>
         ensures room { OnOk result (more ≤ self.new.spare) }
         ensures kept { self.old.spare ≤ self.new.spare }
@@ -133,9 +133,8 @@ impl<E> Grow<E> {
         self.entries.reserve(more)
     }
 
-    /// Adds an entry by a pass of this list, in room that was reserved, and answers its place, from
-    /// 0 on.
-    /// The pass has then seen the list.
+    /// Adds an entry by a pass of this list, in room that was reserved, and returns its index,
+    /// counted from 0. After that the pass has seen the whole list.
     pub fn push(&mut self, pass: &mut Pass<E>, entry: E) -> u64
         requires room { 1 ≤ self.old.spare }
         requires name { pass.old.name ≡ self.old.name }
@@ -168,7 +167,7 @@ impl<E> Grow<E> {
         place
     }
 
-    /// A pass of this list sees the list.
+    /// Shows the list to a pass of this list.
     pub fn look(&mut self, pass: &mut Pass<E>)
         requires { pass.old.name ≡ self.old.name }
 
@@ -195,7 +194,7 @@ impl<E> Grow<E> {
         self.entries.len() as u64
     }
 
-    /// The entry at a place, from 0 on. None from `len` on.
+    /// The entry at an index counted from 0; `None` from `len` on.
     pub fn at(&self, place: u64) -> Option<&E>
         ensures entry { option_copied result ≡ slice_get self.now.list place }
         ensures none { IsNone result ↔ (length self.now.list ≤ place) }
@@ -203,8 +202,9 @@ impl<E> Grow<E> {
         self.entries.get(place as usize)
     }
 
-    /// Hands out the entries, and takes back the passes. What each pass saw begins the list, the
-    /// list's entries of its number are its own, and each place of the list is one pass's.
+    /// Hands over the entries and takes back the passes. The list begins with what each pass saw,
+    /// the list's entries with a pass's number are that pass's own, and each index of the list
+    /// belongs to one pass.
     pub fn close(self, passes: Vec<Pass<E>>) -> Vec<E>
         requires { HasEach self passes.items }
         ensures list { result.items ≡ self.list }
@@ -224,9 +224,9 @@ impl<E> Grow<E> {
         entries
     }
 
-    /// Closes the list of an owner that kept one pass for itself, and takes that pass apart from
-    /// the others, so that no memory is needed to put them together. What holds of each pass is as
-    /// for `close`.
+    /// Closes a list whose owner kept one pass for itself. That pass is an argument of its own, so
+    /// that no memory is needed to join it to the others. The contract for each pass is that of
+    /// `close`.
     pub fn close_with(self, own: Pass<E>, passes: Vec<Pass<E>>) -> Vec<E>
         requires { HasEach self (own ∷ passes.items) }
         ensures list { result.items ≡ self.list }

@@ -1,5 +1,5 @@
-//! The steps on the table: how the list's seat and a pass's meet, how an entry is added, and how a
-//! number is drawn.
+//! The steps on the table: how the list's seat and a pass's seat meet, how an entry is added, and
+//! how a number is drawn.
 ghost use Rattle.std.specs.Prelude.{◌≡◌, ◌+◌, ◌^◌, ◌<◌, None, [], ◌∷◌, length, IfOk};
 ghost use Rattle.std.specs.Bool.{OnTrue};
 ghost use Rattle.grow_list.specs.declared.known.Known.TheVariants.{OfList, OfPass, ListBeside, PassBeside};
@@ -14,13 +14,13 @@ use atomic_table::{Seat, Shared};
 use std::alloc::AllocError as OutOfMemory;
 use std::marker::Brand;
 
-/// The words that the list's seat and the passes' step on.
+/// The table and its two words, on which the seats of the list and of its passes take their steps.
 pub type Board<E> = Shared<(), Known<E>, u32, Growing>;
 
-/// A seat of the list or of a pass.
+/// The seat of a list or of a pass.
 pub type Place<E> = Seat<(), Known<E>>;
 
-// A copy of the pass's seat comes to the list's.
+// Joins a copy of the pass's seat to the list's.
 fn come<E>(board: &Board<E>, list: &mut Place<E>, pass: &mut Place<E>)
     requires seats { (list.old.table_id ≡ board.now.table_id)
         × (pass.old.table_id ≡ board.now.table_id) }
@@ -35,7 +35,7 @@ fn come<E>(board: &Board<E>, list: &mut Place<E>, pass: &mut Place<E>)
     board.join_seat::<Meets>(list, copy);
 }
 
-// A copy of the list's seat comes to the pass's.
+// Joins a copy of the list's seat to the pass's.
 fn visit<E>(board: &Board<E>, list: &mut Place<E>, pass: &mut Place<E>)
     requires seats { (list.old.table_id ≡ board.now.table_id)
         × (pass.old.table_id ≡ board.now.table_id) }
@@ -50,7 +50,7 @@ fn visit<E>(board: &Board<E>, list: &mut Place<E>, pass: &mut Place<E>)
     board.join_seat::<Meets>(pass, copy);
 }
 
-// The list's seat takes in the pass beside it.
+// The list's seat takes in the view of the pass next to it.
 fn hear<E>(board: &Board<E>, list: &mut Place<E>)
     requires seat { (list.old.table_id ≡ board.now.table_id) × (list.old.id ≡ 0) }
     requires words { board.now.table_id.words ≡ 2 }
@@ -62,7 +62,7 @@ fn hear<E>(board: &Board<E>, list: &mut Place<E>)
     board.load::<Hears>(list, 0);
 }
 
-// The pass's seat takes in the list beside it.
+// The pass's seat takes in the view of the list next to it.
 fn learn<E>(board: &Board<E>, pass: &mut Place<E>)
     requires seat { (pass.old.table_id ≡ board.now.table_id)
         × (pass.old.id ≡ (held pass.old.me.0).seat) }
@@ -75,7 +75,7 @@ fn learn<E>(board: &Board<E>, pass: &mut Place<E>)
     board.load::<Learns>(pass, 0);
 }
 
-// The entry joins the list, whose length is then `new_length`, and is pending for the pass beside
+// The entry joins the list, whose length becomes `new_length`, and is pending for the pass next to
 // it.
 fn add<E, N: Adding<E>>(board: &Board<E>, list: &mut Place<E>, entry: &E, new_length: u64)
     requires seat { (list.old.table_id ≡ board.now.table_id) × (list.old.id ≡ 0) }
@@ -90,7 +90,7 @@ fn add<E, N: Adding<E>>(board: &Board<E>, list: &mut Place<E>, entry: &E, new_le
     board.store::<Adds<N>>(list, 0, new_length);
 }
 
-// The pass takes the pending entry in, and then the mark is cleared.
+// The pass takes in the pending entry, and then the mark is cleared.
 fn settle<E>(board: &Board<E>, list: &mut Place<E>, pass: &mut Place<E>)
     requires seats { (list.old.table_id ≡ board.now.table_id)
         × (pass.old.table_id ≡ board.now.table_id) }
@@ -109,7 +109,7 @@ fn settle<E>(board: &Board<E>, list: &mut Place<E>, pass: &mut Place<E>)
     hear(board, list);
 }
 
-/// A meeting both ways: the pass sees the list.
+/// A meeting in both directions, after which the pass has seen the list.
 pub fn meet<E>(board: &Board<E>, list: &mut Place<E>, pass: &mut Place<E>)
     requires seats { (list.old.table_id ≡ board.now.table_id)
         × (pass.old.table_id ≡ board.now.table_id) }
@@ -127,8 +127,8 @@ pub fn meet<E>(board: &Board<E>, list: &mut Place<E>, pass: &mut Place<E>)
     learn(board, pass);
 }
 
-/// A meeting both ways, and then the entry is added by the pass. The length of the list is then
-/// `new_length`.
+/// A meeting in both directions, after which the pass adds the entry. The length of the list
+/// becomes `new_length`.
 pub fn enter<E>(
     board: &Board<E>,
     list: &mut Place<E>,
@@ -155,7 +155,7 @@ pub fn enter<E>(
     settle(board, list, pass);
 }
 
-// The seat draws the due number, where the next number is the due one. It always is.
+// The seat draws the number `due`, if this is the next number. It always is.
 fn draw<E, N: Drawing>(board: &Board<E>, seat: &mut Place<E>, due: u64) -> bool
     requires seat { seat.old.table_id ≡ board.now.table_id }
     requires words { board.now.table_id.words ≡ 2 }
@@ -170,8 +170,8 @@ fn draw<E, N: Drawing>(board: &Board<E>, seat: &mut Place<E>, due: u64) -> bool
     board.compare_exchange::<Draws<N>>(seat, 1, due, due + 1) == due
 }
 
-/// A new seat with the due number, which stands for a pass. Where the next number is another, which
-/// never comes, there is no seat for it.
+/// A new seat with the number `due`, for a pass. There is no seat if the next number is another
+/// one, which never happens.
 pub fn take_number<E>(
     board: &Board<E>,
     list: &mut Place<E>,
@@ -195,7 +195,7 @@ pub fn take_number<E>(
     }
 }
 
-/// The closing load: each entry of the list is of one of the callers.
+/// The closing load, which shows that each entry of the list belongs to one of the callers.
 pub fn end<E>(board: &Board<E>, list: &mut Place<E>)
     requires seat { list.old.table_id ≡ board.now.table_id }
     requires words { board.now.table_id.words ≡ 2 }
@@ -206,7 +206,7 @@ pub fn end<E>(board: &Board<E>, list: &mut Place<E>)
     board.load::<Closes>(list, 0);
 }
 
-/// A last meeting both ways, and then the pass's seat is joined away.
+/// A last meeting in both directions, after which the pass's seat is joined to the list's.
 pub fn part<E>(board: &Board<E>, list: &mut Place<E>, mut pass: Place<E>)
     requires seats { (list.old.table_id ≡ board.now.table_id)
         × (pass.table_id ≡ board.now.table_id) }

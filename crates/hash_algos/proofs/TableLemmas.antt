@@ -1,4 +1,4 @@
--- A name and a number find their algorithm, and only it.
+-- A name and a number each identify one algorithm.
 use Rattle.std.proofs.Common.{◌≡◌, ◌==◌, ℕ, Bool, true, false, cond, List, [], ◌∷◌, Some, eqb-true, refl}
 use Rattle.std.specs.List.{find}
 use Rattle.std.specs.Str.{bytes_eq}
@@ -23,7 +23,7 @@ algo_by_name-name Sha384 = refl
 algo_by_name-name Sha512 = refl
 algo_by_name-name Sha224 = refl
 
--- what a search finds passes its test
+-- an element that a search finds passes its test
 find-passes : {X : Type 0} (p : X → Bool) (xs : List X) (x : X) → find p xs ≡ Some x → p x ≡ true
 find-passes p [] x found = absurd (cc found)
 find-passes p (y ∷ ys) x found =

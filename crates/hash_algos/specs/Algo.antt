@@ -1,5 +1,5 @@
--- The table of hash algorithms: names and numbers of include/uapi/linux/hash_info.h, and how many
--- bytes a digest has (RFC 1321, FIPS 180-4).
+-- The table of hash algorithms: the names and numbers of include/uapi/linux/hash_info.h, and the
+-- sizes of digests (RFC 1321, FIPS 180-4).
 use Rattle.std.specs.Prelude.{ℕ, List, [], ◌∷◌, ◌==◌, Option, codes}
 use Rattle.std.specs.List.{find}
 use Rattle.std.specs.Str.{bytes_eq}
@@ -26,7 +26,7 @@ algo_name Sha384 = codes "sha384"
 algo_name Sha512 = codes "sha512"
 algo_name Sha224 = codes "sha224"
 
--- the bytes of a digest
+-- the size of a digest in bytes
 abbrev pub algo_size : Algo → ℕ
 algo_size Md5 = 16
 algo_size Sha1 = 20

@@ -1,4 +1,4 @@
--- A set of algorithms. It is a Bool for each algorithm, so sets that hold the same are equal.
+-- A set of algorithms, as a Bool for each algorithm: sets with the same elements are equal.
 use Rattle.std.specs.Prelude.{Bool, true, false}
 use Rattle.hash_algos.specs.declared.algo.Algo.{Algo}
 use Rattle.hash_algos.specs.declared.algo.Algo.TheVariants.{Md5, Sha1, Sha256, Sha384, Sha512, Sha224}
@@ -23,7 +23,7 @@ holds_algo s Sha384 = s.sha384
 holds_algo s Sha512 = s.sha512
 holds_algo s Sha224 = s.sha224
 
--- the set with one algorithm more
+-- the set with this algorithm added
 abbrev pub with_algo : AlgoSet → Algo → AlgoSet
 with_algo s Md5 = record s { md5 = true }
 with_algo s Sha1 = record s { sha1 = true }

@@ -5,7 +5,7 @@ use Rattle.hash_algos.specs.declared.digest.Digest.{Digest}
 use Rattle.hash_algos.specs.Algo.{algo_size}
 use Rattle.hash_algos.specs.Hash.{hash}
 
--- as many bytes as the algorithm has
+-- the digest has as many bytes as its algorithm gives
 abbrev pub HasDigestSize : Digest → Type 0
 HasDigestSize d = length d.bytes ≡ algo_size d.algo
 

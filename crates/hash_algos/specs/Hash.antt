@@ -1,4 +1,4 @@
--- What each algorithm computes from a whole list of bytes.
+-- The function that each algorithm computes on a list of bytes.
 use Rattle.std.specs.Prelude.{ℕ, List}
 use Rattle.hash_algos.specs.declared.algo.Algo.{Algo}
 use Rattle.hash_algos.specs.declared.algo.Algo.TheVariants.{Md5, Sha1, Sha256, Sha384, Sha512, Sha224}
@@ -7,7 +7,7 @@ use Rattle.sha1.specs.Sha1.{sha1}
 use Rattle.sha2.specs.Sha256.{sha224, sha256}
 use Rattle.sha2.specs.Sha512.{sha384, sha512}
 
--- the hash of the bytes m: RFC 1321 and FIPS 180-4
+-- the hash of the bytes m, as RFC 1321 and FIPS 180-4 define it
 abbrev pub hash : Algo → List ℕ → List ℕ
 hash Md5 m = md5 m
 hash Sha1 m = sha1 m

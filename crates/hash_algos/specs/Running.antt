@@ -1,4 +1,4 @@
--- A hash under way: its algorithm, and the message that it has taken.
+-- A hash in progress: its algorithm, and the message that it has taken.
 use Rattle.std.specs.Prelude.{ℕ, List}
 use Rattle.md5.specs.Md5 as md5
 use Rattle.sha1.specs.Sha1 as sha1
@@ -28,6 +28,6 @@ HasherHolds (Sha224 h) m = sha2.Holds224 h m
 abbrev pub running_algo : Running → Algo
 running_algo r = hasher_algo r.hasher
 
--- the pieces that were fed make the message m
+-- the pieces fed so far are together the message m
 abbrev pub HasTaken : Running → List ℕ → Type 0
 HasTaken r m = HasherHolds r.hasher m

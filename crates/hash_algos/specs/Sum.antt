@@ -1,4 +1,5 @@
--- The inside of a digest, an array by algorithm, as its algorithm and its bytes, and back.
+-- Conversion between the representation of a digest, an array for each algorithm, and the record of
+-- its algorithm and its bytes.
 use Rattle.std.specs.Prelude.{◌≡◌, ℕ, List, refl}
 use Rattle.hash_algos.specs.declared.algo.Algo.{Algo}
 use Rattle.hash_algos.specs.declared.algo.Algo.TheVariants as algo

@@ -1,4 +1,4 @@
-// The table of algorithms.
+// The table of hash algorithms.
 
 ghost use Rattle.std.specs.Prelude.{◌≡◌};
 ghost use Rattle.hash_algos.specs.Algo.{algo_by_id, algo_by_name, algo_id, algo_name, algo_size};
@@ -6,9 +6,9 @@ ghost use Rattle.hash_algos.specs.Algo.{algo_by_id, algo_by_name, algo_id, algo_
 /// A hash algorithm. The order is that of the numbers, see [`Algo::id`].
 #[derive(Clone, Copy, PartialEq, Eq, Debug)]
 pub enum Algo {
-    /// RFC 1321
+    /// MD5 (RFC 1321).
     Md5,
-    /// FIPS 180-4, as are all that follow
+    /// SHA-1 (FIPS 180-4, which also defines all algorithms below).
     Sha1,
     Sha256,
     Sha384,
@@ -27,7 +27,7 @@ impl Algo {
         Algo::Sha224,
     ];
 
-    /// The number by which labels name the algorithm.
+    /// The number by which labels identify the algorithm.
     pub fn id(self) -> u8
         ensures { result ≡ algo_id self }
     {
@@ -55,7 +55,7 @@ impl Algo {
         }
     }
 
-    /// How many bytes a digest has.
+    /// The length of a digest in bytes.
     pub fn size(self) -> usize
         ensures { result ≡ algo_size self }
     {
@@ -70,7 +70,7 @@ impl Algo {
     }
 }
 
-/// The algorithm with this name; `None` exactly where no algorithm of the table has it.
+/// The algorithm with this name; `None` exactly if the table has no such algorithm.
 pub fn by_name(name: &[u8]) -> Option<Algo>
     ensures { result ≡ algo_by_name name.now }
 {
@@ -85,7 +85,7 @@ pub fn by_name(name: &[u8]) -> Option<Algo>
     }
 }
 
-/// The algorithm with this number; `None` exactly where no algorithm of the table has it.
+/// The algorithm with this number; `None` exactly if the table has no such algorithm.
 pub fn by_id(id: u8) -> Option<Algo>
     ensures { result ≡ algo_by_id id }
 {

@@ -5,8 +5,8 @@ ghost use Rattle.hash_algos.specs.AlgoSet.{holds_algo, no_algos, with_algo};
 
 use crate::algo::Algo;
 
-/// A set of algorithms, as `appraise_algos=` gives one. Two sets are equal exactly where they hold
-/// the same algorithms, in a contract and by `==`.
+/// A set of algorithms, as `appraise_algos=` lists them. Two sets are equal, in a contract and by
+/// `==`, exactly if they hold the same algorithms.
 #[derive(Clone, Copy, PartialEq, Eq, Debug)]
 pub struct AlgoSet {
     md5: bool,
@@ -18,7 +18,7 @@ pub struct AlgoSet {
 }
 
 impl AlgoSet {
-    /// The empty set.
+    /// The set without any algorithm.
     pub fn new() -> AlgoSet
         ensures { result ≡ no_algos }
     {
@@ -32,7 +32,7 @@ impl AlgoSet {
         }
     }
 
-    /// Puts the algorithm into the set, where it may be already.
+    /// Adds the algorithm to the set. Nothing changes if it is already there.
     pub fn add(&mut self, a: Algo)
         ensures { self.new ≡ with_algo self.old a }
     {
@@ -46,7 +46,7 @@ impl AlgoSet {
         }
     }
 
-    /// Whether the algorithm is in the set.
+    /// Whether the set holds the algorithm.
     pub fn has(&self, a: Algo) -> bool
         ensures { result ≡ holds_algo self.now a }
     {

@@ -1,4 +1,4 @@
-// A digest: an algorithm and as many bytes as it has.
+// A digest: an algorithm and as many bytes as its digests have.
 
 ghost use Rattle.std.specs.Prelude.{◌≡◌, length, IsSome, ◌↔◌, IfSome};
 ghost use Rattle.hash_algos.specs.Algo.{algo_size};
@@ -7,9 +7,9 @@ ghost use Rattle.hash_algos.specs.Digest.{HasDigestSize, zero_digest};
 use crate::algo::Algo;
 use std::marker::Model;
 
-/// A digest, seen by contracts as the record `{ algo; bytes }` of its algorithm and its bytes, in
-/// the order in which the standard writes them. There are as many bytes as the algorithm has, which
-/// [`Digest::as_slice`] says.
+/// A digest, which contracts see as the record `{ algo; bytes }` of its algorithm and its bytes, in
+/// the order in which the standard writes them. The number of bytes is that of the algorithm, which
+/// [`Digest::as_slice`] states.
 #[derive(Clone, Copy, PartialEq, Eq, Debug)]
 pub struct Digest {
     pub(crate) sum: Sum,
@@ -40,7 +40,8 @@ impl Model for Digest {
 }
 
 impl Digest {
-    /// The digest with these bytes; `None` exactly where there aren't as many as the algorithm has.
+    /// The digest with these bytes; `None` exactly if their number isn't that of the algorithm's
+    /// digests.
     pub fn from_slice(a: Algo, b: &[u8]) -> Option<Digest>
         ensures fits { IsSome result ↔ (length b.now ≡ algo_size a) }
         ensures value { IfSome result (λ d. d ≡ record { algo = a; bytes = b.now }) }
@@ -56,7 +57,7 @@ impl Digest {
         Some(Digest { sum })
     }
 
-    /// The digest whose bytes are all zero, as that of a boot aggregate without a TPM.
+    /// The digest whose bytes are all zero, such as a boot aggregate's on a machine without a TPM.
     pub fn zeros(a: Algo) -> Digest
         ensures { result ≡ zero_digest a }
     {
@@ -71,7 +72,7 @@ impl Digest {
         Digest { sum }
     }
 
-    /// The algorithm.
+    /// The algorithm of the digest.
     pub fn algo(&self) -> Algo
         ensures { result ≡ self.now.algo }
     {
@@ -85,7 +86,7 @@ impl Digest {
         }
     }
 
-    /// The bytes.
+    /// The digest's bytes, as many as [`Algo::size`] says.
     pub fn as_slice(&self) -> &[u8]
         ensures bytes { result.now ≡ self.now.bytes }
         ensures size { HasDigestSize self.now }

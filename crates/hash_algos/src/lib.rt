@@ -1,7 +1,7 @@
-//! The hash algorithms of file measurement: their names and numbers, sets of them, digests, and a
-//! hash that is fed by pieces. Names and numbers are those of the kernel's table of hash algorithms
-//! (include/uapi/linux/hash_info.h) as far as IMA's labels and templates use it. Nothing here takes
-//! memory.
+//! The hash algorithms of file measurement: their names and numbers, sets of them, digests, and
+//! incremental hashing. The names and numbers are those of the kernel's table of hash algorithms
+//! (include/uapi/linux/hash_info.h), as far as IMA's labels and templates use it. Nothing here
+//! allocates memory.
 #![tactic(auto)]
 
 mod algo;

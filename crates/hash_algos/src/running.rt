@@ -1,4 +1,4 @@
-// A hash that is fed by pieces.
+// Incremental hashing.
 
 ghost use Rattle.std.specs.Prelude.{◌≡◌, ℕ, List, [], ◌++◌};
 ghost use Rattle.hash_algos.specs.Digest.{digest_of};
@@ -10,7 +10,7 @@ use md5::{Digest as Md5Hasher, Md5};
 use sha1::Sha1;
 use sha2::{Digest as Sha2Hasher, Sha224, Sha256, Sha384, Sha512};
 
-/// The digest of the bytes by the algorithm.
+/// The digest of the bytes by the algorithm `a`.
 pub fn digest_of(a: Algo, bytes: &[u8]) -> Digest
     ensures { result ≡ digest_of a bytes.now }
 {
@@ -19,8 +19,9 @@ pub fn digest_of(a: Algo, bytes: &[u8]) -> Digest
     running.finish()
 }
 
-/// A hash under way: it takes its message in pieces, and how they are cut makes no difference.
-/// A contract says which messages it can have taken; what is fed joins their end.
+/// A hash in progress: it takes its message in pieces, and how the message is cut makes no
+/// difference. A contract states which messages it may have taken so far; each piece is appended to
+/// them.
 #[derive(Drop)]
 pub struct Running {
     hasher: Hasher,
@@ -37,7 +38,7 @@ enum Hasher {
 }
 
 impl Running {
-    /// A hash that has taken nothing.
+    /// A hash that hasn't taken any byte yet.
     pub fn new(a: Algo) -> Running
         ensures algo { running_algo result ≡ a }
         ensures empty { HasTaken result [] }
@@ -68,7 +69,7 @@ impl Running {
         }
     }
 
-    /// The digest of the message.
+    /// The digest of the whole message.
     pub fn finish(self) -> Digest
         ensures { (m : List ℕ) → HasTaken self m → result ≡ digest_of (running_algo self) m }
     {

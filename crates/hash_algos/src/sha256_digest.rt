@@ -1,4 +1,4 @@
-// A digest by SHA-256, without its algorithm.
+// A SHA-256 digest without its algorithm.
 
 ghost use Rattle.std.specs.Prelude.{◌≡◌};
 ghost use Rattle.hash_algos.specs.Digest.{HasDigestSize};
@@ -7,7 +7,7 @@ use crate::algo::Algo;
 use crate::digest::{Digest, Sum};
 use std::marker::Model;
 
-/// A digest by SHA-256: half as long as a [`Digest`], which has room for each algorithm's.
+/// A SHA-256 digest in half the space of a [`Digest`], which has room for any algorithm's.
 /// Contracts see it as that digest.
 #[derive(Clone, Copy, PartialEq, Eq, Debug)]
 pub struct Sha256Digest {
@@ -27,7 +27,7 @@ impl Model for Sha256Digest {
 }
 
 impl Sha256Digest {
-    /// The same digest, without its algorithm.
+    /// The same digest in the shorter form.
     pub fn of(digest: &Digest) -> Sha256Digest
         requires { digest.now.algo ≡ Algo.Sha256 }
         ensures { result ≡ digest.now }
@@ -38,7 +38,7 @@ impl Sha256Digest {
         }
     }
 
-    /// The bytes.
+    /// The 32 bytes of the digest.
     pub fn as_slice(&self) -> &[u8]
         ensures bytes { result.now ≡ self.now.bytes }
         ensures size { HasDigestSize self.now }

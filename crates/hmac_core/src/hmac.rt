@@ -6,7 +6,7 @@ use sha1::Sha1;
 /// The length of an HMAC-SHA1 in bytes.
 pub const MAC_LEN: usize = 20;
 
-// The length of a block of SHA-1 in bytes.
+// The block size of SHA-1 in bytes.
 const BLOCK_LEN: usize = 64;
 
 // The inner and the outer pad of RFC 2104, section 2.
@@ -14,7 +14,7 @@ const IPAD: u8 = 0x36;
 
 const OPAD: u8 = 0x5c;
 
-// A key of more than a block is hashed first; then zeros fill the block.
+// The key as one block: a longer key is hashed first, and zeros fill the rest.
 fn block_of(key: &[u8]) -> [u8; BLOCK_LEN]
     ensures { result ≡ block_key key.now }
 {
@@ -27,7 +27,7 @@ fn block_of(key: &[u8]) -> [u8; BLOCK_LEN]
     block
 }
 
-// The block with `pad` added to each byte by exclusive or.
+// The block with each byte XORed with `pad`.
 fn pad_with(block: &[u8; BLOCK_LEN], pad: u8) -> [u8; BLOCK_LEN]
     ensures { result ≡ padded pad block.now }
 {
@@ -38,7 +38,8 @@ fn pad_with(block: &[u8; BLOCK_LEN], pad: u8) -> [u8; BLOCK_LEN]
     out
 }
 
-/// The HMAC-SHA1 of a message that comes in pieces: `new`, a `feed` for each piece, and `finish`.
+/// The HMAC-SHA1 of a message that comes in pieces: call `new`, then `feed` for each piece, and
+/// `finish`.
 #[derive(Drop)]
 pub struct HmacSha1 {
     inner: Sha1,
@@ -46,8 +47,8 @@ pub struct HmacSha1 {
 }
 
 impl HmacSha1 {
-    /// The state of this key and the empty message. A key may have any length; as RFC 2104 says,
-    /// one of more than 64 bytes is hashed first.
+    /// The state for this key and the empty message. A key may have any length; as RFC 2104
+    /// requires, one of more than 64 bytes is hashed first.
     pub fn new(key: &[u8]) -> HmacSha1
         ensures { Holds result key.now [] }
     {
@@ -59,14 +60,14 @@ impl HmacSha1 {
         HmacSha1 { inner, outer }
     }
 
-    /// Adds `piece` to the message.
+    /// Appends `piece` to the message.
     pub fn feed(&mut self, piece: &[u8])
         ensures { (key m : List ℕ) → Holds self.old key m → Holds self.new key (m ++ piece.now) }
     {
         self.inner.update(piece);
     }
 
-    /// The HMAC of all pieces, in the order in which they were fed, however they were cut.
+    /// The HMAC of the concatenated pieces; how the message was cut makes no difference.
     pub fn finish(self) -> [u8; MAC_LEN]
         ensures { (key m : List ℕ) → Holds self key m → result ≡ hmac key m }
     {

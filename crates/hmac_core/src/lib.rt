@@ -1,6 +1,6 @@
 //! HMAC-SHA1 (RFC 2104 with the SHA-1 of FIPS 180-4), fed piece by piece.
 //!
-//! No call takes memory. EVM uses it over a file's attributes and metadata.
+//! No call allocates memory. EVM computes it over a file's attributes and metadata.
 #![tactic(auto)]
 
 mod hmac;

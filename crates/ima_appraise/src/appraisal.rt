@@ -7,7 +7,7 @@ use label_values::hashes::{Algo, AlgoSet, Digest};
 use label_values::meta::{EvmStatus, Need};
 use label_values::{Cause, Label, Mend, Verdict, read_label};
 
-// Where nothing is wrong the algorithm may still be denied.
+// The verdict if nothing else is wrong: the algorithm may still be denied.
 fn by_algorithm(algos: Option<AlgoSet>, algo: Algo) -> Verdict
     ensures { result ≡ by_algorithm algos algo }
 {
@@ -17,7 +17,7 @@ fn by_algorithm(algos: Option<AlgoSet>, algo: Algo) -> Verdict
     }
 }
 
-// A file without a label.
+// The verdict on a file without a label.
 fn unlabelled(need: Need, algos: Option<AlgoSet>, algo: Algo, size: u64, new: bool) -> Verdict
     ensures { result ≡ judge_unlabelled need algos algo size new }
 {
@@ -29,14 +29,14 @@ fn unlabelled(need: Need, algos: Option<AlgoSet>, algo: Algo, size: u64, new: bo
     }
 }
 
-// Whether the label's bytes from the digest's place on begin with the whole digest.
+// Whether the bytes of the label from the offset `from` on begin with the whole digest.
 fn has_digest(bytes: &[u8], from: usize, file: &Digest) -> bool
     ensures { result ≡ starts_with nat_eq (drop from bytes.now) file.now.bytes }
 {
     bytes[from.min(bytes.len())..].starts_with(file.as_slice())
 }
 
-// A file whose label is a digest, which fits or doesn't.
+// The verdict on a file whose label is a digest, which may or may not match.
 fn summed(need: Need, algos: Option<AlgoSet>, fits: bool, algo: Algo) -> Verdict
     ensures { result ≡ judge_summed need algos fits algo }
 {
@@ -49,7 +49,7 @@ fn summed(need: Need, algos: Option<AlgoSet>, fits: bool, algo: Algo) -> Verdict
     }
 }
 
-// A file with a label.
+// The verdict on a file with a label.
 fn labelled(
     need: Need,
     algos: Option<AlgoSet>,
@@ -75,8 +75,9 @@ fn labelled(
 }
 
 /// The verdict on a file whose digest is `file`, by the algorithm that `collect_algo` gives for the
-/// label: what the rule needs and which algorithms it allows, the value of `security.ima`, the EVM
-/// status, the script's default algorithm, the file's size in bytes, and whether the file is new.
+/// label. It depends on the kind of label that the rule needs, the algorithms that the rule allows,
+/// the value of `security.ima`, the EVM status, the script's default algorithm, the file's size in
+/// bytes, and whether the file is new.
 pub fn verdict(
     need: Need,
     algos: Option<AlgoSet>,
@@ -99,11 +100,11 @@ pub fn verdict(
     }
 }
 
-/// What mode fix writes on the verdict `found`, where `sound` is the verdict under a right HMAC and
-/// `kind` is what the label says: nothing on a verdict Pass, on a denied algorithm and over a
-/// signature; where the HMAC is of the older form, the HMAC alone, and only where nothing else was
-/// wrong; else the label and the HMAC. A verdict that is still in force may differ from one that
-/// [`verdict`] gives anew.
+/// The attributes that fix mode writes on the verdict `found`, where `sound` is the verdict under a
+/// right HMAC and `kind` is the parsed label. It writes nothing on a verdict Pass, on a denied
+/// algorithm, and over a signature. If the HMAC has the older form, it writes only the HMAC, and
+/// only if nothing else was wrong. Otherwise it writes the label and the HMAC. A cached verdict may
+/// differ from one that [`verdict`] computes again.
 pub fn mend_for(found: Verdict, sound: Verdict, status: EvmStatus, kind: Label) -> Mend
     ensures { result ≡ mend_for found sound status kind }
 {

@@ -1,4 +1,4 @@
-//! Appraisal: whether a file may be used, and what mode fix writes where it may not. No call takes
+//! Appraisal: whether a file may be used, and what fix mode repairs if not. No call allocates
 //! memory.
 #![tactic(auto)]
 

@@ -1,4 +1,4 @@
--- Lemmas on pieces of bytes.
+-- Lemmas about bytes in pieces.
 use Rattle.std.proofs.Common.{◌≡◌, ℕ, zero, suc, ◌+◌, ◌-◌, ◌<◌, ◌≤◌, List, [], ◌∷◌, ◌++◌, length, take, drop, get_or, refl, ap, sym, ◌∙◌, subst, arith, append_assoc, take-append-drop, length-take-le, length-append}
 use Rattle.std.specs.List.{flat_map}
 use Rattle.std.proofs.KnownBytes.{Appends-trans}
@@ -8,7 +8,7 @@ use Rattle.std.proofs.lemmas.List.{drop-drop, take_rest}
 use Rattle.std.specs.Io.KnownBytes.{Appends}
 use Rattle.ima_io.specs.Bytes.{TookPart}
 
--- what a read copies from what is left is what the buffer then begins with
+-- the buffer begins with the bytes that a read copied to it
 pub front_given : (xs buf front : List ℕ) (g n : ℕ) → front ≡ take n (drop g xs)
     → n ≤ length (drop g xs)
     → drop g xs ≡ take n (front ++ drop n buf) ++ drop (g + n) xs
@@ -20,13 +20,14 @@ front_given xs buf front g n e h =
     ∙ ap (λ ys. take n (drop g xs) ++ ys) (sym (drop-drop n g xs))
     ∙ take-append-drop n (drop g xs))
 
--- the length of a list and of a prefix behind it
+-- the length of a list followed by a prefix of another
 pub length-append-take : (xs ys : List ℕ) (n : ℕ) → n ≤ length ys
     → length (xs ++ take n ys) ≡ length xs + n
 length-append-take xs ys n h = length-append xs (take n ys)
     ∙ ap (λ k. length xs + k) (length-take-le n ys h)
 
--- what is done and what is left make the whole, after a prefix of what is left is done
+-- the parts before and after are still the whole, after a prefix of the second part is moved to the
+-- first
 pub moves_front : (all done rest : List ℕ) (n : ℕ) → all ≡ done ++ rest
     → all ≡ (done ++ take n rest) ++ take (length rest - n) (drop n rest)
 moves_front all done rest n e =
@@ -34,7 +35,7 @@ moves_front all done rest n e =
     ∙ sym (append_assoc done (take n rest) (drop n rest))
     ∙ ap (λ ys. (done ++ take n rest) ++ ys) (sym (take_rest rest n))
 
--- where something is left of a piece, a part of it was taken
+-- if a rest of the piece is left, only a part of the piece was taken
 pub TookPart-of_rest : (a b : Option (List ℕ)) (piece done rest : List ℕ) → piece ≡ done ++ rest
     → 0 < length rest → Appends a b done
     → TookPart a b piece
@@ -44,19 +45,19 @@ TookPart-of_rest a b piece done rest e more taken = (
   subst (Appends a b) (sym (ap (take (length done)) e ∙ take-append_seam done rest)) taken,
 )
 
--- a prefix that ends within the first of two parts
+-- a prefix of two parts that ends within the first
 take_within : (xs ys : List ℕ) (n : ℕ) → n ≤ length xs → take n (xs ++ ys) ≡ take n xs
 take_within xs ys zero h = refl
 take_within [] ys (suc n) h = absurd (omega (arith, h))
 take_within (x ∷ xs) ys (suc n) h = ap (λ l. x ∷ l) (take_within xs ys n (omega (arith, h)))
 
--- a prefix that ends behind the first of two parts
+-- a prefix of two parts that ends after the first
 take_past : (xs ys : List ℕ) (n m : ℕ) → m ≡ length xs + n → take m (xs ++ ys) ≡ xs ++ take n ys
 take_past [] ys n m e = let same : m ≡ n = omega (arith, e) in rw same refl
 take_past (x ∷ xs) ys n zero e = absurd (omega (arith, e))
 take_past (x ∷ xs) ys n (suc m) e = ap (λ l. x ∷ l) (take_past xs ys n m (omega (arith, e)))
 
--- the bytes of all are those before a place, the one there and those behind it
+-- the bytes of all elements are those before an index, those at the index and those after it
 pub flat_at : {X : Type 0} (f : X → List ℕ) (xs : List X) (i : ℕ) (x : X) → i < length xs
     → x ≡ get_or xs i x
     → flat_map f xs ≡ flat_map f (take i xs) ++ (f x ++ flat_map f (drop (suc i) xs))
@@ -66,7 +67,7 @@ flat_at f (y ∷ ys) (suc i) x h e =
     ap (λ l. f y ++ l) (flat_at f ys i x (omega (arith, h)) e)
     ∙ sym (append_assoc (f y) (flat_map f (take i ys)) (f x ++ flat_map f (drop (suc i) ys)))
 
--- what was taken of one part, behind those that were taken whole, is a part of all
+-- if whole parts were taken and then a part of the next, a part of all the bytes was taken
 pub TookPart-behind : (a b d : Option (List ℕ)) (all done piece rest : List ℕ)
     → all ≡ done ++ (piece ++ rest) → Appends a b done → TookPart b d piece → TookPart a d all
 TookPart-behind a b d all done piece rest e taken part =

@@ -1,14 +1,14 @@
--- The counts of faults, and the numbers of calls.
+-- The counts of faults and of calls.
 use Rattle.std.specs.Prelude.{◌≡◌, ℕ, ◌+◌, ◌-◌, ◌^◌, ◌<◌, ◌⊎◌, min}
 
--- the last value of a counter of 64 bits
+-- the greatest value of a 64-bit counter
 abbrev pub last_count : ℕ
 last_count = 2 ^ 64 - 1
 
--- one more, up to the counter's last value
+-- the count after one more, saturating at the greatest value
 abbrev pub counted_on : ℕ → ℕ
 counted_on n = min (n + 1) last_count
 
--- the count rose, or stands at the counter's last value
+-- the count rose, or has reached the greatest value
 abbrev pub Rose : ℕ → ℕ → Type 0
 Rose before now = (before < now) ⊎ (now ≡ last_count)

@@ -1,4 +1,4 @@
--- What the calls on the outside give, take and count.
+-- The bytes and counts of calls on the outside.
 pub mod Counts
 pub mod Bytes
 pub mod Memory

@@ -2,8 +2,8 @@
 use Rattle.std.specs.Prelude.{◌==◌, ℕ, Bool, List}
 use Rattle.std.specs.List.{list_any}
 
--- What a source in memory has left, the most bytes that one call gives, the numbers of the calls
--- that fail, the number of the next call, and its count of faults.
+-- A source in memory: the bytes it has left, the most bytes that one call gives, the numbers of the
+-- calls that fail, the number of the next call, and its count of faults.
 pub record Feed : Type 0 where
   pub left : List ℕ
   pub piece : ℕ
@@ -11,8 +11,8 @@ pub record Feed : Type 0 where
   pub call : ℕ
   pub faults : ℕ
 
--- What a sink in memory took, the most bytes that it takes in all and in one call, the numbers of
--- the calls that fail, the number of the next call, and its count of faults.
+-- A sink in memory: the bytes it took, the most bytes that it takes in all and in one call, the
+-- numbers of the calls that fail, the number of the next call, and its count of faults.
 pub record Store : Type 0 where
   pub taken : List ℕ
   pub room : ℕ
@@ -21,6 +21,6 @@ pub record Store : Type 0 where
   pub call : ℕ
   pub faults : ℕ
 
--- the call of this number is one that fails
+-- the call with this number is one of those that fail
 abbrev pub fails_at : List ℕ → ℕ → Bool
 fails_at fails call = list_any (λ n. n == call) fails

@@ -1,11 +1,12 @@
-//! The outside of a run: where bytes come from, where they go, and where a task may be held up.
+//! The outside of a run: the source of its bytes, the sink for its output, and the gate that can
+//! hold up a task.
 //!
-//! `Source`, `Sink` and `Gate` are the traits through which everything else sees the outside. Of a
-//! source contracts see the bytes that it has left, where it tells them, and its count of faults;
-//! of a sink the bytes that it took, where it tells them, and its count of faults. `MemSource` and
-//! `MemSink` are sources and sinks in memory, with faults where a test wants them. `StdSource` and
-//! `StdSink` put the process's own streams behind the traits: no contract says which bytes come
-//! from the system or reach it, so these two are the trusted edge. `read_all`, `write_all` and
+//! `Source`, `Sink` and `Gate` are the traits through which everything else sees the outside. For a
+//! source, contracts see the bytes it has left, if these are known, and its count of faults; for a
+//! sink, the bytes it took, if these are known, and its count of faults. `MemSource` and `MemSink`
+//! are a source and a sink in memory that fail at chosen calls, for tests. `StdSource` and
+//! `StdSink` adapt the process's own streams to the traits: no contract says which bytes come from
+//! the system or reach it, so these two are the trusted edge. `read_all`, `write_all` and
 //! `write_pieces` are the only loops over a source or a sink.
 #![tactic(auto)]
 

@@ -1,4 +1,4 @@
-// A source and a sink in memory, whose faults are chosen.
+// A source and a sink in memory, which fail at chosen calls.
 mod sink;
 mod source;
 

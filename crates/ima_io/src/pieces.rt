@@ -1,12 +1,12 @@
-// Bytes in pieces.
+// Bytes in pieces that are never moved.
 ghost use Rattle.std.specs.Prelude.{◌≡◌, [], ◌++◌, IfOk, OnOk};
 ghost use Rattle.std.specs.List.{flat_map};
 
 use std::alloc::{AllocError as OutOfMemory, Global};
 use std::marker::Model;
 
-/// Bytes in pieces: they need not lie behind one another, so those that are there stay where they
-/// are when more come. Contracts see all the bytes.
+/// Bytes in pieces that needn't be contiguous in memory, so that a new piece doesn't move the older
+/// ones. Contracts see the concatenated bytes.
 #[derive(Drop)]
 pub struct Pieces {
     pieces: Vec<Vec<u8>>,
@@ -22,7 +22,7 @@ impl Model for Pieces {
 }
 
 impl Pieces {
-    /// No bytes.
+    /// An empty collection of pieces.
     pub fn new(alloc: Global) -> Pieces
         ensures { result ≡ [] }
     {
@@ -31,7 +31,7 @@ impl Pieces {
         }
     }
 
-    /// Adds a piece behind the others.
+    /// Appends a piece after the others.
     pub fn push(&mut self, piece: Vec<u8>) -> Result<(), OutOfMemory>
         ensures { OnOk result (self.new ≡ self.old ++ piece.items) }
     {
@@ -46,7 +46,7 @@ impl Pieces {
         self.pieces.as_slice()
     }
 
-    /// The bytes in one piece.
+    /// The bytes of all pieces, copied into one vector.
     pub fn joined(&self, alloc: Global) -> Result<Vec<u8>, OutOfMemory>
         ensures { IfOk result (λ bytes. bytes.items ≡ self.now) }
     {

@@ -1,4 +1,4 @@
-// The process's own streams behind the traits: the trusted edge.
+// Adapters of the process's own streams to the traits: the trusted edge.
 mod sink;
 mod source;
 

@@ -1,4 +1,4 @@
-// Reading a source to its end, and writing a piece whole.
+// Reading a source to its end, and writing pieces completely.
 ghost use Rattle.std.specs.Prelude.{◌≡◌, ◌+◌, ◌<◌, ◌≤◌, ◌↔◌, length, IfOk, OnOk, OnErr, IsErrOf, vec_len};
 ghost use Rattle.std.specs.Io.KnownBytes.{Appends, Consumes, IsAtEnd, ReadConsumes};
 ghost use Rattle.ima_io.specs.Counts.{Rose};
@@ -9,13 +9,13 @@ use crate::outside::{Failed, Sink, Source};
 use crate::pieces::Pieces;
 use std::alloc::{AllocError as OutOfMemory, Global};
 
-/// Why [`read_all`] didn't read a source to its end. Writing has no such enum: [`write_all`] can
-/// only be [`Failed`].
+/// Why [`read_all`] didn't read a source to its end. Writing needs no such enum: the only error of
+/// [`write_all`] is [`Failed`].
 #[derive(Clone, Copy, Debug, PartialEq, Eq)]
 pub enum ReadErr {
     /// The source failed.
     Fault,
-    /// The source gave more bytes than the limit.
+    /// The source had more bytes than the limit.
     TooLong,
     /// Memory ran out.
     OutOfMemory,
@@ -37,17 +37,17 @@ impl From<OutOfMemory> for ReadErr {
     }
 }
 
-// The most bytes that are read in one call.
+// The most bytes that one call reads.
 const CHUNK: usize = 65_536;
 
-// Room for what one call reads.
+// A buffer for one call's bytes.
 fn new_chunk(alloc: Global) -> Result<Vec<u8>, OutOfMemory>
     ensures { IfOk result (λ chunk. 0 < vec_len chunk) }
 {
     vec![in alloc; 0u8; CHUNK]
 }
 
-// One read of at most `most` bytes to the beginning of the chunk.
+// Reads once, at most `most` bytes, into the beginning of the chunk.
 fn read_some<S: Source>(source: &mut S, chunk: &mut [u8], most: usize) -> Result<usize, Failed>
     requires room { 0 < length chunk.old }
     requires some { 0 < most }
@@ -63,17 +63,16 @@ fn read_some<S: Source>(source: &mut S, chunk: &mut [u8], most: usize) -> Result
 
 /// The bytes of the source up to its end.
 ///
-/// `Fault` comes only where the source's count of faults rose in this call, `TooLong` exactly where
-/// the source gave more than `limit` bytes. At most one byte more than `limit` is asked of it.
+/// `Fault` is returned only if the source's count of faults rose in this call, `TooLong` exactly if
+/// the source gave more than `limit` bytes. At most `limit + 1` bytes are requested from it.
 pub fn read_all<S: Source>(alloc: Global, source: &mut S, limit: usize) -> Result<Vec<u8>, ReadErr>
-    // At `Ok` these are all the bytes, and none is left.
+    // On `Ok` these are all the bytes, and none is left.
     ensures all { IfOk result
         (λ bytes. Consumes (S.left source.old) (S.left source.new) bytes.items) }
     ensures end { OnOk result (IsAtEnd (S.left source.new)) }
     ensures short { IfOk result (λ bytes. length bytes.items ≤ limit) }
 
-    // Whatever the answer: what the source gave, of which at most one byte more than `limit` is
-    // asked.
+    // For every result: the bytes that the source gave, of which at most `limit + 1` are requested.
     ensures given { Gave (S.left source.old) (S.left source.new) (λ given.
         (length given ≤ limit + 1) × (IsErrOf result ReadErr.TooLong ↔ (limit < length given))
         × IfOk result (λ bytes. bytes.items ≡ given)) }
@@ -97,8 +96,8 @@ pub fn read_all<S: Source>(alloc: Global, source: &mut S, limit: usize) -> Resul
     }
 }
 
-/// Writes the piece whole. `Failed` comes only where the sink's count of faults rose in this call;
-/// what was taken is then a prefix of the piece that is shorter than the piece. It takes no memory.
+/// Writes the whole piece. `Failed` is returned only if the sink's count of faults rose in this
+/// call; the bytes taken are then a proper prefix of the piece. Allocates no memory.
 pub fn write_all<K: Sink>(sink: &mut K, piece: &[u8]) -> Result<(), Failed>
     ensures whole { OnOk result (Appends (K.taken sink.old) (K.taken sink.new) piece.now) }
     ensures part { OnErr result (TookPart (K.taken sink.old) (K.taken sink.new) piece.now) }
@@ -113,9 +112,9 @@ pub fn write_all<K: Sink>(sink: &mut K, piece: &[u8]) -> Result<(), Failed>
     Ok(())
 }
 
-/// Writes the pieces whole, one after another. `Failed` comes only where the sink's count of faults
-/// rose in this call; what was taken is then a prefix of the bytes that is shorter than they are.
-/// It takes no memory.
+/// Writes all pieces, one after another. `Failed` is returned only if the sink's count of faults
+/// rose in this call; the bytes taken are then a proper prefix of the concatenated pieces.
+/// Allocates no memory.
 pub fn write_pieces<K: Sink>(sink: &mut K, pieces: &Pieces) -> Result<(), Failed>
     ensures whole { OnOk result (Appends (K.taken sink.old) (K.taken sink.new) pieces.now) }
     ensures part { OnErr result (TookPart (K.taken sink.old) (K.taken sink.new) pieces.now) }

@@ -1,4 +1,5 @@
--- Entries of one template with one template data have one digest, one name and one third field.
+-- Entries with the same template and equal template data have equal digests, names and third
+-- fields.
 use Rattle.std.proofs.Common.{◌≡◌, ℕ, zero, suc, ◌^◌, ◌+◌, ◌-◌, ◌*◌, ◌%◌, ◌/◌, ◌<◌, ◌≤◌, ◌==◌, false, not, if◌then◌else◌, List, [], ◌∷◌, ◌++◌, length, take, drop, replicate, Some, arith, refl, ap, subst, sym, ◌∙◌, append_assoc, length-append, ne_eqb}
 use Rattle.std.proofs.lemmas.List.{length-replicate, append-nil, append_cancel_left, append_cancel_right}
 use Rattle.std.proofs.Math.Seq.{take-append_seam, drop-append_seam}
@@ -22,7 +23,7 @@ use Rattle.ima_templates.specs.Same.{SameFields}
 
 -- ---- lists
 
--- two lists cut at one place
+-- equal lists that are cut at the same index have equal parts
 append_apart : {X : Type 0} (xs ys : List X) (us vs : List X) → length xs ≡ length ys
     → xs ++ us ≡ ys ++ vs
     → (xs ≡ ys) × (us ≡ vs)
@@ -35,16 +36,16 @@ append_apart xs ys us vs same_length same =
     ∙ ap (λ n. drop n (ys ++ vs)) same_length ∙ drop-append_seam ys vs in
     (front, back)
 
--- ---- a field with its length
+-- ---- a field after its length
 
--- how long `d-ng` is
+-- the length of `d-ng`
 length-d_ng : (digest : Digest)
     → length (d_ng digest) ≡ length (algo_name digest.algo) + 2 + length digest.bytes
 length-d_ng digest =
     length-append (algo_name digest.algo ++ 58 ∷ []) (0 ∷ digest.bytes)
     ∙ omega (arith, length-append (algo_name digest.algo) (58 ∷ []))
 
--- numbers that fit in 4 bytes are told apart by them
+-- numbers with the same 4 little-endian bytes are equal
 little_bytes-apart : (m n : ℕ) → m < 2 ^ 32 → n < 2 ^ 32 → little_bytes 4 m ≡ little_bytes 4 n
     → m ≡ n
 little_bytes-apart m n fits_m fits_n same =
@@ -54,7 +55,7 @@ little_bytes-apart m n fits_m fits_n same =
     let b3 : m / 16777216 % 256 ≡ n / 16777216 % 256 = cc same in
     omega arith
 
--- two fields with their lengths, each followed by more
+-- equal data that begin with a field after its length begin with the same field
 sized-apart : (f g us vs : List ℕ) → length f < 2 ^ 32 → length g < 2 ^ 32
     → sized f ++ us ≡ sized g ++ vs
     → (f ≡ g) × (us ≡ vs)
@@ -70,7 +71,7 @@ sized-apart f g us vs fits_f fits_g same =
 
 -- ---- `d-ng` and `n-ng`
 
--- what stands in front of the colon is an algorithm's name
+-- the part before the colon is the name of an algorithm
 algo_of : (digest : Digest)
     → algo_by_name (take_while (λ b. not (b == 58)) (d_ng digest)) ≡ Some digest.algo
 algo_of digest = named digest.algo digest.bytes where
@@ -84,7 +85,7 @@ algo_of digest = named digest.algo digest.bytes where
   named Sha512 bytes = refl
   named Sha224 bytes = refl
 
--- so the field tells the digest
+-- equal `d-ng` fields have equal digests
 d_ng-apart : (a b : Digest) → d_ng a ≡ d_ng b → a ≡ b
 d_ng-apart a b same =
     let one_algo : Some a.algo ≡ Some b.algo =
@@ -101,12 +102,12 @@ d_ng-apart a b same =
 
 -- ---- `d` and `n`
 
--- what stands in front of the first zero
+-- the part of the bytes before the first zero
 abbrev before_zero : List ℕ → List ℕ
 before_zero [] = []
 before_zero (b ∷ bs) = if b == 0 then [] else b ∷ before_zero bs
 
--- and the name is that
+-- the part of `n` before the first zero is the name
 name_of : (name : List ℕ) (count : ℕ) → All IsGraphic name
     → before_zero (name ++ replicate count 0) ≡ name
 name_of [] zero graphic = refl
@@ -117,7 +118,7 @@ name_of (b ∷ bs) count graphic =
     let rest = name_of bs count (λ k d below. graphic (suc k) d (omega arith)) in
     rw b_not_zero (ap (λ l. b ∷ l) rest)
 
--- names filled up with zeros
+-- names padded with zeros to equal bytes are equal
 filled-apart : (m n : List ℕ) (j k : ℕ) → All IsGraphic m → All IsGraphic n
     → m ++ replicate j 0 ≡ n ++ replicate k 0 → m ≡ n
 filled-apart m n j k graphic_m graphic_n same =
@@ -129,7 +130,7 @@ filled-apart m n j k graphic_m graphic_n same =
 length-n_ng-fits : (name : List ℕ) → length name ≤ 1024 → length (n_ng name) < 2 ^ 32
 length-n_ng-fits name at_most = omega (arith, length-append name (0 ∷ []))
 
--- no digest has more than 64 bytes
+-- a digest has at most 64 bytes
 algo_size-le : (a : Algo) → algo_size a ≤ 64
 algo_size-le Md5 = omega arith
 algo_size-le Sha1 = omega arith
@@ -138,7 +139,7 @@ algo_size-le Sha384 = omega arith
 algo_size-le Sha512 = omega arith
 algo_size-le Sha224 = omega arith
 
--- no name of an algorithm has more than 6
+-- the name of an algorithm has at most 6 bytes
 length-algo_name-le : (a : Algo) → length (algo_name a) ≤ 6
 length-algo_name-le Md5 = omega arith
 length-algo_name-le Sha1 = omega arith
@@ -158,15 +159,14 @@ length-d_ng-fits digest size =
       length-d_ng digest,
     )
 
--- what an entry keeps of its digest and its name. This is enough for both to be read off the
--- template data
+-- the facts about an entry's digest and name that suffice to recover both from the template data
 pub record IsNamed (e : Entry) : Type 0 where
   pub digest_size : HasDigestSize e.digest
   pub digest_of_ima : e.template ≡ Ima → e.digest.algo ≡ Sha1
   pub name_at_most : length e.name ≤ 1024
   pub name_graphic : All IsGraphic e.name
 
--- each entry keeps this
+-- each entry satisfies `IsNamed`
 pub entry_named : (e : Entry) → IsEntry e → IsNamed e
 entry_named e kept = record {
   digest_size = kept.digest_size;
@@ -175,7 +175,7 @@ entry_named e kept = record {
   name_graphic = kept.name_graphic;
 }
 
--- the fields of all templates but `ima`, with what follows them
+-- equal `d-ng` and `n-ng` fields, each after its length and followed by more data
 ng_fields : (a b : Entry) (us vs : List ℕ) → IsNamed a → IsNamed b
     → sized (d_ng a.digest) ++ (sized (n_ng a.name) ++ us)
     ≡ sized (d_ng b.digest) ++ (sized (n_ng b.name) ++ vs)
@@ -193,7 +193,7 @@ ng_fields a b us vs kept_a kept_b same =
       names.1,
     )
 
--- the same with the third field
+-- equal `d-ng`, `n-ng` and third fields, each after its length
 sig_fields : (a b : Entry) → IsEntry a → IsEntry b
     → sized (d_ng a.digest) ++ (sized (n_ng a.name) ++ (sized a.sig ++ []))
     ≡ sized (d_ng b.digest) ++ (sized (n_ng b.name) ++ (sized b.sig ++ []))
@@ -206,7 +206,7 @@ sig_fields a b kept_a kept_b same =
     let sigs = sized-apart a.sig b.sig [] [] fits_a fits_b fields.2 in
     (fields.0, fields.1, sigs.0)
 
--- the fields of `ima`
+-- equal fields of the template `ima`
 ima_fields : (a b : Entry) → IsNamed a → IsNamed b → a.template ≡ Ima → b.template ≡ Ima
     → a.digest.bytes ++ (n_padded a.name ++ []) ≡ b.digest.bytes ++ (n_padded b.name ++ [])
     → (a.digest ≡ b.digest) × (a.name ≡ b.name)
@@ -222,7 +222,7 @@ ima_fields a b kept_a kept_b is_a is_b same =
           (sym (append-nil (n_padded a.name)) ∙ cut.1 ∙ append-nil (n_padded b.name)),
     )
 
--- the fields, template by template
+-- equal template data have equal fields, by cases over the template
 fields_at : (a b : Entry) (t : Template) → IsEntry a → IsEntry b → a.template ≡ t → b.template ≡ t
     → data_by t a.digest a.name a.sig ≡ data_by t b.digest b.name b.sig → SameFields a b
 fields_at a b Ima kept_a kept_b is_a is_b same =
@@ -234,7 +234,7 @@ fields_at a b ImaNg kept_a kept_b is_a is_b same =
 fields_at a b ImaSig kept_a kept_b is_a is_b same = sig_fields a b kept_a kept_b same
 fields_at a b ImaBuf kept_a kept_b is_a is_b same = sig_fields a b kept_a kept_b same
 
--- one template and one template data make one digest, one name and one third field
+-- entries with the same template and equal template data have equal digests, names and third fields
 pub template_data-apart : (a b : Entry) → IsEntry a → IsEntry b → a.template ≡ b.template
     → template_data a ≡ template_data b → SameFields a b
 unfolding template_data
@@ -242,7 +242,7 @@ template_data-apart a b kept_a kept_b templates same =
     fields_at a b a.template kept_a kept_b refl (sym templates)
     (same ∙ ap (λ (t : Template). data_by t b.digest b.name b.sig) (sym templates))
 
--- digest and name, template by template
+-- equal template data have equal digests and names, by cases over the template
 named_at : (a b : Entry) (t : Template) → IsNamed a → IsNamed b → a.template ≡ t → b.template ≡ t
     → data_by t a.digest a.name a.sig ≡ data_by t b.digest b.name b.sig
     → (a.digest ≡ b.digest) × (a.name ≡ b.name)
@@ -256,7 +256,8 @@ named_at a b ImaBuf named_a named_b is_a is_b same =
     let fields = ng_fields a b (sized a.sig ++ []) (sized b.sig ++ []) named_a named_b same in
     (fields.0, fields.1)
 
--- the same for the digest and the name alone, whatever stands in the third field
+-- entries with the same template and equal template data have equal digests and names, whatever the
+-- third field
 pub template_data-named : (a b : Entry) → IsNamed a → IsNamed b → a.template ≡ b.template
     → template_data a ≡ template_data b
     → (a.digest ≡ b.digest) × (a.name ≡ b.name)
@@ -265,16 +266,16 @@ template_data-named a b named_a named_b templates same =
     named_at a b a.template named_a named_b refl (sym templates)
     (same ∙ ap (λ (t : Template). data_by t b.digest b.name b.sig) (sym templates))
 
--- and the fields make the template data
+-- entries with the same template and equal fields have equal template data
 pub template_data-same : (a b : Entry) → a.template ≡ b.template → SameFields a b
     → template_data a ≡ template_data b
 unfolding template_data
 template_data-same a b templates fields =
     λ i. data_by (templates i) (fields.0 i) (fields.1 i) (fields.2 i)
 
--- ---- how long template data is
+-- ---- the length of template data
 
--- no field holds more than 4,096 bytes
+-- the content of a field has at most 4,096 bytes
 length-content-le : (f : Field) (digest : Digest) (name sig : List ℕ) → HasLengths digest name sig
     → length (content f digest name sig) ≤ 4096
 length-content-le field.Digest digest name sig fits =
@@ -304,12 +305,12 @@ pub length-content-fits : (f : Field) (digest : Digest) (name sig : List ℕ)
     → HasLengths digest name sig → length (content f digest name sig) < 2 ^ 32
 length-content-fits f digest name sig fits = omega (arith, length-content-le f digest name sig fits)
 
--- a length has 4 bytes
+-- the length before a field takes 4 bytes
 length-sized : (bytes : List ℕ) → length (sized bytes) ≡ 4 + length bytes
 unfolding sized
 length-sized bytes = length-append (little_bytes 4 (length bytes)) bytes
 
--- with its length a field has at most 4,100
+-- a field with its length takes at most 4,100 bytes
 length-field_data-le : (f : Field) (digest : Digest) (name sig : List ℕ)
     → HasLengths digest name sig → length (field_data f digest name sig) ≤ 4100
 length-field_data-le field.Digest digest name sig fits =
@@ -325,7 +326,7 @@ length-field_data-le field.Sig digest name sig fits =
 length-field_data-le field.Buf digest name sig fits =
     omega (arith, length-content-le field.Buf digest name sig fits, length-sized sig)
 
--- so many fields have at most so many times that
+-- the template data of a list of fields take at most 4,100 bytes for each field
 length-fields-le : (fs : List Field) (digest : Digest) (name sig : List ℕ)
     → HasLengths digest name sig
     → length (flat_map (λ f. field_data f digest name sig) fs) ≤ length fs * 4100
@@ -339,14 +340,14 @@ length-fields-le (f ∷ fs) digest name sig fits =
       length-fields-le fs digest name sig fits,
     )
 
--- no template has more than three fields
+-- a template has at most three fields
 length-template_fields-le : (t : Template) → length (template_fields t) ≤ 3
 length-template_fields-le Ima = omega arith
 length-template_fields-le ImaNg = omega arith
 length-template_fields-le ImaSig = omega arith
 length-template_fields-le ImaBuf = omega arith
 
--- each entry has such lengths
+-- the fields of each entry have lengths within the bounds
 pub HasLengths-entry : (e : Entry) → IsEntry e → HasLengths e.digest e.name e.sig
 HasLengths-entry e kept =
     record {

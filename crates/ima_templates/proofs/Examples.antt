@@ -1,4 +1,4 @@
--- Entries worked out by hand, so that a wrong definition does not check.
+-- Entries with their template data written out by hand, as a check on the definitions.
 use Rattle.std.proofs.Common.{◌≡◌, ℕ, List, [], ◌∷◌, ◌++◌, replicate, codes, refl}
 use Rattle.pcr_bank.specs.hashes.declared.algo.Algo.TheVariants as algo
 use Rattle.pcr_bank.specs.hashes.declared.digest.Digest.{Digest}
@@ -11,17 +11,17 @@ use Rattle.ima_templates.specs.Entries.{entry_of, violation_of}
 use Rattle.ima_templates.specs.Path.{last_component}
 use Rattle.ima_templates.specs.Same.{add, placed, same}
 
--- the digest of a boot aggregate
+-- the digest of a boot aggregate without a TPM
 abbrev zeros : Digest
 zeros = zero_digest algo.Sha256
 
--- SHA-1 of `abc`
+-- the SHA-1 hash of `abc`
 abbrev abc_sha1 : List ℕ
 abc_sha1 =
     0xa9 ∷ 0x99 ∷ 0x3e ∷ 0x36 ∷ 0x47 ∷ 0x06 ∷ 0x81 ∷ 0x6a ∷ 0xba ∷ 0x3e ∷ 0x25 ∷ 0x71 ∷ 0x78 ∷ 0x50
     ∷ 0xc2 ∷ 0x6c ∷ 0x9c ∷ 0xd0 ∷ 0xd8 ∷ 0x9d ∷ []
 
--- the digest of a file `abc`
+-- the SHA-1 digest of a file `abc`
 abbrev abc : Digest
 abc = record { algo = algo.Sha1; bytes = abc_sha1 }
 
@@ -32,7 +32,7 @@ boot_aggregate_ima_ng : template_data (entry_of 10 ImaNg zeros abc (codes "boot_
 unfolding template_data sized
 boot_aggregate_ima_ng = refl
 
--- the 20 bytes of SHA-1, whatever was collected, "/a" and 254 zeros
+-- the 20 bytes of the SHA-1 digest, whatever was collected, then "/a" and 254 zeros
 a_ima : template_data (entry_of 10 Ima zeros abc (codes "/a") (3 ∷ 2 ∷ []))
     ≡ abc_sha1 ++ codes "/a" ++ replicate 254 0
 unfolding template_data
@@ -52,17 +52,16 @@ kernel_ima_buf : template_data (entry_of 10 ImaBuf zeros abc (codes "kernel") (c
 unfolding template_data sized
 kernel_ima_buf = refl
 
--- what stands behind the last slash
+-- the part of a path after its last slash
 components : (last_component (codes "/usr/bin/cat") ≡ codes "cat")
     × (last_component (codes "kernel") ≡ codes "kernel") × (last_component (codes "/usr/") ≡ [])
 components = (refl, refl, refl)
 
--- the entry of `/a`
+-- the entry of `/a` under the template `ima`
 abbrev a : Entry
 a = entry_of 10 Ima zeros abc (codes "/a") []
 
--- a file that is measured twice stands in the list once, and under another template or register
--- again
+-- a file that is measured twice has one entry, and another under another template or register
 a_twice : (placed (a ∷ []) a ≡ Already 0) × (add (a ∷ []) a ≡ a ∷ [])
     × (placed (a ∷ []) (entry_of 11 Ima zeros abc (codes "/a") []) ≡ Added 1)
     × (placed (a ∷ []) (entry_of 10 ImaNg zeros abc (codes "/a") []) ≡ Added 1)

@@ -1,4 +1,4 @@
--- The test on template data answers what a comparison of the fields answers.
+-- Comparing the template data gives the same result as comparing the fields.
 use Rattle.std.proofs.Common.{◌≡◌, Bool, true, false, not, ◌↔◌, refl, ap, sym, ◌∙◌, eq-eqb, eqb-true}
 use Rattle.std.proofs.lemmas.Bool.{and_from, and_parts, not-true}
 use Rattle.std.specs.Prelude.{IsTrue}
@@ -12,18 +12,18 @@ use Rattle.ima_templates.specs.IsEntry.{IsEntry}
 use Rattle.ima_templates.specs.Same.{same, same_data, same_template, SameFields}
 use Rattle.ima_templates.proofs.DataLemmas.{template_data-apart, template_data-same}
 
--- a template is its own
+-- each template is the same as itself
 same_template-refl : (t : Template) → same_template t t ≡ true
 same_template-refl Ima = refl
 same_template-refl ImaNg = refl
 same_template-refl ImaSig = refl
 same_template-refl ImaBuf = refl
 
--- equal templates pass the test
+-- equal templates pass `same_template`
 same_template-at : (t u : Template) → t ≡ u → same_template t u ≡ true
 same_template-at t u is = ap (λ v. same_template t v) (sym is) ∙ same_template-refl t
 
--- and no others do
+-- templates that pass `same_template` are equal
 same_template-true : (t u : Template) → same_template t u ≡ true → t ≡ u
 same_template-true Ima Ima is = refl
 same_template-true ImaNg ImaNg is = refl
@@ -42,7 +42,7 @@ same_template-true ImaBuf Ima is = absurd (cc)
 same_template-true ImaBuf ImaNg is = absurd (cc)
 same_template-true ImaBuf ImaSig is = absurd (cc)
 
--- what two entries share that are the same
+-- the parts that two entries have in common if they are the same
 pub record Shares (a b : Entry) : Type 0 where
   pub no_violation : a.violation ≡ false
   pub no_violation_either : b.violation ≡ false
@@ -50,7 +50,7 @@ pub record Shares (a b : Entry) : Type 0 where
   pub template : a.template ≡ b.template
   pub one_data : template_data a ≡ template_data b
 
--- entries that are the same share all that counts
+-- entries that are the same share these parts
 pub Shares-same : (a b : Entry) → same a b ≡ true → Shares a b
 unfolding same
 Shares-same a b is =
@@ -66,7 +66,7 @@ Shares-same a b is =
       one_data = (bytes_decides (template_data a) (template_data b)).0 parts.1;
     }
 
--- and entries that share it are the same
+-- entries that share these parts are the same
 pub same-Shares : (a b : Entry) → Shares a b → same a b ≡ true
 unfolding same
 same-Shares a b shares =
@@ -75,7 +75,7 @@ same-Shares a b shares =
     (and_from _ _ (same_template-at a.template b.template shares.template)
     ((bytes_decides (template_data a) (template_data b)).1 shares.one_data))
 
--- two that are the same as a third are the same
+-- two entries that are the same as a third one are the same
 pub same-third : (a b e : Entry) → same a e ≡ true → same b e ≡ true → same a b ≡ true
 same-third a b e is_a is_b =
     let one = Shares-same a e is_a in
@@ -88,7 +88,7 @@ same-third a b e is_a is_b =
       one_data = one.one_data ∙ sym other.one_data;
     })
 
--- where the templates are equal, the fields decide
+-- if the templates are equal, comparing the fields decides `same_data`
 pub same_data-fields : (a b : Entry) (r : Bool) → IsEntry a → IsEntry b → a.template ≡ b.template
     → (IsTrue r ↔ SameFields a b) → r ≡ same_data a b
 same_data-fields a b r kept_a kept_b templates decides =

@@ -1,4 +1,4 @@
--- Pieces that are appended one after another, and their lengths.
+-- Lists of bytes that are appended one after another, and their lengths.
 use Rattle.std.specs.Prelude.{◌≡◌, ◌≤◌, ℕ, ◌+◌, List, [], ◌++◌, length, take}
 use Rattle.std.proofs.Common.{sym, ◌∙◌, ap, arith, append_assoc, length-append, length-take, take-take}
 use Rattle.std.proofs.lemmas.List.{append-nil, take_all}
@@ -9,7 +9,7 @@ append_nothing a = sym (append-nil a)
 pub append_more : (a b c x y : List ℕ) → b ≡ a ++ x → c ≡ b ++ y → c ≡ a ++ (x ++ y)
 append_more a b c x y first second = second ∙ ap (λ l. l ++ y) first ∙ append_assoc a x y
 
--- the list begins with as many bytes as were there
+-- the first m bytes of a list are the whole list, if m is its length
 pub keeps_all : (a : List ℕ) (m : ℕ) → m ≡ length a → take m a ≡ a
 keeps_all a m is = take_all m a (omega (arith, is))
 

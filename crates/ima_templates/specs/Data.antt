@@ -20,15 +20,19 @@ d_ng digest = (algo_name digest.algo ++ codes ":") ++ 0 ∷ digest.bytes
 abbrev pub n_ng : List ℕ → List ℕ
 n_ng name = name ++ 0 ∷ []
 
--- the field `n`: the name, filled up with zeros to 256 bytes
-abbrev pub n_padded : List ℕ → List ℕ
-n_padded name = name ++ replicate (256 - length name) 0
+-- the length in bytes of the field `n`
+abbrev pub n_length : ℕ
+n_length = 256
 
--- a field with its length in front, in 4 bytes with the low one first
+-- the field `n`: the name, padded with zeros
+abbrev pub n_padded : List ℕ → List ℕ
+n_padded name = name ++ replicate (n_length - length name) 0
+
+-- a field after its length, in 4 bytes, little-endian
 unfoldable pub sized : List ℕ → List ℕ
 sized field = little_bytes 4 (length field) ++ field
 
--- what a field holds
+-- the content of a field, without its length
 abbrev pub content : Field → Digest → List ℕ → List ℕ → List ℕ
 content field.Digest digest name sig = digest.bytes
 content field.Name digest name sig = n_padded name
@@ -37,7 +41,7 @@ content field.NameNg digest name sig = n_ng name
 content field.Sig digest name sig = sig
 content field.Buf digest name sig = sig
 
--- `d` and `n` stand in the template data without their lengths
+-- the template data has `d` and `n` without their lengths
 abbrev pub has_length : Field → Bool
 has_length field.Digest = false
 has_length field.Name = false
@@ -46,12 +50,12 @@ has_length field.NameNg = true
 has_length field.Sig = true
 has_length field.Buf = true
 
--- a field of the template data
+-- a field as it is in the template data, with its length if it has one
 abbrev pub field_data : Field → Digest → List ℕ → List ℕ → List ℕ
 field_data f digest name sig =
     if has_length f then sized (content f digest name sig) else content f digest name sig
 
--- the template data: the fields one after another
+-- the template data: the concatenated fields
 abbrev pub data_by : Template → Digest → List ℕ → List ℕ → List ℕ
 data_by template digest name sig =
     flat_map (λ f. field_data f digest name sig) (template_fields template)

@@ -1,16 +1,15 @@
--- The entries that measurements make.
+-- The entries for measurements and violations.
 use Rattle.std.specs.Prelude.{ℕ, true, false, List, []}
 use Rattle.pcr_bank.specs.hashes.declared.algo.Algo.{Algo}
 use Rattle.pcr_bank.specs.hashes.declared.algo.Algo.TheVariants.{Sha1}
 use Rattle.pcr_bank.specs.hashes.declared.digest.Digest.{Digest}
 use Rattle.pcr_bank.specs.hashes.Digest.{zero_digest}
-use Rattle.pcr_bank.specs.meta.declared.measurement.TheConstants.{DEFAULT_PCR}
 use Rattle.pcr_bank.specs.meta.declared.measurement.Template.{Template}
-use Rattle.pcr_bank.specs.meta.declared.measurement.TheConstants.{DEFAULT_PCR}
+use Rattle.pcr_bank.specs.meta.Registers.{default_pcr}
 use Rattle.ima_templates.specs.declared.entry.Entry.{Entry}
 use Rattle.ima_templates.specs.Shown.{shown_digest, shown_name, shown_sig}
 
--- the entry of a file with this digest and this digest by SHA-1, or of a buffer
+-- the entry of a file or buffer, with the collected digest and the SHA-1 digest
 abbrev pub entry_of : ℕ → Template → Digest → Digest → List ℕ → List ℕ → Entry
 entry_of pcr template file sha1 path sig = record {
   pcr = pcr;
@@ -21,11 +20,11 @@ entry_of pcr template file sha1 path sig = record {
   violation = false;
 }
 
--- the violation of a file: the digest is zeros, of the default algorithm where the template names
--- one
+-- the violation of a file: the digest is all zeros, by the default algorithm if the template names
+-- the algorithm
 abbrev pub violation_of : Template → Algo → List ℕ → Entry
 violation_of template default path = record {
-  pcr = DEFAULT_PCR;
+  pcr = default_pcr;
   template = template;
   digest = shown_digest template (zero_digest default) (zero_digest Sha1);
   name = shown_name template path;

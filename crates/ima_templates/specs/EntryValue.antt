@@ -1,4 +1,4 @@
--- What contracts see of an entry.
+-- An entry as contracts see it.
 use Rattle.std.specs.Prelude.{ℕ, Bool, false, List}
 use Rattle.pcr_bank.specs.hashes.declared.digest.Digest.{Digest}
 use Rattle.pcr_bank.specs.meta.declared.measurement.Template.{Template}
@@ -12,7 +12,7 @@ pub record EntryValue : Type 0 where
   pub sig : List ℕ
   pub violation : Bool
 
--- these fields, of no violation
+-- an entry with these fields that isn't a violation
 abbrev pub fields : ℕ → Template → Digest → List ℕ → List ℕ → EntryValue
 fields pcr template digest name sig =
     record {

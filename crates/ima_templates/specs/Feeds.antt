@@ -1,11 +1,11 @@
--- What a hash took in a call.
+-- The bytes that a hash takes in a call.
 use Rattle.std.specs.Prelude.{◌≡◌, ℕ, List, [], ◌++◌, refl}
 use Rattle.std.proofs.Common.{sym, ◌∙◌, subst, append_assoc}
 use Rattle.std.proofs.lemmas.List.{append-nil}
 use Rattle.pcr_bank.specs.hashes.declared.running.Running.{Running}
 use Rattle.pcr_bank.specs.hashes.Running.{running_algo, HasTaken}
 
--- the hash took these bytes
+-- the hash took exactly these bytes
 pub record Feeds (old new : Running) (bytes : List ℕ) : Type 0 where
   pub algo : running_algo new ≡ running_algo old
   pub taken : (m : List ℕ) → HasTaken old m → HasTaken new (m ++ bytes)
@@ -16,7 +16,7 @@ Feeds-nothing a = record {
   taken = λ m held. subst (λ n. HasTaken a n) (sym (append-nil m)) held;
 }
 
--- one call after another
+-- two calls in a row take the bytes of the first and then of the second
 pub Feeds-append : (a b c : Running) (x y : List ℕ) → Feeds a b x → Feeds b c y → Feeds a c (x ++ y)
 Feeds-append a b c x y first second = record {
   algo = second.algo ∙ first.algo;

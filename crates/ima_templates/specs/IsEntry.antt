@@ -1,9 +1,9 @@
--- What each entry keeps.
+-- The invariant of an entry.
 use Rattle.std.specs.Prelude.{◌≡◌, ◌≢◌, ◌<◌, ◌≤◌, true, [], length}
 use Rattle.std.specs.List.{All}
 use Rattle.pcr_bank.specs.hashes.declared.algo.Algo.TheVariants.{Sha1}
 use Rattle.pcr_bank.specs.hashes.Digest.{HasDigestSize, zero_digest}
-use Rattle.pcr_bank.specs.meta.declared.measurement.TheConstants.{DEFAULT_PCR}
+use Rattle.pcr_bank.specs.meta.Registers.{default_pcr}
 use Rattle.pcr_bank.specs.meta.declared.measurement.Template.TheVariants.{Ima, ImaNg, ImaBuf}
 use Rattle.xattr_store.specs.Attrs.{most_value}
 use Rattle.ima_templates.specs.declared.entry.Entry.TheInside.{Inside}
@@ -20,9 +20,9 @@ fields_of e = record {
   violation = e.violation;
 }
 
--- what a violation keeps beside
+-- the further invariant of a violation
 pub record IsViolation (e : EntryValue) : Type 0 where
-  pub pcr : e.pcr ≡ DEFAULT_PCR
+  pub pcr : e.pcr ≡ default_pcr
   pub digest : e.digest ≡ zero_digest e.digest.algo
   pub sig : e.sig ≡ []
   pub template : e.template ≢ ImaBuf

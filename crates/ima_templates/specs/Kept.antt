@@ -1,5 +1,5 @@
--- What the fields of an entry keep: those that contracts see make an entry, and the others are its
--- template digests.
+-- The invariant of an entry's fields: those that contracts see are a valid entry, and the others
+-- are its template digests.
 use Rattle.std.specs.Prelude.{◌≡◌}
 use Rattle.pcr_bank.specs.meta.declared.measurement.Bank.TheVariants.{Sha1, Sha256}
 use Rattle.ima_templates.specs.declared.entry.Entry.TheInside.{Inside}

@@ -1,15 +1,15 @@
--- Paths and names that entries show.
+-- The paths and names that entries can show.
 use Rattle.std.specs.Prelude.{◌≡◌, ℕ, ◌==◌, ◌≤◌, List, length}
 use Rattle.std.specs.List.{All, after_last}
 use Rattle.std.specs.Str.{byte}
 use Rattle.pcr_bank.specs.meta.declared.measurement.Template.{Template}
 use Rattle.pcr_bank.specs.meta.declared.measurement.Template.TheVariants.{Ima}
 
--- a byte that prints in ASCII, and no space
+-- a printing ASCII byte other than the space
 abbrev pub IsGraphic : ℕ → Type 0
 IsGraphic b = (0x21 ≤ b) × (b ≤ 0x7e)
 
--- what stands behind a path's last slash, or all of it where there is none
+-- the part after a path's last slash, or the whole path if it has none
 abbrev pub last_component : List ℕ → List ℕ
 last_component path = after_last (λ b. b == byte "/") path
 

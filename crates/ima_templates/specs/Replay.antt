@@ -1,4 +1,4 @@
--- The registers that a list of entries gives.
+-- The registers as a function of the list of entries.
 use Rattle.std.specs.Prelude.{ℕ, ◌==◌, if◌then◌else◌, List}
 use Rattle.std.specs.List.{fold}
 use Rattle.pcr_bank.specs.meta.declared.measurement.Bank.{Bank}
@@ -8,15 +8,15 @@ use Rattle.pcr_bank.specs.Banks.{extend_banks, new_banks}
 use Rattle.ima_templates.specs.declared.entry.Entry.{Entry}
 use Rattle.ima_templates.specs.Digests.{extension}
 
--- a register after the entry: an entry extends its own register alone
+-- a register after the entry, which extends only its own register
 abbrev pub register_after : Bank → ℕ → List ℕ → Entry → List ℕ
 register_after bank pcr old e = if e.pcr == pcr then extended bank old (extension e bank) else old
 
--- what a register holds after the entries of a list, in order
+-- the value of a register after the entries of a list, in order
 abbrev pub replay : List Entry → Bank → ℕ → List ℕ
 replay list bank pcr = fold (register_after bank pcr) (zero_register bank) list
 
--- the banks after one entry more
+-- the banks after one more entry
 abbrev pub extended_by : Banks → Entry → Banks
 extended_by banks e = extend_banks banks e.pcr (extension e)
 

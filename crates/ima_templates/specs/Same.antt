@@ -1,4 +1,4 @@
--- When two entries are the same, and what adding an entry to a list does.
+-- The condition under which two entries are the same, and the effect of adding an entry to a list.
 use Rattle.std.specs.Prelude.{◌≡◌, ℕ, ◌<◌, ◌==◌, slice_get, Bool, true, false, not, ◌&&◌, List, [], ◌∷◌, ◌++◌, length, Option, Some, None}
 use Rattle.std.specs.List.{position}
 use Rattle.std.specs.Str.{bytes_eq}
@@ -16,24 +16,25 @@ same_template ImaSig ImaSig = true
 same_template ImaBuf ImaBuf = true
 same_template _ _ = false
 
--- one digest, one name and one third field
+-- the digests, the names and the third fields are equal
 abbrev pub SameFields : Entry → Entry → Type 0
 SameFields a b = (a.digest ≡ b.digest) × (a.name ≡ b.name) × (a.sig ≡ b.sig)
 
--- one template and one template data
+-- the templates are the same and the template data are equal
 abbrev pub same_data : Entry → Entry → Bool
 same_data a b = same_template a.template b.template && bytes_eq (template_data a) (template_data b)
 
--- one register, one template and one template data, and neither is a violation
+-- the registers and the templates are the same, the template data are equal, and neither entry is a
+-- violation
 unfoldable pub same : Entry → Entry → Bool
 same a b = not a.violation && not b.violation && a.pcr == b.pcr && same_data a b
 
--- the place of the first entry that is the same
+-- the index of the first entry that is the same as e
 abbrev pub place_of_same : List Entry → Entry → Option ℕ
 place_of_same list e = position (λ earlier. same earlier e) list
 
--- what adding an entry answers, by the place of the first that is the same: that place, or else the
--- end
+-- the outcome of adding an entry, by the index of the first one that is the same: that index, or
+-- else the end of the list
 abbrev pub placed_by : Option ℕ → ℕ → Placed
 placed_by (Some place) end = Already place
 placed_by None end = Added end
@@ -41,7 +42,7 @@ placed_by None end = Added end
 abbrev pub placed : List Entry → Entry → Placed
 placed list e = placed_by (place_of_same list e) (length list)
 
--- the list after that: an entry is appended where none is the same
+-- the list after adding an entry, which is appended only if no entry is the same
 abbrev pub add_by : Option ℕ → List Entry → Entry → List Entry
 add_by (Some place) list e = list
 add_by None list e = list ++ e ∷ []
@@ -49,7 +50,7 @@ add_by None list e = list ++ e ∷ []
 abbrev pub add : List Entry → Entry → List Entry
 add list e = add_by (place_of_same list e) list e
 
--- what the list got of the entry, with its place: nothing where the entry stands there already
+-- the entry that was added, with its index: none if the same entry was already there
 abbrev pub gained : Placed → Entry → List (ℕ × Entry)
 gained (Added place) e = (place, e) ∷ []
 gained (Already place) e = []

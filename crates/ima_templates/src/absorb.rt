@@ -1,4 +1,4 @@
-// What template data is written into: a hash, a vector or a count.
+// The destinations of template data: a hash, a vector or a count.
 
 ghost use Rattle.std.specs.Prelude.{◌≡◌, ◌+◌, ◌++◌, List, [], ℕ, length, take, OnOk};
 ghost use Rattle.std.specs.Vec.{vec_len};
@@ -8,14 +8,14 @@ ghost use Rattle.ima_templates.specs.Appends.{append_more, append_nothing, keeps
 use pcr_bank::hashes::Running;
 use std::alloc::AllocError as OutOfMemory;
 
-/// What takes bytes, one piece after another. After a refusal it may have taken a part of the
-/// piece, and what it had taken before is still there.
+/// A destination of bytes, which come piece after piece. After an error it may have taken a part of
+/// the piece; all that it took before is still there.
 pub trait Absorb {
     ghost absorbs: { Self → Self → List ℕ → Type 0 };
 
     ghost keeps: { Self → Self → Type 0 };
 
-    /// Takes the piece.
+    /// Appends the piece to the bytes taken so far.
     fn absorb(&mut self, piece: &[u8]) -> Result<(), OutOfMemory>
         ensures ok { OnOk result (absorbs self.old self.new piece.now) }
         ensures kept { keeps self.old self.new };
@@ -68,7 +68,7 @@ impl Absorb for Vec<u8> {
         keeps_further a.items b.items c.items a.len b.len a.ok.0 b.ok.0 first second };
 }
 
-/// A count of the bytes.
+/// A destination that only counts the bytes.
 #[derive(Drop)]
 pub(crate) struct Count {
     pub(crate) bytes: usize,

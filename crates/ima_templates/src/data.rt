@@ -1,10 +1,10 @@
-// The fields of a template, written one after another.
+// Writing the fields of a template, one after another.
 
 ghost use Rattle.std.specs.Prelude.{◌≡◌, ◌+◌, ◌^◌, ◌<◌, ◌≤◌, ◌++◌, length, replicate, IfOk, OnOk};
 ghost use Rattle.byteorder.specs.Endian.{little_bytes};
 ghost use Rattle.pcr_bank.specs.hashes.Digest.{digest_of};
 ghost use Rattle.pcr_bank.specs.hashes.Hash.{hash};
-ghost use Rattle.ima_templates.specs.Data.{HasLengths, content, data_by, field_data, has_length};
+ghost use Rattle.ima_templates.specs.Data.{HasLengths, content, data_by, field_data, has_length, n_length};
 
 use crate::absorb::{Absorb, Count};
 use byteorder::{ByteOrder, LittleEndian};
@@ -12,12 +12,12 @@ use pcr_bank::hashes::{Algo, Digest, Running};
 use pcr_bank::meta::{Field, Template};
 use std::alloc::AllocError as OutOfMemory;
 
-// The field `n` is filled up to this length with zeros.
+// The field `n` is padded to this length with zeros.
 const NAME_LENGTH: usize = 256;
 
 static ZEROS: [u8; NAME_LENGTH] = [0; NAME_LENGTH];
 
-/// Writes the template data of these fields.
+/// Writes the template data with these contents of the fields.
 pub(crate) fn absorb_data<S: Absorb>(
     to: &mut S,
     template: Template,
@@ -36,7 +36,7 @@ pub(crate) fn absorb_data<S: Absorb>(
     Ok(())
 }
 
-// Writes a field of the template data, with its length where it has one.
+// Writes a field of the template data, after its length if the field has one.
 fn absorb_field<S: Absorb>(
     to: &mut S,
     field: Field,
@@ -60,7 +60,7 @@ fn absorb_field<S: Absorb>(
     }
 }
 
-// Whether the field stands in the template data with its length.
+// Whether the template data has the field's length before the field.
 fn has_length(field: Field) -> bool
     ensures { result ≡ has_length field }
 {
@@ -70,7 +70,7 @@ fn has_length(field: Field) -> bool
     }
 }
 
-// Writes what a field holds.
+// Writes the content of a field, without its length.
 fn absorb_content<S: Absorb>(
     to: &mut S,
     field: Field,
@@ -93,7 +93,7 @@ fn absorb_content<S: Absorb>(
     }
 }
 
-// Writes the one piece and then the other.
+// Writes the first piece and then the second.
 fn absorb_both<S: Absorb>(to: &mut S, first: &[u8], second: &[u8]) -> Result<(), OutOfMemory>
     ensures ok { OnOk result (S.absorbs to.old to.new (first.now ++ second.now)) }
     ensures kept { S.keeps to.old to.new }
@@ -102,7 +102,7 @@ fn absorb_both<S: Absorb>(to: &mut S, first: &[u8], second: &[u8]) -> Result<(),
     to.absorb(second)
 }
 
-// Writes a number in 4 bytes, with the low one first.
+// Writes a number in 4 bytes, little-endian.
 fn absorb_number<S: Absorb>(to: &mut S, number: usize) -> Result<(), OutOfMemory>
     requires { number < 2 ^ 32 }
     ensures ok { OnOk result (S.absorbs to.old to.new (little_bytes 4 number)) }
@@ -113,15 +113,15 @@ fn absorb_number<S: Absorb>(to: &mut S, number: usize) -> Result<(), OutOfMemory
     to.absorb(&bytes)
 }
 
-// So many zeros.
+// A slice of `count` zeros.
 fn zeros(count: usize) -> &'static [u8]
-    requires { count ≤ NAME_LENGTH }
+    requires { count ≤ n_length }
     ensures { result.now ≡ replicate count 0 }
 {
     &ZEROS[..count]
 }
 
-/// The template digests of these fields.
+/// The template digests, by SHA-1 and SHA-256, for these contents of the fields.
 pub(crate) fn sums(
     template: Template,
     digest: &Digest,
@@ -141,7 +141,7 @@ pub(crate) fn sums(
     Ok((sha1, sha256))
 }
 
-// The hash of the template data of these fields.
+// The hash of the template data with these contents of the fields.
 fn sum(
     algo: Algo,
     template: Template,

@@ -1,4 +1,4 @@
-// The entries that measurements make.
+// The construction of entries for measurements and violations.
 
 ghost use Rattle.std.specs.Prelude.{◌≡◌, ◌≢◌, ◌<◌, ◌≤◌, IfOk, length};
 ghost use Rattle.ima_templates.specs.Entries.{entry_of, violation_of};
@@ -12,9 +12,9 @@ use pcr_bank::meta::{DEFAULT_PCR, Template};
 use std::alloc::{AllocError as OutOfMemory, Global};
 use xattr_store::Bytes;
 
-/// The entry of a file or buffer in this register: `file` is the digest by the algorithm that was
-/// collected and `sha1` that by SHA-1, and `sig` is the signature in `security.ima`, or under
-/// `ima-buf` the buffer. It shows of them what its template has.
+/// The entry of a file or buffer in this register: `file` is the digest by the collection's
+/// algorithm, `sha1` the SHA-1 digest, and `sig` the signature in `security.ima` or, under
+/// `ima-buf`, the buffer. The entry shows the parts that its template has fields for.
 pub fn build(
     alloc: Global,
     pcr: u8,
@@ -36,8 +36,8 @@ pub fn build(
     Entry::of_fields(pcr, template, digest, name, sig)
 }
 
-/// The violation of a file, under the default template and with zeros in place of a digest by the
-/// default algorithm. It is always in the default register, whatever a rule says.
+/// The violation of a file, under the default template and with zeros for a digest by the default
+/// algorithm. It always extends the default register, whatever a rule says.
 pub fn violation(
     alloc: Global,
     template: Template,

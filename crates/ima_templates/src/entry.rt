@@ -12,26 +12,27 @@ use std::alloc::AllocError as OutOfMemory;
 use std::marker::Model;
 use xattr_store::Bytes;
 
-/// An entry of the measurement list. It keeps that its register is below 24, that its digest has as
-/// many bytes as its algorithm and is of SHA-1 under `ima`, that its name has 1 to 1,024 bytes from
-/// 0x21 to 0x7e and under `ima` at most 255, that its `sig` has at most 4,096 bytes and none under
-/// `ima` and `ima-ng`, and that a violation has register 10, a digest of zeros, no `sig` and
-/// another template than `ima-buf`. Contracts see the record of its public fields; the others are
-/// its template digests, which are computed once, where the entry is made.
+/// An entry of the measurement list. Its invariant: the register is below 24; the digest has as
+/// many bytes as its algorithm, which is SHA-1 under `ima`; the name has 1 to 1,024 bytes from 0x21
+/// to 0x7e, and under `ima` at most 255; `sig` has at most 4,096 bytes, and none under `ima` and
+/// `ima-ng`; a violation has register 10, a digest of zeros, no `sig`, and a template other than
+/// `ima-buf`. Contracts see the record of its public fields. The other fields are its template
+/// digests, which are computed once, when the entry is made.
 #[derive(Debug, Drop)]
 pub struct Entry {
     /// The register that the entry extends.
     pub pcr: u8,
-    /// The template, which says what the entry shows.
+    /// The template, which determines the fields that the entry shows.
     pub template: Template,
     /// The field `d` or `d-ng`: the digest of the file or buffer.
     pub digest: Digest,
-    /// The field `n` or `n-ng`, without the zero byte at its end: the path or the buffer's name.
+    /// The field `n` or `n-ng` without its terminating zero byte: the path, or the buffer's name.
     pub name: Bytes,
-    /// The field `sig`: the signature in `security.ima`. Under `ima-buf` the field `buf`.
+    /// The field `sig`, which is the signature in `security.ima`, or under `ima-buf` the field
+    /// `buf`.
     pub sig: Bytes,
-    /// Whether the entry records that a file was measured while it could change. Its template
-    /// digest is then shown as zeros, and registers are extended by bytes 0xff.
+    /// Whether the entry records that a file was measured while it could change. A violation's
+    /// template digest is shown as zeros, and registers are extended by 0xff bytes instead.
     pub violation: bool,
     pub(crate) sha1: [u8; 20],
     pub(crate) sha256: [u8; 32],
@@ -50,12 +51,12 @@ impl Model for Entry {
     ghost invariant = { IsKept };
 }
 
-/// What became of an entry that was to be added, with a place of the list, counted from 0.
+/// The outcome of adding an entry, with an index in the list, counted from 0.
 #[derive(Clone, Copy, PartialEq, Eq, Debug)]
 pub enum Placed {
-    /// It stands at this place, the last.
+    /// The entry was added at this index, as the last one.
     Added(u64),
-    /// The entry at this place is the same, and nothing was added.
+    /// The same entry is already at this index, and nothing was added.
     Already(u64),
 }
 
@@ -66,7 +67,7 @@ impl Entry {
     ghost use Rattle.ima_templates.specs.Replay.{extended_by};
     ghost use Rattle.ima_templates.specs.Same.{same, same_data, SameFields};
 
-    /// The entry of these fields that isn't a violation, with its template digests.
+    /// An entry with these fields that isn't a violation, with its template digests.
     pub(crate) fn of_fields(
         pcr: u8,
         template: Template,
@@ -90,7 +91,7 @@ impl Entry {
         })
     }
 
-    /// The template digest: the bank's hash of the template data, and zeros for a violation.
+    /// The template digest: the bank's hash of the template data, or zeros for a violation.
     pub fn sum(&self, bank: Bank) -> Digest
         ensures digest { result ≡ template_digest self.now bank }
         ensures entry { IsEntry self.now }
@@ -101,8 +102,8 @@ impl Entry {
         }
     }
 
-    /// Extends the entry's register in each bank: by the bank's template digest, and for a
-    /// violation by bytes 0xff.
+    /// Extends the entry's register in each bank by the bank's template digest, or by 0xff bytes
+    /// for a violation.
     pub fn extend(&self, banks: &mut Banks)
         ensures { banks.new ≡ extended_by banks.old self.now }
     {
@@ -113,7 +114,7 @@ impl Entry {
         }
     }
 
-    /// Writes the template data.
+    /// Writes the template data to `to`.
     pub fn absorb_data<S: Absorb>(&self, to: &mut S) -> Result<(), OutOfMemory>
         ensures ok { OnOk result (S.absorbs to.old to.new (template_data self.now)) }
         ensures kept { S.keeps to.old to.new }
@@ -128,7 +129,7 @@ impl Entry {
         )
     }
 
-    /// How many bytes the template data has.
+    /// The length of the template data in bytes.
     pub fn data_length(&self) -> Result<usize, OutOfMemory>
         ensures exact { IfOk result (λ n. n ≡ length (template_data self.now)) }
         ensures fits { IfOk result (λ n. n < 2 ^ 32) }
@@ -138,8 +139,8 @@ impl Entry {
         Ok(count.bytes)
     }
 
-    /// Whether the two are one entry of a list, which holds it once: they have one register, one
-    /// template and one template data, and neither is a violation.
+    /// Whether the list would treat the two as one entry, and so not add the second: they have the
+    /// same register, the same template and the same template data, and neither is a violation.
     #[tactic(auto, unfolding(crate::specs::Same::same))]
     pub fn same(&self, other: &Entry) -> bool
         ensures { result ≡ same self.now other.now }
@@ -147,8 +148,8 @@ impl Entry {
         !self.violation && !other.violation && self.pcr == other.pcr && self.has_same_data(other)
     }
 
-    // Whether the two have one template and one template data. No other fields make the same
-    // template data, so the fields are compared.
+    // Whether the two have the same template and the same template data. Different fields never
+    // give the same template data, so only the fields are compared.
     fn has_same_data(&self, other: &Entry) -> bool
         ensures { result ≡ same_data self.now other.now }
     {

@@ -1,6 +1,6 @@
-//! The entries of the measurement list: what each template shows of a file, the template data and
-//! its digest, when two entries are the same, and what an entry extends registers with
-//! (Documentation/security/IMA-templates.rst).
+//! The entries of the measurement list: the fields that each template shows of a file, the template
+//! data and its digest, the condition under which two entries are the same, and the value by which
+//! an entry extends registers (Documentation/security/IMA-templates.rst).
 #![tactic(auto)]
 
 mod absorb;
@@ -14,4 +14,5 @@ pub use entries::{build, violation};
 pub use entry::{Entry, Placed};
 pub use pcr_bank as registers;
 pub use shown::can_show;
+pub use std::alloc::AllocError as OutOfMemory;
 pub use xattr_store as xattrs;

@@ -1,4 +1,4 @@
-// What a template shows of a file: which digest, name and signature.
+// The digest, the name and the signature that a template shows of a file.
 
 ghost use Rattle.std.specs.Prelude.{◌≡◌, IsTrue};
 ghost use Rattle.pcr_bank.specs.hashes.Digest.{HasDigestSize};
@@ -8,7 +8,7 @@ ghost use Rattle.ima_templates.specs.Shown.{shown_digest, shown_name, shown_sig}
 use pcr_bank::hashes::Digest;
 use pcr_bank::meta::Template;
 
-// The digest in the field `d` or `d-ng`: that by SHA-1 under `ima`, else the one collected.
+// The digest in the field `d` or `d-ng`: the SHA-1 digest under `ima`, else the collected one.
 pub(crate) fn shown_digest(template: Template, file: &Digest, sha1: &Digest) -> Digest
     ensures digest { result ≡ shown_digest template file.now sha1.now }
     ensures size { HasDigestSize result }
@@ -21,7 +21,7 @@ pub(crate) fn shown_digest(template: Template, file: &Digest, sha1: &Digest) -> 
     *shown
 }
 
-// The name in the field `n` or `n-ng`: the path, and under `ima` the last component of a long one.
+// The name in the field `n` or `n-ng`: the path, or under `ima` the last component of a long path.
 pub(crate) fn shown_name<'a>(template: Template, path: &'a [u8]) -> &'a [u8]
     ensures { result.now ≡ shown_name template path.now }
 {
@@ -32,7 +32,7 @@ pub(crate) fn shown_name<'a>(template: Template, path: &'a [u8]) -> &'a [u8]
     }
 }
 
-// The signature or buffer, where the template shows one.
+// The signature or the buffer if the template shows one, else nothing.
 pub(crate) fn shown_sig<'a>(template: Template, sig: &'a [u8]) -> &'a [u8]
     ensures { result.now ≡ shown_sig template sig.now }
 {
@@ -54,7 +54,7 @@ pub fn can_show(template: Template, path: &[u8]) -> bool
         && (template != Template::Ima || (1 <= component && component <= 255))
 }
 
-// What stands behind the last slash, or the whole path where there is none.
+// The part after the last slash, or the whole path if it has none.
 fn last_component(path: &[u8]) -> &[u8]
     ensures { result.now ≡ last_component path.now }
 {

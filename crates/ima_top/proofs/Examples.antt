@@ -1,4 +1,4 @@
--- Texts and words, each with what it is.
+-- Examples of texts and words, each with its result.
 use Rattle.std.proofs.Common.{◌≡◌, ℕ, true, false, List, [], ◌∷◌, Option, Some, None, Ok, refl}
 use Rattle.std.specs.Prelude.{codes}
 use Rattle.command_line.specs.declared.command.Command.TheVariants as command
@@ -12,14 +12,13 @@ use Rattle.ima_top.specs.commands.Run.{run_refusal}
 use Rattle.ima_top.specs.Served.{Serves}
 use Rattle.ima_top.specs.commands.Table.{IsOutput, reads, refusal}
 use Rattle.command_line.specs.declared.command.Command.{Command}
-use Rattle.ima_top.specs.declared.status.TheConstants.{DONE, USAGE, REFUSED, STUCK, READ_FAULT, WRITE_FAULT, TOO_LONG, OUT_OF_MEMORY}
-use Rattle.ima_top.specs.declared.top.TheConstants.{MOST_INPUT}
+use Rattle.ima_top.specs.Statuses as exit
 
 two_files : list_of (codes "imalist 1\nfile /a txt:abc\nfile /e txt:\nend\n")
     ≡ Ok ((codes "/a", codes "abc") ∷ (codes "/e", []) ∷ [])
 two_files = refl
 
--- no file is measured: the list is the boot aggregate alone
+-- if no file is measured, the list has only the boot aggregate
 boot_alone : measured [] ≡ boot_entry ∷ []
 boot_alone = refl
 
@@ -44,7 +43,7 @@ all_read : (reads command.List ≡ true) × (reads command.Policy ≡ true)
 unfolding reads
 all_read = (refl, refl, refl, refl)
 
--- but `gen` doesn't, and nothing refuses it
+-- `gen` doesn't read its input, and no input is refused
 gen_reads_nothing : (number : ℕ) → reads (command.Gen number) ≡ false
 unfolding reads
 gen_reads_nothing number = refl
@@ -52,15 +51,6 @@ gen_reads_nothing number = refl
 gen_is_never_refused : (number : ℕ) (input : List ℕ) → refusal (command.Gen number) input ≡ None
 unfolding refusal
 gen_is_never_refused number input = refl
-
--- ---- the limit and the statuses, which the contracts cite by name
-
-limit : MOST_INPUT ≡ 4194304
-limit = refl
-
-statuses : (DONE ≡ 0) × (USAGE ≡ 1) × (REFUSED ≡ 2) × (STUCK ≡ 3) × (READ_FAULT ≡ 4)
-    × (WRITE_FAULT ≡ 5) × (TOO_LONG ≡ 6) × (OUT_OF_MEMORY ≡ 7)
-statuses = (refl, refl, refl, refl, refl, refl, refl, refl)
 
 -- ---- no command but `run` has a stuck run
 
@@ -83,9 +73,9 @@ gen_is_never_stuck : (number : ℕ) → IsNeverStuck (command.Gen number)
 unfolding IsOutput
 gen_is_never_stuck number input output h = absurd (cc (h.0))
 
--- so its status doesn't come by such a command
+-- a command whose runs are never stuck doesn't have the status `stuck`
 no_stuck_status : (command : Command) → IsNeverStuck command → (input : List ℕ) (status : ℕ)
     (old new : Option (List ℕ)) (told : List ℕ → Type 0)
-    → Serves command input status old new told → status ≡ STUCK → ⊥
+    → Serves command input status old new told → status ≡ exit.stuck → ⊥
 no_stuck_status command never input status old new told serves is =
     let (output, is_output, written) = serves.written_stuck is in never input output is_output

@@ -20,50 +20,50 @@ use Rattle.script_text.specs.declared.list_head.ListHead.{ListHead}
 use Rattle.script_text.specs.declared.list_head.ListHead.TheVariants as head
 use Rattle.script_run.proofs.about_scenes.Paths.{and_left, and_right}
 
--- the paths of these files are paths
+-- all files of the list have valid paths
 abbrev AllPaths : List Listed → Type 0
 AllPaths files = list_all (λ f. is_path f.0) files ≡ true
 
--- what is read by a form was there, and the rest was made of it
+-- a result of two steps: the first returned `found`, and the second made the whole of it
 pub record Bound (A B E : Type 0) (first : Result A E) (then : A → Result B E) (whole : B)
     : Type 0 where
   pub found : A
   pub is_first : first ≡ Ok found
   pub is_then : then found ≡ Ok whole
 
--- two steps that went well: each of them did
+-- if two steps in a row return a value, each of them did
 bound : {A B E : Type 0} (first : Result A E) (then : A → Result B E) (whole : B)
     → (first >>= then) ≡ Ok whole → Bound A B E first then whole
 bound (Ok x) then whole h = record { found = x; is_first = refl; is_then = h }
 bound (Err e) then whole h = absurd (cc)
 
--- a test that let pass
+-- if a test whose failure is an error gives a value, the test held
 passed : {A E : Type 0} (b : Bool) (e : E) (r : Result A E) (x : A) → cond b r (Err e) ≡ Ok x
     → (b ≡ true) × (r ≡ Ok x)
 passed true e r x h = (refl, h)
 passed false e r x h = absurd (cc)
 
--- a test that stopped nothing
+-- if a test whose success is an error gives a value, the test failed
 not_stopped : {A E : Type 0} (b : Bool) (e : E) (r : Result A E) (x : A) → cond b (Err e) r ≡ Ok x
     → (b ≡ false) × (r ≡ Ok x)
 not_stopped true e r x h = absurd (cc)
 not_stopped false e r x h = (refl, h)
 
--- what is not missed is there
+-- a test whose negation fails holds
 denied : (b : Bool) → not b ≡ false → b ≡ true
 denied true h = refl
 denied false h = absurd (cc)
 
--- equal answers hold equal values
+-- equal results have equal values
 ok_is : {A E : Type 0} (x y : A) → ◌≡◌ {A = Result A E} (Ok x) (Ok y) → x ≡ y
 ok_is x y h = cc
 
--- the paths of an equal state
+-- equal drafts have equal paths
 paths_of : (d e : ListDraft) → d ≡ e → AllPaths d.files → AllPaths e.files
 paths_of d e same all =
     sym (ap (λ (x : ListDraft). list_all (λ (f : Listed). is_path f.0) x.files) same) ∙ all
 
--- a file is put behind the others
+-- appending a file with a valid path keeps the paths valid
 listed_paths : (f : Listed) (d e : ListDraft) → is_path f.0 ≡ true → AllPaths d.files
     → listed f d ≡ Ok e → AllPaths e.files
 listed_paths f d e fits before h =
@@ -76,7 +76,7 @@ listed_paths f d e fits before h =
     rw (list_all-append (λ (g : Listed). is_path g.0) d.files (f ∷ []), before, fits) refl in
     paths_of after e (ok_is after e second.1) all
 
--- a line of a file adds a path
+-- a line `file` keeps the paths valid
 file_paths : (words : List (List ℕ)) (d e : ListDraft) → AllPaths d.files
     → with_file words d ≡ Ok e → AllPaths e.files
 file_paths words d e before h =
@@ -91,7 +91,7 @@ file_paths words d e before h =
     listed_paths (read.found.0, content.found) d e (denied (is_path read.found.0) fits.0) before
     content.is_then
 
--- the head adds no path
+-- the first line keeps the paths valid
 version_paths : (words : List (List ℕ)) (d e : ListDraft) → AllPaths d.files
     → with_version words d ≡ Ok e → AllPaths e.files
 version_paths [] d e before h = absurd (cc)
@@ -101,20 +101,20 @@ version_paths (w ∷ []) d e before h =
     paths_of after e (ok_is after e made.1) before
 version_paths (w ∷ v ∷ more) d e before h = absurd (cc)
 
--- nor does the end
+-- the line `end` keeps the paths valid
 end_paths : (words : List (List ℕ)) (d e : ListDraft) → AllPaths d.files
     → with_end words d ≡ Ok e → AllPaths e.files
 end_paths [] d e before h = cc
 end_paths (w ∷ more) d e before h = absurd (cc)
 
--- a line of any kind leaves paths alone
+-- a line of each kind keeps the paths valid
 head_paths : (k : ListHead) (words : List (List ℕ)) (d e : ListDraft) → AllPaths d.files
     → with_head k words d ≡ Ok e → AllPaths e.files
 head_paths head.Imalist words d e before h = version_paths words d e before h
 head_paths head.File words d e before h = file_paths words d e before h
 head_paths head.End words d e before h = end_paths words d e before h
 
--- so does any line
+-- each line that is read keeps the paths valid
 line_paths : (d e : ListDraft) (line : List ℕ) → AllPaths d.files → add d line ≡ Ok e
     → AllPaths e.files
 line_paths d e line before h =
@@ -125,19 +125,19 @@ line_paths d e line before h =
     named.is_then in
     head_paths named.found words d e before stood.1
 
--- so does one that is skipped
+-- each line, whether it is read or skipped, keeps the paths valid
 over_paths : (d e : ListDraft) (line : List ℕ) (skipped : Bool) → AllPaths d.files
     → cond skipped (Ok d) (add d line) ≡ Ok e → AllPaths e.files
 over_paths d e line true before h = cc
 over_paths d e line false before h = line_paths d e line before h
 
--- a line that makes a state at its number makes it
+-- a line that was accepted at its number was accepted
 at_its_line : (n : ℕ) (r : Result ListDraft LineCause) (e : ListDraft)
     → at_line fault_at n r ≡ Ok e → r ≡ Ok e
 at_its_line n (Ok x) e h = cc
 at_its_line n (Err c) e h = absurd (cc)
 
--- all lines
+-- all lines of a text keep the paths valid
 lines_paths : (n : ℕ) (d e : ListDraft) (ls : List (List ℕ)) → AllPaths d.files
     → from_ended add is_over n d ls ≡ Ok e → AllPaths e.files
 lines_paths n d e [] before h = cc
@@ -151,7 +151,7 @@ lines_paths n d e (line ∷ next ∷ ls) before h =
     (at_its_line n (step_over add d line) one.found one.is_first) in
     lines_paths (n + 1) one.found e (next ∷ ls) after one.is_then
 
--- the same of each of them
+-- a test that all files pass holds at each place
 all_of : (files : List Listed) → AllPaths files → All (λ f. IsTrue (is_path f.0)) files
 all_of [] h k d lt = absurd (omega (arith, lt))
 all_of (f ∷ files) h zero d lt = and_left (is_path f.0) (list_all (λ g. is_path g.0) files) h
@@ -159,7 +159,7 @@ all_of (f ∷ files) h (suc k) d lt =
     all_of files (and_right (is_path f.0) (list_all (λ g. is_path g.0) files) h) k d
     (omega (arith, lt))
 
--- each path of a list text is a path
+-- each path of a list text is valid
 pub listed_path : (text : List ℕ) (files : List Listed) → list_of text ≡ Ok files
     → All (λ f. IsTrue (is_path f.0)) files
 listed_path text files h =

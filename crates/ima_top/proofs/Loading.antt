@@ -1,4 +1,4 @@
--- The text of a number's script is read as that script.
+-- The text of a generated script is read as that script.
 use Rattle.std.proofs.Common.{◌≡◌, ℕ, List, length, MatchResult, Ok, Result, sym, ap, ◌∙◌, subst}
 use Rattle.load_gen.specs.Accepted.{IsAccepted, IsLoad}
 use Rattle.load_gen.specs.Script.{script_text}
@@ -7,7 +7,7 @@ use Rattle.script_text.specs.Grammar.{script_of}
 use Rattle.script_text.specs.ScriptValue.{ScriptValue}
 use Rattle.script_words.specs.declared.fault.Fault.{Fault}
 
--- what holds of an accepted text holds of what it is read as
+-- the result of reading a text is a script with all its files, rules and tasks
 abbrev IsRead : Result ScriptValue Fault → Type 0
 IsRead r = MatchResult r IsLoad (λ f. ⊥)
 

@@ -1,11 +1,11 @@
--- What a path of a list is to the measurement list.
+-- A valid path of a list text is one that an entry may have.
 use Rattle.std.proofs.Common.{◌≡◌, ℕ, List, true}
 use Rattle.inode_meta.specs.declared.measurement.Template.TheVariants.{ImaNg}
 use Rattle.text_forms.specs.Paths.{is_path}
 use Rattle.ima_templates.specs.Path.{IsMeasuredPath}
 use Rattle.script_run.proofs.about_scenes.Paths as scripts
 
--- it can be shown by the template
+-- the template `ima-ng` can show each valid path
 pub measured_path : (path : List ℕ) → is_path path ≡ true → IsMeasuredPath ImaNg path
 measured_path path h =
     let m = scripts.measured_path path h in record {

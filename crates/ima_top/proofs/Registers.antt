@@ -1,4 +1,4 @@
--- The text of a list ends in the registers that its entries give.
+-- The text of a list ends with the registers that its entries replay to.
 use Rattle.std.proofs.Common.{◌≡◌, ℕ, List, ◌++◌, ap, ◌∙◌, lit<}
 use Rattle.std.specs.List.{flat_map}
 use Rattle.inode_meta.specs.declared.measurement.Bank.{Bank}
@@ -11,13 +11,13 @@ use Rattle.ima_templates.proofs.ReplayLemmas.{register-banks_of}
 use Rattle.list_format.specs.Line.{ascii_line}
 use Rattle.ima_top.specs.commands.List.{list_text, register_line}
 
--- the value of register 10 is that of the replay
+-- the value of register 10 is that of the list's replay
 value_is : (list : List Entry) (banks : Banks) (bank : Bank) (value : List ℕ)
     → banks ≡ banks_of list → value ≡ register banks bank 10 → value ≡ replay list bank 10
 value_is list banks bank value made read = read ∙ ap (λ (b : Banks). register b bank 10) made
     ∙ register-banks_of list bank 10 (lit< tt)
 
--- lines and registers, as they are appended, are the text of the list
+-- the entries' lines and the registers' lines, as they are appended, are the text of the list
 pub text_is : (list : List Entry) (banks : Banks) (lines one two sha1 sha256 : List ℕ)
     → banks ≡ banks_of list → lines ≡ flat_map ascii_line list
     → sha1 ≡ register banks Sha1 10 → one ≡ lines ++ register_line Sha1 sha1

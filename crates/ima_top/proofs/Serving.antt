@@ -1,4 +1,4 @@
--- What the status of a command that was not done says.
+-- What the status says about a command that was not done.
 use Rattle.std.proofs.Common.{◌≡◌, ◌≢◌, ℕ, ◌+◌, ◌<◌, ◌≤◌, ◌↔◌, ◌⊎◌, inl, inr, Bool, true, false, List, [], ◌++◌, Option, Some, None, Err, length, length-append, refl, sym, ap, ◌∙◌, subst, arith}
 use Rattle.std.specs.Prelude.{IfSome, IsNone, IsSome}
 use Rattle.std.specs.Io.KnownBytes.{Consumes, IsAtEnd}
@@ -10,14 +10,14 @@ use Rattle.ima_top.specs.Words.{reads_input}
 use Rattle.ima_top.specs.commands.Table.{reads, refusal}
 use Rattle.ima_top.specs.declared.not_done.NotDone.{NotDone}
 use Rattle.ima_top.specs.declared.not_done.NotDone.TheVariants as why
-use Rattle.ima_top.specs.declared.status.TheConstants.{DONE, USAGE, REFUSED, STUCK, READ_FAULT, WRITE_FAULT, TOO_LONG, OUT_OF_MEMORY}
-use Rattle.ima_top.specs.declared.top.TheConstants.{MOST_INPUT}
+use Rattle.ima_top.specs.Statuses as exit
+use Rattle.ima_top.specs.Limits.{most_input}
 
--- ---- what was written, and why not
+-- ---- the output that was written, and the reason
 
--- none of the statuses at which an output was written
-none_written : (s : ℕ) (A : Type 0) → s ≢ DONE → s ≢ STUCK → s ≢ WRITE_FAULT
-    → (s ≡ DONE) ⊎ (s ≡ STUCK) ⊎ (s ≡ WRITE_FAULT) → A
+-- a status at which nothing was written isn't one at which something was
+none_written : (s : ℕ) (A : Type 0) → s ≢ exit.done → s ≢ exit.stuck → s ≢ exit.write_fault
+    → (s ≡ exit.done) ⊎ (s ≡ exit.stuck) ⊎ (s ≡ exit.write_fault) → A
 none_written s A done stuck fault h = elim h [
   | inl is ↦ absurd (done is)
   | inr more ↦ elim more [ inl is ↦ absurd (stuck is) | inr is ↦ absurd (fault is) ]
@@ -25,23 +25,23 @@ none_written s A done stuck fault h = elim h [
 
 fits : (command : Command) (input : List ℕ) (w : NotDone) (old new : Option (List ℕ))
     → Performed command input old new (Err w)
-    → (not_done_status w ≡ DONE) ⊎ (not_done_status w ≡ STUCK)
-    ⊎ (not_done_status w ≡ WRITE_FAULT) → refusal command input ≡ None
+    → (not_done_status w ≡ exit.done) ⊎ (not_done_status w ≡ exit.stuck)
+    ⊎ (not_done_status w ≡ exit.write_fault) → refusal command input ≡ None
 fits command input why.Usage old new p h =
-    none_written USAGE _ (omega arith) (omega arith) (omega arith) h
+    none_written exit.usage _ (omega arith) (omega arith) (omega arith) h
 fits command input (why.Refused line) old new p h =
-    none_written REFUSED _ (omega arith) (omega arith) (omega arith) h
+    none_written exit.refused _ (omega arith) (omega arith) (omega arith) h
 fits command input why.Stuck old new p h = p.0
 fits command input why.ReadFault old new p h =
-    none_written READ_FAULT _ (omega arith) (omega arith) (omega arith) h
+    none_written exit.read_fault _ (omega arith) (omega arith) (omega arith) h
 fits command input why.WriteFault old new p h = p.0
 fits command input why.TooLong old new p h =
-    none_written TOO_LONG _ (omega arith) (omega arith) (omega arith) h
+    none_written exit.too_long _ (omega arith) (omega arith) (omega arith) h
 fits command input why.OutOfMemory old new p h =
-    none_written OUT_OF_MEMORY _ (omega arith) (omega arith) (omega arith) h
+    none_written exit.out_of_memory _ (omega arith) (omega arith) (omega arith) h
 
 written_stuck : (command : Command) (input : List ℕ) (w : NotDone) (old new : Option (List ℕ))
-    → Performed command input old new (Err w) → not_done_status w ≡ STUCK
+    → Performed command input old new (Err w) → not_done_status w ≡ exit.stuck
     → WroteWhole command input true old new
 written_stuck command input why.Usage old new p h = absurd (omega (arith, h))
 written_stuck command input (why.Refused line) old new p h = absurd (omega (arith, h))
@@ -52,7 +52,7 @@ written_stuck command input why.TooLong old new p h = absurd (omega (arith, h))
 written_stuck command input why.OutOfMemory old new p h = absurd (omega (arith, h))
 
 written_in_part : (command : Command) (input : List ℕ) (w : NotDone) (old new : Option (List ℕ))
-    → Performed command input old new (Err w) → not_done_status w ≡ WRITE_FAULT
+    → Performed command input old new (Err w) → not_done_status w ≡ exit.write_fault
     → WrotePart command input old new
 written_in_part command input why.Usage old new p h = absurd (omega (arith, h))
 written_in_part command input (why.Refused line) old new p h = absurd (omega (arith, h))
@@ -62,7 +62,7 @@ written_in_part command input why.WriteFault old new p h = p.1
 written_in_part command input why.TooLong old new p h = absurd (omega (arith, h))
 written_in_part command input why.OutOfMemory old new p h = absurd (omega (arith, h))
 
-not_written : (w : NotDone) → not_done_status w ≢ DONE
+not_written : (w : NotDone) → not_done_status w ≢ exit.done
 not_written why.Usage h = omega (arith, h)
 not_written (why.Refused line) h = omega (arith, h)
 not_written why.Stuck h = omega (arith, h)
@@ -71,9 +71,9 @@ not_written why.WriteFault h = omega (arith, h)
 not_written why.TooLong h = omega (arith, h)
 not_written why.OutOfMemory h = omega (arith, h)
 
--- the line that refuses the input
+-- the line of a refusal is the line that refuses the input
 refused_line : (command : Command) (input : List ℕ) (w : NotDone) (old new : Option (List ℕ))
-    → Performed command input old new (Err w) → not_done_status w ≡ REFUSED
+    → Performed command input old new (Err w) → not_done_status w ≡ exit.refused
     → refusal command input ≡ Some (not_done_line w)
 refused_line command input why.Usage old new p h = absurd (omega (arith, h))
 refused_line command input (why.Refused line) old new p h = p
@@ -90,10 +90,10 @@ if_some_of : (o : Option (List ℕ)) (line : List ℕ) (P : List ℕ → Type 0)
     → P line → IfSome o P
 if_some_of o line P h p = subst (λ (x : Option (List ℕ)). IfSome x P) (sym h) p
 
--- what was performed is what the status says, where the line of the reason is told
+-- the result of a command is what its status says, if the reason's line is on the note
 serves : (command : Command) (input : List ℕ) (w : NotDone) (old new : Option (List ℕ))
-    (told : List ℕ → Type 0) → length input ≤ MOST_INPUT + 1
-    → (not_done_status w ≡ TOO_LONG) ↔ (MOST_INPUT < length input)
+    (told : List ℕ → Type 0) → length input ≤ most_input + 1
+    → (not_done_status w ≡ exit.too_long) ↔ (most_input < length input)
     → Performed command input old new (Err w) → told (not_done_line w)
     → Serves command input (not_done_status w) old new told
 serves command input w old new told asked long p t = record {
@@ -109,12 +109,12 @@ serves command input w old new told asked long p t = record {
       (refused_line command input w old new p h) t;
 }
 
--- what the input is of a command that was performed
+-- what the command's result says about its input, for a command that wasn't done
 abbrev IsPerformed : Option (List ℕ) → Option (List ℕ) → Option (List ℕ) → Option (List ℕ)
     → NotDone → Command → Type 0
 IsPerformed before after old new w command = OnInput (reads command) before after (λ input.
-    (length input ≤ MOST_INPUT + 1)
-    × ((not_done_status w ≡ TOO_LONG) ↔ (MOST_INPUT < length input))
+    (length input ≤ most_input + 1)
+    × ((not_done_status w ≡ exit.too_long) ↔ (most_input < length input))
     × Performed command input old new (Err w))
 
 serves_any : (o : Option Command) (before after old new : Option (List ℕ)) (w : NotDone)
@@ -129,7 +129,7 @@ serves_any (Some command) before after old new w told i t = record {
   holds = serves command i.input w old new told i.holds.0 i.holds.1 i.holds.2 t;
 }
 
--- the same of a status and of a line that are those of the reason
+-- a status and a line that are those of the reason say what the command's result does
 pub served_not_done : (o : Option Command) (before after old new : Option (List ℕ)) (w : NotDone)
     (told : List ℕ → Type 0) (s : ℕ) (line : List ℕ) → s ≡ not_done_status w
     → line ≡ not_done_line w → IfSome o (IsPerformed before after old new w) → told line
@@ -142,12 +142,12 @@ served_not_done o before after old new w told s line is says i t =
 
 -- ---- completeness
 
--- of an option, what holds of each that it may be
+-- a property that holds of each value that an option may have holds of the option
 if_each : {A : Type 0} (o : Option A) (P : A → Type 0) → ((a : A) → o ≡ Some a → P a) → IfSome o P
 if_each None P h = tt
 if_each (Some a) P h = h a refl
 
--- what was given is at most what was left
+-- a source gives at most the bytes that it had left
 given_within : (given left : List ℕ) (before after : Option (List ℕ))
     → Consumes before after given → before ≡ Some left → length given ≤ length left
 given_within given left None after c e = absurd (cc)
@@ -156,7 +156,7 @@ given_within given left (Some xs) (Some ys) c e =
     let same : xs ≡ left = cc in
     omega (arith, ap length (sym same ∙ c), length-append given ys)
 
--- and all of it, where none is left after
+-- a source that is at its end has given all bytes that it had left
 given_whole : (given left : List ℕ) (before after : Option (List ℕ))
     → Consumes before after given → IsAtEnd after → before ≡ Some left → given ≡ left
 given_whole given left None after c at e = absurd (cc)
@@ -181,21 +181,21 @@ input_whole true before after input left given unread at e =
 input_whole false before after input left given unread at e =
     let none : [] ≡ left = cc in unread refl ∙ none
 
--- an input that isn't too long and is in the grammar
+-- the input isn't too long, and is in the command's grammar
 record IsAnswerable (command : Command) (input : List ℕ) : Type 0 where
-  short : length input ≤ MOST_INPUT
+  short : length input ≤ most_input
   kept : refusal command input ≡ None
 
--- a command isn't none
+-- an option that has a command isn't empty
 not_none : (command : Command) → IsNone (Some command) → ⊥
 not_none command h = cc
 
--- what the status is then
+-- the statuses with which an input may be answered, or one of the streams has failed
 abbrev IsComplete : ℕ → Type 0 → Type 0 → Type 0
 IsComplete s source sink =
-    (s ≡ DONE) ⊎ (s ≡ STUCK) ⊎ (s ≡ OUT_OF_MEMORY) ⊎ source ⊎ sink
+    (s ≡ exit.done) ⊎ (s ≡ exit.stuck) ⊎ (s ≡ exit.out_of_memory) ⊎ source ⊎ sink
 
--- no input that is answerable is refused
+-- an input in the grammar isn't refused
 not_refused : (command : Command) (input left line : List ℕ) → IsAnswerable command left
     → input ≡ left → refusal command input ≡ Some line → ⊥
 not_refused command input left line a same h =
@@ -205,9 +205,9 @@ not_refused command input left line a same h =
 
 complete : (command : Command) (before after old new : Option (List ℕ)) (left : List ℕ)
     (w : NotDone) (source sink : Type 0)
-    → (not_done_status w ≡ USAGE → IsNone (Some command))
+    → (not_done_status w ≡ exit.usage → IsNone (Some command))
     → (reads command ≡ true → IsPastReading (not_done_status w) → IsAtEnd after)
-    → (not_done_status w ≡ READ_FAULT → source) → (not_done_status w ≡ WRITE_FAULT → sink)
+    → (not_done_status w ≡ exit.read_fault → source) → (not_done_status w ≡ exit.write_fault → sink)
     → IsPerformed before after old new w command
     → input_left (reads command) before ≡ Some left → IsAnswerable command left
     → IsComplete (not_done_status w) source sink
@@ -226,18 +226,18 @@ complete command before after old new left why.WriteFault source sink usage at r
     inr (inr (inr (inr (write refl))))
 complete command before after old new left why.TooLong source sink usage at read write i e a =
     let within = input_within (reads command) before after i.input left i.given i.unread e in
-    let long : MOST_INPUT < length i.input = i.holds.1.0 refl in
-    let short : length left ≤ MOST_INPUT = a.short in absurd (omega (arith, within, long, short))
+    let long : most_input < length i.input = i.holds.1.0 refl in
+    let short : length left ≤ most_input = a.short in absurd (omega (arith, within, long, short))
 complete command before after old new left why.OutOfMemory source sink usage at read write i e a =
     inr (inr (inl refl))
 
 complete_any : (o : Option Command) (before after old new : Option (List ℕ)) (w : NotDone)
-    (source sink : Type 0) → (not_done_status w ≡ USAGE → IsNone o)
+    (source sink : Type 0) → (not_done_status w ≡ exit.usage → IsNone o)
     → (reads_input o ≡ true → IsPastReading (not_done_status w) → IsAtEnd after)
-    → (not_done_status w ≡ READ_FAULT → source) → (not_done_status w ≡ WRITE_FAULT → sink)
+    → (not_done_status w ≡ exit.read_fault → source) → (not_done_status w ≡ exit.write_fault → sink)
     → IfSome o (IsPerformed before after old new w)
     → IfSome o (λ command. IfSome (input_left (reads command) before) (λ left.
-    length left ≤ MOST_INPUT → refusal command left ≡ None
+    length left ≤ most_input → refusal command left ≡ None
     → IsComplete (not_done_status w) source sink))
 complete_any None before after old new w source sink usage at read write i = tt
 complete_any (Some command) before after old new w source sink usage at read write i =
@@ -247,13 +247,13 @@ complete_any (Some command) before after old new w source sink usage at read wri
 
 pub complete_not_done : (o : Option Command) (before after old new : Option (List ℕ)) (w : NotDone)
     (source sink : Type 0) (s : ℕ) → s ≡ not_done_status w
-    → (not_done_status w ≡ USAGE → IsNone o)
+    → (not_done_status w ≡ exit.usage → IsNone o)
     → (reads_input o ≡ true → IsPastReading (not_done_status w) → IsAtEnd after)
-    → (not_done_status w ≡ READ_FAULT → source) → (not_done_status w ≡ WRITE_FAULT → sink)
+    → (not_done_status w ≡ exit.read_fault → source) → (not_done_status w ≡ exit.write_fault → sink)
     → IfSome o (IsPerformed before after old new w)
     → IfSome o (λ command. IfSome (input_left (reads command) before) (λ left.
-    length left ≤ MOST_INPUT → refusal command left ≡ None → IsComplete s source sink))
+    length left ≤ most_input → refusal command left ≡ None → IsComplete s source sink))
 complete_not_done o before after old new w source sink s is usage at read write i =
     let P : ℕ → Type 0 = λ n. IfSome o (λ command. IfSome (input_left (reads command) before)
-    (λ left. length left ≤ MOST_INPUT → refusal command left ≡ None → IsComplete n source sink)) in
+    (λ left. length left ≤ most_input → refusal command left ≡ None → IsComplete n source sink)) in
     subst P (sym is) (complete_any o before after old new w source sink usage at read write i)

@@ -1,4 +1,4 @@
--- Tasks that never wait are never stuck.
+-- A run whose tasks never wait is never stuck.
 use Rattle.std.proofs.Common.{◌≡◌, ℕ, zero, suc, ◌&&◌, Bool, true, false, not, List, [], ◌∷◌, length, map, Some, refl, ap, ◌∙◌}
 use Rattle.std.specs.Prelude.{slice_get}
 use Rattle.std.specs.List.{list_all}
@@ -17,13 +17,13 @@ use Rattle.script_text.specs.ScriptValue.{ScriptValue}
 use Rattle.script_text.specs.declared.blocks.TaskBlock.{TaskBlock}
 use Rattle.script_text.proofs.Holding.{left_true, right_true}
 
--- a call that doesn't wait doesn't wait in vain
+-- a call that isn't a wait isn't blocked
 not_in_vain : (left_of : ℕ → ℕ) (c : Call) → not (waits c) ≡ true
     → waits_in_vain left_of (Some c) ≡ false
 not_in_vain left_of (call.Wait sem) h = absurd (false≢true h)
 not_in_vain left_of _ h = refl
 
--- nor does any of a task's calls
+-- no call of a task that never waits is blocked
 none_in_vain : (left_of : ℕ → ℕ) (calls : List Call) (k : ℕ)
     → list_all (λ c. not (waits c)) calls ≡ true
     → waits_in_vain left_of (slice_get calls k) ≡ false
@@ -36,7 +36,7 @@ none_in_vain left_of (c ∷ cs) (suc k) h =
 abbrev programs_of : List TaskBlock → List Program
 programs_of tasks = map program_of tasks
 
--- so that a task either is done or can go on
+-- a task that never waits is done or can go on
 done_alone : (left_of : ℕ → ℕ) (tasks : List TaskBlock) (thoughts : List Thought)
     → list_all never_waits tasks ≡ true
     → all_wait left_of (programs_of tasks) thoughts ≡ all_done (programs_of tasks) thoughts

@@ -1,9 +1,9 @@
--- What a command's own call answers.
+-- The answer of a command's own call, before it is written.
 use Rattle.std.specs.Prelude.{◌≡◌, ℕ, List, Result, Ok, Err, Option, Some, None, ⊤}
 use Rattle.ima_top.specs.declared.not_done.NotDone.{NotDone}
 use Rattle.ima_top.specs.declared.not_done.NotDone.TheVariants.{Refused, OutOfMemory}
 
--- an output, where nothing refuses the input; the line that refuses it; or memory ran out
+-- either an output, and nothing refuses the input; or the line that refuses it; or out of memory
 abbrev pub Answers : {A : Type 0} → Result A NotDone → Option (List ℕ) → (A → Type 0) → Type 0
 Answers (Ok answer) refusal IsOutput = (refusal ≡ None) × IsOutput answer
 Answers (Err (Refused line)) refusal IsOutput = refusal ≡ Some line.items

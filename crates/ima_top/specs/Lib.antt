@@ -1,6 +1,8 @@
+pub mod Limits
 pub mod Line
 pub mod commands
 pub mod Words
+pub mod Statuses
 pub mod NotDone
 pub mod Answered
 pub mod Served

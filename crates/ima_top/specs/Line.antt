@@ -1,4 +1,4 @@
--- A line of a text.
+-- A line of text.
 use Rattle.std.specs.Prelude.{ℕ, List, [], ◌∷◌, ◌++◌}
 
 abbrev pub with_newline : List ℕ → List ℕ

@@ -1,4 +1,4 @@
--- The commands: what is said of all of them, and each in its own file.
+-- The commands: the tables with a row for each of them, and one file of definitions each.
 pub mod BadLine
 pub mod Gen
 pub mod Label

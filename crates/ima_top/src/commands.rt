@@ -1,8 +1,8 @@
-// The commands: which of them read, and what each answers to its input.
+// The commands: which of them read their input, and how each answers it.
 ghost use Rattle.std.specs.Prelude.{◌≡◌, ◌≤◌, length, IfOk};
 ghost use Rattle.ima_top.specs.Answered.{Answers};
 ghost use Rattle.ima_top.specs.commands.Table.{reads, refusal, IsOutput};
-ghost use Rattle.ima_top.specs.declared.top.TheConstants.{MOST_INPUT};
+ghost use Rattle.ima_top.specs.Limits.{most_input};
 
 mod bad_line;
 mod gen_;
@@ -18,10 +18,11 @@ use std::alloc::{AllocError as OutOfMemory, Global};
 use std::sync::Wait;
 use std::thread::Threads;
 
-/// The line that is told where the words aren't a command.
+/// The line that is written to the note if the words don't name a command.
 pub const USAGE_LINE: &[u8] = b"usage: imakern list | run | policy | label | gen N\n";
 
-/// Whether the command reads its input. One that doesn't is answered as if it had read nothing.
+/// Whether the command reads its input. A command that doesn't is answered as if the input were
+/// empty.
 #[tactic(auto, unfolding(crate::specs::commands::Table::reads))]
 pub fn reads(command: Command) -> bool
     ensures { result ≡ reads command }
@@ -32,8 +33,8 @@ pub fn reads(command: Command) -> bool
     }
 }
 
-/// What the command answers to the input, whose run has each turn of a task behind the gate:
-/// `Refused` where the input isn't in its grammar, or `OutOfMemory`.
+/// The command's answer to the input; each step of a task of its run passes the gate first. The
+/// error is `Refused` if the input isn't in the command's grammar, or `OutOfMemory`.
 #[tactic(auto, unfolding(crate::specs::commands::Table::refusal, crate::specs::commands::Table::IsOutput))]
 pub fn answer_input<G: Gate + Sync, R: Threads + Wait + Sync>(
     rt: &R,
@@ -42,7 +43,7 @@ pub fn answer_input<G: Gate + Sync, R: Threads + Wait + Sync>(
     input: Vec<u8>,
     gate: &G,
 ) -> Result<Answer, NotDone>
-    requires { length input.items ≤ MOST_INPUT }
+    requires { length input.items ≤ most_input }
     ensures { Answers result (refusal command input.items)
         (λ answer. IsOutput command input.items answer.stuck answer.output) }
 {
@@ -60,7 +61,7 @@ pub fn answer_input<G: Gate + Sync, R: Threads + Wait + Sync>(
     })
 }
 
-// An output in one piece.
+// Makes an output of one piece.
 fn whole(alloc: Global, output: Vec<u8>) -> Result<Pieces, OutOfMemory>
     ensures { IfOk result (λ pieces. pieces ≡ output.items) }
 {
@@ -69,12 +70,12 @@ fn whole(alloc: Global, output: Vec<u8>) -> Result<Pieces, OutOfMemory>
     Ok(pieces)
 }
 
-/// What a command answers to an input.
+/// The answer of a command to its input.
 #[derive(Drop)]
 pub struct Answer {
     /// The whole output.
     pub output: Pieces,
-    /// Whether the run behind it is stuck. Commands without tasks, or whose tasks never wait, never
-    /// are.
+    /// Whether the run that the output reports is stuck. A command without tasks, or whose tasks
+    /// never wait, is never stuck.
     pub stuck: bool,
 }

@@ -1,12 +1,12 @@
 //! The top call of the program: from the words of the command line and the bytes of the input to
 //! the bytes of the output and the exit status.
 //!
-//! [`serve`] is generic over the outside, so its contract speaks of the bytes that a source gives
-//! and that sinks take. It speaks of every command by the same words: whether it reads, what
-//! refuses an input, and what is an output for it (`specs/commands/Table.antt`). Which command the
-//! words are is said by `command_line`. A command has a file `src/commands/NAME.rt` with its
-//! definitions beside it in `specs/commands/Name.antt`, and a row in each table of
-//! `src/commands.rt` and `specs/commands/Table.antt`.
+//! [`serve`] is generic over the outside world, so its contract is about the bytes that a source
+//! gives and that sinks take. It states the same of every command, in three terms: whether the
+//! command reads its input, what refuses an input, and what is an output for it
+//! (`specs/commands/Table.antt`). The crate `command_line` defines which command the words name.
+//! Each command has a file `src/commands/NAME.rt`, its definitions in `specs/commands/Name.antt`,
+//! and a row in each table of `src/commands.rt` and `specs/commands/Table.antt`.
 #![tactic(auto)]
 
 mod commands;
@@ -17,6 +17,8 @@ mod top;
 
 pub use command_line::Command;
 pub use ima_io as outer;
+pub use load_gen as generator;
+pub use report_text as reports;
 pub use script_run as runs;
 pub use script_run::{scenes, tasks};
 pub use script_text as scripts;

@@ -1,4 +1,4 @@
-// Why a command was not done.
+// The reasons why a command was not done.
 ghost use Rattle.std.specs.Prelude.{◌≡◌};
 ghost use Rattle.ima_top.specs.declared.not_done.NotDone.TheVariants as not_done;
 ghost use Rattle.ima_top.specs.NotDone.{not_done_of_read, not_done_status, not_done_line};
@@ -8,16 +8,16 @@ use crate::status::{OUT_OF_MEMORY, READ_FAULT, REFUSED, STUCK, TOO_LONG, USAGE, 
 use ima_io::{Failed, ReadErr};
 use std::alloc::{AllocError as OutOfMemory, AllocFailed};
 
-/// Why a command was not done: one variant for each status but `DONE`. A command itself answers
-/// only `Refused` and `OutOfMemory`; the others are of the call around it, and take the place of
-/// `ReadErr` and `Failed`, which say no more than that reading or writing failed.
+/// Why a command was not done: one variant for each status but `DONE`. A command itself returns
+/// only `Refused` and `OutOfMemory`. The other variants are those of the call around it, and
+/// replace `ReadErr` and `Failed`, which say only that reading or writing failed.
 #[derive(Debug, Drop)]
 pub enum NotDone {
-    /// The words aren't a command.
+    /// The words don't name a command.
     Usage,
-    /// The input isn't in the command's grammar: the line that says why.
+    /// The input isn't in the command's grammar. The line names the first fault.
     Refused(Vec<u8>),
-    /// The output was written, but the run behind it is stuck.
+    /// The output was written, but the run that it reports is stuck.
     Stuck,
     /// The source failed.
     ReadFault,
@@ -58,7 +58,7 @@ impl From<Failed> for NotDone {
 }
 
 impl NotDone {
-    /// The exit status.
+    /// The exit status of the program, from 1 to 7.
     pub fn status(&self) -> u8
         ensures { result ≡ not_done_status self.now }
     {
@@ -73,7 +73,7 @@ impl NotDone {
         }
     }
 
-    /// The line that tells it.
+    /// The line for the note, which ends in a newline.
     pub fn line(&self) -> &[u8]
         ensures { result.now ≡ not_done_line self.now }
     {

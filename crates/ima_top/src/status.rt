@@ -1,9 +1,9 @@
-// The exit statuses.
+// The exit statuses of the program.
 
 /// The command's input was read to its end and the output was written whole.
 pub const DONE: u8 = 0;
 
-/// The words aren't a command. Nothing was read.
+/// The words don't name a command. Nothing was read.
 pub const USAGE: u8 = 1;
 
 /// The input isn't in the command's grammar. Nothing was written.
@@ -15,8 +15,7 @@ pub const STUCK: u8 = 3;
 /// The source of the input failed. Nothing was written.
 pub const READ_FAULT: u8 = 4;
 
-/// The sink of the output failed. A prefix of the output that is shorter than the output was
-/// written.
+/// The sink of the output failed. A proper prefix of the output was written.
 pub const WRITE_FAULT: u8 = 5;
 
 /// The source gave more bytes than an input may have. Nothing was written.

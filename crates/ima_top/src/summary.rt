@@ -1,4 +1,4 @@
-// The run of the script of a number.
+// The run of a generated script, and its summary.
 
 ghost use Rattle.std.specs.Prelude.{◌≡◌, IfOk};
 ghost use Rattle.ima_top.specs.Summarized.{IsLoaded, IsSummary};
@@ -11,8 +11,8 @@ use std::alloc::{AllocError as OutOfMemory, Global};
 use std::sync::Wait;
 use std::thread::Threads;
 
-/// Runs the script that is made of a number from 1 to 1,000,000, each step behind the gate, and
-/// gives the summary of what the run leaves.
+/// Runs the generated script of a number from 1 to 1,000,000, with each step passing the gate
+/// first, and returns the summary of the run.
 pub fn summarize<G: Gate + Sync, R: Threads + Wait + Sync>(
     rt: &R,
     alloc: Global,
@@ -27,7 +27,7 @@ pub fn summarize<G: Gate + Sync, R: Threads + Wait + Sync>(
     Ok(output)
 }
 
-// The script of the number, and how many bytes its text has.
+// The generated script of the number, and the length of its text in bytes.
 fn loaded(alloc: Global, number: u32) -> Result<(Script, usize), OutOfMemory>
     ensures { IfOk result (λ r. IsLoaded number r.0 r.1) }
 {

@@ -1,4 +1,4 @@
-//! The program: [`ima_top::serve`] over the process's own words and streams.
+//! The program: [`ima_top::serve`] on the process's own words and streams.
 #![tactic(auto)]
 
 use ima_top::outer::{FreeGate, StdSink, StdSource};
@@ -17,7 +17,7 @@ fn main(rt: HostRuntime) -> ExitCode {
             let _ = rt.eprintln("out of memory");
             return ExitCode::from(7);
         }
-        // A word that isn't UTF-8 makes no command, as no words at all do.
+        // A word that isn't UTF-8 makes the words no command, just as if there were none.
         Err(_) => Vec::new(rt.alloc()),
     };
     let status = serve(

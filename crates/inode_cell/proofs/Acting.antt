@@ -1,4 +1,4 @@
--- What a step does, seen from before its room was made.
+-- The effect of a step, related to the cell before room was made for it.
 use Rattle.std.proofs.Common.{◌≡◌, ℕ, true, List, Option, Some, None, refl, sym, ap, ◌∙◌, subst}
 use Rattle.std.specs.Prelude.{is_some, option_map}
 use Rattle.hash_algos.specs.Digest.{digest_of}
@@ -22,7 +22,7 @@ use Rattle.inode_events.specs.declared.told.Told.{Told}
 use Rattle.inode_cell.specs.Acts.{Acts, MayBy}
 use Rattle.inode_cell.specs.Value.{CellValue, IsSameCell}
 
--- a cell with the same journal, and perhaps another room
+-- two cells with the same journal differ at most in their room
 pub same_value : (old mid : CellValue) → mid.list ≡ old.list → IsSameCell old mid
     → mid ≡ record old { spare = mid.spare }
 same_value old mid l s =
@@ -66,7 +66,7 @@ acts_from old mid new list list2 pass pass2 who d o l s x =
       };
     }
 
--- the same, told in the call's own words
+-- a step acts on the cell before room was made, with the outcome that the call's result stands for
 pub acts_ok : (old mid new : CellValue) (list list2 : List Entry) (pass pass2 : Passed Event) (who
     : Who) (d : Deed) (t : Told) (o : Option Told)
     → mid.list ≡ old.list → IsSameCell old mid → Some t ≡ o
@@ -76,14 +76,14 @@ acts_ok old mid new list list2 pass pass2 who d t o l s e x =
     subst (λ (y : Option Told). Acts old new list list2 pass pass2 who d y) e (acts_from old mid
     new list list2 pass pass2 who d (Some t) l s x)
 
--- what may be done stays so where room is made
+-- a deed that may be done may still be done once room is made
 pub may_from : (old mid : CellValue) (n : ℕ) (d : Deed) → mid.list ≡ old.list → IsSameCell old mid
     → MayBy old n d → MayBy mid n d
 may_from old mid n d l s m =
     let y : MayBy (record old { spare = mid.spare }) n d = record { may = m.may; by = m.by } in
     subst (λ (v : CellValue). MayBy v n d) (sym (same_value old mid l s)) y
 
--- a refusal, told in the call's own words
+-- a refused step acts on the cell before room was made, with the outcome that the result stands for
 pub acts_refused : (old mid new : CellValue) (list list2 : List Entry) (pass pass2 : Passed Event)
     (who : Who) (d : Deed) (t u : Told) (o : Option Told)
     → mid.list ≡ old.list → IsSameCell old mid → t ≡ u → o ≡ Some u
@@ -92,7 +92,7 @@ pub acts_refused : (old mid new : CellValue) (list list2 : List Entry) (pass pas
 acts_refused old mid new list list2 pass pass2 who d t u o l s e f x = acts_ok old mid new list
     list2 pass pass2 who d t o l s (ap Some e ∙ sym f) x
 
--- a collection that is open blocks
+-- an open collection blocks
 pub blocked : (o : Option Collection) (t : Told) → is_some o ≡ true → unless_collecting o t ≡ None
 blocked None t e = cc
 blocked (Some c) t e = refl
@@ -107,7 +107,7 @@ label_of_close i p file sums None m a h s = absurd h
 label_of_close i p file sums (Some c) m a h s = ap (λ (d : Digest). labelled_on i.settings.evm d m
     a) (sym ((s c refl).0))
 
--- the digests of the collection stay so where room is made
+-- the digests of the collection are the same once room is made
 pub sums_from : (old mid : CellValue) (sums : Digest × Digest) → mid.list ≡ old.list
     → IsSameCell old mid → HasSums old.inode (past old.list) sums
     → HasSums mid.inode (past mid.list) sums

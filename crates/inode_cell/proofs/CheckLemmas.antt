@@ -1,4 +1,4 @@
--- What a check finds.
+-- The violation that a check finds.
 use Rattle.std.proofs.Common.{◌≡◌, ℕ, Bool, List, Option, Some, None, refl, sym, ◌∙◌, ap}
 use Rattle.ima_templates.specs.declared.entry.Entry.{Entry}
 use Rattle.ima_templates.specs.declared.entry.Placed.{Placed}
@@ -16,7 +16,7 @@ use Rattle.inode_cell.specs.Answers.{found_told}
 use Rattle.inode_cell.specs.Listing.{with_asked}
 use Rattle.inode_cell.specs.declared.answers.Found.{Found}
 
--- what the cell knows of the journal is what the check reads there
+-- the values that the cell gives a check are those that the journal defines
 pub record Reads (q : List Event) (file : ℕ) (w : Bool) (r ws : ℕ) (must : Bool) : Type 0 where
   pub writing : w ≡ is_writing file q
   pub readers_are : r ≡ readers q

@@ -1,4 +1,4 @@
--- What a take or finish grants.
+-- Lemmas for the grants of takes and finishes.
 use Rattle.std.proofs.Common.{◌≡◌, ℕ, Bool, true, false, cond, List, Option, Some, None, refl, sym, ◌∙◌, ap, subst}
 use Rattle.std.specs.Prelude.{is_none, is_some, option_map}
 use Rattle.std.proofs.lemmas.Option.{same_Some}
@@ -36,7 +36,7 @@ use Rattle.inode_cell.specs.Pieces.{IsPieceDeed}
 use Rattle.inode_cell.specs.Value.{CellValue, IsSameCell}
 use Rattle.inode_cell.proofs.Acting.{same_value}
 
--- what holds by the journal holds where room was made
+-- a property of the journal still holds once room is made
 pub moved : (old mid inner : CellValue) → mid.list ≡ old.list → IsSameCell old mid → inner ≡ mid
     → (P : Inode → List Event → Type 0)
     → P old.inode (past old.list) → P inner.inode (past inner.list)
@@ -44,14 +44,14 @@ moved old mid inner l s e P x =
     subst (λ (v : CellValue). P v.inode (past v.list)) (sym e) (subst (λ (v : CellValue). P v.inode
     (past v.list)) (sym (same_value old mid l s)) x)
 
--- what mode fix leaves
+-- the attributes that mode fix leaves are those that the journal defines
 pub mended_is : (i : Inode) (mends : Bool) (digest : Digest) (meta : Meta) (attrs : List Pair)
     → mended_on i.settings.evm mends digest meta attrs
     ≡ fixed_by i mends (Some digest) meta attrs
 mended_is i true digest meta attrs = refl
 mended_is i false digest meta attrs = refl
 
--- it isn't both none and one
+-- an option isn't both `None` and `Some`
 none_some : (o : Option Collection) (c : Collection) → o ≡ None → o ≡ Some c → ⊥
 none_some None c a b = cc
 none_some (Some d) c a b = cc
@@ -83,7 +83,7 @@ take_tells i file placed p sums None (Some f) a b =
     ap (λ (s : Sums). Some (told.Grant (grant_of i file placed s.digest p))) (same_Some (sums_in f)
     sums b)
 
--- the entry of digests, whatever their begin
+-- the entry doesn't depend on the begin of its digests
 measured_same : (i : Inode) (file : ℕ) (p : List Event) (m : Bool) (f : Digests) (sums : Sums)
     → sums_in f ≡ sums
     → measured_if m i file (Some f) p ≡ measured_if m i file (Some (digests_in sums)) p
@@ -144,7 +144,7 @@ finish_sums file sums (Some c) h s =
     let b = sym ((s c refl).1) in
     λ j. Some (record { digest = a j; sha1 = b j })
 
--- what was asked of the file whose collection is open
+-- the open collection holds what was asked of its file
 pub asked_of_open : (file : ℕ) (p : List Event) (o : Option Collecting) (k : Option Collection)
     → shorts_seen o ≡ shortened k → Collects file k → HasAsked p o
     → (a : Asked) → asked_in o ≡ Some a → IsAsked (last_check file p) a
@@ -157,12 +157,12 @@ asked_of_open file p (Some o) (Some k) e h s a r =
     o.asked) at s in
     subst (λ (y : Option Asked). IfAsked (last_check file p) y) r x
 
--- no close's collection is at the stage of a take's
+-- a file whose take's collection is complete isn't in the collection of a close
 no_close : (b : Bool) → collected_stage ≡ collecting_stage true b → ⊥
 no_close true e = cc
 no_close false e = cc
 
--- where a take's collection has its last piece, a check asked for it
+-- if a take's collection has its last piece, a check asked for it
 pub asked_there : (i : Inode) (file : ℕ) (p : List Event) (o : Option Collecting) (k : Option
     Collection) → shorts_seen o ≡ shortened k → Collects file k → StageIs i p k
     → stage i file p ≡ collected_stage → asked_in o ≡ None → ⊥
@@ -177,7 +177,7 @@ asked_there i file p (Some o) (Some k) e h st is none =
 
 -- ---- pieces
 
--- a deed that takes a piece finds a collection
+-- if a deed may take a piece, a collection is open
 pub piece_open : (i : Inode) (p : List Event) (d : Deed) → EachFollows i p → May i p d
     → IsPieceDeed d → collecting i p ≡ None → ⊥
 piece_open i p (deed.Chunk file) legal may piece none =
@@ -188,7 +188,7 @@ piece_open i p (deed.CloseChunk file) legal may piece none =
     none_some (collecting i p) there.0 none there.1.0
 piece_open i p d legal may piece none = absurd piece
 
--- where none is kept, none is open
+-- if the state has no open collection, the journal has none
 pub none_open : (k : Option Collection) → shorts_seen None ≡ shortened k → k ≡ None
 none_open None e = refl
 none_open (Some k) e = cc

@@ -1,5 +1,5 @@
--- What never comes: a signature that no entry can show, a second digest by another algorithm than
--- SHA-1, and a piece behind the end of the largest file.
+-- Cases that never occur: a signature that no entry can show, a second digest by an algorithm other
+-- than SHA-1, and a piece past the end of the largest file.
 use Rattle.std.proofs.Common.{◌≡◌, ℕ, ◌+◌, ◌*◌, ◌≤◌, ◌<◌, ◌^◌, Bool, true, false, cond, List, [], ◌∷◌, length, Option, Some, None, refl, sym, ◌∙◌, ap, subst, arith}
 use Rattle.std.specs.Prelude.{◌==◌, ◌||◌, nat_le, option_map}
 use Rattle.std.proofs.lemmas.Bool.{leb-false, leb-true}
@@ -34,7 +34,7 @@ use Rattle.inode_cell.specs.Pieces.{IsPieceDeed}
 
 -- ---- the signature
 
--- what fits as a value fits as a signature
+-- the signature fits if the attribute's value does
 pub signature_fits : (o : Option (List ℕ)) → Fits o → length (signature_in o) ≤ most_value
 signature_fits None h = omega arith
 signature_fits (Some bytes) h = at (type_of bytes == 3 || type_of bytes == 6) where
@@ -44,23 +44,23 @@ signature_fits (Some bytes) h = at (type_of bytes == 3 || type_of bytes == 6) wh
 
 -- ---- the second digest
 
--- the second of the digests is by SHA-1
+-- the second digest is by SHA-1
 abbrev pub HasSha1 : Option Digests → Type 0
 HasSha1 None = Unit {0}
 HasSha1 (Some f) = f.sha1.algo ≡ Sha1
 
--- a collection gives such a one
+-- the second digest of a collection is by SHA-1
 given_sha1 : (o : Option Collection) → HasSha1 (option_map digests_of o)
 given_sha1 None = tt
 given_sha1 (Some c) = refl
 
--- an event gives none else
+-- an event leaves the second digest in force by SHA-1
 next_sha1 : (i : Inode) (p : List Event) (d : Deed) (t : Told) → HasSha1 (in_force i p)
     → HasSha1 (digests_given d t (integrity i p))
 next_sha1 i p (deed.Finish file) (told.Grant grant) h = given_sha1 (collecting i p)
 next_sha1 i p d t h = h
 
--- the digests in force are such
+-- the second digest in force is by SHA-1 after any journal
 pub force_sha1 : (i : Inode) (p : List Event) → HasSha1 (in_force i p)
 force_sha1 i [] = tt
 force_sha1 i (e ∷ before) =
@@ -70,14 +70,14 @@ force_sha1 i (e ∷ before) =
       at true h = tt
       at false h = next_sha1 i before e.deed e.told h
 
--- so a take that finds digests has such a one
+-- the second digest that a take finds in force is by SHA-1
 pub take_sha1 : (sums : Sums) (f : Option Digests) → HasSha1 f → sums_in_force f ≡ Some sums
     → sums.sha1.algo ≡ Sha1
 take_sha1 sums None h e = cc
 take_sha1 sums (Some f) h e =
     ap (λ (s : Sums). s.sha1.algo) (sym (same_Some (sums_in f) sums e)) ∙ h
 
--- and a finish
+-- the second digest that a finish is given is by SHA-1
 pub finish_sha1 : (file : ℕ) (sums : Digest × Digest) (o : Option Collection) → Collects file o
     → ((c : Collection) → o ≡ Some c
     → (sums.0 ≡ digest_from c) × (sums.1 ≡ digest_of Sha1 c.bytes))
@@ -95,13 +95,13 @@ done_within n s = at (nat_le n most_bytes) refl s where
   at true e s = leb-true n most_bytes e
   at false e s = cc
 
--- a write leaves no more bytes than the content has, or up to its own end
+-- a write leaves at most as many bytes as the content had, or as its own end needs
 length-overwritten : (old : List ℕ) (from most : ℕ) (bytes : List ℕ) → length old ≤ most
     → from + length bytes ≤ most → length (overwritten old from bytes) ≤ most
 length-overwritten old from most bytes h w =
     simp (length-append, length-take, length-drop) (omega arith)
 
--- a truncation leaves no more bytes than it says
+-- a truncation leaves at most `len` bytes
 length-resized : (old : List ℕ) (len : ℕ) → length (resized old len) ≤ len
 length-resized old len = omega (arith, length-take len (with_zeros_to len old))
 
@@ -116,7 +116,7 @@ small_after i p who (deed.Trunc file len) told.Done b f h =
     let fits = done_within len f.2 in omega (arith, fits, length-resized (content p) len)
 small_after i p who d t b f h = h
 
--- the content never has more bytes than a file may have
+-- the content always fits the largest file
 pub content_small : (i : Inode) (p : List Event) → length i.birth.content ≤ most_bytes
     → EachFollows i p → length (content p) ≤ most_bytes
 content_small i [] b h = omega arith
@@ -125,12 +125,12 @@ content_small i (e ∷ before) b h =
 
 -- ---- the pieces
 
--- a collection with pieces left took no more than the largest file has
+-- a collection that isn't complete has taken no more bytes than the largest file has
 abbrev pub IsFew : Option Collection → Type 0
 IsFew None = Unit {0}
 IsFew (Some c) = c.complete ≡ false → piece_bytes * c.pieces ≤ most_bytes
 
--- a piece with more behind it lies within the content
+-- a piece that isn't the last lies within the content
 more_few : (bytes : List ℕ) (o : Option Collection) → length bytes ≤ most_bytes
     → chunk_told bytes o ≡ Some told.More → IsFew (collected_more bytes false o)
 more_few bytes None h s = tt
@@ -143,7 +143,7 @@ more_few bytes (Some c) h s = λ e. at (is_last_piece bytes c.pieces) refl s whe
       let within = leb-false (length bytes) (piece_bytes * (c.pieces + 1)) q in
       omega (arith, within, h)
 
--- behind the last piece none is left
+-- a collection that has its last piece is complete
 last_few : (bytes : List ℕ) (o : Option Collection) → IsFew (collected_more bytes true o)
 last_few bytes None = tt
 last_few bytes (Some c) = λ e. cc
@@ -169,7 +169,7 @@ few i [] b h = tt
 few i (e ∷ before) b h =
     few_after i before e.who e.deed e.told (content_small i before b h.1) h.0 (few i before b h.1)
 
--- a file that collects has pieces left
+-- if the file is at the stage of collecting, its collection isn't complete
 pub pieces_left : (i : Inode) (p : List Event) (file : ℕ) (k : Bool) → EachFollows i p
     → stage i file p ≡ collecting_stage k false → (c : Collection) → collecting i p ≡ Some c
     → c.complete ≡ false
@@ -180,7 +180,7 @@ pieces_left i p file k each was c e =
     let stands = collection_stands i p c each e in
     (stage_parts c.closing c.complete k (sym stands.0 ∙ ap (λ (f : ℕ). stage i f p) mine ∙ was)).1
 
--- where a deed takes a piece, few were taken
+-- if a deed may take a piece, the collection has taken no more than the largest file has
 piece_few : (i : Inode) (p : List Event) (d : Deed) → length i.birth.content ≤ most_bytes
     → EachFollows i p → May i p d → IsPieceDeed d → (c : Collection) → collecting i p ≡ Some c
     → piece_bytes * c.pieces ≤ most_bytes
@@ -190,7 +190,7 @@ piece_few i p (deed.CloseChunk file) b each may piece c e =
     subst IsFew e (few i p b each) (pieces_left i p file true each may c e)
 piece_few i p d b each may piece c e = absurd piece
 
--- so the number of the next one has 32 bits
+-- the number of the next piece fits in 32 bits
 pub next_is_small : (i : Inode) (p : List Event) (d : Deed) (o : Collecting)
     → length i.birth.content ≤ most_bytes → EachFollows i p → May i p d → IsPieceDeed d
     → shorts_seen (Some o) ≡ shortened (collecting i p) → o.pieces < 2 ^ 32

@@ -1,4 +1,4 @@
--- How a read is hashed, page by page.
+-- Hashing a read page by page.
 use Rattle.std.proofs.Common.{◌≡◌, ℕ, ◌+◌, ◌-◌, ◌≤◌, List, [], ◌++◌, length, take, drop, sym, ap, ◌∙◌, arith, append-nil}
 use Rattle.std.specs.Prelude.{min}
 use Rattle.std.proofs.Math.ListN.{drop_of_length-le}
@@ -6,19 +6,19 @@ use Rattle.std.proofs.Math.Seq.{take-add}
 use Rattle.std.proofs.lemmas.List.{drop-drop, length-drop, length-take, take_min}
 use Rattle.inode_pages.specs.Content.{bytes_at}
 
--- so many bytes from a place on, and then some more
+-- the first n + m bytes from a place are the first n followed by the next m
 pub bytes_at-add : (content : List ℕ) (from n m : ℕ) → bytes_at content from (n + m)
     ≡ bytes_at content from n ++ bytes_at content (from + n) m
 bytes_at-add content from n m = take-add n m (drop from content)
     ∙ ap (λ l. take n (drop from content) ++ take m l) (drop-drop n from content)
 
--- how many bytes there are
+-- the number of bytes that are there
 pub length-bytes_at : (content : List ℕ) (from n : ℕ)
     → length (bytes_at content from n) ≡ min n (length content - from)
 length-bytes_at content from n = length-take n (drop from content)
     ∙ ap (min n) (length-drop from content)
 
--- a whole part is filled
+-- a buffer is filled to its end if the content reaches that far
 pub part_filled : (content old new : List ℕ) (from room count : ℕ) → length old ≡ room
     → new ≡ bytes_at content from (length old) ++ drop count old
     → count ≡ length (bytes_at content from (length old)) → from + room ≤ length content
@@ -33,7 +33,7 @@ part_filled content old new from room count fits is counts within =
     )) in
     is ∙ (λ i. bytes_at content from (fits i) ++ all i) ∙ append-nil (bytes_at content from room)
 
--- as many bytes as there are, at most so many
+-- reading as many bytes as there are, up to `len`, gives the same bytes as reading `len`
 pub bytes_there : (content : List ℕ) (from len count : ℕ)
     → count ≡ min len (length content - from)
     → bytes_at content from count ≡ bytes_at content from len

@@ -38,7 +38,7 @@ use Rattle.inode_state.proofs.Keeping.{past_one}
 use Rattle.inode_state.specs.Value.{birth_of}
 use Rattle.inode_cell.specs.Fields.{Holds}
 
--- ---- what is told names its place
+-- ---- an outcome names its own place
 
 checked_back : (w m : Bool) (r ws : ℕ) (must : Bool) (n : ℕ)
     → check_told w m r ws must (place_of (placed_in (check_told w m r ws must n))) ≡ check_told w m
@@ -98,7 +98,7 @@ placed_back i p placed (deed.Take file) t e = took_back i p file placed t (colle
 placed_back i p placed (deed.Finish file) t e = finished_back i p file placed t (collecting i p) e
 placed_back i p placed d t e = e
 
--- what the list answers where nothing is asked
+-- the outcome of a deed that adds nothing to the measurement list
 pub outcome_quiet : (i : Inode) (list : List Entry) (d : Deed) (p : List Event) (t : Told)
     → asked i d p ≡ None → says i p (Added 0) d ≡ Some t → outcome i list d p ≡ Some t
 outcome_quiet i list d p t q e = subst (λ (o : Option Entry). says i p (placed_for list o) d ≡ Some
@@ -120,7 +120,7 @@ written_told n h = at (nat_le n most_bytes) refl where
 pub not_err : (u : Unit {0}) → IsErrOf (Ok u) TooBig → ⊥
 not_err u e = cc
 
--- ---- what the cell keeps
+-- ---- the invariant of the cell
 
 pub holds_on : (i : Inode) (list list' : List Event) (who : Who) (d : Deed) (t : Told) (bytes
     bytes' : List ℕ) (attrs attrs' : List Pair)
@@ -142,7 +142,7 @@ holds_on i list list' who d t bytes bytes' attrs attrs' book seen seen' mine min
       booked = kept_outcome i (past list) who d t book seen seen' mine mine' h.booked s o;
     })
 
--- what a cell keeps of a birth
+-- the invariant of a cell holds after the birth
 pub born_holds : (i : Inode) (list : List Event) (image : Image) (bytes : List ℕ) (attrs : List
     Pair) (seen : List Entry) (mine : List Listed)
     → IsMeasuredPath Ima i.path → length i.birth.content ≤ most_bytes → list ≡ birth_of image ∷ []

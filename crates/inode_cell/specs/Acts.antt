@@ -1,4 +1,4 @@
--- What one step does to a cell, to the task's pass and to the measurement list.
+-- The effect of one step on a cell, on the task's pass and on the measurement list.
 use Rattle.std.specs.Prelude.{◌≡◌, ℕ, List, ◌++◌, length, Option, Some, None}
 use Rattle.grow_list.specs.Shown.{Passed}
 use Rattle.hash_algos.specs.declared.digest.Digest.{Digest}
@@ -22,8 +22,9 @@ use Rattle.inode_state.specs.laws_of_journals.Own.{IsBy}
 use Rattle.inode_cell.specs.Changes.{rewritten}
 use Rattle.inode_cell.specs.Value.{CellValue, IsSameCell}
 
--- the step that does this deed, by the measurement list before it: it is told what the journal
--- says, and journal, pass and list have what this leaves, and nothing else
+-- a step that does the deed `d`: its outcome is the one that the journal and the measurement list
+-- before it determine, and journal, pass and list change as the outcome says, and nothing else
+-- changes
 pub record Acts (old new : CellValue) (list list2 : List Entry) (pass pass2 : Passed Event) (who :
     Who) (d : Deed) (o : Option Told) : Type 0 where
   pub told : o ≡ outcome old.inode list d (past old.list)
@@ -41,12 +42,12 @@ pub record Stays (old new : CellValue) (pass pass2 : Passed Event) : Type 0 wher
   pub passed : pass2 ≡ pass
   pub same : IsSameCell old new
 
--- the deed may be done by the pass of this number
+-- the pass with this number may do the deed
 pub record MayBy (cell : CellValue) (number : ℕ) (d : Deed) : Type 0 where
   pub may : May cell.inode (past cell.list) d
   pub by : IsBy number d (past cell.list)
 
--- a step that asks nothing of the measurement list and leaves content and attributes
+-- a step that adds nothing to the measurement list and leaves content and attributes
 pub record IsPlain (inode : Inode) (p : List Event) (who : Who) (d : Deed) (t : Told) (k : Known) :
     Type 0 where
   pub may : May inode p d
@@ -57,8 +58,8 @@ pub record IsPlain (inode : Inode) (p : List Event) (who : Who) (d : Deed) (t : 
   pub attributes : attributes_after inode d t p (integrity inode p) ≡ attributes inode p
   pub known : IsKnown inode p (record { who = who; deed = d; told = t }) k
 
--- a step that asks nothing of the measurement list, leaves the content and rewrites attributes: at
--- a close with the label of this digest
+-- a step that adds nothing to the measurement list, leaves the content and rewrites attributes; at
+-- a close, `digest` is the one for the label
 pub record IsChange (inode : Inode) (p : List Event) (who : Who) (d : Deed) (t : Told) (k : Known)
     (digest : Option Digest) : Type 0 where
   pub may : May inode p d

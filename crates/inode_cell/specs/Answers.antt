@@ -1,4 +1,4 @@
--- What the answers of the calls are told as. `None` is blocked: no event.
+-- The outcome that each result of a call stands for. `None` is blocked: there is no event.
 use Rattle.std.specs.Prelude.{◌≡◌, ℕ, Option, Some, None, Bool, true, false}
 use Rattle.hash_algos.specs.declared.algo.Algo.{Algo}
 use Rattle.inode_events.specs.declared.told.Told.{Told}
@@ -23,7 +23,7 @@ counted_told (counted.Held place) = told.Held
 counted_told counted.NotFound = told.NotFound
 counted_told counted.TextBusy = told.TextBusy
 
--- the file is named by this place
+-- a file that was counted is named by this place
 abbrev pub IsPlaced : ℕ → Counted → Type 0
 IsPlaced place (counted.Held at) = at ≡ place
 IsPlaced place _ = Unit {0}
@@ -66,7 +66,7 @@ abbrev pub finished_told : Bool → Told
 finished_told true = told.LabelledDropped
 finished_told false = told.Dropped
 
--- the collection that begins hashes by this algorithm
+-- a collection that begins hashes by this algorithm
 abbrev pub BeginsBy : Algo → Taken → Type 0
 BeginsBy algo (taken.Begun a) = a ≡ algo
 BeginsBy algo _ = Unit {0}

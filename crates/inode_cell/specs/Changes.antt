@@ -1,4 +1,4 @@
--- Changes of attributes, by what EVM is set up with.
+-- Changes of attributes under a given setup of EVM.
 use Rattle.std.specs.Prelude.{◌≡◌, ℕ, Bool, false, List, Option, Some, if◌then◌else◌}
 use Rattle.inode_events.specs.evm.Changes.{protects}
 use Rattle.inode_events.specs.evm.Setup.{Setup}
@@ -27,13 +27,13 @@ fixed_on evm digest meta attrs =
     if is_old (evm_status evm attrs meta) then renewed evm attrs meta else labelled_on evm digest
     meta attrs
 
--- what mode fix leaves, where it mends
+-- the attributes after mode fix, which changes them only if `mends` is true
 abbrev pub mended_on : Setup → Bool → Digest → Meta → List Pair → List Pair
 mended_on evm mends digest meta attrs = if mends then fixed_on evm digest meta attrs else attrs
 
--- ---- deeds that rewrite attributes where they are done
+-- ---- deeds that rewrite attributes if they are done
 
--- a call's change of an attribute or of metadata, and a close with the digest for the label
+-- a call's change of an attribute or of metadata, or a close with the digest for its label
 abbrev pub IsRewriting : Deed → Option Digest → Type 0
 IsRewriting (deed.SetAttr name bytes admin) digest = is_too_long bytes ≡ false
 IsRewriting (deed.SetMeta change) digest = Unit {0}

@@ -1,4 +1,4 @@
--- What the fields of a cell keep.
+-- The invariant of a cell's fields.
 use Rattle.std.specs.Prelude.{◌≡◌, ◌≤◌, ℕ, List, length}
 use Rattle.inode_events.specs.Inode.{Inode}
 use Rattle.inode_events.specs.Integrity.{attributes}
@@ -28,14 +28,14 @@ value_of c = record {
 
 pub record Holds (inode : Inode) (events : List Event) (bytes : List ℕ) (attrs : List Pair) (seen :
     List Entry) (mine : List Listed) : Type 0 where
-  -- the path is one that each template can show
+  -- every template can show the path
   pub path : IsMeasuredPath Ima inode.path
-  -- the image has no more bytes than a file may have
+  -- the image fits the largest file
   pub small : length inode.birth.content ≤ most_bytes
-  -- content and attributes are what the journal says
+  -- content and attributes are those that the journal defines
   pub content : bytes ≡ content events
   pub attributes : attrs ≡ attributes inode events
-  -- the cell's pass of the measurement list has what the journal says of it
+  -- the cell's pass of the measurement list agrees with the journal
   pub booked : IsBooked inode events seen mine
 
 abbrev pub IsCell : Inside → Type 0

@@ -1,4 +1,4 @@
--- What a take or finish grants.
+-- What a take or finish needs for its grant.
 use Rattle.std.specs.Prelude.{◌≡◌, ℕ, List, Option, Some, None}
 use Rattle.hash_algos.specs.declared.algo.Algo.TheVariants.{Sha1}
 use Rattle.ima_templates.specs.declared.entry.Placed.{Placed}
@@ -22,11 +22,11 @@ use Rattle.inode_state.specs.declared.collecting.Collecting.{Collecting}
 use Rattle.inode_state.specs.declared.in_force.Sums.{Sums}
 use Rattle.inode_state.specs.declared.known.Known.{Known}
 
--- the digests with no begin, which a grant doesn't read
+-- the digests, with a begin of 0, which no grant reads
 abbrev pub digests_in : Sums → Digests
 digests_in sums = record { digest = sums.digest; sha1 = sums.sha1; begin = 0 }
 
--- the deed grants the file by these digests, and the file's last check asked for this
+-- the deed grants the file by these digests, and `a` is what the file's last check asked for
 pub record IsGranting (inode : Inode) (p : List Event) (who : Who) (d : Deed) (file : ℕ) (a :
     Asked) (sums : Sums) (k : Known) : Type 0 where
   pub check : IsAsked (last_check file p) a
@@ -40,7 +40,7 @@ pub record IsGranting (inode : Inode) (p : List Event) (who : Who) (d : Deed) (f
   pub keeps : (g : Grant) → content_after d (told.Grant g) (content p) ≡ content p
   pub known : (g : Grant) → IsKnown inode p (record { who = who; deed = d; told = told.Grant g }) k
 
--- the digests in force
+-- the digests without the begin of their collection
 abbrev pub sums_in : Digests → Sums
 sums_in ds = record { digest = ds.digest; sha1 = ds.sha1 }
 
@@ -48,19 +48,19 @@ abbrev pub sums_in_force : Option Digests → Option Sums
 sums_in_force None = None
 sums_in_force (Some ds) = Some (sums_in ds)
 
--- where a take and a finish find their file
+-- the stages at which a take and a finish find their file
 abbrev pub asked_stage : Stage
 asked_stage = AskedFor
 
 abbrev pub collected_stage : Stage
 collected_stage = Collected
 
--- the open collection is the file's
+-- the open collection is of this file
 abbrev pub Collects : ℕ → Option Collection → Type 0
 Collects file None = ⊥
 Collects file (Some c) = c.file ≡ file
 
--- what was asked for the open collection
+-- what was asked for the open collection, if a check asked for it
 abbrev pub asked_in : Option Collecting → Option Asked
 asked_in None = None
 asked_in (Some c) = c.asked

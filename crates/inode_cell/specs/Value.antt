@@ -1,12 +1,12 @@
--- What contracts see of a cell.
+-- The contract view of a cell.
 use Rattle.std.specs.Prelude.{◌≡◌, ℕ, List}
 use Rattle.grow_list.specs.Shown.{ListName}
 use Rattle.inode_events.specs.Inode.{Inode}
 use Rattle.inode_events.specs.declared.told.Event.{Event}
 
--- the inode, the name of its journal and how many callers that has, the name of the measurement
--- list and the number of the cell's pass of it, for how many more events there is room, and the
--- journal
+-- the inode, the name and the number of callers of its journal, the name of the measurement list
+-- and the number of the cell's pass of it, the number of further events for which there is room,
+-- and the events, oldest first
 pub record CellValue : Type 0 where
   pub inode : Inode
   pub journal : ListName
@@ -16,7 +16,7 @@ pub record CellValue : Type 0 where
   pub spare : ℕ
   pub list : List Event
 
--- what never changes of a cell
+-- what never changes in a cell
 pub record IsSameCell (old new : CellValue) : Type 0 where
   pub inode : new.inode ≡ old.inode
   pub journal : new.journal ≡ old.journal

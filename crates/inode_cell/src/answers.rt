@@ -1,9 +1,9 @@
-// What the calls answer.
+// The results of the calls of a cell.
 use hash_algos::Algo;
 use inode_events::Grant;
 use inode_meta::EvmStatus;
 
-/// The answer of a count.
+/// The result of counting a file.
 #[derive(Clone, Copy, Debug, PartialEq, Eq)]
 pub enum Counted {
     /// The file is counted, and named by this place of the journal.
@@ -14,18 +14,18 @@ pub enum Counted {
     TextBusy,
 }
 
-/// The answer of a change of attributes or metadata.
+/// The result of a change of attributes or metadata.
 #[derive(Clone, Copy, Debug, PartialEq, Eq)]
 pub enum Set {
-    /// It was done.
+    /// The change was made.
     Done,
-    /// A collection is open: nothing was done.
+    /// A collection is open, so nothing was done.
     Blocked,
     /// The file is absent.
     NotFound,
-    /// `security.evm` is changed by no call.
+    /// The name is `security.evm`, which no call may change.
     EvmName,
-    /// `security.ima` is changed by the administrator alone.
+    /// The name is `security.ima`, which only the administrator may change.
     NotAdmin,
     /// The value has more than 4,096 bytes.
     TooLong,
@@ -33,57 +33,59 @@ pub enum Set {
     Invalid,
     /// The attribute that is to be removed is absent.
     NoData,
-    /// EVM forbids it.
+    /// EVM forbids the change, because of this status of the inode.
     Status(EvmStatus),
 }
 
-/// The answer of a write or truncation.
+/// The result of a write or truncation.
 #[derive(Clone, Copy, Debug, PartialEq, Eq)]
 pub enum Wrote {
-    /// It was done.
+    /// The content was changed.
     Done,
-    /// Its end would lie above the limit on a file.
+    /// The file would end above the size limit.
     TooBig,
 }
 
-/// The answer of a piece that a collection takes.
+/// The result of taking a piece into a collection.
 #[derive(Clone, Copy, Debug, PartialEq, Eq)]
 pub enum Piece {
-    /// There is more to hash.
+    /// The content goes on after this piece.
     More,
-    /// It was the last one.
+    /// The content ends with this piece.
     Last,
 }
 
-/// The answer of a take.
+/// The result of a take.
 #[derive(Clone, Copy, Debug, PartialEq, Eq)]
 pub enum Taken {
-    /// A collection by this algorithm begins.
+    /// No digest was in force: a collection by this algorithm begins.
     Begun(Algo),
-    /// A digest was in force: the grant.
+    /// A digest was in force, and decided this grant.
     Answer(Grant),
-    /// A collection is open: nothing was done.
+    /// A collection is open, so nothing was done.
     Blocked,
 }
 
-/// The answer of a writer's close.
+/// The result of a writer's close.
 #[derive(Clone, Copy, Debug, PartialEq, Eq)]
 pub enum CloseTaken {
     /// A collection by this algorithm begins, for the label.
     Begun(Algo),
     /// The file is dropped.
     Dropped,
-    /// A collection is open: nothing was done.
+    /// A collection is open, so nothing was done.
     Blocked,
 }
 
-/// What a check found beside its action.
+/// The violation that a check found, if any.
 #[derive(Clone, Copy, Debug, PartialEq, Eq)]
 pub enum Found {
     /// No violation.
     Quiet,
-    /// A measured file has writers. The violation stands at this place of the list.
+    /// The file is to be measured while it has writers. The violation is at this place of the
+    /// measurement list.
     OpenWriters(u64),
-    /// A writer meets readers of a measured file. The violation stands at this place of the list.
+    /// A writer opens a measured file that has readers. The violation is at this place of the
+    /// measurement list.
     ToMToU(u64),
 }

@@ -1,5 +1,5 @@
-// Changes of attributes, each with the HMAC that it renews: all or nothing, and with no copy of the
-// list. After memory ran out the attributes are as before.
+// Changes of attributes, each with the HMAC that it renews: all or nothing, without a copy of the
+// attribute list. If memory runs out, the attributes are unchanged.
 ghost use Rattle.std.specs.Prelude.{◌≡◌, false, OnOk, OnErr};
 ghost use Rattle.std.specs.Option.{option_copied};
 ghost use Rattle.inode_events.specs.Says.{is_too_long};
@@ -14,7 +14,7 @@ use label_values::{MAX_LABEL, write_label};
 use std::alloc::AllocError as OutOfMemory;
 use xattr_store::{Attrs, Bytes, IMA_NAME, NewValue};
 
-// A call's change of one: the HMAC is renewed where the name is protected.
+// A call's change of one attribute. The HMAC is renewed if EVM protects the name.
 fn change_on(
     evm: &Evm,
     attrs: &mut Attrs,
@@ -39,7 +39,7 @@ fn change_on(
     }
 }
 
-// The label of a digest is written, and the HMAC renewed.
+// Writes the label of a digest, and renews the HMAC.
 fn label_on(evm: &Evm, attrs: &mut Attrs, meta: &Meta, digest: &Digest) -> Result<(), OutOfMemory>
     ensures ok { OnOk result (attrs.new ≡ labelled_on evm.now digest.now meta.now attrs.old) }
     ensures err { OnErr result (attrs.new ≡ attrs.old) }
@@ -53,8 +53,8 @@ fn label_on(evm: &Evm, attrs: &mut Attrs, meta: &Meta, digest: &Digest) -> Resul
     evm.change(attrs, change, meta)
 }
 
-/// Mode fix mends: the label of the digest is written. Where the HMAC is of the older form it is
-/// renewed alone.
+/// Mode fix mends the attributes if `mends` is true: the label of the digest is written, or, if the
+/// HMAC has the older form, only the HMAC is renewed.
 pub fn mend_on(
     evm: &Evm,
     attrs: &mut Attrs,
@@ -75,8 +75,8 @@ pub fn mend_on(
     }
 }
 
-/// What a deed that is done writes: a call's change of an attribute, the HMAC of other metadata, or
-/// at a close the label of the digest that is given.
+/// The attribute writes of a deed that is done: a call's change of an attribute, the HMAC over new
+/// metadata, or at a close the label of the digest that is given.
 pub fn rewrite(
     evm: &Evm,
     attrs: &mut Attrs,

@@ -22,7 +22,7 @@ use std::alloc::{AllocError as OutOfMemory, Global};
 use std::marker::Model;
 use xattr_store::Attrs;
 
-/// One inode with its journal.
+/// One inode: its journal, its content and attributes, and its pass of the measurement list.
 #[derive(Drop)]
 pub struct InodeCell {
     pub(crate) kept: KeptJournal,
@@ -45,7 +45,7 @@ impl Model for InodeCell {
 }
 
 impl InodeCell {
-    // A step that asks nothing of the measurement list and leaves content and attributes.
+    // A step that adds nothing to the measurement list and leaves content and attributes.
     pub(crate) fn step(
         &mut self,
         pass: &mut Pass<Event>,
@@ -64,8 +64,8 @@ impl InodeCell {
         self.kept.enter(pass, Event { who, deed, told }, known);
     }
 
-    // A step that asks nothing of the measurement list, leaves the content and rewrites attributes:
-    // at a close with the label of this digest.
+    // A step that adds nothing to the measurement list, leaves the content and rewrites attributes.
+    // At a close, `digest` is the one for the label.
     pub(crate) fn step_with(
         &mut self,
         pass: &mut Pass<Event>,
@@ -101,7 +101,7 @@ impl InodeCell {
         self.kept.reserve()
     }
 
-    // A blocked step: the pass sees the journal, and nothing else is done.
+    // A blocked step: the pass sees the journal, and nothing else happens.
     pub(crate) fn block(&mut self, pass: &mut Pass<Event>)
         requires { pass.old.name ≡ self.old.journal }
         ensures { (list : List AnyEntry) (who : AnyWho) (d : AnyDeed)

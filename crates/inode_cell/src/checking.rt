@@ -1,4 +1,4 @@
-// Checks.
+// Checks of accesses against the rules.
 ghost use Rattle.std.specs.Prelude.{◌≡◌, ◌+◌, Some, IfOk, OnErr, length};
 ghost use Rattle.inode_events.specs.Asked.{violation_in};
 ghost use Rattle.inode_events.specs.Checks.{no_action};
@@ -25,16 +25,16 @@ use measure_book::Book;
 use rule_match::Index;
 use std::alloc::AllocError as OutOfMemory;
 
-/// The answer of a check.
+/// The result of a check.
 #[derive(Drop)]
 pub struct Checked {
-    /// What the rules have done with the access.
+    /// The rules' action for the access.
     pub action: Action,
-    /// The violation, where there is one.
+    /// The violation that the check found, if any.
     pub found: Found,
 }
 
-// What a check finds, with this place for a violation.
+// The violation that a check finds. `place` is its place in the measurement list.
 fn found(writing: bool, measure: bool, readers: u64, writers: u64, must: bool, place: u64) -> Found
     ensures { found_told result ≡ check_told writing measure readers writers must place }
 {
@@ -66,7 +66,7 @@ fn place_of(placed: Placed) -> u64
 }
 
 impl InodeCell {
-    // The violation that is added to the list.
+    // The entry that the check adds to the measurement list, if it found a violation.
     fn violation(&self, found: Found) -> Result<Option<Entry>, OutOfMemory>
         ensures { IfOk result (λ e. e ≡ violation_in self.now.inode (found_told found)) }
     {
@@ -76,7 +76,7 @@ impl InodeCell {
         }
     }
 
-    // A violation of the inode.
+    // The measurement list entry for a violation on this inode.
     fn violated(&self) -> Result<Entry, OutOfMemory>
         ensures { IfOk result (λ e. e ≡ violated self.now.inode) }
     {
@@ -86,8 +86,9 @@ impl InodeCell {
         violation(self.alloc, template, hash, self.kept.path())
     }
 
-    /// Asks the rules for an access by a file: the action is the first match's, and a writer among
-    /// readers of a measured file, or a measured reader among writers, is a violation of the list.
+    /// Asks the rules about an access to a file: in each family of actions the first match decides.
+    /// A violation is added to the measurement list if a writer meets readers of a measured file,
+    /// or a measured reader meets writers.
     pub fn check(
         &mut self,
         pass: &mut Pass<Event>,
@@ -129,7 +130,7 @@ impl InodeCell {
         Ok(Checked { action, found })
     }
 
-    // The check with its action, which so many rules gave.
+    // The check with its action. `rules` is the number of rules that decided it.
     fn checked(
         &mut self,
         pass: &mut Pass<Event>,

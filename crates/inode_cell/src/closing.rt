@@ -1,4 +1,4 @@
-// Closes.
+// Closing files.
 ghost use Rattle.std.specs.Prelude.{◌≡◌, ◌==◌, ◌&&◌, ◌+◌, List, Some, IfOk, OnOk, OnErr};
 ghost use Rattle.inode_events.specs.Files.{writers};
 ghost use Rattle.inode_events.specs.Marks.{is_label_due};
@@ -40,7 +40,8 @@ impl InodeCell {
         Ok(())
     }
 
-    // The only writer's close owes the file a label.
+    // Whether a writer's close has to write a label: the writer is the only one, and a label is
+    // due.
     fn owes_label(&self) -> bool
         ensures { result ≡ ((writers (past self.now.list) == 1) && is_label_due self.now.inode
             (past self.now.list)) }
@@ -55,8 +56,8 @@ impl InodeCell {
         state.counts.writers == 1 && (marks.update && !is_signed && is_changed)
     }
 
-    /// A writer's close: the last writer's begins a collection where it owes the file a label, and
-    /// every other drops the file.
+    /// Begins a writer's close. If the writer is the last and a label is due, a collection begins;
+    /// otherwise the file is dropped.
     pub fn close_take(
         &mut self,
         pass: &mut Pass<Event>,
@@ -89,9 +90,9 @@ impl InodeCell {
         }
     }
 
-    /// The collection of a close ends with these digests, by its algorithm and by SHA-1: the label
-    /// is written where the writer is still the only one, and the file is dropped. Answers whether
-    /// the label was written.
+    /// Ends the collection of a close, with its digests by the close's algorithm and by SHA-1. The
+    /// label is written if the writer is still the only one, and the file is dropped. Returns
+    /// whether the label was written.
     pub fn close_finish(
         &mut self,
         pass: &mut Pass<Event>,

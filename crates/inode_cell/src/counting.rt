@@ -1,4 +1,4 @@
-// Counts.
+// Counting of files that are opened or executed.
 ghost use Rattle.std.specs.Prelude.{◌≡◌, ℕ, List, length, Some, IfOk, OnErr, ◌+◌};
 ghost use Rattle.ima_templates.specs.declared.entry.Entry.{Entry as AnyEntry};
 ghost use Rattle.inode_events.specs.Files.{creates, execs, writers};
@@ -16,7 +16,7 @@ use inode_meta::Who;
 use inode_state::{Kind, Known, counts_as};
 use std::alloc::AllocError as OutOfMemory;
 
-// An open that makes an absent file.
+// Whether the open creates an absent file.
 fn creates(how: How) -> bool
     ensures { result ≡ creates how }
 {
@@ -26,7 +26,7 @@ fn creates(how: How) -> bool
     }
 }
 
-// What a count at the place answers.
+// The result of a count whose event would be at `place`.
 fn counted(how: How, is_there: bool, writers: u64, execs: u64, place: u64) -> Counted
     ensures told { counted_told result ≡ count_told how is_there writers execs }
     ensures place { IsPlaced place result }
@@ -53,7 +53,8 @@ fn told_by(answer: Counted) -> Told
 }
 
 impl InodeCell {
-    /// An open or an exec counts a file. The file is then named by the place of this event.
+    /// Counts a file for an open or an execution. The file is then named by the place of this
+    /// event.
     pub fn count(
         &mut self,
         pass: &mut Pass<Event>,

@@ -1,10 +1,11 @@
-// The start and the end of a cell.
+// Creating a cell, and what it returns at the end.
 ghost use Rattle.std.specs.Prelude.{◌≡◌, ℕ, ◌+◌, ◌<◌, ◌≤◌, ◌^◌, All, [], ◌∷◌, count_by, length, map, option_copied, slice_get, IfOk, Some};
 ghost use mathlib.Core.List.{IsPrefix};
 ghost use Rattle.inode_state.specs.laws_of_journals.Booked.{IsBooked};
 ghost use Rattle.grow_list.specs.Entries.{entries_of, has_place};
 ghost use Rattle.ima_templates.specs.Path.{IsMeasuredPath};
 ghost use Rattle.inode_events.specs.Callers.{caller_of};
+ghost use Rattle.inode_events.specs.EndedInode.{ended_inode};
 ghost use Rattle.inode_events.specs.Legal.{Legal};
 ghost use Rattle.inode_events.specs.Past.{past};
 ghost use Rattle.inode_pages.specs.Content.{most_bytes};
@@ -12,36 +13,17 @@ ghost use Rattle.inode_meta.specs.declared.measurement.Template.TheVariants.{Ima
 ghost use Rattle.inode_state.specs.Value.{beside_own, birth_of, new_pass};
 ghost use Rattle.inode_state.specs.laws_of_journals.OwnLaws.{TellsByMine};
 ghost use Rattle.inode_state.specs.laws_of_journals.Own.{IsOwned};
-ghost use Rattle.inode_cell.specs.Ending.{HasPasses, IsEnded, digest_in};
+ghost use Rattle.inode_cell.specs.Ending.{HasPasses, digest_in};
 ghost use Rattle.inode_cell.specs.Value.{IsSameCell};
 
 use crate::cell::InodeCell;
 use grow_list::Pass;
 use hash_algos::Digest;
 use ima_templates::Entry;
-use inode_events::{Event, Image, Settings};
+use inode_events::{EndedInode, Event, Image, Settings};
 use inode_state::{InForce, KeptJournal, State};
 use std::alloc::{AllocError as OutOfMemory, Global};
-use xattr_store::{Attrs, Bytes};
-
-/// An inode at the end of a run.
-#[derive(Drop)]
-pub struct EndedInode {
-    /// Its path.
-    pub path: Bytes,
-    /// Its journal.
-    pub journal: Vec<Event>,
-    /// The digest in force, by the chosen algorithm.
-    pub digest: Option<Digest>,
-    /// The extended attributes.
-    pub attrs: Attrs,
-    /// How many files are open for writing.
-    pub writers: u64,
-    /// How many are open for reading alone, among them the executions.
-    pub readers: u64,
-    /// How many are executed.
-    pub execs: u64,
-}
+use xattr_store::Bytes;
 
 fn digest_in(in_force: Option<InForce>) -> Option<Digest>
     ensures { result ≡ digest_in in_force }
@@ -53,9 +35,9 @@ fn digest_in(in_force: Option<InForce>) -> Option<Digest>
 }
 
 impl InodeCell {
-    /// The inode of this image under a path, with a pass for each task: that of the task t has the
-    /// number t + 1, has seen the birth and has no event of its own. `book` is the cell's pass of
-    /// the measurement list, and has no entry of its own.
+    /// Creates an inode from an image, with a pass for each task: the pass of task t has the number
+    /// t + 1, has seen the birth and has no event of its own. `book` is the cell's pass of the
+    /// measurement list, and has no entry of its own yet.
     pub fn start(
         alloc: Global,
         path: &[u8],
@@ -96,24 +78,24 @@ impl InodeCell {
         Ok((cell, passes))
     }
 
-    /// How many events the journal has.
+    /// The number of events in the journal.
     pub fn len(&self) -> u64
         ensures { result ≡ length self.now.list }
     {
         self.kept.len()
     }
 
-    /// The event at a place of the journal, from 0 on. None from `len` on.
+    /// The event at a place of the journal, counted from 0. `None` from `len` on.
     pub fn at(&self, place: u64) -> Option<&Event>
         ensures { option_copied result ≡ slice_get self.now.list place }
     {
         self.kept.at(place)
     }
 
-    /// A pass of this cell sees the journal. What its own entries tell then holds of the journal:
-    /// what may be done by them may be done, the last check of a file is theirs, and a collection
-    /// that is open by them is as the pass has seen it last. The journal is legal, and its events
-    /// of the pass's number are those entries.
+    /// Shows the journal to one of the cell's passes. What the pass's own entries imply then holds
+    /// of the journal: a deed that they allow may be done, the last check of a file is theirs, and
+    /// an open collection of theirs is as the pass last saw it. The journal is legal, and its
+    /// events with the pass's number are those entries.
     pub fn look(&mut self, pass: &mut Pass<Event>)
         requires { pass.old.name ≡ self.old.journal }
         ensures list { self.new.list ≡ self.old.list }
@@ -133,13 +115,13 @@ impl InodeCell {
         self.kept.look(pass);
     }
 
-    /// Hands out the journal with what is left of the inode, and the cell's pass of the measurement
-    /// list, and takes back the passes that `start` answered. What each pass saw begins the
-    /// journal, the journal's events of its number are its own, and each event but the birth is one
-    /// pass's.
+    /// Returns the inode's journal and final values, and the cell's pass of the measurement list,
+    /// and consumes the passes that `start` returned. What each pass saw is a prefix of the
+    /// journal, the events with its number are its own, and each event except the birth belongs to
+    /// exactly one pass.
     pub fn close(self, passes: Vec<Pass<Event>>) -> (EndedInode, Pass<Entry>)
         requires { HasPasses self passes.items }
-        ensures ended { IsEnded self result.0 }
+        ensures ended { result.0 ≡ ended_inode self.inode self.list }
         ensures seen { All (λ p. IsPrefix p.seen self.list) passes.items }
         ensures own { All (λ p. entries_of p.number (map caller_of self.list) self.list ≡ p.mine)
             passes.items }
@@ -171,7 +153,7 @@ impl InodeCell {
         let ended = EndedInode {
             path,
             journal,
-            digest: digest_in(in_force),
+            force: digest_in(in_force),
             attrs,
             writers: counts.writers,
             readers: counts.readers,

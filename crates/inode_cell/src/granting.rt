@@ -1,4 +1,4 @@
-// Grants.
+// Grants, by takes and finishes.
 ghost use Rattle.std.specs.Prelude.{◌≡◌, ◌≤◌, ℕ, ◌+◌, length, Some, IfOk, OnErr};
 ghost use Rattle.inode_events.specs.Asked.{measured_if};
 ghost use Rattle.inode_events.specs.Callers.{caller_in};
@@ -38,7 +38,7 @@ use measure_book::Book;
 use std::alloc::AllocError as OutOfMemory;
 use xattr_store::IMA_NAME;
 
-// The mode admits the file.
+// Whether the mode admits a file with this verdict.
 fn admits(mode: Mode, verdict: Option<Verdict>) -> bool
     ensures { result ≡ admits mode verdict }
 {
@@ -60,7 +60,7 @@ fn placed_if_measured(action: &Action, placed: Placed) -> Option<Placed>
     if action.measure { Some(placed) } else { None }
 }
 
-// The signature in the label.
+// The label, if it is a signature; otherwise no bytes.
 fn signature_in(label: Option<&[u8]>) -> &[u8]
     ensures { result.now ≡ signature_in (option_copied label.entry) }
 {
@@ -73,7 +73,7 @@ fn signature_in(label: Option<&[u8]>) -> &[u8]
     }
 }
 
-// What was asked for the open collection.
+// What was asked for the open collection, if a check asked for it.
 fn asked_in(collecting: &Option<Collecting>) -> Option<Asked>
     ensures { result ≡ asked_in collecting.now }
 {
@@ -84,14 +84,14 @@ fn asked_in(collecting: &Option<Collecting>) -> Option<Asked>
 }
 
 impl InodeCell {
-    // The file is appraised.
+    // Whether the file is appraised: the rules ask for it, and the mode isn't off.
     fn appraises(&self, action: &Action) -> bool
         ensures { result ≡ appraises self.now.inode action.now }
     {
         action.appraise && !matches!(self.kept.settings().mode, Mode::Off)
     }
 
-    // The verdict over a digest, and everything else as it is.
+    // The verdict computed afresh over this digest.
     fn judged(&self, need: Need, algos: Option<AlgoSet>, digest: &Digest) -> Verdict
         ensures { result ≡ judged self.now.inode need algos digest.now (past self.now.list) }
     {
@@ -107,8 +107,8 @@ impl InodeCell {
         )
     }
 
-    // The verdict where the file is appraised: the one in force, else one over the digest and
-    // everything else as it is.
+    // The verdict, if the file is appraised: the one in force, or else one computed over this
+    // digest.
     fn verdict_for(&self, asked: &Asked, digest: &Digest) -> Option<Verdict>
         ensures { (check : Check) → IsAsked check asked.now
             → result ≡ verdict_for self.now.inode check digest.now (past self.now.list) }
@@ -122,7 +122,7 @@ impl InodeCell {
         }
     }
 
-    // What mode fix writes on the verdict.
+    // The change that mode fix would make for the verdict.
     fn mend_of(&self, action: &Action, digest: &Digest, found: Verdict) -> Mend
         ensures { result ≡ mend_of self.now.inode action.now digest.now found (past self.now.list) }
     {
@@ -141,7 +141,7 @@ impl InodeCell {
         mend_for(found, sound, self.status(), read_label(label, default))
     }
 
-    // Mode fix mends the attributes.
+    // Whether the mode is fix and changes the attributes.
     fn mends(&self, action: &Action, digest: &Digest, verdict: Option<Verdict>) -> bool
         ensures { result ≡ mends self.now.inode action.now digest.now verdict (past self.now.list) }
     {
@@ -154,7 +154,7 @@ impl InodeCell {
         }
     }
 
-    // The signature in the label.
+    // The label, if it is a signature; otherwise no bytes.
     fn signature(&self) -> &[u8]
         ensures is { result.now ≡ signature_in (label self.now.inode (past self.now.list)) }
         ensures fits { length result.now ≤ most_value }
@@ -163,7 +163,7 @@ impl InodeCell {
         signature_in(self.label())
     }
 
-    // The entry of a measurement with these digests, where the action measures.
+    // The measurement list entry for these digests, if the action measures.
     fn measured(&self, action: &Action, sums: &Sums) -> Result<Option<Entry>, OutOfMemory>
         requires { sums.now.sha1.algo ≡ Algo.Sha1 }
         ensures { IfOk result (λ e. (file : ℕ)
@@ -186,7 +186,7 @@ impl InodeCell {
         Ok(Some(entry))
     }
 
-    // The digests in force.
+    // The digests in force, by the chosen algorithm and by SHA-1.
     fn in_force(&self) -> Option<Sums>
         ensures { result ≡ sums_in_force (in_force self.now.inode (past self.now.list)) }
     {
@@ -196,7 +196,8 @@ impl InodeCell {
         }
     }
 
-    // Grants the file by these digests.
+    // Grants the file by these digests: appraises it, mends its attributes in mode fix, and
+    // measures it, each only if asked for.
     fn grant(
         &mut self,
         pass: &mut Pass<Event>,
@@ -241,8 +242,8 @@ impl InodeCell {
         Ok(grant)
     }
 
-    /// Asks for the digest in force, by what the file's last check asked for: `slot` is that of its
-    /// function, and `action` its action. With none in force a collection begins.
+    /// Asks for the digest in force. `slot` and `action` are those of the file's last check. If no
+    /// digest is in force, a collection begins.
     pub fn take(
         &mut self,
         pass: &mut Pass<Event>,
@@ -290,7 +291,7 @@ impl InodeCell {
         }
     }
 
-    // What a take knows.
+    // The facts that come with the event of a take.
     fn taking(&self, file: u64, slot: Slot, action: &Action, algo: Algo) -> Known
         requires may { stage self.now.inode file (past self.now.list) ≡ asked_stage }
         requires slot { slot ≡ slot_of (last_check file (past self.now.list)).func }
@@ -312,8 +313,8 @@ impl InodeCell {
         Known::granting(writing, algo, asked, None)
     }
 
-    /// The collection of a take ends with these digests, by its algorithm and by SHA-1: they come
-    /// in force, and the file is granted.
+    /// Ends the collection of a take, with its digests by the chosen algorithm and by SHA-1. They
+    /// become the digests in force, and the file is granted.
     pub fn finish(
         &mut self,
         pass: &mut Pass<Event>,
@@ -348,7 +349,7 @@ impl InodeCell {
         self.grant(pass, who, deed, file, &asked, &sums, &known, book)
     }
 
-    // What the check asked for whose take has this file's collection open.
+    // What the file's last check asked for. The file's collection has its last piece.
     fn asked_for(&self, file: u64) -> Asked
         requires stage { stage self.now.inode file (past self.now.list) ≡ collected_stage }
         ensures asked { IsAsked (last_check file (past self.now.list)) result }

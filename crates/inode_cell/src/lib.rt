@@ -1,4 +1,4 @@
-//! One inode: it does in constant time per step what the definitions say by searching its journal.
+//! One inode. It does in constant time per step what the definitions do by searching its journal.
 #![tactic(auto)]
 
 mod answers;
@@ -18,8 +18,11 @@ mod writing;
 pub use answers::{CloseTaken, Counted, Found, Piece, Set, Taken, Wrote};
 pub use cell::InodeCell;
 pub use checking::Checked;
-pub use ending::EndedInode;
+pub use grow_list as growing;
+pub use ima_appraise as appraisals;
+pub use inode_events::EndedInode;
 pub use inode_state as states;
 pub use measure_book as books;
 pub use rule_match as matching;
+pub use std::alloc::AllocError as OutOfMemory;
 pub use writing::Got;

@@ -1,4 +1,4 @@
-// The measurement list, as a cell adds to it.
+// Adding to the measurement list from a cell.
 ghost use Rattle.std.specs.Prelude.{◌≡◌, ◌≤◌};
 ghost use Rattle.inode_state.specs.laws_of_journals.Booked.{Books};
 ghost use Rattle.inode_events.specs.Asked.{placed_for};
@@ -8,7 +8,7 @@ use grow_list::Pass;
 use ima_templates::{Entry, Placed};
 use measure_book::Book;
 
-/// Adds the entry that is asked for, where there is one, in room that was reserved.
+/// Adds `entry` to the measurement list, if there is one, in room that was reserved.
 pub fn list_asked(book: &mut Book, pass: &mut Pass<Entry>, entry: Option<Entry>) -> Placed
     requires name { pass.old.name ≡ book.old.name }
     requires room { 1 ≤ book.old.spare }

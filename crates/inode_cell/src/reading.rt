@@ -1,4 +1,4 @@
-// Bytes of a content, hashed a page at a time.
+// Hashing of a content, page by page.
 ghost use Rattle.std.specs.Prelude.{◌≡◌, ℕ, ◌≤◌, ◌++◌, List, length};
 ghost use Rattle.hash_algos.specs.Digest.{digest_of};
 ghost use Rattle.hash_algos.specs.Running.{HasTaken, running_algo};
@@ -7,7 +7,7 @@ ghost use Rattle.inode_pages.specs.Content.{bytes_at, most_bytes};
 use hash_algos::{Algo, Running, Sha256Digest};
 use inode_pages::{Content, PAGE_SIZE};
 
-// Feeds at most `len` bytes from the byte `from` on, a page at a time, and answers how many they
+// Feeds at most `len` bytes, starting at the byte `from`, a page at a time. Returns how many there
 // were.
 fn feed_from(running: &mut Running, content: &Content, from: u64, len: u64) -> u64
     ensures count { result ≡ length (bytes_at content.now from len) }
@@ -29,7 +29,7 @@ fn feed_from(running: &mut Running, content: &Content, from: u64, len: u64) -> u
     count
 }
 
-/// The number of bytes, at most `len`, from the byte `from` on, and their SHA-256.
+/// The number of bytes, at most `len`, that start at the byte `from`, and their SHA-256.
 pub fn hashed_at(content: &Content, from: u64, len: u64) -> (u32, Sha256Digest)
     ensures count { result.0 ≡ length (bytes_at content.now from len) }
     ensures digest { result.1 ≡ digest_of Algo.Sha256 (bytes_at content.now from len) }

@@ -21,7 +21,7 @@ use xattr_store::{Bytes, EVM_NAME, IMA_NAME, MAX_VALUE};
 // The highest type of a label that the kernel knows.
 const LAST_TYPE: u8 = 6;
 
-// What a refusal is told.
+// The outcome of the event for a change that isn't blocked.
 fn told_by(answer: Set) -> Told
     ensures { (t : AnyTold) → set_told answer ≡ Some t → result ≡ t }
 {
@@ -85,8 +85,8 @@ fn copied(alloc: Global, value: Option<&[u8]>) -> Result<BoxedValue, OutOfMemory
 }
 
 impl InodeCell {
-    // What a change of an attribute answers, where no collection is open: the first refusal that
-    // holds, else done.
+    // The result of a change of an attribute if no collection is open: the first refusal that
+    // applies, or else done.
     fn attr_answer(&self, name: &[u8], value: &Option<Bytes>, admin: bool) -> Set
         ensures { set_told result ≡ Some (set_attr_told self.now.inode name.now value.now admin
             (past self.now.list)) }
@@ -110,7 +110,7 @@ impl InodeCell {
         }
     }
 
-    // What a change of mode or owner answers, where no collection is open.
+    // The result of a change of mode or owner if no collection is open.
     fn meta_answer(&self) -> Set
         ensures { set_told result ≡ Some (set_meta_told self.now.inode (past self.now.list)) }
     {
@@ -122,7 +122,7 @@ impl InodeCell {
         }
     }
 
-    /// Changes the mode or the owner, and renews the HMAC.
+    /// Changes the mode or the owner and group, and renews the HMAC.
     pub fn set_meta(
         &mut self,
         pass: &mut Pass<Event>,
@@ -161,8 +161,8 @@ impl InodeCell {
         }
     }
 
-    /// Sets an attribute, or with no value removes it. The HMAC is renewed where the name is
-    /// protected.
+    /// Sets an attribute, or removes it if `value` is `None`. The HMAC is renewed if EVM protects
+    /// the name.
     pub fn set_attr(
         &mut self,
         pass: &mut Pass<Event>,
@@ -187,7 +187,7 @@ impl InodeCell {
         self.set_free(pass, who, name, value, cred.admin)
     }
 
-    // The same where no collection is open.
+    // Sets or removes an attribute while no collection is open.
     fn set_free(
         &mut self,
         pass: &mut Pass<Event>,

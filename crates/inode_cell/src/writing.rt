@@ -23,7 +23,7 @@ use inode_pages::{PAGE_SIZE, Page, PageErr};
 use inode_state::Known;
 use std::alloc::AllocError as OutOfMemory;
 
-// Nothing is left behind the piece with this number, counted from 0, of a content of this size.
+// Whether the piece with this number, counted from 0, is the last of a content of this size.
 fn is_last(size: u64, piece: u64) -> bool
     ensures { result ≡ nat_le size (piece_bytes * (piece + 1)) }
 {
@@ -50,12 +50,12 @@ fn told_by_piece(piece: Piece) -> Told
     }
 }
 
-/// What a read answers.
+/// The result of a read.
 #[derive(Drop)]
 pub struct Got {
-    /// The number of bytes.
+    /// The number of bytes that were read.
     pub n: u32,
-    /// Their SHA-256.
+    /// The SHA-256 of those bytes.
     pub digest: Sha256Digest,
 }
 
@@ -77,7 +77,7 @@ impl InodeCell {
         Ok((piece_of(self.size(), collecting.pieces), page))
     }
 
-    // The open collection takes its next piece.
+    // Takes the next piece into the open collection.
     fn take_piece(
         &mut self,
         pass: &mut Pass<Event>,
@@ -101,7 +101,7 @@ impl InodeCell {
         Ok((piece, page))
     }
 
-    /// The collection of a take hashes its next 4,096 bytes, which are answered.
+    /// Takes the next 4,096 bytes into the collection of a take, and returns them to be hashed.
     pub fn chunk(
         &mut self,
         pass: &mut Pass<Event>,
@@ -122,7 +122,7 @@ impl InodeCell {
         self.take_piece(pass, who, Deed::Chunk { file })
     }
 
-    /// The collection of a close hashes its next 4,096 bytes, which are answered.
+    /// Takes the next 4,096 bytes into the collection of a close, and returns them to be hashed.
     pub fn close_chunk(
         &mut self,
         pass: &mut Pass<Event>,
@@ -143,7 +143,7 @@ impl InodeCell {
         self.take_piece(pass, who, Deed::CloseChunk { file })
     }
 
-    // At most `len` bytes from the byte `from` on, hashed.
+    // Hashes at most `len` bytes, starting at the byte `from`.
     fn hashed(&self, from: u64, len: u64) -> Got
         ensures n { result.n ≡ length (bytes_at (content (past self.now.list)) from len) }
         ensures digest { result.digest ≡ digest_of Algo.Sha256 (bytes_at (content (past
@@ -153,7 +153,7 @@ impl InodeCell {
         Got { n, digest }
     }
 
-    /// Reads at most `len` bytes, from the byte `from` on.
+    /// Reads at most `len` bytes, starting at the byte `from`, and returns their digest.
     pub fn read(
         &mut self,
         pass: &mut Pass<Event>,
@@ -186,7 +186,7 @@ impl InodeCell {
         Ok(got)
     }
 
-    /// Writes bytes, from the byte `from` on.
+    /// Writes `bytes`, starting at the byte `from`.
     pub fn write(
         &mut self,
         pass: &mut Pass<Event>,
@@ -225,7 +225,7 @@ impl InodeCell {
         }
     }
 
-    /// Cuts the content to `len` bytes, or lengthens it by zeros.
+    /// Sets the length of the content to `len` bytes, adding zeros if it was shorter.
     pub fn trunc(
         &mut self,
         pass: &mut Pass<Event>,

@@ -1,4 +1,4 @@
--- Appraisal, labels at a close, and mode fix.
+-- Examples of appraisal, of labels written at a close, and of fix mode.
 use Rattle.std.proofs.Common.{◌≡◌, ℕ, true, false, List, [], ◌∷◌, Option, Some, None, refl}
 use Rattle.std.specs.Prelude.{replicate}
 use Rattle.hash_algos.specs.Digest.{digest_of}
@@ -40,12 +40,12 @@ use Rattle.inode_events.proofs.Examples.{Rows, Tells, abc, after, appraise, enfo
 use Rattle.inode_events.specs.declared.told.Told.{Told}
 use Rattle.ima_templates.specs.declared.entry.Placed.TheVariants.{Added}
 
--- a digest stands at its own label's place: the one fact here that doesn't compute, since hashes
--- are not computed in proofs
+-- a label has its own digest at the digest's offset: the only fact here that isn't computed, since
+-- proofs don't compute hashes
 same_front : (xs : List ℕ) → bytes_eq xs (take (length xs) xs) ≡ true
 same_front xs = ap (bytes_eq xs) (take-length xs) ∙ (bytes_eq-Decides xs xs).1 refl
 
--- a file with the label of its content and a sound HMAC, or no key, passes
+-- a file with the label of its content passes, if its HMAC is right or there is no key
 right_label : (s : EvmStatus) (bytes : List ℕ) (size : ℕ) → (s ≡ status.Pass) ⊎ (s ≡ status.Unknown)
     → judge Any None (Some (label_of (digest_of Sha256 bytes))) s
     (digest_of Sha256 bytes) Sha256 size false ≡ Pass
@@ -58,7 +58,7 @@ right_label s bytes size (inr e) =
     (digest_of Sha256 bytes) Sha256 size false ≡ Pass) (sym e)
     (rw (same_front (digest_of Sha256 bytes).bytes) refl)
 
--- Mode fix labels a file that has none, by a grant that voids its own digest.
+-- Fix mode labels a file without a label, by a grant that voids its own digest.
 abbrev fixed : Rows
 fixed =
     (deed.Count (how.Read false), Some told.Held) ∷
@@ -68,16 +68,17 @@ fixed =
     (deed.Finish 1, Some (told.Grant (grant None (Some (Deny cause.MissingHash)) true true))) ∷
     []
 
--- each of these deeds may be done, and is told so
+-- each deed of `fixed` is permitted and has the outcome given
 fixed_tells : Tells fixing fixed
 fixed_tells = (refl, refl)
 
--- at once after it no digest is in force, and the label is that of the content
+-- right after `fixed` no digest is in force, and the label is that of the content
 fixed_label : (label fixing (after fixing fixed) ≡ Some (label_of (digest_of Sha256 abc)))
     × (in_force fixing (after fixing fixed) ≡ None)
 fixed_label = (refl, refl)
 
--- The next open hashes anew, and passes by the new label.
+-- After fix mode wrote the label, the next open hashes the file again, and the file passes by its
+-- new label.
 abbrev fixed_again : Rows
 fixed_again =
     (deed.Count (how.Read false), Some told.Held) ∷
@@ -91,18 +92,18 @@ fixed_again =
     (deed.Chunk 6, Some told.Last) ∷
     []
 
--- so are these
+-- each deed of `fixed_again` is permitted and has the outcome given
 fixed_again_tells : Tells fixing fixed_again
 fixed_again_tells = (refl, refl)
 
--- what the grant is, by the verdict on the file with its new label
+-- the outcome of the second finish, by the verdict on the file with its new label
 abbrev told_again : Verdict → Option Told
 told_again v = Some (told.Grant (grant None (Some v) true (is_mend (mend_for v
     (judge Any None (Some (label_of (digest_of Sha256 abc))) status.Pass
     (digest_of Sha256 abc) Sha256 3 false)
     status.Unknown (read_label (Some (label_of (digest_of Sha256 abc))) Sha256)))))
 
--- the second finish passes by the new label
+-- at the second finish the file passes by the new label
 fixed_passes : says fixing (after fixing fixed_again) (Added 0) (deed.Finish 6)
     ≡ Some (told.Grant (grant None (Some Pass) true false))
 fixed_passes = ap told_again (right_label status.Unknown abc 3 (inr refl))
@@ -111,8 +112,8 @@ fixed_passes = ap told_again (right_label status.Unknown abc 3 (inr refl))
 abbrev keyed : List ℕ → Inode
 keyed key = inode_of Enforce (with_key key) false [] [] true
 
--- A new file passes without a label, and its last writer's close labels it. An open that doesn't
--- create finds none.
+-- A new file passes without a label, and the close of its last writer labels it. An open without
+-- `create` doesn't find an absent file.
 abbrev new_file : Rows
 new_file =
     (deed.Count (how.Read false), Some told.NotFound) ∷
@@ -127,26 +128,26 @@ new_file =
     (deed.CloseFinish 2, Some told.LabelledDropped) ∷
     []
 
--- each of these deeds may be done, and is told so
+-- each deed of `new_file` is permitted and has the outcome given
 new_file_tells : (key : List ℕ) → Tells (keyed key) new_file
 new_file_tells key = (refl, refl)
 
--- bytes are the same as themselves
+-- bytes are equal to themselves
 same_bytes : (xs : List ℕ) → bytes_eq xs xs ≡ true
 same_bytes xs = (bytes_eq-Decides xs xs).1 refl
 
--- at its end the label is that of the content
+-- after `new_file` the label is that of the content
 new_label : (key : List ℕ)
     → label (keyed key) (after (keyed key) new_file) ≡ Some (label_of (digest_of Sha256 abc))
 new_label key = refl
 
--- and the HMAC fits
+-- after `new_file` the HMAC is right
 new_status : (key : List ℕ) → status_of (keyed key) (after (keyed key) new_file) ≡ status.Pass
 new_status key = rw (same_bytes
     (evm_value key (evm_input (keyed key).settings.evm
     (attributes (keyed key) (after (keyed key) new_file)) meta))) refl
 
--- The close of a longer file takes its pieces one by one.
+-- The close of a longer file hashes its pieces one by one.
 long_close : (key : List ℕ) → Tells (inode_of Enforce (with_key key) false [] [] true) (
     (deed.Count (how.Write false true), Some told.Held) ∷
     (deed.Check 1 FileCheck appraise 1, Some told.Quiet) ∷
@@ -161,7 +162,7 @@ long_close : (key : List ℕ) → Tells (inode_of Enforce (with_key key) false [
     [])
 long_close key = (refl, refl)
 
--- Enforced appraisal without a label: refused.
+-- A file without a label is refused under enforced appraisal.
 abbrev refused : Rows
 refused =
     (deed.Count (how.Read false), Some told.Held) ∷
@@ -172,12 +173,11 @@ refused =
     (deed.Close 1, Some told.Dropped) ∷
     []
 
--- each of these deeds may be done, and is told so
+-- each deed of `refused` is permitted and has the outcome given
 refused_tells : Tells enforcing refused
 refused_tells = (refl, refl)
 
--- Its verdict is in force for the hook, the need and the algorithms by which it was asked, and for
--- no other.
+-- The verdict of `refused` is in force only for the slot, the need and the algorithms of its check.
 abbrev kept : Slot → Need → Option AlgoSet → Option Verdict
 kept slot need algos =
     verdict_in_force enforcing (record { slot = slot; need = need; algos = algos })
@@ -194,13 +194,13 @@ all_algos = record {
   sha224 = true;
 }
 
--- under the key of the check stands the verdict, and none under a key that differs in one part
+-- the verdict is in force under the key of its check, and not under a key that differs in one part
 verdict_key : (kept slot.File Any None ≡ Some (Deny cause.MissingHash))
     × (kept slot.Mmap Any None ≡ None) × (kept slot.Bprm Any None ≡ None)
     × (kept slot.File Signature None ≡ None) × (kept slot.File Any (Some all_algos) ≡ None)
 verdict_key = (refl, refl, refl, refl, refl)
 
--- Mode fix over an HMAC of the older form renews it, and leaves the label as it is.
+-- Fix mode renews an HMAC in the older form, and doesn't change the label.
 abbrev old_fixed : Rows
 old_fixed =
     (deed.Count (how.Read false), Some told.Held) ∷
@@ -210,7 +210,7 @@ old_fixed =
     (deed.Finish 1, Some (told.Grant (grant None (Some (Deny cause.InvalidHmac)) true true))) ∷
     []
 
--- behind that grant the attributes are those with the HMAC renewed
+-- the grant of `old_fixed` only renews the HMAC among the attributes
 old_renewed : (evm : Setup) (attrs : List Pair) → evm_status evm attrs meta ≡ status.Old
     → attributes (inode_of Fix evm true abc attrs true)
     (after (inode_of Fix evm true abc attrs true) old_fixed) ≡ renewed evm attrs meta
@@ -219,7 +219,7 @@ old_renewed evm attrs old =
     else labelled_with (inode_of Fix evm true abc attrs true)
     (digest_of (collect_algo (label_in attrs) Sha256) abc) meta attrs) old
 
--- the verdict on a sealed file: its label is that of `abc`, and its HMAC fits
+-- a sealed file passes: its label is that of `abc`, and its HMAC is right
 passes : (evm : Setup) (attrs : List Pair) → label_in attrs ≡ Some (label_of (digest_of Sha256 abc))
     → evm_status evm attrs meta ≡ status.Pass
     → judge Any None (label_in attrs) (evm_status evm attrs meta)
@@ -234,7 +234,7 @@ abbrev IsRight : Setup → List Pair → Type 0
 IsRight evm attrs = judge Any None (label_in attrs) (evm_status evm attrs meta)
     (digest_of (collect_algo (label_in attrs) Sha256) abc) Sha256 3 false ≡ Pass
 
--- what the two writers below are told, by the verdict on the file and whether its label is a
+-- the outcomes of the deeds of `two_writers`, by the verdict on the file and whether its label is a
 -- signature
 abbrev two_told : Verdict → Bool → List (Option Told)
 two_told v signed =
@@ -246,9 +246,9 @@ two_told v signed =
     ∷ Some (close_take_told (not signed && true) 1)
     ∷ Some told.Last ∷ Some told.LabelledDropped ∷ []
 
--- A writer closes while another has come: its collection ends without a label, and the other's
--- close writes it. A take waits for the collection that is open. The file has a right label of any
--- algorithm, and no signature.
+-- A writer closes after another has opened the file: its collection ends without a label, and the
+-- close of the other writes it. A take waits until the open collection ends. The file has a right
+-- label by any algorithm, and no signature.
 two_writers : (evm : Setup) (attrs : List Pair) → IsRight evm attrs
     → is_signature (read_label (label_in attrs) Sha256) ≡ false
     → Tells (inode_of Enforce evm true abc attrs true) (
@@ -275,7 +275,7 @@ two_writers evm attrs right unsigned = (
       right ∙ ap (λ (b : Bool). two_told Pass b) unsigned,
 )
 
--- a sealed file has such a label
+-- a sealed file has a right label, as `two_writers` requires
 sealed_is_right : (evm : Setup) (attrs : List Pair)
     → label_in attrs ≡ Some (label_of (digest_of Sha256 abc))
     → evm_status evm attrs meta ≡ status.Pass
@@ -285,7 +285,7 @@ sealed_is_right evm attrs labelled fits = (
   ap (λ (l : Option (List ℕ)). is_signature (read_label l Sha256)) labelled,
 )
 
--- a SHA-1 behind the type 1 has 21 bytes in all, and names its algorithm
+-- a type 1 label with a SHA-1 has 21 bytes, which identifies its algorithm
 sha1_length : length (1 ∷ (digest_of Sha1 abc).bytes) ≡ 21
 sha1_length = ap (λ (n : ℕ). suc n) (length-hash Sha1 abc)
 
@@ -305,7 +305,7 @@ sha1_passes s e = subst
     (digest_of Sha1 abc) Sha256 3 false ≡ Pass) (sym e)
     (rw (same_front (digest_of Sha1 abc).bytes) refl)
 
--- and so has a file with the label of its content by SHA-1, as the kernel writes it where the
+-- a file has a right label with the SHA-1 of its content, in the form that the kernel writes if the
 -- digest doesn't end in four zero bytes
 sha1_is_right : (evm : Setup) (attrs : List Pair)
     → label_in attrs ≡ Some (1 ∷ (digest_of Sha1 abc).bytes)

@@ -1,4 +1,4 @@
--- Changes of attributes and metadata, and the integrity mutex.
+-- Examples of changes of attributes and metadata, and of the integrity mutex.
 use Rattle.std.proofs.Common.{◌≡◌, ℕ, true, false, List, [], ◌∷◌, Some, None, refl}
 use Rattle.std.specs.Prelude.{codes, replicate}
 use Rattle.ima_templates.specs.declared.entry.Placed.TheVariants.{Added, Already}
@@ -19,7 +19,7 @@ use Rattle.evm_verify.specs.Changes.{allows_meta, answered}
 use Rattle.inode_events.specs.Says.{status_told}
 use Rattle.inode_events.proofs.Examples.{Tells, abc, grant, inode_of, measure, meta, no_key, plain, with_key}
 
--- Changes of attributes without a key, and their refusals.
+-- Attributes are changed without a key, and some changes are refused.
 attributes_changed : Tells plain (
     (deed.SetAttr (codes "user.x") (Some (replicate 4096 0)) false, Some told.Done) ∷
     (deed.SetAttr (codes "user.x") (Some (replicate 4097 0)) false, Some told.TooLong) ∷
@@ -33,14 +33,14 @@ attributes_changed : Tells plain (
     [])
 attributes_changed = (refl, refl)
 
--- An absent file has nothing to change.
+-- An absent file has no attributes and metadata to change.
 absent_changed : Tells (inode_of Off no_key false [] [] true) (
     (deed.SetAttr (codes "user.x") (Some []) false, Some told.NotFound) ∷
     (deed.SetMeta (change.Mode 33152), Some told.NotFound) ∷
     [])
 absent_changed = (refl, refl)
 
--- With a key, the first protected attribute isn't set on a file that isn't new.
+-- With a key, the first protected attribute can't be set on a file that isn't new.
 nothing_protected : (key : List ℕ) → Tells (inode_of Off (with_key key) true abc [] true) ((
   deed.SetAttr (codes "security.selinux") (Some (97 ∷ [])) false,
   Some (told.Status status.NoXattrs),
@@ -48,7 +48,7 @@ nothing_protected : (key : List ℕ) → Tells (inode_of Off (with_key key) true
     [])
 nothing_protected key = (refl, refl)
 
--- Mode and owner aren't changed where the HMAC is wrong.
+-- The mode and the owner can't be changed if the HMAC is wrong.
 hmac_wrong : (key : List ℕ)
     → Tells (inode_of Off (with_key key) true abc
     ((codes "security.evm", 3 ∷ []) ∷ (codes "security.ima", 4 ∷ []) ∷ []) true) (
@@ -56,14 +56,14 @@ hmac_wrong : (key : List ℕ)
     [])
 hmac_wrong key = (refl, refl)
 
--- Nor where it is missing.
+-- The mode and the owner can't be changed if the HMAC is missing.
 hmac_missing : (key : List ℕ)
     → Tells (inode_of Off (with_key key) true abc ((codes "security.ima", 4 ∷ []) ∷ []) true) (
     (deed.SetMeta (change.Owner 1 1), Some (told.Status status.NoLabel)) ∷
     [])
 hmac_missing key = (refl, refl)
 
--- They are where it fits.
+-- The mode and the owner can be changed if the HMAC is right.
 hmac_fits : (evm : Setup) (attrs : List Pair) → evm_status evm attrs meta ≡ status.Pass
     → Tells (inode_of Off evm true abc attrs true) (
     (deed.SetMeta (change.Mode 33152), Some told.Done) ∷
@@ -71,8 +71,8 @@ hmac_fits : (evm : Setup) (attrs : List Pair) → evm_status evm attrs meta ≡ 
 hmac_fits evm attrs fits =
     (refl, ap (λ (s : EvmStatus). Some (status_told (answered (allows_meta s) s)) ∷ []) fits)
 
--- While a collection is open, takes, changes and writers' closes wait. Reads, writes, opens and
--- readers' closes don't.
+-- While a collection is open, takes, changes and the closes of writers are blocked. Reads, writes,
+-- opens and the closes of readers aren't.
 mutex_held : Tells plain (
     (deed.Count (how.Read false), Some told.Held) ∷
     (deed.Count (how.Write false false), Some told.Held) ∷
@@ -96,7 +96,7 @@ mutex_held : Tells plain (
     [])
 mutex_held = (refl, refl)
 
--- Each change of an attribute voids the digest, a change of the mode doesn't.
+-- Each change of an attribute voids the digest, but a change of the mode doesn't.
 attribute_voids : Tells plain (
     (deed.Count (how.Read false), Some told.Held) ∷
     (deed.Check 1 FileCheck measure 1, Some told.Quiet) ∷

@@ -1,4 +1,4 @@
--- What a concrete journal and list have, from equations that compute.
+-- Properties of a concrete journal and list, from equations that hold by computation.
 use Rattle.std.proofs.Common.{◌≡◌, ℕ, zero, suc, ◌+◌, ◌<◌, Bool, true, false, ◌&&◌, ◌||◌, not, List, [], ◌∷◌, ◌++◌, map, length, get_or, Option, Some, None, refl, sym, ◌∙◌, ap, subst, arith, inl, inr}
 use Rattle.std.specs.Prelude.{if◌then◌else◌, ◌⊎◌, ◌==◌, nat_lt, All, Contains, slice_get}
 use Rattle.std.proofs.lemmas.Bool.{and_parts, ltb-true}
@@ -22,9 +22,9 @@ use Rattle.inode_events.specs.declared.told.Event.{Event}
 use Rattle.inode_events.specs.declared.told.Told.{Told}
 use Rattle.inode_events.proofs.Examples.{born, is_at, may}
 
--- ---- legal
+-- ---- the journal is legal
 
--- stages of one number are the same
+-- stages with the same number are the same
 at_is : (a b : Stage) → is_at a b ≡ true → a ≡ b
 at_is Gone Gone m = refl
 at_is Counted Counted m = refl
@@ -36,7 +36,7 @@ at_is CloseCollecting CloseCollecting m = refl
 at_is CloseCollected CloseCollected m = refl
 at_is a b m = cc
 
--- what is decided is the condition of the call
+-- if `may` is true, the deed's call has its precondition
 pub follows : (i : Inode) (p : List Event) (who : Who) (d : Deed) (t : Told) → IsBorn p
     → may i p d ≡ true → says i p (placed_in t) d ≡ Some t → Follows i p who d t
 follows i p who deed.Birth t b m s = cc
@@ -64,31 +64,31 @@ follows i p who (deed.CloseFinish f) t b m s = (b, at_is _ _ m, s)
 follows i p who (deed.Post sem) t b m s = cc
 follows i p who (deed.Wait sem) t b m s = cc
 
--- the events, oldest first, behind a journal
+-- the journal with these events, given oldest first, appended to it
 abbrev pub onto : List Event → List Event → List Event
 onto before [] = before
 onto before (e ∷ rest) = onto (e ∷ before) rest
 
--- whether each of the events may be done where it stands
+-- each of the events is permitted after those before it
 abbrev pub may_each : Inode → List Event → List Event → Bool
 may_each i before [] = true
 may_each i before (e ∷ rest) = may i before e.deed && may_each i (e ∷ before) rest
 
--- what the journal before each of the events says
+-- for each of the events, the outcome that the journal before it determines
 abbrev pub says_each : Inode → List Event → List Event → List (Option Told)
 says_each i before [] = []
 says_each i before (e ∷ rest) =
     says i before (placed_in e.told) e.deed ∷ says_each i (e ∷ before) rest
 
--- lists that are the same have the same first element
+-- equal lists have equal first elements
 first_of : {X : Type 0} (a b : X) (xs ys : List X) → a ∷ xs ≡ b ∷ ys → a ≡ b
 first_of a b xs ys e = cc
 
--- and the same rest
+-- equal lists have equal rests
 rest_of : {X : Type 0} (a b : X) (xs ys : List X) → a ∷ xs ≡ b ∷ ys → xs ≡ ys
 rest_of a b xs ys e = cc
 
--- events that may be done and are told what is said keep a journal legal
+-- events that are permitted and have the outcomes that the journal determines keep a journal legal
 legal_onto : (i : Inode) (before rest : List Event) → Legal i before → may_each i before rest ≡ true
     → says_each i before rest ≡ map (λ e. Some e.told) rest → Legal i (onto before rest)
 legal_onto i before [] h m s = h
@@ -97,53 +97,54 @@ legal_onto i before (e ∷ rest) h m s =
     let next = follows i before e.who e.deed e.told h.0 parts.0 (first_of _ _ _ _ s) in
     legal_onto i (e ∷ before) rest (tt, (next, h.1)) parts.1 (rest_of _ _ _ _ s)
 
--- a journal whose deeds may be done and are told what the journal says is legal
+-- a journal is legal if its deeds are permitted and have the outcomes that the journal determines
 pub legal_by : (i : Inode) (events : List Event) → may_each i (born i) events ≡ true
     → says_each i (born i) events ≡ map (λ e. Some e.told) events → Legal i (onto (born i) events)
 legal_by i events m s = legal_onto i (born i) events (tt, ((refl, refl, refl), tt)) m s
 
--- ---- listed
+-- ---- the entries are in the list
 
--- one more element where there is something to show
+-- the list with one more element in front, if there is an entry
 abbrev pub put_on : {X : Type 0} → Option Listed → (Listed → X) → List X → List X
 put_on None f rest = rest
 put_on (Some l) f rest = f l ∷ rest
 
--- what stands at the places of the entries that are added, and those entries
+-- the entries of the list at the indices of the added entries
 abbrev pub entries_at : List Entry → List Mention → List (Option Entry)
 entries_at list [] = []
 entries_at list (m ∷ earlier) = put_on m.added (λ l. slice_get list l.0) (entries_at list earlier)
 
--- the entries that are added
+-- the added entries
 abbrev pub added_of : List Mention → List (Option Entry)
 added_of [] = []
 added_of (m ∷ earlier) = put_on m.added (λ l. Some l.1) (added_of earlier)
 
--- where what is found stands first, and where it was found
+-- the indices at which the list first has the found entries
 abbrev pub places_of : List Entry → List Mention → List (Option ℕ)
 places_of list [] = []
 places_of list (m ∷ earlier) = put_on m.found (λ l. place_of_same list l.1) (places_of list earlier)
 
--- the places at which entries were found
+-- the indices at which entries were found
 abbrev pub found_of : List Mention → List (Option ℕ)
 found_of [] = []
 found_of (m ∷ earlier) = put_on m.found (λ l. Some l.0) (found_of earlier)
 
--- what is added stands there, and the rest agrees
+-- equal lists of entries begin with the same one, so the added entry is in the list
 stands : (list : List Entry) (o : Option Listed) (xs ys : List (Option Entry))
     → put_on o (λ l. slice_get list l.0) xs ≡ put_on o (λ l. Some l.1) ys → StandsIn list o
     × (xs ≡ ys)
 stands list None xs ys e = (tt, e)
 stands list (Some l) xs ys e = (first_of _ _ _ _ e, rest_of _ _ _ _ e)
 
--- what is found is first there, and the rest agrees
+-- equal lists of indices begin with the same one, so the found entry is in the list, first at its
+-- index
 is_first : (list : List Entry) (o : Option Listed) (xs ys : List (Option ℕ))
     → put_on o (λ l. place_of_same list l.1) xs ≡ put_on o (λ l. Some l.0) ys → IsFirstIn list o
     × (xs ≡ ys)
 is_first list None xs ys e = (tt, e)
 is_first list (Some l) xs ys e = (first_of _ _ _ _ e, rest_of _ _ _ _ e)
 
--- where all agree, the list has what the mentions say
+-- if the lists are equal, the list has all entries that were added and found
 are_in : (list : List Entry) (ms : List Mention) → entries_at list ms ≡ added_of ms
     → places_of list ms ≡ found_of ms → AreIn list ms
 are_in list [] a f = tt
@@ -152,42 +153,43 @@ are_in list (m ∷ ms) a f =
     let y = is_first list m.found (places_of list ms) (found_of ms) f in
     (x.0, y.0, are_in list ms x.1 y.1)
 
--- so a journal is listed by two equations that compute
+-- a journal is listed, by two equations that hold by computation
 pub listed_by : (i : Inode) (list : List Entry) (p : List Event)
     → entries_at list (mentions i p) ≡ added_of (mentions i p)
     → places_of list (mentions i p) ≡ found_of (mentions i p) → IsListed i list p
 listed_by i list p a f = are_in list (mentions i p) a f
 
--- ---- covered
+-- ---- the read is covered
 
--- each check of the file that measures is answered: `done` are the events behind these
+-- an answer for each check of the file that measures
 abbrev pub answer_to : Bool → Type 0 → Type 0 → Type 0
 answer_to true answer rest = answer × rest
 answer_to false answer rest = rest
 
--- the answers that a journal owes, one for each of its checks that measure
+-- the answers that a journal requires, one for each of its checks that measure; `done` are the
+-- events after them
 abbrev pub Answers : Inode → List Entry → ℕ → List ℕ → List Event → List Event → Type 0
 Answers i list file bytes done [] = Unit {0}
 Answers i list file bytes done (e ∷ before) =
     answer_to (is_measuring file e.deed) (IsAnswered i list file bytes done e)
     (Answers i list file bytes (done ++ e ∷ []) before)
 
--- an answer that is owed is given, and the rest is there
+-- the answer to this check, if one is required, and the answers to the others
 taken : (b : Bool) (A R : Type 0) → answer_to b A R → (b ≡ true → A) × R
 taken true A R h = ((λ y. h.0), h.1)
 taken false A R h = ((λ y. cc), h)
 
--- an element moves from behind one list to before the next
+-- an element moves from the end of one list to the front of the next
 append_one : {X : Type 0} (xs : List X) (x : X) (ys : List X) → (xs ++ x ∷ []) ++ ys ≡ xs ++ x ∷ ys
 append_one [] x ys = refl
 append_one (z ∷ zs) x ys = ap (λ l. z ∷ l) (append_one zs x ys)
 
--- nothing behind a list leaves it as it is
+-- appending the empty list changes nothing
 append_none : {X : Type 0} (xs : List X) → xs ++ [] ≡ xs
 append_none [] = refl
 append_none (z ∷ zs) = ap (λ l. z ∷ l) (append_none zs)
 
--- with all answers, each split of the journal at a check that measures has its own
+-- given all answers, each check that measures has its own, however the journal is split
 covered : (i : Inode) (list : List Entry) (file : ℕ) (bytes : List ℕ) (done events : List Event)
     → Answers i list file bytes done events
     → (later : List Event) (check : Event) (before : List Event) → events ≡ later ++ check ∷ before
@@ -208,15 +210,15 @@ covered i list file bytes done (x ∷ rest) h (y ∷ later) check before e m =
     (covered i list file bytes (done ++ x ∷ []) rest
     (taken (is_measuring file x.deed) _ _ h).1 later check before (rest_of _ _ _ _ e) m)
 
--- so a read is covered by one answer for each check
+-- a read is covered, by one answer for each check that measures
 pub covered_by : (i : Inode) (list : List Entry) (file : ℕ) (p : List Event)
     → Answers i list file (content p) [] p → IsCovered i list file p
 covered_by i list file p h later check before e m =
     covered i list file (content p) [] p h later check before e m
 
--- ---- merged
+-- ---- the list is merged
 
--- no later entry is the same as the first one, and so on
+-- for each later entry, whether it is the same as this one
 abbrev pub none_same : Entry → List Entry → List Bool
 none_same x [] = []
 none_same x (y ∷ ys) = same x y ∷ none_same x ys
@@ -226,14 +228,14 @@ abbrev pub AreApart : List Entry → Type 0
 AreApart [] = Unit {0}
 AreApart (x ∷ xs) = (none_same x xs ≡ map (λ y. false) xs) × AreApart xs
 
--- the first entry is the same as none behind it
+-- the first entry isn't the same as any later one
 apart_first : (x : Entry) (xs : List Entry) (b : ℕ) (y : Entry)
     → none_same x xs ≡ map (λ y. false) xs → slice_get xs b ≡ Some y → same x y ≡ false
 apart_first x [] b y n g = absurd (none-some y g)
 apart_first x (z ∷ zs) zero y n g = ap (same x) (sym (same_Some z y g)) ∙ first_of _ _ _ _ n
 apart_first x (z ∷ zs) (suc b) y n g = apart_first x zs b y (rest_of _ _ _ _ n) g
 
--- in a list whose entries are apart no two places have the same
+-- in a list of distinct entries, no two indices have the same entry
 pub distinct_by : (list : List Entry) → AreApart list
     → (a b : ℕ) (x y : Entry) → a < b → slice_get list a ≡ Some x → slice_get list b ≡ Some y
     → same x y ≡ false
@@ -244,40 +246,41 @@ distinct_by (z ∷ zs) h zero (suc b) x y l ga gb =
 distinct_by (z ∷ zs) h (suc a) zero x y l ga gb = absurd (omega arith)
 distinct_by (z ∷ zs) h (suc a) (suc b) x y l ga gb = distinct_by zs h.1 a b x y (omega arith) ga gb
 
--- each place named by an earlier step of the same task is below each place added by a later one
+-- each index that an earlier step of the same task reported is below each index added by a later
+-- one
 abbrev pub rises_over : Named → List Named → Bool
 rises_over n [] = true
 rises_over n (a ∷ rest) = (not (is_earlier n.0 a.0) || nat_lt n.1 a.1) && rises_over n rest
 
--- the same for each place that is named
+-- each reported index is below each index that a later step of the same task added
 abbrev pub all_rise : List Named → List Named → Bool
 all_rise [] added = true
 all_rise (n ∷ rest) added = rises_over n added && all_rise rest added
 
--- a list of one element contains that element alone
+-- a list of one element contains only that element
 pub one_has : {X : Type 0} (y x : X) → Contains (y ∷ []) x → y ≡ x
 one_has {X} y x h = at h.0 h.1 h.2 where
   at : (k : ℕ) → k < 1 → get_or (y ∷ []) k x ≡ x → y ≡ x
   at zero l e = e
   at (suc k) l e = absurd (omega arith)
 
--- an empty list contains nothing
+-- the empty list contains nothing
 pub has_none : {X : Type 0} (x : X) → Contains [] x → ⊥
 has_none x h = let l : h.0 < 0 = h.1 in absurd (omega arith)
 
--- what a list contains is its first element, or is contained in the rest
+-- an element of a list is its first one or an element of the rest
 has_cases : {X : Type 0} (y x : X) (xs : List X) → Contains (y ∷ xs) x → (y ≡ x) ⊎ Contains xs x
 has_cases {X} y x xs h = at (Contains-append_cases (y ∷ []) xs x h) where
   at : Contains (y ∷ []) x ⊎ Contains xs x → (y ≡ x) ⊎ Contains xs x
   at (inl a) = inl (one_has y x a)
   at (inr b) = inr b
 
--- where the step is earlier, what was decided is that its place is below
+-- if the step is earlier and the test passes, its index is below
 below : (n a : Named) (b : Bool) → b ≡ true → (not b || nat_lt n.1 a.1) ≡ true → n.1 < a.1
 below n a true y o = ltb-true n.1 a.1 o
 below n a false y o = cc
 
--- a place named by an earlier step is below each place added by a later one
+-- an index reported by an earlier step is below each index added by a later one
 rises : (n a : Named) (added : List Named) → rises_over n added ≡ true → Contains added a
     → is_earlier n.0 a.0 ≡ true → n.1 < a.1
 rises n a [] r c e = absurd (has_none a c)
@@ -290,7 +293,7 @@ rises n a (x ∷ rest) r c e =
           (subst (λ (w : Named). (not (is_earlier n.0 w.0) || nat_lt n.1 w.1) ≡ true) s o)
       at (inr t) o more = more t
 
--- so it is for all places that are named
+-- each reported index is below each index that a later step added
 pub rise_by : (named added : List Named) → all_rise named added ≡ true → (n a : Named)
     → Contains named n → Contains added a → is_earlier n.0 a.0 ≡ true → n.1 < a.1
 rise_by [] added r n a c d e = absurd (has_none n c)
@@ -302,30 +305,30 @@ rise_by (x ∷ rest) added r n a c d e =
       at (inl s) o more = rises n a added (subst (λ (w : Named). rises_over w added ≡ true) s o) d e
       at (inr t) o more = more t
 
--- the places rise along the journal
+-- the index is above each of the reported ones
 abbrev pub above_each : ℕ → List Named → Bool
 above_each place [] = true
 above_each place (n ∷ rest) = nat_lt n.1 place && above_each place rest
 
--- each place that is added is above all these
+-- each added index is above each of the reported ones
 abbrev pub added_above : List Named → List Named → Bool
 added_above [] named = true
 added_above (a ∷ rest) named = above_each a.1 named && added_above rest named
 
--- each place that is added is above all that were named before it
+-- each added index is above all those reported before it
 abbrev pub mentions_rise : List Mention → Bool
 mentions_rise [] = true
 mentions_rise (m ∷ earlier) =
     added_above (named m.who m.added) (all_named earlier) && mentions_rise earlier
 
--- places that are decided to be below are below
+-- if the test passes, all reported indices are below
 above_all : (place : ℕ) (ns : List Named) → above_each place ns ≡ true → All (λ n. n.1 < place) ns
 above_all place [] h = All-nil (λ n. n.1 < place)
 above_all place (n ∷ rest) h =
     let parts = and_parts (nat_lt n.1 place) (above_each place rest) h in
     All-cons (λ n. n.1 < place) n rest (ltb-true n.1 place parts.0) (above_all place rest parts.1)
 
--- so they are below each place that is added
+-- if the test passes, all reported indices are below each added one
 added_all : (added ns : List Named) → added_above added ns ≡ true
     → All (λ a. All (λ n. n.1 < a.1) ns) added
 added_all [] ns h = All-nil (λ a. All (λ n. n.1 < a.1) ns)
@@ -334,7 +337,7 @@ added_all (a ∷ rest) ns h =
     All-cons (λ a. All (λ n. n.1 < a.1) ns) a rest (above_all a.1 ns parts.0)
     (added_all rest ns parts.1)
 
--- so the places rise along the mentions
+-- if the test passes, the indices of added entries increase along the mentions
 rising : (ms : List Mention) → mentions_rise ms ≡ true → MentionsRise ms
 rising [] h = tt
 rising (m ∷ earlier) h =
@@ -342,7 +345,7 @@ rising (m ∷ earlier) h =
     (mentions_rise earlier) h in
     (added_all (named m.who m.added) (all_named earlier) parts.0, rising earlier parts.1)
 
--- a run over one inode is merged
+-- the list of a run over one inode is merged from its journal
 pub merged_by : (boot : Entry) (list : List Entry) (i : Inode) (p : List Event)
     → slice_get list 0 ≡ Some boot → IsListed i list p
     → ((place : ℕ) → place < length list

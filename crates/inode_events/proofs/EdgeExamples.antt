@@ -1,4 +1,4 @@
--- Cases at the edges of the definitions, which the larger journals don't meet.
+-- Corner cases of the definitions, which the larger journals don't reach.
 use Rattle.std.proofs.Common.{◌≡◌, true, false, [], ◌∷◌, codes, Option, Some, None, refl}
 use Rattle.std.specs.Prelude.{replicate}
 use Rattle.hash_algos.specs.Digest.{digest_of}
@@ -27,8 +27,8 @@ use Rattle.inode_events.proofs.Examples.{Rows, Tells, abc, after, appraise, enfo
 
 -- ---- counts and marks
 
--- A file that is open for both counts no reader: where the reader that set the mark is gone, its
--- check is quiet.
+-- A file that is open for reading and writing doesn't count as a reader: after the reader that set
+-- the mark has closed the file, a writer's check is quiet.
 both_is_no_reader : Tells plain (
     (deed.Count (how.Read false), Some told.Held) ∷
     (deed.Check 1 FileCheck measure 1, Some told.Quiet) ∷
@@ -41,7 +41,7 @@ both_is_no_reader : Tells plain (
     [])
 both_is_no_reader = (refl, refl)
 
--- A new file is new for all who open it, until its last writer closes it.
+-- A new file is new for everyone who opens it, until its last writer closes it.
 new_for_all : Tells (inode_of Enforce no_key false [] [] true) (
     (deed.Count (how.Write false true), Some told.Held) ∷
     (deed.Check 1 FileCheck no_action 1, Some told.Quiet) ∷
@@ -53,7 +53,7 @@ new_for_all : Tells (inode_of Enforce no_key false [] [] true) (
     [])
 new_for_all = (refl, refl)
 
--- Its last writer owes it a label, though it wrote nothing.
+-- The last writer of a new file must label it, even if it wrote nothing.
 new_is_due : Tells (inode_of Enforce no_key false [] [] true) (
     (deed.Count (how.Write false true), Some told.Held) ∷
     (deed.Check 1 FileCheck appraise 1, Some told.Quiet) ∷
@@ -64,7 +64,7 @@ new_is_due : Tells (inode_of Enforce no_key false [] [] true) (
     [])
 new_is_due = (refl, refl)
 
--- And its close voids the digest in force, though nothing was written.
+-- The close of a new file's last writer voids the digest in force, even if nothing was written.
 new_is_voided : Tells (inode_of Off no_key false [] [] true) (
     (deed.Count (how.Write false true), Some told.Held) ∷
     (deed.Check 1 FileCheck no_action 1, Some told.Quiet) ∷
@@ -79,7 +79,7 @@ new_is_voided : Tells (inode_of Off no_key false [] [] true) (
     [])
 new_is_voided = (refl, refl)
 
--- Without change versions a writer owes the label, though it wrote nothing.
+-- Without change versions a writer must label the file, even if it wrote nothing.
 uncounted_is_due : Tells (inode_of Fix no_key true abc [] false) (
     (deed.Count (how.Write false false), Some told.Held) ∷
     (deed.Check 1 FileCheck appraise 1, Some told.Quiet) ∷
@@ -92,7 +92,8 @@ uncounted_is_due = (refl, refl)
 
 -- ---- modes and verdicts
 
--- Mode off asks for no take where the action only appraises. A read gives what is there.
+-- If appraisal is off, an action that only appraises requires no take. A read gets whatever the
+-- content is.
 off_asks_nothing : Tells plain (
     (deed.Count (how.Read false), Some told.Held) ∷
     (deed.Check 1 FileCheck appraise 1, Some told.Quiet) ∷
@@ -102,7 +103,7 @@ off_asks_nothing : Tells plain (
     [])
 off_asks_nothing = (refl, refl)
 
--- Mode log admits what it denies, and mends nothing.
+-- Log mode admits what the verdict denies, and repairs nothing.
 log_admits : Tells (inode_of Log no_key true abc [] true) (
     (deed.Count (how.Read false), Some told.Held) ∷
     (deed.Check 1 FileCheck appraise 1, Some told.Quiet) ∷
@@ -112,7 +113,7 @@ log_admits : Tells (inode_of Log no_key true abc [] true) (
     [])
 log_admits = (refl, refl)
 
--- An execution's verdict and a mapping's are kept in slots of their own.
+-- The verdicts of executions and mappings are cached in slots of their own.
 abbrev denied : Func → Rows
 denied func =
     (deed.Count how.Exec, Some told.Held) ∷
@@ -122,18 +123,18 @@ denied func =
     (deed.Finish 1, Some (told.Grant (grant None (Some (Deny cause.MissingHash)) false false))) ∷
     []
 
--- the verdict in force in a slot, behind a check of a function
+-- the verdict in force in a slot, after a check of a function
 abbrev kept : Func → Slot → Option Verdict
 kept func slot = verdict_in_force enforcing (record { slot = slot; need = Any; algos = None })
     (after enforcing (denied func))
 
--- it is kept in the slot of its own function, and in no other
+-- the verdict is cached in the slot of its function, and in no other
 slots : (kept BprmCheck slot.Bprm ≡ Some (Deny cause.MissingHash))
     × (kept BprmCheck slot.File ≡ None)
     × (kept MmapCheck slot.Mmap ≡ Some (Deny cause.MissingHash)) × (kept MmapCheck slot.File ≡ None)
 slots = (refl, refl, refl, refl)
 
--- Two sets are the same where they have the same algorithms, each of the six.
+-- Two sets are the same if they agree on each of the six algorithms.
 abbrev none : AlgoSet
 none = record {
   md5 = false;
@@ -162,7 +163,7 @@ signatures = (refl, refl, refl, refl, refl)
 
 -- ---- content and attributes
 
--- 4,096 bytes are one piece, and one more is a second. A file of 262,144 bytes is not too big.
+-- A file of 4,096 bytes is one piece. A file of 262,144 bytes isn't too big.
 one_piece : Tells (inode_of Off no_key true (replicate 4096 97) [] true) (
     (deed.Count (how.Write true false), Some told.Held) ∷
     (deed.Check 1 FileCheck measure 1, Some told.Quiet) ∷
@@ -174,7 +175,7 @@ one_piece : Tells (inode_of Off no_key true (replicate 4096 97) [] true) (
     [])
 one_piece = (refl, refl)
 
--- one byte more is a second piece
+-- a file of 4,097 bytes is two pieces
 two_pieces : Tells (inode_of Off no_key true (replicate 4097 97) [] true) (
     (deed.Count (how.Read false), Some told.Held) ∷
     (deed.Check 1 FileCheck measure 1, Some told.Quiet) ∷
@@ -184,7 +185,7 @@ two_pieces : Tells (inode_of Off no_key true (replicate 4097 97) [] true) (
     [])
 two_pieces = (refl, refl)
 
--- What is written, cut and lengthened, and a mode and an owner that are changed.
+-- The content is written, truncated and extended, and the mode and the owner are changed.
 abbrev changes : Rows
 changes =
     (deed.Count (how.Write false false), Some told.Held) ∷
@@ -197,11 +198,11 @@ changes =
     (deed.SetMeta (change.Owner 7 8), Some told.Done) ∷
     []
 
--- each of these deeds may be done, and is told so
+-- each deed of `changes` is permitted and has the outcome given
 changes_tell : Tells plain changes
 changes_tell = (refl, refl)
 
--- they leave these bytes and this metadata
+-- the content and the metadata after `changes`
 changed : (content (after plain changes) ≡ 97 ∷ 90 ∷ 99 ∷ 0 ∷ 88 ∷ 0 ∷ 0 ∷ [])
     × (metadata (after plain changes) ≡ record {
       ino = 12;
@@ -213,7 +214,7 @@ changed : (content (after plain changes) ≡ 97 ∷ 90 ∷ 99 ∷ 0 ∷ 88 ∷ 0
     })
 changed = (refl, refl)
 
--- The types of labels end at 6.
+-- The greatest type of a label is 6.
 last_type : Tells plain (
     (deed.SetAttr (codes "security.ima") (Some (6 ∷ [])) true, Some told.Done) ∷
     (deed.SetAttr (codes "security.ima") (Some (7 ∷ [])) true, Some told.Invalid) ∷
@@ -223,10 +224,10 @@ last_type : Tells plain (
     [])
 last_type = (refl, refl)
 
--- ---- what may not be done
+-- ---- forbidden deeds
 
 -- a reader and a writer, each counted and checked by an action that measures nothing, and a third
--- that is only counted
+-- file that is only counted
 abbrev opened : Rows
 opened =
     (deed.Count (how.Read false), Some told.Held) ∷
@@ -236,26 +237,26 @@ opened =
     (deed.Count (how.Read false), Some told.Held) ∷
     []
 
--- a file that isn't open for writing isn't written, truncated, or closed as a writer is
+-- a file that isn't open for writing can't be written, truncated, or closed as a writer
 by_reader : (May plain (after plain opened) (deed.Write 1 0 (88 ∷ [])) → ⊥)
     × (May plain (after plain opened) (deed.Trunc 1 0) → ⊥)
     × (May plain (after plain opened) (deed.CloseTake 1) → ⊥)
 by_reader = ((λ m. cc m.1), (λ m. cc m.1), (λ m. cc m.1))
 
--- one that isn't open for reading isn't read, nor closed as a reader is; and nothing is written
--- nowhere
+-- a file that isn't open for reading can't be read, nor closed as a reader
 by_writer : (May plain (after plain opened) (deed.Read 2 0 3) → ⊥)
     × (May plain (after plain opened) (deed.Close 2) → ⊥)
 by_writer = ((λ m. cc m.1), (λ m. cc m.1))
 
--- one that is only counted is not read, taken or closed; one that owes nothing is not taken
+-- a file that is only counted can't be read, taken or closed; a file that needs no take can't be
+-- taken
 before_check : (May plain (after plain opened) (deed.Read 5 0 3) → ⊥)
     × (May plain (after plain opened) (deed.Take 5) → ⊥)
     × (May plain (after plain opened) (deed.Close 5) → ⊥)
     × (May plain (after plain opened) (deed.Take 1) → ⊥)
 before_check = ((λ m. cc m.0), (λ m. cc m), (λ m. cc m.0), (λ m. cc m))
 
--- while the grant is owed the file is neither checked nor read, and it is finished only after its
+-- a file whose collection has begun can't be checked or read, and can be finished only after its
 -- last piece
 abbrev begun : Rows
 begun =
@@ -264,7 +265,7 @@ begun =
     (deed.Take 1, Some told.Begun) ∷
     []
 
--- none of these may be done there
+-- none of these deeds is permitted after `begun`
 before_grant : (May plain (after plain begun) (deed.Check 1 FileCheck measure 1) → ⊥)
     × (May plain (after plain begun) (deed.Read 1 0 3) → ⊥)
     × (May plain (after plain begun) (deed.Finish 1) → ⊥)

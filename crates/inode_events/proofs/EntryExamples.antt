@@ -1,4 +1,4 @@
--- What the events of one inode have to do with the measurement list.
+-- Examples of the entries that the events of one inode add to the measurement list.
 use Rattle.std.proofs.Common.{◌≡◌, true, false, [], ◌∷◌, codes, Some, None, refl}
 use Rattle.hash_algos.specs.Digest.{digest_of, zero_digest}
 use Rattle.hash_algos.specs.declared.algo.Algo.TheVariants.{Sha256}
@@ -20,7 +20,7 @@ use Rattle.inode_events.proofs.Examples.{Rows, abc, after, grant, inode_of, meas
 
 -- ---- the entries
 
--- the entry of `abc` at /a under the script's template, and the violation of that file
+-- the entry of `abc` at /a under the script's template
 abbrev pub file_entry : Entry
 file_entry = record {
   pcr = 10;
@@ -31,7 +31,7 @@ file_entry = record {
   violation = false;
 }
 
--- the violation of that file
+-- the violation of the file at /a
 abbrev pub violation_entry : Entry
 violation_entry = record {
   pcr = 10;
@@ -42,7 +42,7 @@ violation_entry = record {
   violation = true;
 }
 
--- a rule's own register and template
+-- an action with a register and a template that the rule names
 abbrev to_eleven : Action
 to_eleven = record {
   measure = true;
@@ -55,11 +55,11 @@ to_eleven = record {
   hash = false;
 }
 
--- a file with a signature as its label
+-- a file whose label is a signature
 abbrev signed : Inode
 signed = inode_of Off no_key true abc ((codes "security.ima", 3 ∷ 2 ∷ []) ∷ []) true
 
--- the deeds before the finish of an open
+-- the deeds of an open before the finish
 abbrev hashed : Action → Rows
 hashed action =
     (deed.Count (how.Read false), Some told.Held) ∷
@@ -68,7 +68,7 @@ hashed action =
     (deed.Chunk 1, Some told.Last) ∷
     []
 
--- the same with the finish
+-- the deeds of an open, including the finish
 abbrev opened : Action → Rows
 opened action =
     (deed.Count (how.Read false), Some told.Held) ∷
@@ -79,11 +79,11 @@ opened action =
     []
 
 -- A measurement has the action's register, the action's template or else the script's, and the
--- signature.
+-- signature in the label.
 plain_entry : entries_added plain (after plain (opened measure)) ≡ (1, file_entry) ∷ []
 plain_entry = refl
 
--- here the action names a register and a template, and the label is a signature
+-- the action names a register and a template, and the label is a signature
 ruled_entry : entries_added signed (after signed (opened to_eleven))
     ≡ (
       1,
@@ -98,7 +98,7 @@ ruled_entry : entries_added signed (after signed (opened to_eleven))
     ) ∷ []
 ruled_entry = refl
 
--- A violation has register 10 and the script's template and algorithm.
+-- A violation has register 10 and the script's template and algorithm, whatever the rule says.
 abbrev met : Rows
 met =
     (deed.Count (how.Read false), Some told.Held) ∷
@@ -107,20 +107,20 @@ met =
     (deed.Check 3 FileCheck to_eleven 1, Some (told.ToMToU 1)) ∷
     []
 
--- that ToMToU adds the violation
+-- the ToMToU in `met` adds the violation
 violation_added : entries_added signed (after signed met) ≡ (1, violation_entry) ∷ []
 violation_added = refl
 
--- ---- what a step asks for
+-- ---- the entries that steps ask for
 
--- a reader that was checked, and a writer beside it
+-- a reader that was checked
 abbrev checked : Rows
 checked =
     (deed.Count (how.Read false), Some told.Held) ∷
     (deed.Check 1 FileCheck measure 1, Some told.Quiet) ∷
     []
 
--- the same with a writer beside it
+-- a reader that was checked, and a writer
 abbrev joined : Rows
 joined =
     (deed.Count (how.Read false), Some told.Held) ∷
@@ -128,11 +128,12 @@ joined =
     (deed.Count (how.Write false false), Some told.Held) ∷
     []
 
--- A finish asks for the entry.
+-- A finish asks for the file's entry.
 finish_asks : asked plain (deed.Finish 1) (after plain (hashed measure)) ≡ Some file_entry
 finish_asks = refl
 
--- A take asks for it where a digest is in force, and for none while a collection is open.
+-- A take asks for the file's entry if a digest is in force, and for none while a collection is
+-- open.
 take_asks : (asked plain (deed.Take 1) (after plain checked) ≡ None)
     × (asked plain (deed.Take 1) (after plain (opened measure)) ≡ Some file_entry)
     × (asked plain (deed.Take 1) (after plain (hashed measure)) ≡ None)
@@ -144,7 +145,8 @@ check_asks : (asked plain (deed.Check 1 FileCheck measure 1) (after plain (opene
     ≡ Some violation_entry)
 check_asks = (refl, refl)
 
--- It is then told the place at the list's end, since no violation is the same as another.
+-- The check's outcome reports the index at the end of the list, since no violation is the same as
+-- another.
 check_told_last : outcome signed (violation_entry ∷ violation_entry ∷ [])
     (deed.Check 3 FileCheck to_eleven 1) (after signed joined) ≡ Some (told.ToMToU 2)
 unfolding same

@@ -1,4 +1,4 @@
--- What the examples share: inodes, actions, and rows of deeds in order, each with what it is told.
+-- Definitions that the examples share: inodes, actions, and rows of deeds with their outcomes.
 use Rattle.std.proofs.Common.{◌≡◌, ℕ, Bool, true, false, ◌&&◌, not, List, [], ◌∷◌, map, length, Option, Some, None, refl}
 use Rattle.std.specs.Prelude.{◌==◌, nat_lt}
 use Rattle.hash_algos.specs.declared.algo.Algo.TheVariants.{Sha256}
@@ -25,9 +25,9 @@ use Rattle.inode_events.specs.declared.told.Grant.{Grant}
 use Rattle.inode_events.specs.declared.told.Told.{Told}
 use Rattle.inode_events.specs.declared.told.Told.TheVariants as told
 
--- ---- whether a deed may be done, decided
+-- ---- the precondition of a deed as a Bool
 
--- the stages in order, by number
+-- the numbers of the stages, in their order
 abbrev pub number_of : Stage → ℕ
 number_of Gone = 0
 number_of Counted = 1
@@ -38,11 +38,11 @@ number_of Settled = 5
 number_of CloseCollecting = 6
 number_of CloseCollected = 7
 
--- the stages are the same
+-- the stages are equal
 abbrev pub is_at : Stage → Stage → Bool
 is_at a b = number_of a == number_of b
 
--- the condition of the deed's call
+-- the precondition of the deed's call
 abbrev pub may : Inode → List Event → Deed → Bool
 may inode before (deed.Count how) = true
 may inode before (deed.Check file func action rules) = may_check (stage inode file before)
@@ -67,57 +67,57 @@ may inode before _ = false
 
 -- ---- rows
 
--- deeds in order, each with what it is told. `None` stands for a deed that is blocked
+-- deeds in order, each with its outcome; `None` means that the deed is blocked
 abbrev pub Rows : Type 0
 Rows = List (Deed × Option Told)
 
--- the answer of the list that a row was told
+-- the list's reply that the outcome of a row reports
 abbrev pub placed_of : Option Told → Placed
 placed_of None = Added 0
 placed_of (Some t) = placed_in t
 
--- the journal behind a row: a blocked deed leaves no event
+-- the journal after a row: a blocked deed leaves no event
 abbrev pub behind : Deed → Option Told → List Event → List Event
 behind d None before = before
 behind d (Some t) before = record { who = nobody; deed = d; told = t } ∷ before
 
--- the journal of an inode that has just come into being
+-- the journal of an inode that has just been created
 abbrev pub born : Inode → List Event
 born inode = record { who = nobody; deed = deed.Birth; told = told.Image inode.birth } ∷ []
 
--- the journal behind which the rows stand
+-- the journal after the rows
 abbrev pub behind_all : Rows → List Event → List Event
 behind_all [] before = before
 behind_all (r ∷ rest) before = behind_all rest (behind r.0 r.1 before)
 
--- the journal of an inode behind the rows
+-- the journal of an inode after its birth and the rows
 abbrev pub after : Inode → Rows → List Event
 after inode rows = behind_all rows (born inode)
 
--- each deed may be done where it stands
+-- each deed is permitted after those before it
 abbrev pub may_all : Inode → List Event → Rows → Bool
 may_all inode before [] = true
 may_all inode before (r ∷ rest) = may inode before r.0 && may_all inode (behind r.0 r.1 before) rest
 
--- what the journal before each row says
+-- the outcomes that the journal before each row determines
 abbrev pub says_all : Inode → List Event → Rows → List (Option Told)
 says_all inode before [] = []
 says_all inode before (r ∷ rest) =
     says inode before (placed_of r.1) r.0 ∷ says_all inode (behind r.0 r.1 before) rest
 
--- behind the birth, each deed may be done where it stands, and is told what the journal before it
--- says
+-- after the birth, each deed is permitted, and has the outcome that the journal before it
+-- determines
 abbrev pub Tells : Inode → Rows → Type 0
 Tells inode rows = (may_all inode (born inode) rows ≡ true)
     × (says_all inode (born inode) rows ≡ map (λ r. r.1) rows)
 
 -- ---- inodes
 
--- EVM without a key
+-- EVM settings without a key
 abbrev pub no_key : Setup
 no_key = record { key = None; added = []; format = 1 }
 
--- EVM with a key
+-- EVM settings with this key
 abbrev pub with_key : List ℕ → Setup
 with_key key = record { key = Some key; added = []; format = 1 }
 
@@ -125,7 +125,7 @@ with_key key = record { key = Some key; added = []; format = 1 }
 abbrev pub meta : Meta
 meta = record { ino = 12; generation = 1; uid = 0; gid = 0; mode = 33188; place = 1 }
 
--- an inode at /a under sha256 and ima-ng
+-- an inode at /a, with SHA-256 and ima-ng as the defaults
 abbrev pub inode_of : Mode → Setup → Bool → List ℕ → List Pair → Bool → Inode
 inode_of mode evm present content attrs versions = record {
   path = 47 ∷ 97 ∷ [];
@@ -143,21 +143,21 @@ inode_of mode evm present content attrs versions = record {
 abbrev pub abc : List ℕ
 abc = 97 ∷ 98 ∷ 99 ∷ []
 
--- a file with these bytes and no attributes, measured alone
+-- a file with the content `abc` and no attributes, under a script without appraisal
 abbrev pub plain : Inode
 plain = inode_of Off no_key true abc [] true
 
--- the same in mode fix
+-- a file with the content `abc` and no attributes, in fix mode
 abbrev pub fixing : Inode
 fixing = inode_of Fix no_key true abc [] true
 
--- the same under enforced appraisal
+-- a file with the content `abc` and no attributes, in enforce mode
 abbrev pub enforcing : Inode
 enforcing = inode_of Enforce no_key true abc [] true
 
 -- ---- actions and grants
 
--- the action of `measure`
+-- the action of a `measure` rule
 abbrev pub measure : Action
 measure = record {
   measure = true;
@@ -170,7 +170,7 @@ measure = record {
   hash = false;
 }
 
--- the action of `appraise`
+-- the action of an `appraise` rule
 abbrev pub appraise : Action
 appraise = record {
   measure = false;
@@ -183,7 +183,7 @@ appraise = record {
   hash = false;
 }
 
--- a grant of these parts
+-- a grant with these fields
 abbrev pub grant : Option Placed → Option Verdict → Bool → Bool → Grant
 grant placed verdict admitted labelled = record {
   placed = placed;

@@ -1,6 +1,6 @@
--- The marks of an inode: what a writer's close owes, and when new, update and the span begin and
--- end. The file has no label and mode fix gives it one, which sets update where the file that was
--- granted is open for writing.
+-- Examples of the marks of an inode: the label that a writer's close must write, and the begin and
+-- end of new, update and the span. The file has no label and fix mode writes one, which sets update
+-- if the granted file is open for writing.
 use Rattle.std.proofs.Common.{true, false, [], ◌∷◌, Some, None, refl}
 use Rattle.ima_templates.specs.declared.entry.Placed.TheVariants.{Added, Already}
 use Rattle.inode_meta.specs.declared.appraisal.Mode.TheVariants.{Enforce, Off}
@@ -13,7 +13,7 @@ use Rattle.inode_events.specs.declared.deed.How.TheVariants as how
 use Rattle.inode_events.specs.declared.told.Told.TheVariants as told
 use Rattle.inode_events.proofs.Examples.{Tells, abc, appraise, fixing, grant, inode_of, measure, no_key}
 
--- A writer whose grant was labelled, and that writes nothing, owes no label.
+-- A writer whose grant wrote a label, and that writes nothing, needn't write a label at its close.
 nothing_written : Tells fixing (
     (deed.Count (how.Write false false), Some told.Held) ∷
     (deed.Check 1 FileCheck appraise 1, Some told.Quiet) ∷
@@ -24,7 +24,7 @@ nothing_written : Tells fixing (
     [])
 nothing_written = (refl, refl)
 
--- One that writes owes it.
+-- A writer whose grant wrote a label, and that then writes, must write the label at its close.
 something_written : Tells fixing (
     (deed.Count (how.Write false false), Some told.Held) ∷
     (deed.Check 1 FileCheck appraise 1, Some told.Quiet) ∷
@@ -38,7 +38,7 @@ something_written : Tells fixing (
     [])
 something_written = (refl, refl)
 
--- The last writer's close ends update: the next writer isn't appraised, and owes no label for what
+-- The close of the last writer ends update: the next writer isn't appraised, and needn't label what
 -- it writes.
 update_ends : Tells fixing (
     (deed.Count (how.Write false false), Some told.Held) ∷
@@ -54,8 +54,7 @@ update_ends : Tells fixing (
     [])
 update_ends = (refl, refl)
 
--- The span begins anew with the first writer: what an earlier writer wrote is not this one's to
--- label.
+-- The span begins again with the first writer: a writer needn't label what an earlier one wrote.
 span_restarts : Tells fixing (
     (deed.Count (how.Write false false), Some told.Held) ∷
     (deed.Check 1 FileCheck no_action 1, Some told.Quiet) ∷
@@ -70,8 +69,8 @@ span_restarts : Tells fixing (
     [])
 span_restarts = (refl, refl)
 
--- A reader that creates the file passes, since the file is new. It sets no update: the writer that
--- follows owes no label.
+-- A reader that creates the file passes, since the file is new. It doesn't set update, so the next
+-- writer needn't write a label.
 reader_passes : Tells (inode_of Enforce no_key false [] [] true) (
     (deed.Count (how.Read true), Some told.Held) ∷
     (deed.Check 1 FileCheck appraise 1, Some told.Quiet) ∷
@@ -85,8 +84,8 @@ reader_passes : Tells (inode_of Enforce no_key false [] [] true) (
     [])
 reader_passes = (refl, refl)
 
--- A file is new until its first last writer closes it: the next writer, which writes nothing,
--- leaves the digest in force.
+-- A file is new only until its last writer closes it for the first time: the next writer, which
+-- writes nothing, leaves the digest in force.
 new_once : Tells (inode_of Off no_key false [] [] true) (
     (deed.Count (how.Write false true), Some told.Held) ∷
     (deed.Check 1 FileCheck no_action 1, Some told.Quiet) ∷

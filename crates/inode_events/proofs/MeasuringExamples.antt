@@ -1,4 +1,4 @@
--- Measurement, violations, and what voids a digest.
+-- Examples of measurements, of violations, and of events that void a digest.
 use Rattle.std.proofs.Common.{true, false, [], ◌∷◌, Some, None, refl}
 use Rattle.std.specs.Prelude.{replicate}
 use Rattle.hash_algos.specs.Digest.{digest_of}
@@ -12,7 +12,7 @@ use Rattle.inode_events.specs.declared.deed.How.TheVariants as how
 use Rattle.inode_events.specs.declared.told.Told.TheVariants as told
 use Rattle.inode_events.proofs.Examples.{Tells, abc, grant, inode_of, measure, no_key, plain}
 
--- An open for reading is measured: the file is hashed once, and the read gets its bytes.
+-- A file opened for reading is measured: it is hashed once, and the read gets the hashed bytes.
 measured_open : Tells plain (
     (deed.Count (how.Read false), Some told.Held) ∷
     (deed.Check 1 FileCheck measure 1, Some told.Quiet) ∷
@@ -24,8 +24,8 @@ measured_open : Tells plain (
     [])
 measured_open = (refl, refl)
 
--- A writer comes while a measured reader is there: ToMToU, though no rule speaks of the writer. The
--- mark is then gone.
+-- A writer opens the file while there is a measured reader: ToMToU, even if no rule matches the
+-- writer. The mark is cleared then.
 time_of_use : Tells plain (
     (deed.Count (how.Read false), Some told.Held) ∷
     (deed.Check 1 FileCheck measure 1, Some told.Quiet) ∷
@@ -39,8 +39,8 @@ time_of_use : Tells plain (
     [])
 time_of_use = (refl, refl)
 
--- Readers come while a writer is there: open-writers at each measured check. The second reader
--- finds the digest in force.
+-- Readers open the file while there is a writer: open-writers at each check that measures. The
+-- second reader finds the digest in force.
 open_writers : Tells plain (
     (deed.Count (how.Write false false), Some told.Held) ∷
     (deed.Check 1 FileCheck no_action 1, Some told.Quiet) ∷
@@ -55,8 +55,8 @@ open_writers : Tells plain (
     [])
 open_writers = (refl, refl)
 
--- A write falls between two pieces of a collection. The digest that it gives is voided by the last
--- writer's close, and the next open hashes anew.
+-- A write comes between two pieces of a collection. The close of the last writer voids the
+-- resulting digest, and the next open hashes the file again.
 written_while_hashed : Tells (inode_of Off no_key true (replicate 5000 97) [] true) (
     (deed.Count (how.Read false), Some told.Held) ∷
     (deed.Check 1 FileCheck measure 1, Some told.Quiet) ∷
@@ -78,7 +78,8 @@ written_while_hashed : Tells (inode_of Off no_key true (replicate 5000 97) [] tr
     [])
 written_while_hashed = (refl, refl)
 
--- Without change versions a last writer's close counts as a change, though nothing was written.
+-- Without change versions the close of the last writer counts as a change, even if nothing was
+-- written.
 uncounted_changes : Tells (inode_of Off no_key true abc [] false) (
     (deed.Count (how.Read false), Some told.Held) ∷
     (deed.Check 1 FileCheck measure 1, Some told.Quiet) ∷
@@ -95,7 +96,8 @@ uncounted_changes : Tells (inode_of Off no_key true abc [] false) (
     [])
 uncounted_changes = (refl, refl)
 
--- With change versions it doesn't, and the entry is there already.
+-- With change versions a writer that wrote nothing leaves the digest in force, and the list already
+-- has the entry.
 counted_changes : Tells plain (
     (deed.Count (how.Read false), Some told.Held) ∷
     (deed.Check 1 FileCheck measure 1, Some told.Quiet) ∷
@@ -112,15 +114,15 @@ counted_changes : Tells plain (
     [])
 counted_changes = (refl, refl)
 
--- A file that is open for writing isn't executed.
+-- A file that is open for writing can't be executed.
 writer_before_exec : Tells plain (
     (deed.Count (how.Write false false), Some told.Held) ∷
     (deed.Count how.Exec, Some told.TextBusy) ∷
     [])
 writer_before_exec = (refl, refl)
 
--- An executed file isn't opened for writing, until the execution is over. An absent one isn't
--- executed at all.
+-- An executed file can't be opened for writing until the execution is over. An absent file can't be
+-- executed.
 exec_before_writer : Tells plain (
     (deed.Count how.Exec, Some told.Held) ∷
     (deed.Check 1 BprmCheck no_action 1, Some told.Quiet) ∷
@@ -131,7 +133,7 @@ exec_before_writer : Tells plain (
     [])
 exec_before_writer = (refl, refl)
 
--- An open that creates makes the file, an exec doesn't.
+-- An open with `create` creates an absent file, an exec doesn't.
 absent_exec : Tells (inode_of Off no_key false [] [] true) (
     (deed.Count how.Exec, Some told.NotFound) ∷
     (deed.Count (how.Read false), Some told.NotFound) ∷
@@ -139,7 +141,7 @@ absent_exec : Tells (inode_of Off no_key false [] [] true) (
     [])
 absent_exec = (refl, refl)
 
--- A write or truncation that would end above the limit is refused.
+-- A write or truncation that would end beyond the maximum size is refused.
 size_limit_kept : Tells plain (
     (deed.Count (how.Write false false), Some told.Held) ∷
     (deed.Check 1 FileCheck no_action 1, Some told.Quiet) ∷
@@ -149,7 +151,7 @@ size_limit_kept : Tells plain (
     [])
 size_limit_kept = (refl, refl)
 
--- The mark outlives the reader that set it: another reader that is there is enough.
+-- The mark outlives the reader that set it: the presence of another reader is enough.
 mark_outlives : Tells plain (
     (deed.Count (how.Read false), Some told.Held) ∷
     (deed.Check 1 FileCheck measure 1, Some told.Quiet) ∷
@@ -164,7 +166,7 @@ mark_outlives : Tells plain (
     [])
 mark_outlives = (refl, refl)
 
--- A file that is open for both is measured, and sets no mark.
+-- A file that is open for reading and writing is measured, but doesn't set the mark.
 no_mark_by_writers : Tells plain (
     (deed.Count (how.Write true false), Some told.Held) ∷
     (deed.Check 1 FileCheck measure 1, Some told.Quiet) ∷

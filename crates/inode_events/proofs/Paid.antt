@@ -1,4 +1,4 @@
--- In a legal journal of the semaphores each wait is paid by a post.
+-- In a legal journal of the semaphores there is a post for each wait.
 use Rattle.std.proofs.Common.{◌≡◌, ℕ, ◌+◌, ◌<◌, ◌≤◌, ◌==◌, Bool, true, false, cond, List, [], ◌∷◌, None, Some, refl, subst, arith}
 use Rattle.std.specs.Prelude.{nat_lt}
 use borrow.Author.Tests.{eqb-true, ltb-true}

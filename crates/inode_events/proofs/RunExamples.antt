@@ -1,6 +1,6 @@
--- Three whole runs over one file: a task opens it, reads and closes; a writer comes while a reader
--- is there; two readers come while a writer is there. Each journal is legal and is listed in its
--- list, the list is merged from it, and each read is covered.
+-- Three complete runs over one file: a task opens it, reads and closes it; a writer opens it while
+-- there is a reader; two readers open it while there is a writer. Each journal is legal, its
+-- entries are in its list, the list is merged from it, and each read is covered.
 use Rattle.std.proofs.Common.{◌≡◌, ℕ, zero, suc, ◌+◌, ◌<◌, Bool, true, false, List, [], ◌∷◌, ◌++◌, codes, Option, Some, None, refl, ap, sym, subst, arith, inl, inr, lit<}
 use Rattle.std.specs.Prelude.{◌&&◌, nat_le, ◌⊎◌, All, Contains, slice_get, if◌then◌else◌, ◌==◌}
 use Rattle.std.proofs.lemmas.List.Elements.{All-cons, All-contains, All-nil}
@@ -41,11 +41,11 @@ abbrev pub did : ℕ → ℕ → ℕ → Deed → Told → Event
 did task call step d t =
     record { who = record { task = task; call = call; step = step }; deed = d; told = t }
 
--- a grant that names a place of the list
+-- a grant that reports an index of the list
 abbrev pub granted : Placed → Told
 granted placed = told.Grant (grant (Some placed) None true false)
 
--- the boot aggregate of zeros
+-- the boot aggregate of a machine without a TPM
 abbrev pub boot : Entry
 boot = record {
   pcr = 10;
@@ -58,7 +58,7 @@ boot = record {
 
 -- ---- the three runs, oldest event first
 
--- `open 0 /a r`
+-- the events of `open 0 /a r`
 abbrev before_read : List Event
 before_read =
     did 0 0 0 (deed.Count (how.Read false)) told.Held ∷
@@ -68,7 +68,7 @@ before_read =
     did 0 0 4 (deed.Finish 1) (granted (Added 1)) ∷
     []
 
--- and then `read 0 0 3` and `close 0`
+-- the first run: `open 0 /a r`, then `read 0 0 3` and `close 0`
 abbrev pub reading : List Event
 reading =
     before_read ++
@@ -76,7 +76,7 @@ reading =
     did 0 2 0 (deed.Close 1) told.Dropped ∷
     []
 
--- task 0 opens for reading, and then task 1 for writing
+-- the second run: task 0 opens for reading, and then task 1 for writing
 abbrev pub overtaken : List Event
 overtaken =
     before_read ++
@@ -84,7 +84,7 @@ overtaken =
     did 1 0 1 (deed.Check 6 FileCheck no_action 1) (told.ToMToU 2) ∷
     []
 
--- task 0 opens for writing, and then tasks 1 and 2 for reading
+-- the third run: task 0 opens for writing, and then tasks 1 and 2 for reading
 abbrev pub beside_writer : List Event
 beside_writer =
     did 0 0 0 (deed.Count (how.Write false false)) told.Held ∷
@@ -99,7 +99,7 @@ beside_writer =
     did 2 0 2 (deed.Take 8) (granted (Already 2)) ∷
     []
 
--- their journals, and their lists
+-- the journal of a run
 abbrev pub journal_of : List Event → List Event
 journal_of events = onto (born plain) events
 
@@ -107,11 +107,11 @@ journal_of events = onto (born plain) events
 abbrev pub reading_list : List Entry
 reading_list = boot ∷ file_entry ∷ []
 
--- that of the second
+-- the list of the second run
 abbrev pub overtaken_list : List Entry
 overtaken_list = boot ∷ file_entry ∷ violation_entry ∷ []
 
--- that of the third
+-- the list of the third run
 abbrev pub beside_list : List Entry
 beside_list = boot ∷ violation_entry ∷ file_entry ∷ violation_entry ∷ []
 
@@ -121,15 +121,15 @@ beside_list = boot ∷ violation_entry ∷ file_entry ∷ violation_entry ∷ []
 reading_legal : Legal plain (journal_of reading)
 reading_legal = legal_by plain reading refl refl
 
--- so is the second
+-- the second journal is legal
 overtaken_legal : Legal plain (journal_of overtaken)
 overtaken_legal = legal_by plain overtaken refl refl
 
--- and the third
+-- the third journal is legal
 beside_legal : Legal plain (journal_of beside_writer)
 beside_legal = legal_by plain beside_writer refl refl
 
--- a writer's check that keeps the violation quiet is not legal
+-- a journal in which a writer's check is quiet although there is a violation
 abbrev unheard : List Event
 unheard =
     did 1 0 1 (deed.Check 6 FileCheck no_action 1) told.Quiet ∷
@@ -141,13 +141,13 @@ unheard =
     did 0 0 0 (deed.Count (how.Read false)) told.Held ∷
     born plain
 
--- what it is told is not what the journal says
+-- the journal isn't legal, since the check's outcome isn't the one that the journal determines
 unheard_illegal : Legal plain unheard → ⊥
 unheard_illegal legal = cc legal.1.0.2
 
--- ---- the stage by a task's own events
+-- ---- the stage of a file by the events of its own task
 
--- the writer's stage, read off task 1's events alone
+-- the stage of the writer's file follows from the events of task 1 alone
 own_stage : stage_in plain 6 ((
   7,
   did 1 0 1 (deed.Check 6 FileCheck no_action 1) (told.ToMToU 2),
@@ -158,28 +158,28 @@ own_stage : stage_in plain 6 ((
     ≡ stage plain 6 (journal_of overtaken)
 own_stage = refl
 
--- ---- listed
+-- ---- the entries are in the list
 
--- the first journal is listed in its list
+-- the list of the first run has the entries of its journal
 reading_listed : IsListed plain reading_list (journal_of reading)
 reading_listed = listed_by plain reading_list (journal_of reading) refl refl
 
--- so is the second
+-- the list of the second run has the entries of its journal
 overtaken_listed : IsListed plain overtaken_list (journal_of overtaken)
 overtaken_listed = listed_by plain overtaken_list (journal_of overtaken) refl refl
 
--- a list without the violation is not that journal's
+-- a list without the violation doesn't have the entries of the second journal
 unlisted : IsListed plain reading_list (journal_of overtaken) → ⊥
 unlisted listed = none-some violation_entry listed.0
 
--- ---- which entries are the same
+-- ---- the entries that are the same
 
--- all bytes are printable and no space, decided
+-- all bytes are printing ASCII bytes other than the space
 abbrev are_graphic : List ℕ → Bool
 are_graphic [] = true
 are_graphic (b ∷ rest) = (nat_le 0x21 b && nat_le b 0x7e) && are_graphic rest
 
--- bytes that are decided to be so are so
+-- bytes that pass `are_graphic` are graphic
 graphic : (bytes : List ℕ) → are_graphic bytes ≡ true → All IsGraphic bytes
 graphic [] g = All-nil IsGraphic
 graphic (b ∷ rest) g =
@@ -190,7 +190,7 @@ graphic (b ∷ rest) g =
       leb-true b 0x7e ends.1,
     ) (graphic rest parts.1)
 
--- the boot aggregate is an entry that can stand in a list
+-- the boot aggregate is a valid entry
 boot_valid : IsEntry boot
 boot_valid = record {
   pcr = lit< tt;
@@ -206,7 +206,7 @@ boot_valid = record {
   violation = λ e. cc;
 }
 
--- so is the entry of the file
+-- the entry of the file is a valid entry
 file_valid : IsEntry file_entry
 file_valid = record {
   pcr = lit< tt;
@@ -222,13 +222,13 @@ file_valid = record {
   violation = λ e. cc;
 }
 
--- the file's entry is the same as itself, and the boot aggregate has another name
+-- the file's entry is the same as itself
 file_same : same file_entry file_entry ≡ true
 unfolding same
 file_same = sym (same_data-fields file_entry file_entry true file_valid file_valid refl
     ((λ y. (refl, refl, refl)), (λ f. refl)))
 
--- the boot aggregate has another name than the file
+-- the boot aggregate isn't the same as the file's entry, since the names differ
 boot_apart : same boot file_entry ≡ false
 unfolding same
 boot_apart = sym (same_data-fields boot file_entry false boot_valid file_valid refl (
@@ -238,23 +238,23 @@ boot_apart = sym (same_data-fields boot file_entry false boot_valid file_valid r
   other_name : boot.name ≡ file_entry.name → false ≡ true
   other_name e = cc
 
--- a violation is the same as no entry
+-- a violation isn't the same as the file's entry
 violation_apart : same violation_entry file_entry ≡ false
 unfolding same
 violation_apart = refl
 
--- so the first entry that is the same as the file's is the third
+-- the first entry that is the same as the file's is the third one
 found_third : place_of_same beside_list file_entry ≡ Some 2
 found_third = rw (boot_apart, violation_apart, file_same) refl
 
--- so the third journal is listed in its list
+-- the list of the third run has the entries of its journal
 beside_listed : IsListed plain beside_list (journal_of beside_writer)
 beside_listed = listed_by plain beside_list (journal_of beside_writer) refl
     (ap (λ (o : Option ℕ). o ∷ []) found_third)
 
 -- ---- merged
 
--- one event adds the entry behind the boot aggregate
+-- one event adds the entry after the boot aggregate
 reading_once : (place : ℕ) → place < 2
     → 0 + times_added place (places_added plain (journal_of reading))
     ≡ (if place == 0 then 0 else 1)
@@ -272,22 +272,22 @@ reading_merged =
     (journal_of reading) refl reading_listed reading_once refl refl
     (ap (λ (b : Bool). b ∷ []) boot_apart, (refl, tt))
 
--- the boot aggregate is not the same as a violation, and no entry is
+-- the boot aggregate isn't the same as a violation
 boot_violation : same boot violation_entry ≡ false
 unfolding same
 boot_violation = refl
 
--- the file's entry is the same as no violation
+-- the file's entry isn't the same as a violation
 file_violation : same file_entry violation_entry ≡ false
 unfolding same
 file_violation = refl
 
--- nor is a violation the same as another
+-- a violation isn't the same as another violation
 violation_violation : same violation_entry violation_entry ≡ false
 unfolding same
 violation_violation = refl
 
--- one event adds each of the two entries
+-- in the second run, one event adds each of the two entries after the boot aggregate
 overtaken_once : (place : ℕ) → place < 3
     → 0 + times_added place (places_added plain (journal_of overtaken))
     ≡ (if place == 0 then 0 else 1)
@@ -306,7 +306,7 @@ overtaken_merged =
     (journal_of overtaken) refl overtaken_listed overtaken_once refl refl
     ((λ k. boot_apart k ∷ boot_violation k ∷ []), ((λ k. file_violation k ∷ []), (refl, tt)))
 
--- one event adds each of the three entries
+-- in the third run, one event adds each of the three entries after the boot aggregate
 beside_once : (place : ℕ) → place < 4
     → 0 + times_added place (places_added plain (journal_of beside_writer))
     ≡ (if place == 0 then 0 else 1)
@@ -331,8 +331,8 @@ beside_merged =
       ),
     )
 
--- A journal that is told to have added the first entry is legal and listed, and no list is merged
--- from it.
+-- A journal whose event reports that it added the first entry is legal and its entry is in the
+-- list, but the list isn't merged from it.
 abbrev adds_first : List Event
 adds_first =
     did 0 0 0 (deed.Count (how.Read false)) told.Held ∷
@@ -342,7 +342,7 @@ adds_first =
     did 0 0 4 (deed.Finish 1) (granted (Added 0)) ∷
     []
 
--- it is legal, and listed in the list of that entry alone
+-- the journal is legal, and its entry is in the list of that entry only
 adds_first_fits : Legal plain (journal_of adds_first)
     × IsListed plain (file_entry ∷ []) (journal_of adds_first)
 adds_first_fits = (
@@ -350,7 +350,7 @@ adds_first_fits = (
   listed_by plain (file_entry ∷ []) (journal_of adds_first) refl refl,
 )
 
--- but the first entry is the boot aggregate's, which no event adds
+-- the list isn't merged, since the first entry is the boot aggregate, which no event adds
 adds_first_unmerged : IsMerged file_entry (file_entry ∷ []) (record {
   inode = plain;
   events = journal_of adds_first;
@@ -359,7 +359,8 @@ adds_first_unmerged merged = added_once 1 refl (merged.once 0 (lit< tt)) where
   added_once : (times : ℕ) → times ≡ 1 → times ≡ 0 → ⊥
   added_once times is never = absurd (omega arith)
 
--- One in which a later event adds below an earlier one is legal and listed, and not merged.
+-- A journal in which a later event adds an entry below an earlier one is legal and its entries are
+-- in the list, but the list isn't merged from it.
 abbrev falls : List Event
 falls =
     did 0 0 0 (deed.Count (how.Write false false)) told.Held ∷
@@ -370,20 +371,21 @@ falls =
     did 2 0 1 (deed.Check 5 FileCheck measure 1) (told.OpenWriters 1) ∷
     []
 
--- the list in which it is listed
+-- the list that has the entries of `falls`
 abbrev falls_list : List Entry
 falls_list = boot ∷ violation_entry ∷ violation_entry ∷ []
 
--- it is legal, and listed there
+-- the journal `falls` is legal, and its entries are in the list
 falls_fits : Legal plain (journal_of falls) × IsListed plain falls_list (journal_of falls)
 falls_fits =
     (legal_by plain falls refl refl, listed_by plain falls_list (journal_of falls) refl refl)
 
--- its inode with it
+-- the journal `falls` and its inode
 abbrev falls_journal : Journal
 falls_journal = record { inode = plain; events = journal_of falls }
 
--- but what the last event adds lies below what an earlier one named
+-- the list isn't merged, since the last event adds an entry below an index that an earlier one
+-- reported
 falls_unmerged : IsMerged boot falls_list (falls_journal ∷ []) → ⊥
 falls_unmerged merged =
     at (All-contains (λ j. PlacesRise j.inode j.events)
@@ -405,11 +407,12 @@ falls_unmerged merged =
           ) in
           absurd (omega arith)
 
--- Nor are two in which a task's later call adds below its earlier one.
+-- A list isn't merged from two journals in which a task's later call adds an entry below its
+-- earlier call's.
 abbrev other : Inode
 other = record plain { path = codes "/b" }
 
--- task 0 opens beside a writer, in a call, and is told a place
+-- task 0 opens the file while there is a writer, in this call, and the outcome reports this index
 abbrev beside : ℕ → ℕ → List Event
 beside call place =
     did 1 call 0 (deed.Count (how.Write false false)) told.Held ∷
@@ -418,19 +421,19 @@ beside call place =
     did 0 call 1 (deed.Check 3 FileCheck measure 1) (told.OpenWriters place) ∷
     []
 
--- the list in which both are listed
+-- the list that has the entries of both journals
 abbrev cross_list : List Entry
 cross_list = boot ∷ violated other ∷ violation_entry ∷ []
 
--- the journal of its earlier call
+-- the journal of the task's earlier call
 abbrev first_call : Journal
 first_call = record { inode = plain; events = onto (born plain) (beside 0 2) }
 
--- the journal of its later call, on another inode
+-- the journal of the task's later call, on another inode
 abbrev second_call : Journal
 second_call = record { inode = other; events = onto (born other) (beside 1 1) }
 
--- both are legal, and listed there
+-- both journals are legal, and their entries are in the list
 crosses_fit : (Legal plain first_call.events × IsListed plain cross_list first_call.events)
     × (Legal other second_call.events × IsListed other cross_list second_call.events)
 crosses_fit = (
@@ -438,7 +441,8 @@ crosses_fit = (
   (legal_by other (beside 1 1) refl refl, listed_by other cross_list second_call.events refl refl),
 )
 
--- but the later call adds below what the earlier one named
+-- the list isn't merged, since the later call adds an entry below the index that the earlier one
+-- reported
 crosses_unmerged : IsMerged boot cross_list (first_call ∷ second_call ∷ []) → ⊥
 crosses_unmerged merged =
     let fell : 2 < 1 = merged.along_tasks first_call second_call
@@ -450,9 +454,9 @@ crosses_unmerged merged =
     ) refl in
     absurd (omega arith)
 
--- ---- covered
+-- ---- the reads are covered
 
--- the read is covered by the entry that the grant names
+-- the read of the first run is covered by the entry that the grant reports
 read_covered : IsCovered plain reading_list 1 (journal_of before_read)
 read_covered = covered_by plain reading_list 1 (journal_of before_read) (
   (
@@ -462,7 +466,7 @@ read_covered = covered_by plain reading_list 1 (journal_of before_read) (
   tt,
 )
 
--- the two readers beside the writer, each by the one entry
+-- each of the two readers of the third run is covered by the same entry
 beside_covered : IsCovered plain beside_list 3 (journal_of beside_writer)
     × IsCovered plain beside_list 8 (journal_of beside_writer)
 beside_covered = (
@@ -482,11 +486,11 @@ beside_covered = (
   ),
 )
 
--- once the writer that overtook the reader has written, a read is covered by the violation
+-- the second run, after its writer has written: a read is then covered by the violation
 abbrev written_over : List Event
 written_over = did 1 1 0 (deed.Write 6 0 (88 ∷ [])) told.Done ∷ journal_of overtaken
 
--- the check is answered by the violation
+-- the check is answered by the violation, so the read is covered
 overtaken_covered : IsCovered plain overtaken_list 1 written_over
 overtaken_covered =
     covered_by plain overtaken_list 1 written_over (
@@ -500,12 +504,12 @@ overtaken_covered =
       tt,
     )
 
--- by a list that lacks the entry no read is covered
+-- the events of the first run after its check; a list without the entry doesn't cover its read
 abbrev lacking_later : List Event
 lacking_later = did 0 0 4 (deed.Finish 1) (granted (Added 1)) ∷ did 0 0 3 (deed.Chunk 1) told.Last
     ∷ did 0 0 2 (deed.Take 1) told.Begun ∷ []
 
--- no grant names a place of that list, and no violation was told
+-- the check isn't answered: no grant reports an index of that list, and there was no violation
 lacking : IsAnswered plain (boot ∷ []) 1 abc lacking_later
     (did 0 0 1 (deed.Check 1 FileCheck measure 1) told.Quiet) → ⊥
 lacking answer = at answer.0 (one_has 1 answer.0 answer.1.0) answer.1.1 where
@@ -516,7 +520,7 @@ lacking answer = at answer.0 (one_has 1 answer.0 answer.1.0) answer.1.1 where
       (sym e) shown.1.0)
   at place e (inr violation) = has_none violation.0 violation.1.0
 
--- so the check has no answer
+-- the read isn't covered, since the check isn't answered
 uncovered : IsCovered plain (boot ∷ []) 1 (journal_of before_read) → ⊥
 uncovered covered =
     lacking (covered lacking_later (did 0 0 1 (deed.Check 1 FileCheck measure 1) told.Quiet)

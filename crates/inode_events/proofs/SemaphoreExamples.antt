@@ -1,4 +1,4 @@
--- The journal of the semaphores.
+-- Examples of journals of the semaphores.
 use Rattle.std.proofs.Common.{◌≡◌, List, [], ◌∷◌, Some, None, refl}
 use Rattle.inode_events.specs.Inode.{nobody}
 use Rattle.inode_events.specs.Semaphores.{LegalSemaphores, left, semaphore_says}
@@ -7,7 +7,7 @@ use Rattle.inode_events.specs.declared.deed.Deed.TheVariants as deed
 use Rattle.inode_events.specs.declared.told.Event.{Event}
 use Rattle.inode_events.specs.declared.told.Told.TheVariants as told
 
--- an event that was told done
+-- an event with the outcome done
 abbrev done : Deed → Event
 done d = record { who = nobody; deed = d; told = told.Done }
 
@@ -15,7 +15,7 @@ done d = record { who = nobody; deed = d; told = told.Done }
 abbrev signals : List Event
 signals = done (deed.Wait 1) ∷ done (deed.Post 1) ∷ done (deed.Post 0) ∷ done (deed.Post 1) ∷ []
 
--- they are legal
+-- the journal `signals` is legal
 signals_are_legal : LegalSemaphores signals
 signals_are_legal = (refl, (refl, (refl, (refl, tt))))
 
@@ -23,8 +23,8 @@ signals_are_legal = (refl, (refl, (refl, (refl, tt))))
 counts_left : (left 1 signals ≡ 1) × (left 0 signals ≡ 1) × (left 2 signals ≡ 0)
 counts_left = (refl, refl, refl)
 
--- a wait is blocked where nothing is left, and done where something is. A post never waits, and no
--- other deed stands here
+-- a wait is blocked at a count of 0, and done otherwise. A post is never blocked, and no other deed
+-- is in this journal.
 waits_block : (semaphore_says signals (deed.Wait 1) ≡ Some told.Done)
     × (semaphore_says (done (deed.Wait 1) ∷ signals) (deed.Wait 1) ≡ None)
     × (semaphore_says signals (deed.Wait 2) ≡ None)
@@ -32,6 +32,6 @@ waits_block : (semaphore_says signals (deed.Wait 1) ≡ Some told.Done)
     × (semaphore_says signals deed.Birth ≡ None)
 waits_block = (refl, refl, refl, refl, refl)
 
--- a wait that nothing was left for makes a journal illegal
+-- a journal with a wait at a count of 0 isn't legal
 early_wait : LegalSemaphores (done (deed.Wait 0) ∷ []) → ⊥
 early_wait legal = cc legal.0

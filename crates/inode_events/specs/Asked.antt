@@ -1,5 +1,5 @@
--- A step on an inode: the entry that it asks the measurement list for, what it is told by the
--- list's answer, and what it leaves of journal and list.
+-- A step on an inode: the entry that it asks the measurement list to add, its outcome given the
+-- list's reply, and its effect on the journal and the list.
 use Rattle.std.specs.Prelude.{ℕ, Bool, true, List, [], ◌∷◌, Option, Some, None, is_some, if◌then◌else◌}
 use Rattle.ima_templates.specs.Same.{add, placed}
 use Rattle.ima_templates.specs.declared.entry.Entry.{Entry}
@@ -21,7 +21,7 @@ use Rattle.inode_events.specs.declared.told.Told.TheVariants as told
 
 -- ---- the entry
 
--- a check that isn't quiet is a violation
+-- a check whose outcome isn't quiet gives a violation
 abbrev pub violation_in : Inode → Told → Option Entry
 violation_in inode (told.OpenWriters place) = Some (violated inode)
 violation_in inode (told.ToMToU place) = Some (violated inode)
@@ -31,8 +31,8 @@ abbrev pub measured_if : Bool → Inode → ℕ → Option Digests → List Even
 measured_if true inode file (Some digests) before = Some (measured inode file digests before)
 measured_if _ inode file _ before = None
 
--- the entry that the deed adds unless the list has it: the violation that a check finds, and the
--- measurement of a grant whose check measures
+-- the entry that the deed adds unless the list already has it: the violation that a check finds, or
+-- the measurement for a grant whose check measures
 abbrev pub asked : Inode → Deed → List Event → Option Entry
 asked inode (deed.Check file func action rules) before =
     violation_in inode (check_told (is_writing file before) action.measure (readers before)
@@ -48,28 +48,28 @@ asked inode _ before = None
 
 -- ---- the outcome
 
--- what the list answers to that entry; any answer where there is none
+-- the list's reply for that entry; arbitrary if there is none
 abbrev pub placed_for : List Entry → Option Entry → Placed
 placed_for list None = Added 0
 placed_for list (Some e) = placed list e
 
--- the one outcome of the next step, by the list and the journal before it. `None` is blocked
+-- the only outcome of the next step, by the list and the journal before it; `None` if it is blocked
 abbrev pub outcome : Inode → List Entry → Deed → List Event → Option Told
 outcome inode list d before = says inode before (placed_for list (asked inode d before)) d
 
--- ---- what the outcome leaves
+-- ---- the effects of the outcome
 
--- the events that the step puts behind the journal: one, or none where it is blocked
+-- the events that the step appends to the journal: one, or none if it is blocked
 abbrev pub made : Who → Deed → Option Told → List Event
 made who d None = []
 made who d (Some t) = record { who = who; deed = d; told = t } ∷ []
 
--- the same with its place
+-- the events that the step appends, each with its index
 abbrev pub entered : ℕ → Who → Deed → Option Told → List (ℕ × Event)
 entered place who d None = []
 entered place who d (Some t) = (place, record { who = who; deed = d; told = t }) ∷ []
 
--- the list after it
+-- the list after the step
 abbrev pub list_after : List Entry → Option Entry → Option Told → List Entry
 list_after list e None = list
 list_after list None (Some t) = list

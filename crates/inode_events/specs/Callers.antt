@@ -1,5 +1,5 @@
--- The callers of a journal, by number. The journal's own caller, number 0, adds the birth, and the
--- task n is caller n + 1.
+-- The callers of a journal, by number. The journal's own caller, number 0, adds the birth, and task
+-- n is caller n + 1.
 use Rattle.std.specs.Prelude.{ℕ, ◌+◌}
 use Rattle.inode_events.specs.declared.deed.Deed.{Deed}
 use Rattle.inode_events.specs.declared.deed.Deed.TheVariants as deed
@@ -9,6 +9,6 @@ abbrev pub caller_in : ℕ → Deed → ℕ
 caller_in task deed.Birth = 0
 caller_in task _ = task + 1
 
--- who added the event
+-- the number of the caller that added the event
 abbrev pub caller_of : Event → ℕ
 caller_of e = caller_in e.who.task e.deed

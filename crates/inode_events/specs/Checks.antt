@@ -1,4 +1,4 @@
--- The checks of a file: the hook that asked, and the action that the rules gave it.
+-- The checks of a file: the hook of each, and the action that the rules gave it.
 use Rattle.std.specs.Prelude.{ℕ, ◌==◌, Bool, true, false, ◌&&◌, ◌||◌, not, List, [], ◌∷◌, if◌then◌else◌}
 use Rattle.inode_meta.specs.declared.appraisal.Mode.{Mode}
 use Rattle.inode_meta.specs.declared.appraisal.Mode.TheVariants as mode
@@ -21,7 +21,7 @@ check_after file (deed.Check other func action rules) old =
     if other == file then record { func = func; action = action } else old
 check_after file _ old = old
 
--- the last check of the file
+-- the file's last check, or one without an action if there is none
 abbrev pub last_check : ℕ → List Event → Check
 last_check file [] = record { func = func.FileCheck; action = no_action }
 last_check file (e ∷ before) = check_after file e.deed (last_check file before)
@@ -34,10 +34,10 @@ abbrev pub is_fix : Mode → Bool
 is_fix mode.Fix = true
 is_fix _ = false
 
--- the file is appraised
+-- the action appraises the file, and appraisal isn't off
 abbrev pub appraises : Inode → Action → Bool
 appraises inode action = action.appraise && not (is_off inode.settings.mode)
 
--- the check asks for a take: the file is measured or appraised
+-- the check requires a take: the file is measured or appraised
 abbrev pub asks : Inode → Action → Bool
 asks inode action = action.measure || appraises inode action

@@ -1,4 +1,4 @@
--- What contracts see of an inode at the end of a run.
+-- An inode at the end of a run, as contracts see it.
 use Rattle.std.specs.Prelude.{ℕ, List, Option, option_map}
 use Rattle.hash_algos.specs.declared.digest.Digest.{Digest}
 use Rattle.ima_templates.specs.xattrs.Attrs.{Pair}
@@ -8,8 +8,8 @@ use Rattle.inode_events.specs.Integrity.{attributes, in_force}
 use Rattle.inode_events.specs.Past.{past}
 use Rattle.inode_events.specs.declared.told.Event.{Event}
 
--- its path and journal, and what the journal gives: the digest in force by the algorithm that was
--- chosen, the attributes, and the files that are still held
+-- its path and journal, and the state that follows from the journal: the digest in force by the
+-- algorithm that was chosen for it, the attributes, and the numbers of open files
 pub record EndedInodeValue : Type 0 where
   pub path : List ℕ
   pub journal : List Event
@@ -19,7 +19,7 @@ pub record EndedInodeValue : Type 0 where
   pub readers : ℕ
   pub execs : ℕ
 
--- the end of an inode with this journal
+-- the final state of an inode with this journal
 abbrev pub ended_inode : Inode → List Event → EndedInodeValue
 ended_inode inode journal = record {
   path = inode.path;

@@ -1,4 +1,4 @@
--- The answer of a take or finish to which a digest is in force.
+-- The outcome of a take or finish after which a digest is in force.
 use Rattle.std.specs.Prelude.{ℕ, Bool, true, false, ◌&&◌, List, Option, Some, None, unwrap_or, if◌then◌else◌}
 use Rattle.hash_algos.specs.declared.digest.Digest.{Digest}
 use Rattle.ima_templates.specs.declared.entry.Placed.{Placed}
@@ -20,12 +20,12 @@ use Rattle.inode_events.specs.declared.told.Event.{Event}
 use Rattle.inode_events.specs.declared.told.Grant.{Grant}
 use Rattle.std.specs.Prelude.{length}
 
--- the place of the entry, where the action measures
+-- the outcome of adding the entry, if the action measures
 abbrev pub placed_if_measured : Action → Placed → Option Placed
 placed_if_measured action placed = if action.measure then Some placed else None
 
--- the verdict, where the file is appraised: the one in force, else one over the digest and
--- everything else as it is
+-- the verdict, if the file is appraised: the one in force, or else one computed from the digest and
+-- the present state
 abbrev pub verdict_for : Inode → Check → Digest → List Event → Option Verdict
 verdict_for inode check digest before =
     if appraises inode check.action then
@@ -33,7 +33,7 @@ verdict_for inode check digest before =
     (judged inode check.action.need check.action.algos digest before))
     else None
 
--- mode enforce admits exactly on Pass, the others always
+-- enforce mode admits a file exactly on Pass, the other modes always
 abbrev pub admits : Mode → Option Verdict → Bool
 admits mode.Enforce (Some verdict) = is_pass verdict
 admits _ _ = true
@@ -42,7 +42,7 @@ abbrev pub is_mend : Mend → Bool
 is_mend mend.Nothing = false
 is_mend _ = true
 
--- what mode fix writes on the verdict
+-- the attributes that fix mode writes on the verdict
 abbrev pub mend_of : Inode → Action → Digest → Verdict → List Event → Mend
 mend_of inode action digest verdict before =
     mend_for verdict
@@ -50,7 +50,7 @@ mend_of inode action digest verdict before =
     (length (content before)) (new before))
     (status inode before) (read_label (label inode before) inode.settings.hash)
 
--- mode fix writes something on the verdict: the label, or the HMAC alone
+-- fix mode writes something on the verdict: the label and the HMAC, or the HMAC only
 abbrev pub mends : Inode → Action → Digest → Option Verdict → List Event → Bool
 mends inode action digest None before = false
 mends inode action digest (Some verdict) before =
@@ -64,7 +64,7 @@ granted inode check placed digest verdict before = record {
   labelled = mends inode check.action digest verdict before;
 }
 
--- the grant of the file, made from a digest
+-- the grant of the file, based on a digest
 abbrev pub grant_of : Inode → ℕ → Placed → Digest → List Event → Grant
 grant_of inode file placed digest before =
     granted inode (last_check file before) placed digest

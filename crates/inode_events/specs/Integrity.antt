@@ -1,6 +1,6 @@
--- What IMA and EVM keep of an inode: its extended attributes, the collection that is open, and the
--- digest in force. The three rest on one another: a label names the algorithm of the next
--- collection, and mode fix writes the digest in force as the label.
+-- The integrity state of an inode: its extended attributes, the open collection, and the digest in
+-- force. The three depend on each other: a label names the algorithm of the next collection, and
+-- fix mode writes the digest in force as the label.
 use Rattle.std.specs.Prelude.{ℕ, ◌+◌, Bool, true, false, ◌&&◌, ◌||◌, not, List, [], ◌∷◌, ◌++◌, length, Option, Some, None, option_map, if◌then◌else◌}
 use Rattle.hash_algos.specs.Digest.{digest_of}
 use Rattle.hash_algos.specs.declared.algo.Algo.{Algo}
@@ -23,10 +23,11 @@ use Rattle.inode_events.specs.declared.told.Event.{Event}
 use Rattle.inode_events.specs.declared.told.Told.{Told}
 use Rattle.inode_events.specs.declared.told.Told.TheVariants as told
 
--- ---- what is kept
+-- ---- the state
 
--- a collection under way: for which file, whether for its close, by which algorithm, from which
--- place on, how many pieces and which bytes it took, and whether the last piece was taken
+-- a collection in progress: its file, whether it is for the file's close, its algorithm, the index
+-- of the event that began it, how many pieces and which bytes it took, and whether the last piece
+-- was taken
 pub record Collection : Type 0 where
   pub file : ℕ
   pub closing : Bool
@@ -36,7 +37,7 @@ pub record Collection : Type 0 where
   pub bytes : List ℕ
   pub complete : Bool
 
--- the digests of one content: by the algorithm that was chosen and by SHA-1, with the place of the
+-- the digests of one content, by the algorithm that was chosen and by SHA-1, with the index of the
 -- take that began their collection
 pub record Digests : Type 0 where
   pub digest : Digest
@@ -54,24 +55,25 @@ pub record Integrity : Type 0 where
 abbrev pub label_in : List Pair → Option (List ℕ)
 label_in attrs = value ima_name attrs
 
--- set, or without a value removed
+-- the attributes after one is set, or removed if there is no value
 abbrev pub attr_changed : List ℕ → Option (List ℕ) → List Pair → List Pair
 attr_changed name None attrs = without name attrs
 attr_changed name (Some bytes) attrs = put name bytes attrs
 
--- a call's change of an attribute renews the HMAC where the name is protected
+-- a call that changes a protected attribute renews the HMAC
 abbrev pub attr_set : Inode → List ℕ → Option (List ℕ) → Meta → List Pair → List Pair
 attr_set inode name bytes meta attrs =
     if protects inode.settings.evm name
     then renewed inode.settings.evm (attr_changed name bytes attrs) meta
     else attr_changed name bytes attrs
 
--- the kernel's own writing of a label renews the HMAC
+-- the kernel renews the HMAC when it writes a label itself
 abbrev pub labelled_with : Inode → Digest → Meta → List Pair → List Pair
 labelled_with inode digest meta attrs =
     renewed inode.settings.evm (put ima_name (label_of digest) attrs) meta
 
--- mode fix writes the label. Where the HMAC is of the older form it renews that alone
+-- fix mode writes the label and renews the HMAC; if the HMAC has the older form, it only renews the
+-- HMAC
 abbrev pub fixed_with : Inode → Digest → Meta → List Pair → List Pair
 fixed_with inode digest meta attrs =
     if is_old (evm_status inode.settings.evm attrs meta) then renewed inode.settings.evm attrs meta
@@ -87,7 +89,7 @@ labelled_by inode None meta attrs = attrs
 
 -- ---- collections
 
--- a collection begins
+-- a collection that has just begun
 abbrev pub collection_of : ℕ → Bool → Algo → ℕ → Collection
 collection_of file closing algo begin =
     record {
@@ -100,7 +102,7 @@ collection_of file closing algo begin =
       complete = false;
     }
 
--- it takes its next piece of the content as it is
+-- the collection after it took its next piece of the present content
 abbrev pub collected_more : List ℕ → Bool → Option Collection → Option Collection
 collected_more content complete None = None
 collected_more content complete (Some c) =
@@ -110,7 +112,7 @@ collected_more content complete (Some c) =
       complete = complete;
     })
 
--- what a collection gives: the digest by its own algorithm, and both
+-- the digest that a collection gives, by its own algorithm
 abbrev pub digest_from : Collection → Digest
 digest_from c = digest_of c.algo c.bytes
 
@@ -136,21 +138,21 @@ collecting_after inode (deed.CloseFinish file) told.Dropped before old = None
 collecting_after inode (deed.CloseFinish file) told.LabelledDropped before old = None
 collecting_after inode _ _ before old = old.collecting
 
--- ---- what voids
+-- ---- the events that void the digest
 
--- the content may be another one than when the digest was taken
+-- the content may have changed since the digest was taken
 abbrev pub is_stale : Option Digests → List Event → Bool
 is_stale None before = false
 is_stale (Some digests) before = modified_since digests.begin before
 
--- at a last writer's close the kernel looks at the inode's version. A new file, and one of a file
--- system that counts no changes, are taken as changed
+-- at the close of the last writer the kernel checks the inode's version. A new file, and a file on
+-- a file system that doesn't count changes, is treated as changed.
 abbrev pub drop_voids : Deed → Told → List Event → Option Digests → Bool
 drop_voids d t before digests =
     is_last_drop d t before && (new before || not (versions before) || is_stale digests before)
 
 -- the event voids the digest in force, and with it all verdicts: an attribute was set or removed, a
--- label was written, or a last writer left a content that is taken as changed
+-- label was written, or the last writer left a content that is treated as changed
 abbrev pub voids_digest : Deed → Told → List Event → Option Digests → Bool
 voids_digest (deed.SetAttr name bytes admin) told.Done before digests = true
 voids_digest (deed.Take file) (told.Grant grant) before digests = grant.labelled
@@ -158,7 +160,7 @@ voids_digest (deed.Finish file) (told.Grant grant) before digests = grant.labell
 voids_digest (deed.CloseFinish file) told.LabelledDropped before digests = true
 voids_digest d t before digests = drop_voids d t before digests
 
--- ---- the three together
+-- ---- the three parts together
 
 abbrev pub attributes_after : Inode → Deed → Told → List Event → Integrity → List Pair
 attributes_after inode deed.Birth (told.Image image) before old = image.attrs
@@ -176,7 +178,7 @@ attributes_after inode (deed.CloseFinish file) told.LabelledDropped before old =
     labelled_by inode (option_map digest_from old.collecting) (metadata before) old.attributes
 attributes_after inode _ _ before old = old.attributes
 
--- the digests that the event gives: a finished take's come in force
+-- the digests that come into force with the event: those of a finished take
 abbrev pub digests_given : Deed → Told → Integrity → Option Digests
 digests_given (deed.Finish file) (told.Grant grant) old = option_map digests_of old.collecting
 digests_given _ _ old = old.digests
@@ -196,26 +198,26 @@ abbrev pub integrity : Inode → List Event → Integrity
 integrity inode [] = record { attributes = []; collecting = None; digests = None }
 integrity inode (e ∷ before) = integrity_after inode e.deed e.told before (integrity inode before)
 
--- the extended attributes
+-- the extended attributes after the journal
 abbrev pub attributes : Inode → List Event → List Pair
 attributes inode before = (integrity inode before).attributes
 
--- the collection that is open: a take or close-take that told begun, and isn't finished. While one
--- is open the kernel's integrity mutex is held
+-- the open collection: that of a take or close-take with the outcome begun that isn't finished yet.
+-- While one is open the kernel's integrity mutex is held.
 abbrev pub collecting : Inode → List Event → Option Collection
 collecting inode before = (integrity inode before).collecting
 
--- the digests in force: those of the last finished take, unless they were voided since
+-- the digests in force: those of the last finished take, unless they have been voided since
 abbrev pub in_force : Inode → List Event → Option Digests
 in_force inode before = (integrity inode before).digests
 
--- the label of the inode, and what EVM says of it
+-- the label of the inode, and its EVM status
 abbrev pub label : Inode → List Event → Option (List ℕ)
 label inode before = label_in (attributes inode before)
 
 abbrev pub status : Inode → List Event → EvmStatus
 status inode before = evm_status inode.settings.evm (attributes inode before) (metadata before)
 
--- the algorithm by which a collection would hash the file now
+-- the algorithm by which a collection that begins now would hash the file
 abbrev pub chosen_algo : Inode → List Event → Algo
 chosen_algo inode before = collect_algo (label inode before) inode.settings.hash

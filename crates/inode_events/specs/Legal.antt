@@ -1,5 +1,5 @@
--- Which journals are legal: the first event is the birth, each later one may be made where it
--- stands, and each is told what the journal before it says.
+-- The legal journals: the first event is the birth, each later one is permitted by the events
+-- before it, and each has the outcome that the journal before it determines.
 use Rattle.std.specs.Prelude.{◌≡◌, ◌<◌, ℕ, true, false, List, [], ◌∷◌, length, Option, Some}
 use Rattle.inode_meta.specs.declared.step.Who.{Who}
 use Rattle.inode_events.specs.Files.{can_read, held, holds, is_writer}
@@ -14,8 +14,7 @@ use Rattle.inode_events.specs.declared.told.Event.{Event}
 use Rattle.inode_events.specs.declared.told.Told.{Told}
 use Rattle.inode_events.specs.declared.told.Told.TheVariants as told
 
--- what has to hold before the deed is done, by the stage of its file and how the file is held: the
--- condition of its call
+-- the precondition of the deed's call, by the stage of its file and the way the file is open
 abbrev pub MayAt : (ℕ → Stage) → (ℕ → Option How) → Deed → Type 0
 MayAt stages hows (deed.Count how) = Unit {0}
 MayAt stages hows (deed.Check file func action rules) = may_check (stages file) ≡ true
@@ -38,27 +37,27 @@ MayAt stages hows (deed.CloseChunk file) = stages file ≡ CloseCollecting
 MayAt stages hows (deed.CloseFinish file) = stages file ≡ CloseCollected
 MayAt stages hows _ = ⊥
 
--- the same by the whole journal
+-- the precondition of the deed's call, by the whole journal
 abbrev pub May : Inode → List Event → Deed → Type 0
 May inode before d = MayAt (λ file. stage inode file before) (λ file. held file before) d
 
--- the inode has come into being: an event stands there
+-- the inode has been created: there is an event
 abbrev pub IsBorn : List Event → Type 0
 IsBorn [] = ⊥
 IsBorn (e ∷ before) = Unit {0}
 
--- an event may stand behind these
+-- the event may follow these
 abbrev pub Follows : Inode → List Event → Who → Deed → Told → Type 0
 Follows inode before who deed.Birth t =
     (before ≡ []) × (who ≡ nobody) × (t ≡ told.Image inode.birth)
 Follows inode before who d t =
     IsBorn before × May inode before d × (says inode before (placed_in t) d ≡ Some t)
 
--- each event may stand behind those before it
+-- each event may follow those before it
 abbrev pub EachFollows : Inode → List Event → Type 0
 EachFollows inode [] = Unit {0}
 EachFollows inode (e ∷ before) = Follows inode before e.who e.deed e.told × EachFollows inode before
 
--- a journal, read from its newest event back, is legal
+-- the journal, read from its newest event back, is legal
 abbrev pub Legal : Inode → List Event → Type 0
 Legal inode events = IsBorn events × EachFollows inode events

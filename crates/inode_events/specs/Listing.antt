@@ -1,4 +1,4 @@
--- What the events of an inode have to do with the measurement list.
+-- The entries of the measurement list that the events of an inode add or find.
 use Rattle.std.specs.Prelude.{◌≡◌, ℕ, ◌==◌, ◌||◌, List, [], ◌∷◌, ◌++◌, Option, Some, None, option_map, slice_get, unwrap_or, if◌then◌else◌}
 use Rattle.ima_templates.specs.Entries.{entry_of, violation_of}
 use Rattle.ima_templates.specs.Same.{place_of_same}
@@ -20,16 +20,16 @@ use Rattle.inode_events.specs.declared.told.Told.TheVariants as told
 
 -- ---- the entries
 
--- the template of a measurement: the rule's, else the script's
+-- the template of a measurement: the one that the rule names, or else the script's
 abbrev pub template_for : Inode → Action → Template
 template_for inode action = unwrap_or action.template inode.settings.template
 
--- the signature in the label (types 3 and 6), which the field `sig` shows
+-- the signature in the label (types 3 and 6), as the field `sig` shows it
 abbrev pub signature_in : Option (List ℕ) → List ℕ
 signature_in None = []
 signature_in (Some bytes) = if type_of bytes == 3 || type_of bytes == 6 then bytes else []
 
--- the entry of a file's measurement, with these digests and the label as it is
+-- the entry that measures a file, with these digests and the present label
 abbrev pub measured : Inode → ℕ → Digests → List Event → Entry
 measured inode file digests before =
     entry_of (last_check file before).action.pcr
@@ -42,11 +42,11 @@ violated inode = violation_of inode.settings.template inode.settings.hash inode.
 
 -- ---- the entries that one event adds or finds
 
--- an entry with the place that an event was told for it
+-- an entry with its index, as an event's outcome reports it
 abbrev pub Listed : Type 0
 Listed = ℕ × Entry
 
--- the digests from which a finish's or a take's grant is made
+-- the digests on which the grant of a take or finish is based
 abbrev pub granting : Inode → Deed → List Event → Option Digests
 granting inode (deed.Take file) before = in_force inode before
 granting inode (deed.Finish file) before = option_map digests_of (collecting inode before)
@@ -62,7 +62,7 @@ found_at (Some (Already place)) (Some digests) inode file before =
     Some (place, measured inode file digests before)
 found_at _ _ inode file before = None
 
--- the entry that the event adds to the list
+-- the entry that the event adds to the list, if any
 abbrev pub adds : Inode → Deed → Told → List Event → Option Listed
 adds inode (deed.Check file func action rules) (told.OpenWriters place) before =
     Some (place, violated inode)
@@ -74,7 +74,7 @@ adds inode (deed.Finish file) (told.Grant grant) before =
     added_at grant.placed (granting inode (deed.Finish file) before) inode file before
 adds inode _ _ before = None
 
--- the entry that the event finds in the list
+-- the entry that the event finds in the list, if any
 abbrev pub finds : Inode → Deed → Told → List Event → Option Listed
 finds inode (deed.Take file) (told.Grant grant) before =
     found_at grant.placed (granting inode (deed.Take file) before) inode file before
@@ -82,15 +82,17 @@ finds inode (deed.Finish file) (told.Grant grant) before =
     found_at grant.placed (granting inode (deed.Finish file) before) inode file before
 finds inode _ _ before = None
 
--- ---- all that a journal says of the list
+-- ---- everything that a journal implies for the list
 
--- what one event says: the step that made it, the entry that it adds, and the one that it finds
+-- one event's effect on the list: the step that made it, the entry that it adds, and the one that
+-- it finds
 pub record Mention : Type 0 where
   pub who : Who
   pub added : Option Listed
   pub found : Option Listed
 
--- what each event says, newest first. All that follows is read off it
+-- the effect of each event on the list, newest first; the definitions below depend on the journal
+-- through this alone
 abbrev pub mentions : Inode → List Event → List Mention
 mentions inode [] = []
 mentions inode (e ∷ before) =
@@ -109,16 +111,16 @@ abbrev pub added_in : List Mention → List Listed
 added_in [] = []
 added_in (m ∷ earlier) = added_in earlier ++ listed_in m.added
 
--- the entries that the journal adds, oldest first, each with its place
+-- the entries that the journal adds, oldest first, each with its index
 abbrev pub entries_added : Inode → List Event → List Listed
 entries_added inode events = added_in (mentions inode events)
 
--- what is added stands at its place
+-- the list has the added entry at its index
 abbrev pub StandsIn : List Entry → Option Listed → Type 0
 StandsIn list None = Unit {0}
 StandsIn list (Some added) = slice_get list added.0 ≡ Some added.1
 
--- what is found stands there first
+-- the found entry is in the list, first at its index
 abbrev pub IsFirstIn : List Entry → Option Listed → Type 0
 IsFirstIn list None = Unit {0}
 IsFirstIn list (Some found) = place_of_same list found.1 ≡ Some found.0
@@ -127,6 +129,6 @@ abbrev pub AreIn : List Entry → List Mention → Type 0
 AreIn list [] = Unit {0}
 AreIn list (m ∷ earlier) = StandsIn list m.added × IsFirstIn list m.found × AreIn list earlier
 
--- the list has what the events of the journal say of it
+-- the list has the entries that the events of the journal added and found
 abbrev pub IsListed : Inode → List Entry → List Event → Type 0
 IsListed inode list events = AreIn list (mentions inode events)

@@ -1,5 +1,5 @@
--- The marks of an inode: that a measured file was opened, that a writer's label has to follow its
--- writes.
+-- The marks of an inode: that a measured file was opened, and that a writer's label must be updated
+-- after its writes.
 use Rattle.std.specs.Prelude.{ℕ, Bool, false, ◌&&◌, ◌||◌, not, List, [], ◌∷◌, Option, Some, None, if◌then◌else◌}
 use Rattle.label_values.specs.Labels.{read_label}
 use Rattle.label_values.specs.Verdicts.{is_pass, is_signature}
@@ -25,8 +25,8 @@ must_measure_after (deed.Check file func action rules) (told.OpenWriters place) 
 must_measure_after (deed.Check file func action rules) (told.ToMToU place) before old = false
 must_measure_after _ _ before old = old
 
--- a file that isn't open for writing was checked and its action measures, and no ToMToU was told
--- since. The reader that set the mark may be gone
+-- a file that isn't open for writing was checked and its action measures, and since then there was
+-- no ToMToU. The reader that set the mark may have closed the file.
 abbrev pub must_measure : List Event → Bool
 must_measure [] = false
 must_measure (e ∷ before) = must_measure_after e.deed e.told before (must_measure before)
@@ -48,15 +48,15 @@ update_after (deed.Finish file) (told.Grant grant) before old =
     old || earns_update file grant before
 update_after d t before old = if is_last_drop d t before then false else old
 
--- a writer's grant passed or was labelled, and since then no last writer was dropped
+-- a writer's grant passed or wrote the label, and since then no last writer was dropped
 abbrev pub update : List Event → Bool
 update [] = false
 update (e ∷ before) = update_after e.deed e.told before (update before)
 
 -- ---- labels at a close
 
--- a last writer's close owes the file a label. The span says whether the content was modified: the
--- kernel compares with the version that it noted at the last collection
+-- the close of the last writer must write a label. The span says whether the content was modified:
+-- the kernel compares with the version that it recorded at the last collection.
 abbrev pub is_label_due : Inode → List Event → Bool
 is_label_due inode before =
     update before && not (is_signature (read_label (label inode before) inode.settings.hash))

@@ -1,4 +1,4 @@
--- The one outcome of the next event, read from the journal before it.
+-- The only outcome of the next event, as a function of the journal before it.
 use Rattle.std.specs.Prelude.{ℕ, ◌+◌, ◌==◌, Bool, true, false, ◌&&◌, ◌||◌, not, nat_lt, nat_le, List, [], ◌∷◌, length, Option, Some, None, is_none, Result, Ok, Err, if◌then◌else◌}
 use Rattle.std.specs.Str.{bytes_eq}
 use Rattle.evm_verify.specs.Changes.{may_change, may_set_meta}
@@ -23,13 +23,13 @@ use Rattle.inode_events.specs.declared.told.Event.{Event}
 use Rattle.inode_events.specs.declared.told.Told.{Told}
 use Rattle.inode_events.specs.declared.told.Told.TheVariants as told
 
--- ---- the answer of the measurement list, which isn't the journal's to give: `placed`
+-- ---- the reply of the measurement list, which the journal can't determine: `placed`
 
 abbrev pub place_of : Placed → ℕ
 place_of (Added place) = place
 place_of (Already place) = place
 
--- the list's answer that an event was told; any where it was told none
+-- the list's reply that the outcome reports; arbitrary if it reports none
 abbrev pub placed_in_grant : Option Placed → Placed
 placed_in_grant None = Added 0
 placed_in_grant (Some placed) = placed
@@ -42,7 +42,8 @@ placed_in _ = Added 0
 
 -- ---- the outcomes, deed by deed
 
--- an open counts its file, unless the file is absent, or a writer would meet an execution
+-- an open counts its file, unless the file is absent, or would be open for writing and executed at
+-- the same time
 abbrev pub count_told : How → Bool → ℕ → ℕ → Told
 count_told how present writers execs =
     if not present && not (creates how) then told.NotFound
@@ -50,14 +51,15 @@ count_told how present writers execs =
     then told.TextBusy
     else told.Held
 
--- a writer that meets readers of a measured file is a ToMToU violation, whatever the rules say of
--- the writer itself; a measured reader that meets writers is an open-writers violation
+-- a writer that opens a measured file while there are readers gives a ToMToU violation, whatever
+-- the rules say about the writer itself; a reader to be measured that opens a file while there are
+-- writers gives an open-writers violation
 abbrev pub check_told : Bool → Bool → ℕ → ℕ → Bool → ℕ → Told
 check_told writing measure readers writers must place =
     if writing then (if nat_lt 0 readers && must then told.ToMToU place else told.Quiet)
     else (if measure && nat_lt 0 writers then told.OpenWriters place else told.Quiet)
 
--- the grant where a digest is in force, else a collection begins
+-- a grant if a digest is in force; otherwise a collection begins
 abbrev pub take_told : Inode → ℕ → Placed → Option Digests → List Event → Told
 take_told inode file placed None before = told.Begun
 take_told inode file placed (Some digests) before =
@@ -75,7 +77,7 @@ finish_told inode file placed (Some c) before =
 abbrev pub read_told : List ℕ → Told
 read_told bytes = told.Read (length bytes) (digest_of Sha256 bytes)
 
--- a file has a limit
+-- a file has a maximum size
 abbrev pub write_told : ℕ → Told
 write_told limit = if nat_le limit most_bytes then told.Done else told.TooBig
 
@@ -87,13 +89,13 @@ abbrev pub is_too_long : Option (List ℕ) → Bool
 is_too_long None = false
 is_too_long (Some bytes) = nat_lt most_value (length bytes)
 
--- the kernel refuses an empty `security.ima`, and one of a type that it doesn't know
+-- the kernel refuses an empty value of `security.ima`, and one with an unknown type
 abbrev pub is_no_label : Option (List ℕ) → Bool
 is_no_label None = false
 is_no_label (Some []) = true
 is_no_label (Some (kind ∷ rest)) = nat_lt 6 kind
 
--- the first refusal that holds, else done
+-- the first refusal that applies, or else done
 abbrev pub set_attr_told : Inode → List ℕ → Option (List ℕ) → Bool → List Event → Told
 set_attr_told inode name bytes admin before =
     if not (present before) then told.NotFound
@@ -110,24 +112,25 @@ set_meta_told inode before =
     if not (present before) then told.NotFound
     else status_told (may_set_meta inode.settings.evm (attributes inode before) (metadata before))
 
--- the last writer's close collects where a label is due, and drops the file else
+-- the close of the last writer begins a collection if a label is due, and drops the file otherwise
 abbrev pub close_take_told : Bool → ℕ → Told
 close_take_told due writers = if (writers == 1) && due then told.Begun else told.Dropped
 
--- the label is written where its writer is still the only one
+-- the label is written if its writer is still the only one
 abbrev pub close_finish_told : ℕ → Told
 close_finish_told writers = if writers == 1 then told.LabelledDropped else told.Dropped
 
--- the integrity mutex is free, or the task is blocked at this step
+-- the outcome if the integrity mutex is free; otherwise the task is blocked at this step
 abbrev pub unless_collecting : Option Collection → Told → Option Told
 unless_collecting None t = Some t
 unless_collecting (Some c) t = None
 
 -- ---- all deeds
 
--- What the next event is told. `placed` is the place in the list and whether it is added there or
--- was there already, which isn't the journal's to say. `None` is blocked: no event. A birth follows
--- no event, and the deeds of a semaphore stand in no inode's journal
+-- The outcome of the next event. `placed` is the index in the list, and whether the entry is added
+-- there or was there already, which the journal can't determine. `None` means that the step is
+-- blocked: there is no event. A birth never follows another event, and the deeds of semaphores are
+-- in no inode's journal.
 abbrev pub says : Inode → List Event → Placed → Deed → Option Told
 says inode before placed deed.Birth = None
 says inode before placed (deed.Count how) =

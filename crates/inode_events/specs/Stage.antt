@@ -1,5 +1,5 @@
--- The stage of an open file: what was done with it since its count, and so which calls it may be
--- named in.
+-- The stage of an open file: the deeds done with it since its count, and so the calls that may name
+-- it.
 use Rattle.std.specs.Prelude.{ℕ, ◌==◌, Bool, true, false, List, [], ◌∷◌, length, if◌then◌else◌}
 use Rattle.inode_events.specs.Checks.{asks}
 use Rattle.inode_events.specs.Inode.{Inode}
@@ -9,26 +9,26 @@ use Rattle.inode_events.specs.declared.told.Event.{Event}
 use Rattle.inode_events.specs.declared.told.Told.{Told}
 use Rattle.inode_events.specs.declared.told.Told.TheVariants as told
 
--- where a file stands
+-- the stage of a file between two deeds
 pub data Stage : Type 0 where
-  -- not counted yet, or dropped
+  -- not counted yet, or already dropped
   Gone : Stage
-  -- counted, and not checked
+  -- counted, but not checked
   Counted : Stage
-  -- its last check asks for a take, and the grant is owed
+  -- checked, and the last check requires a take that hasn't led to a grant
   Asked : Stage
-  -- its take began a collection that has pieces left
+  -- its take began a collection with pieces left to hash
   Collecting : Stage
-  -- that collection took its last piece, and the finish is owed
+  -- the collection of its take took the last piece, and the finish is next
   Collected : Stage
-  -- its last check asks for no take, or was granted
+  -- checked, and the last check requires no take or has led to a grant
   Settled : Stage
-  -- its close began a collection that has pieces left
+  -- its close began a collection with pieces left to hash
   CloseCollecting : Stage
-  -- that collection took its last piece, and the finish is owed
+  -- the collection of its close took the last piece, and the finish is next
   CloseCollected : Stage
 
--- the event is one of the file: its count, or a deed that names it
+-- the event is about this file: its count, or a deed that names it
 abbrev pub touches : ℕ → ℕ → Deed → Bool
 touches file place (deed.Count how) = place == file
 touches file place (deed.Check other func action rules) = other == file
@@ -44,7 +44,7 @@ touches file place (deed.CloseChunk other) = other == file
 touches file place (deed.CloseFinish other) = other == file
 touches file place _ = false
 
--- what an event makes of the stage of its file
+-- the stage of the event's own file after the event
 abbrev pub stage_after : Inode → Deed → Told → Stage → Stage
 stage_after inode (deed.Count how) told.Held old = Counted
 stage_after inode (deed.Check file func action rules) t old =
@@ -61,25 +61,25 @@ stage_after inode (deed.CloseFinish file) told.Dropped old = Gone
 stage_after inode (deed.CloseFinish file) told.LabelledDropped old = Gone
 stage_after inode _ _ old = old
 
--- what the event at a place makes of the stage of any file
+-- the stage of any file after the event at an index
 abbrev pub next_stage : Inode → ℕ → ℕ → Deed → Told → Stage → Stage
 next_stage inode file place d t old =
     if touches file place d then stage_after inode d t old else old
 
--- the stage of the file, by the whole journal
+-- the stage of the file after the whole journal
 abbrev pub stage : Inode → ℕ → List Event → Stage
 stage inode file [] = Gone
 stage inode file (e ∷ before) =
     next_stage inode file (length before) e.deed e.told (stage inode file before)
 
--- the same reading of some of a journal's events, each with its place, newest first: of those that
--- the file's own task made
+-- the stage of the file, by only those events of the journal that the file's own task made, each
+-- with its index, newest first
 abbrev pub stage_in : Inode → ℕ → List (ℕ × Event) → Stage
 stage_in inode file [] = Gone
 stage_in inode file (e ∷ before) =
     next_stage inode file e.0 e.1.deed e.1.told (stage_in inode file before)
 
--- a file may be checked before its first take, and again where nothing is owed
+-- a file may be checked before its first take, and again if no take is outstanding
 abbrev pub may_check : Stage → Bool
 may_check Counted = true
 may_check Settled = true

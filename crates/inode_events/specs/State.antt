@@ -1,4 +1,4 @@
--- What the events leave of a file: whether it is there, its content and its metadata.
+-- The state of a file after the events: whether it exists, its content and its metadata.
 use Rattle.std.specs.Prelude.{ℕ, ◌==◌, Bool, true, false, ◌&&◌, ◌||◌, not, nat_le, List, [], ◌∷◌, length, if◌then◌else◌}
 use Rattle.inode_meta.specs.declared.identity.Meta.{Meta}
 use Rattle.inode_pages.specs.Content.{overwritten, resized}
@@ -11,7 +11,7 @@ use Rattle.inode_events.specs.declared.told.Event.{Event}
 use Rattle.inode_events.specs.declared.told.Told.{Told}
 use Rattle.inode_events.specs.declared.told.Told.TheVariants as told
 
--- ---- the kinds of event that matter
+-- ---- the kinds of events that matter
 
 -- the event modifies the content: a write or a truncation was done
 abbrev pub modifies : Deed → Told → Bool
@@ -19,18 +19,18 @@ modifies (deed.Write file from bytes) told.Done = true
 modifies (deed.Trunc file len) told.Done = true
 modifies _ _ = false
 
--- a writer is dropped
+-- the event drops a writer
 abbrev pub drops_writer : Deed → Told → Bool
 drops_writer (deed.CloseTake file) told.Dropped = true
 drops_writer (deed.CloseFinish file) told.Dropped = true
 drops_writer (deed.CloseFinish file) told.LabelledDropped = true
 drops_writer _ _ = false
 
--- a writer is dropped, and it was the only one
+-- the event drops a writer, and it was the only one
 abbrev pub is_last_drop : Deed → Told → List Event → Bool
 is_last_drop d t before = drops_writer d t && (writers before == 1)
 
--- the content was modified at this place or after it
+-- the content was modified by the event at this index or by a later one
 abbrev pub modified_since : ℕ → List Event → Bool
 modified_since place [] = false
 modified_since place (e ∷ before) =
@@ -43,7 +43,7 @@ present_after deed.Birth (told.Image image) old = image.present
 present_after (deed.Count how) told.Held old = true
 present_after _ _ old = old
 
--- the file is there: from its birth on, or from the open that creates it
+-- the file exists: from its birth on, or from the open that creates it
 abbrev pub present : List Event → Bool
 present [] = false
 present (e ∷ before) = present_after e.deed e.told (present before)
@@ -73,7 +73,7 @@ content_after (deed.Write file from bytes) told.Done old = overwritten old from 
 content_after (deed.Trunc file len) told.Done old = resized old len
 content_after _ _ old = old
 
--- the bytes of the file
+-- the bytes of the file after the journal
 abbrev pub content : List Event → List ℕ
 content [] = []
 content (e ∷ before) = content_after e.deed e.told (content before)
@@ -92,9 +92,9 @@ abbrev pub metadata : List Event → Meta
 metadata [] = record { ino = 0; generation = 0; uid = 0; gid = 0; mode = 0; place = 0 }
 metadata (e ∷ before) = metadata_after e.deed e.told (metadata before)
 
--- ---- the span of the writers that are there
+-- ---- the span of the present writers
 
--- the event is the count of the first writer
+-- the event counts the first writer
 abbrev pub raises_writers : Deed → Told → List Event → Bool
 raises_writers (deed.Count how) told.Held before = is_writer how && (writers before == 0)
 raises_writers _ _ before = false
@@ -104,7 +104,7 @@ abbrev pub span : List Event → List Event
 span [] = []
 span (e ∷ before) = if raises_writers e.deed e.told before then [] else e ∷ span before
 
--- one of the events modifies the content
+-- one of these events modifies the content
 abbrev pub modified_in : List Event → Bool
 modified_in [] = false
 modified_in (e ∷ events) = modifies e.deed e.told || modified_in events

@@ -20,9 +20,9 @@ use Rattle.inode_events.specs.declared.told.Event.{Event}
 use Rattle.inode_events.specs.declared.told.Told.{Told}
 use Rattle.inode_events.specs.declared.told.Told.TheVariants as told
 
--- ---- under which key a verdict is kept
+-- ---- the key of a verdict
 
--- "no algorithms given" is another key than any set
+-- "no algorithms given" is a different key from every set
 pub record Key : Type 0 where
   pub slot : Slot
   pub need : Need
@@ -62,12 +62,12 @@ same_key a b = same_slot a.slot b.slot && same_need a.need b.need && same_algos 
 
 -- ---- the verdict in force
 
--- a change of mode or owner voids the verdicts and leaves the digest
+-- a change of mode or owner voids the verdicts but not the digest
 abbrev pub voids_verdicts : Deed → Told → List Event → Option Digests → Bool
 voids_verdicts (deed.SetMeta change) told.Done before digests = true
 voids_verdicts d t before digests = voids_digest d t before digests
 
--- a grant's verdict is kept under the key of the file's last check
+-- a grant's verdict is cached under the key of the file's last check
 abbrev pub verdict_kept : Key → ℕ → Option Verdict → List Event → Option Verdict → Option Verdict
 verdict_kept key file verdict before old =
     if same_key key (key_of (last_check file before)) then option_or verdict old else old
@@ -79,25 +79,25 @@ verdict_given key (deed.Finish file) (told.Grant grant) before old =
     verdict_kept key file grant.verdict before old
 verdict_given key _ _ before old = old
 
--- the last verdict that a take or finish gave under the key, unless it was voided since
+-- the last verdict that a take or finish gave under the key, unless it has been voided since
 abbrev pub verdict_in_force : Inode → Key → List Event → Option Verdict
 verdict_in_force inode key [] = None
 verdict_in_force inode key (e ∷ before) =
     if voids_verdicts e.deed e.told before (in_force inode before) then None
     else verdict_given key e.deed e.told before (verdict_in_force inode key before)
 
--- ---- verdicts computed anew
+-- ---- fresh verdicts
 
--- the verdict on a file with this digest, over its attributes, metadata and size as they are
+-- the verdict on a file with this digest, over its present attributes, metadata and size
 abbrev pub judged : Inode → Need → Option AlgoSet → Digest → List Event → Verdict
 judged inode need algos digest before =
     judge need algos (label inode before) (status inode before) digest inode.settings.hash
     (length (content before)) (new before)
 
--- the digest of the content as it is, by the algorithm that the label as it is names
+-- the digest of the present content, by the algorithm that the present label names
 abbrev pub fresh_digest : Inode → List Event → Digest
 fresh_digest inode before = digest_of (chosen_algo inode before) (content before)
 
--- the verdict over everything as it is
+-- the verdict over the present content, attributes and metadata
 abbrev pub fresh_verdict : Inode → Need → Option AlgoSet → List Event → Verdict
 fresh_verdict inode need algos before = judged inode need algos (fresh_digest inode before) before

@@ -4,7 +4,7 @@ use ima_templates::xattrs::Bytes;
 use std::alloc::{AllocError as OutOfMemory, Global};
 use std::marker::Model;
 
-/// Bytes that lie outside of the deed or call that has them, so that others take no room for them.
+/// Bytes in memory of their own, so that they don't enlarge the deeds and calls that have none.
 /// Contracts see the bytes.
 #[derive(Drop)]
 pub struct BoxedBytes {
@@ -20,7 +20,7 @@ impl Model for BoxedBytes {
 }
 
 impl BoxedBytes {
-    /// The bytes, moved to memory of their own.
+    /// Moves the bytes to memory of their own.
     pub fn new(alloc: Global, bytes: Bytes) -> Result<BoxedBytes, OutOfMemory>
         ensures bytes { IfOk result (λ b. b ≡ bytes) }
     {
@@ -28,7 +28,7 @@ impl BoxedBytes {
         Ok(BoxedBytes { bytes })
     }
 
-    /// A copy of these bytes.
+    /// Copies the bytes to memory of their own.
     pub fn from_slice(alloc: Global, b: &[u8]) -> Result<BoxedBytes, OutOfMemory>
         ensures bytes { IfOk result (λ copy. copy ≡ b.now) }
     {
@@ -37,7 +37,7 @@ impl BoxedBytes {
         Ok(copy)
     }
 
-    /// The bytes.
+    /// The bytes, borrowed.
     pub fn as_slice(&self) -> &[u8]
         ensures bytes { result.now ≡ self.now }
     {

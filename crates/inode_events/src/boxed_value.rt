@@ -4,8 +4,8 @@ use ima_templates::xattrs::Bytes;
 use std::alloc::{AllocError as OutOfMemory, Global};
 use std::marker::Model;
 
-/// The value that an attribute is to have, or none where it is to be removed. It lies outside of
-/// the deed or call that has it, so that others take no room for it. Contracts see the value.
+/// The new value of an attribute, or `None` for its removal, in memory of its own, so that it
+/// doesn't enlarge the deeds and calls that have none. Contracts see the value.
 #[derive(Drop)]
 pub struct BoxedValue {
     value: Box<Option<Bytes>>,
@@ -20,7 +20,7 @@ impl Model for BoxedValue {
 }
 
 impl BoxedValue {
-    /// The value, moved to memory of its own.
+    /// Moves the value to memory of its own.
     pub fn new(alloc: Global, value: Option<Bytes>) -> Result<BoxedValue, OutOfMemory>
         ensures { IfOk result (λ b. b ≡ value) }
     {
@@ -28,7 +28,7 @@ impl BoxedValue {
         Ok(BoxedValue { value })
     }
 
-    /// The value.
+    /// The new value, or `None` for a removal.
     pub fn get(&self) -> &Option<Bytes>
         ensures { result.now ≡ self.now }
     {

@@ -2,14 +2,15 @@ use crate::boxed_bytes::BoxedBytes;
 use crate::boxed_value::BoxedValue;
 use policy_text::{Action, Func};
 
-/// How a file is opened, which its count says.
+/// How a file is opened, which determines the counts that it raises.
 #[derive(Clone, Copy, Debug, PartialEq, Eq)]
 pub enum How {
-    /// Opened for reading alone: it counts a reader. With `create`, an absent file becomes present.
+    /// Opened for reading only, and counted as a reader. With `create`, an absent file is created.
     Read { create: bool },
-    /// Opened for writing, and with `read` for reading too: it counts a writer and no reader.
+    /// Opened for writing, and with `read` for reading too. Counted as a writer but not as a
+    /// reader.
     Write { read: bool, create: bool },
-    /// Executed: it counts a reader and an execution.
+    /// Executed, and counted as a reader and as an execution.
     Exec,
 }
 
@@ -22,25 +23,25 @@ pub enum Change {
     Owner { uid: u32, gid: u32 },
 }
 
-/// What a step does. A `file` is an open file of the inode, named by the place of its count in the
-/// journal.
+/// The action of a step. A `file` is an open file of the inode, identified by the index of its
+/// `Count` in the journal.
 #[derive(Drop)]
 pub enum Deed {
-    /// The inode comes into being, as its script describes it: the first event of each journal.
+    /// The inode is created as its script describes it: the first event of each journal.
     Birth,
-    /// An open or an exec counts a file.
+    /// An open or an exec counts its file.
     Count {
         how: How,
     },
-    /// The policy is asked for an access: the hook of the kernel, with the action that the rules
-    /// gave it. `rules` is the number of rules by which it was decided.
+    /// The policy is consulted for an access by the hook `func`, and the rules give the action.
+    /// `rules` is the number of rules in force at this decision.
     Check {
         file: u64,
         func: Func,
         action: Action,
         rules: u64,
     },
-    /// The digest in force is asked for. With none in force a collection begins.
+    /// The digest in force is requested. If none is in force, a collection begins.
     Take {
         file: u64,
     },
@@ -48,29 +49,29 @@ pub enum Deed {
     Chunk {
         file: u64,
     },
-    /// The collection of a take ends: its digest comes in force.
+    /// The collection of a take ends, and its digest comes into force.
     Finish {
         file: u64,
     },
-    /// At most `len` bytes are read, from the byte `from` on.
+    /// At most `len` bytes are read, from the offset `from` on.
     Read {
         file: u64,
         from: u64,
         len: u64,
     },
-    /// Bytes are written, from the byte `from` on.
+    /// Bytes are written, from the offset `from` on.
     Write {
         file: u64,
         from: u64,
         bytes: BoxedBytes,
     },
-    /// The content is cut to `len` bytes, or lengthened by zeros.
+    /// The content is truncated to `len` bytes, or extended by zeros.
     Trunc {
         file: u64,
         len: u64,
     },
-    /// An extended attribute is set, or with no value removed. `admin` is the task's right to
-    /// administer.
+    /// An extended attribute is set, or removed if there is no value. `admin` is whether the task
+    /// has `CAP_SYS_ADMIN`.
     SetAttr {
         name: BoxedBytes,
         value: BoxedValue,
@@ -80,12 +81,12 @@ pub enum Deed {
     SetMeta {
         change: Change,
     },
-    /// A file that isn't open for writing is dropped.
+    /// A file that isn't open for writing is closed.
     Close {
         file: u64,
     },
-    /// A writer's close begins. The last writer collects the content where a label is due, and
-    /// every other is dropped.
+    /// A writer's close begins. The last writer collects the content if a label is due; any other
+    /// writer is dropped.
     CloseTake {
         file: u64,
     },
@@ -93,14 +94,15 @@ pub enum Deed {
     CloseChunk {
         file: u64,
     },
-    /// The collection of a close ends: the label is written where its writer is still the last, and
-    /// the writer is dropped.
+    /// The collection of a close ends: the label is written if its writer is still the last one,
+    /// and the writer is dropped.
     CloseFinish {
         file: u64,
     },
-    /// One is added to a semaphore. It stands in the journal of the semaphores, and in no inode's.
+    /// A semaphore is incremented. The event is in the journal of the semaphores, not in an
+    /// inode's.
     Post(u8),
-    /// One is taken from a semaphore. It stands in the journal of the semaphores, and in no
+    /// A semaphore is decremented. The event is in the journal of the semaphores, not in an
     /// inode's.
     Wait(u8),
 }

@@ -3,23 +3,23 @@ use hash_algos::Digest;
 use ima_templates::xattrs::{Attrs, Bytes};
 use std::marker::Model;
 
-/// An inode at the end of a run: its journal, and what the journal gives. Contracts see the record
-/// of its fields, the journal as a list.
+/// An inode at the end of a run: its journal, and the state that follows from the journal.
+/// Contracts see the record of its fields, with the journal as a list.
 #[derive(Drop)]
 pub struct EndedInode {
-    /// The path.
+    /// The path of the inode, by which scripts name it.
     pub path: Bytes,
-    /// The events, oldest first.
+    /// The events of the inode, oldest first.
     pub journal: Vec<Event>,
-    /// The digest in force, by the algorithm that was chosen, where there is one.
+    /// The digest in force, if there is one, by the algorithm that was chosen for it.
     pub force: Option<Digest>,
-    /// The extended attributes.
+    /// The extended attributes, in byte order of their names.
     pub attrs: Attrs,
-    /// The files that are open for writing.
+    /// The number of files that are open for writing.
     pub writers: u64,
-    /// The files that are open for reading alone, and the executions.
+    /// The number of files that are open for reading only, including the executions.
     pub readers: u64,
-    /// The executions.
+    /// The number of executions.
     pub execs: u64,
 }
 

@@ -9,21 +9,21 @@ use std::marker::Model;
 /// An inode as its script describes it.
 #[derive(Drop)]
 pub struct Image {
-    /// Whether the file is there. An absent one comes into being by an open that creates it.
+    /// Whether the file exists. An absent one is created by an open with `create`.
     pub present: bool,
-    /// The bytes of the file.
+    /// The content of the file, as pages.
     pub content: Content,
-    /// The extended attributes.
+    /// The extended attributes, in byte order of their names.
     pub attrs: Attrs,
-    /// The metadata.
+    /// The metadata that EVM covers.
     pub meta: Meta,
-    /// Whether the file system has change versions (`STATX_CHANGE_COOKIE`). Without them each last
-    /// writer's close counts as a change.
+    /// Whether the file system has change versions (`STATX_CHANGE_COOKIE`). Without them each close
+    /// by the last writer counts as a change.
     pub versions: bool,
 }
 
-/// An image that lies outside of the event that tells it, so that other events take no room for
-/// one. Contracts see the image.
+/// An image in memory of its own, so that it doesn't enlarge the events that have none. Contracts
+/// see the image.
 #[derive(Drop)]
 pub struct BoxedImage {
     image: Box<Image>,
@@ -38,7 +38,7 @@ impl Model for BoxedImage {
 }
 
 impl BoxedImage {
-    /// The image, moved to memory of its own.
+    /// Moves the image to memory of its own.
     pub fn new(alloc: Global, image: Image) -> Result<BoxedImage, OutOfMemory>
         ensures { IfOk result (λ b. b ≡ image) }
     {
@@ -46,7 +46,7 @@ impl BoxedImage {
         Ok(BoxedImage { image })
     }
 
-    /// The image.
+    /// The image, borrowed.
     pub fn get(&self) -> &Image
         ensures { result.now ≡ self.now }
     {

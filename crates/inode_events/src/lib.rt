@@ -1,9 +1,9 @@
-//! The journal of an inode: the events that stand in it, and what each of them is told.
+//! The journal of an inode: its events and their outcomes.
 //!
-//! An event is one step of a task on one inode: who made it, its deed, and what it was told. The
-//! definitions of `specs/` read a journal and nothing else. They say what the inode is after it
-//! (its content, attributes, open files, and the digest and verdicts in force), what the next deed
-//! is told, and which journals are legal.
+//! An event is one step of a task on one inode: the step that made it, its deed, and its outcome.
+//! The definitions in `specs/` depend on the journal alone. They define the inode's state after the
+//! journal (its content, attributes and open files, and the digest and verdicts in force), the
+//! outcome of the next deed, and which journals are legal.
 #![tactic(auto)]
 
 mod boxed_bytes;
@@ -28,4 +28,5 @@ pub use inode_pages as pages;
 pub use label_values as labels;
 pub use policy_text as policy;
 pub use settings::Settings;
+pub use std::alloc::AllocError as OutOfMemory;
 pub use told::{Event, Grant, Told};

@@ -6,23 +6,23 @@ use hash_algos::Algo;
 use inode_meta::{Mode, Template};
 use std::alloc::AllocError as OutOfMemory;
 
-/// What a script sets for all inodes.
+/// The settings of a script that apply to all inodes.
 #[derive(Drop)]
 pub struct Settings {
-    /// The algorithm of a collection whose label names none (the boot word `ima_hash=`).
+    /// The algorithm of a collection if the label names none (the boot parameter `ima_hash=`).
     pub hash: Algo,
-    /// The template of an entry whose rule names none (the boot word `ima_template=`). It isn't
-    /// `ima-buf`, which is for buffers alone.
+    /// The template of an entry if the rule names none (the boot parameter `ima_template=`). It is
+    /// never `ima-buf`, which is for buffers only.
     pub template: Template,
-    /// The appraisal mode (the boot word `ima_appraise=`).
+    /// The appraisal mode (the boot parameter `ima_appraise=`).
     pub mode: Mode,
-    /// EVM, with its key.
+    /// EVM, with its key, protected names and format.
     pub evm: Evm,
     ghost for_files: { IsTrue (is_named_template template) },
 }
 
 impl Settings {
-    /// An equal value.
+    /// A copy with equal settings, in its own memory.
     pub fn copy(&self) -> Result<Settings, OutOfMemory>
         ensures { IfOk result (λ copy. copy ≡ self.now) }
     {

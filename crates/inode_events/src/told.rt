@@ -6,79 +6,79 @@ use ima_templates::Placed;
 use inode_meta::{EvmStatus, Who};
 use label_values::Verdict;
 
-/// The answer of a take or finish to which a digest is in force.
+/// The outcome of a take or finish after which a digest is in force.
 #[derive(Clone, Copy, Debug, PartialEq, Eq)]
 pub struct Grant {
-    /// The place of the entry in the measurement list, where the action measures.
+    /// The outcome of adding the entry to the measurement list, if the action measures.
     pub placed: Option<Placed>,
-    /// The verdict, where the action appraises and the mode isn't off.
+    /// The verdict, if the action appraises and the mode isn't off.
     pub verdict: Option<Verdict>,
     /// Whether the mode admits the file.
     pub admitted: bool,
-    /// Whether mode fix mended the inode's attributes: it wrote the label, or renewed the HMAC
-    /// alone.
+    /// Whether fix mode repaired the inode's attributes: it wrote the label and the HMAC, or the
+    /// HMAC only.
     pub labelled: bool,
 }
 
-/// What a step is told.
+/// The outcome of a step.
 #[derive(Drop)]
 pub enum Told {
-    /// The birth: the inode as its script describes it.
+    /// Of a birth: the inode as its script describes it.
     Image(BoxedImage),
-    /// A count: the file is counted.
+    /// Of a count: the file is counted.
     Held,
-    /// A count, or a change of attributes or metadata: the file is absent.
+    /// Of a count, or of a change of attributes or metadata: the file is absent.
     NotFound,
-    /// A count: a writer meets an execution, or an execution a writer.
+    /// Of a count: the file can't be open for writing and executed at the same time.
     TextBusy,
-    /// A check: no violation.
+    /// Of a check: there is no violation.
     Quiet,
-    /// A check: a measured file has writers. The violation stands at this place of the list.
+    /// Of a check: a file to be measured has writers. The violation is at this index of the list.
     OpenWriters(u64),
-    /// A check: a writer meets readers of a measured file (time of measure, time of use). The
-    /// violation stands at this place.
+    /// Of a check: a writer opens a file that has readers and was measured (time of measure, time
+    /// of use). The violation is at this index of the list.
     ToMToU(u64),
-    /// A take: a collection begins.
+    /// Of a take: a collection begins.
     Begun,
-    /// A take or finish: the grant.
+    /// Of a take or finish: a digest is in force.
     Grant(Grant),
-    /// A chunk: there is more to hash.
+    /// Of a chunk: there is more to hash.
     More,
-    /// A chunk: it was the last one.
+    /// Of a chunk: it was the last one.
     Last,
-    /// A read: the number of bytes and their SHA-256.
+    /// Of a read: the number of bytes, and their SHA-256 digest.
     Read { n: u32, digest: Sha256Digest },
-    /// A write, truncation or change, a post or a wait: it was done.
+    /// Of a write, truncation, change, post or wait: it was done.
     Done,
-    /// A write or truncation: it would end above the limit on a file.
+    /// Of a write or truncation: the file would exceed its maximum size.
     TooBig,
-    /// A change of `security.evm`.
+    /// Of a change of attributes: `security.evm` can't be changed by a call.
     EvmName,
-    /// A change of `security.ima` without the right to administer.
+    /// Of a change of `security.ima`: the task doesn't have `CAP_SYS_ADMIN`.
     NotAdmin,
-    /// A value above 4,096 bytes.
+    /// Of a change of attributes: the value has more than 4,096 bytes.
     TooLong,
-    /// A value of `security.ima` that isn't a label.
+    /// Of a change of `security.ima`: the value isn't a label.
     Invalid,
-    /// A removal of an attribute that is absent.
+    /// Of a removal: there is no such attribute.
     NoData,
-    /// A change that EVM forbids, with its status.
+    /// Of a change that EVM forbids: the EVM status of the inode.
     Status(EvmStatus),
-    /// A close: the file is dropped.
+    /// Of a close: the file is dropped.
     Dropped,
-    /// A close: the label is written, and the file is dropped.
+    /// Of a close: the label is written, and the file is dropped.
     LabelledDropped,
-    /// A step without an event. No event is told it.
+    /// Of a step without an event, so it is in no journal.
     Nothing,
 }
 
 /// One event of a journal.
 #[derive(Drop)]
 pub struct Event {
-    /// The step that made it. The birth has zeros.
+    /// The step that made the event; all zeros for the birth.
     pub who: Who,
-    /// What was done.
+    /// The action of the step.
     pub deed: Deed,
-    /// What it was told.
+    /// The outcome of the step.
     pub told: Told,
 }

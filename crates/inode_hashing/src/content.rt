@@ -4,7 +4,7 @@ ghost use Rattle.hash_algos.specs.Digest.{digest_of};
 use hash_algos::{Algo, Digest, Running};
 use inode_pages::Content;
 
-/// The digest of a content, which is hashed page by page.
+/// The digest of a file's content, computed page by page.
 pub fn digest_of_content(a: Algo, content: &Content) -> Digest
     ensures { result ≡ digest_of a content.now }
 {

@@ -7,9 +7,9 @@ ghost use Rattle.inode_hashing.specs.Hashing.{HasHashed};
 use hash_algos::{Algo, Digest, Running};
 use inode_pages::Page;
 
-/// A collection under way: it takes the content in pieces, and how they are cut makes no
-/// difference. A contract says by which algorithm it hashes, and which bytes it can have taken;
-/// what comes next joins their end. A collection by SHA-1 hashes once.
+/// A collection in progress: it takes the content in pieces, and how the content is cut makes no
+/// difference. A contract states by which algorithm it hashes and which bytes it may have taken so
+/// far; each piece is appended to them. A collection by SHA-1 hashes only once.
 #[derive(Drop)]
 pub struct Hashing {
     chosen: Running,
@@ -17,7 +17,7 @@ pub struct Hashing {
 }
 
 impl Hashing {
-    /// A collection by this algorithm that has taken nothing.
+    /// A collection by the algorithm `a` that hasn't taken any byte yet.
     pub fn begin(a: Algo) -> Hashing
         ensures { HasHashed result a [] }
     {
@@ -31,7 +31,7 @@ impl Hashing {
         }
     }
 
-    /// Takes the next piece.
+    /// Takes the next piece of the content.
     pub fn next(&mut self, b: &[u8])
         ensures { (a : AnyAlgo) (m : List ℕ) → HasHashed self.old a m
             → HasHashed self.new a (m ++ b.now) }
@@ -50,7 +50,7 @@ impl Hashing {
         self.next(p.as_slice());
     }
 
-    /// The digest of all pieces by the collection's algorithm, and the one by SHA-1.
+    /// The digest of all pieces by the collection's algorithm, and their SHA-1 digest.
     pub fn finish(self) -> (Digest, Digest)
         ensures { (a : AnyAlgo) (m : List ℕ) → HasHashed self a m
             → result ≡ (digest_of a m, digest_of Sha1 m) }

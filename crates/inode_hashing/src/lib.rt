@@ -1,5 +1,5 @@
-//! The two digests of a collection: by the algorithm that the inode's label names, and by SHA-1.
-//! And the digest of a content at once.
+//! The two digests of a collection, by the algorithm that the inode's label names and by SHA-1, and
+//! the digest of a content in one call.
 #![tactic(auto)]
 
 mod content;

@@ -5,7 +5,7 @@ use Rattle.inode_meta.specs.declared.measurement.Field.TheVariants.{Digest, Name
 use Rattle.inode_meta.specs.declared.measurement.Template.{Template}
 use Rattle.inode_meta.specs.declared.measurement.Template.TheVariants.{Ima, ImaNg, ImaSig, ImaBuf}
 
--- in the order in which they stand in the template data
+-- in the order in which the template data has them
 abbrev pub template_fields : Template → List Field
 template_fields Ima = Digest ∷ Name ∷ []
 template_fields ImaNg = DigestNg ∷ NameNg ∷ []

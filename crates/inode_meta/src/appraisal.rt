@@ -1,8 +1,8 @@
 ghost use Rattle.std.specs.Prelude.{◌≡◌};
 ghost use Rattle.inode_meta.specs.Words.{evm_status_word, mode_word};
 
-/// What EVM says of an inode's protected attributes and metadata (the kernel's `enum
-/// integrity_status`).
+/// The EVM status of an inode: the result of comparing `security.evm` with its protected attributes
+/// and metadata (the kernel's `enum integrity_status`).
 #[derive(Clone, Copy, Debug, PartialEq, Eq)]
 pub enum EvmStatus {
     /// `security.evm` is the HMAC of the inode as it is.
@@ -11,11 +11,11 @@ pub enum EvmStatus {
     NoXattrs,
     /// There are protected attributes and no `security.evm`.
     NoLabel,
-    /// `security.evm` doesn't fit.
+    /// `security.evm` is present, but it is the HMAC in neither form.
     Fail,
-    /// `security.evm` is the HMAC of the older form: the five names alone and no UUID.
+    /// `security.evm` is the HMAC in the older form: the five names only, and no UUID.
     Old,
-    /// There is no key.
+    /// EVM has no key, so nothing can be checked.
     Unknown,
 }
 
@@ -35,30 +35,30 @@ impl EvmStatus {
     }
 }
 
-/// The kind of label that an `appraise` rule asks for.
+/// The kind of label that an `appraise` rule requires.
 #[derive(Clone, Copy, Debug, PartialEq, Eq)]
 pub enum Need {
-    /// A digest or a signature.
+    /// A digest or a signature will do.
     Any,
-    /// A signature (`appraise_type=imasig`).
+    /// A signature is required (`appraise_type=imasig`).
     Signature,
 }
 
-/// The appraisal mode (the kernel's boot word `ima_appraise=`).
+/// The appraisal mode (the kernel's boot parameter `ima_appraise=`).
 #[derive(Clone, Copy, Debug, PartialEq, Eq)]
 pub enum Mode {
-    /// A file is admitted exactly where its verdict is Pass.
+    /// A file is admitted exactly if its verdict is Pass.
     Enforce,
-    /// Every file is admitted; verdicts are told.
+    /// Every file is admitted; verdicts are only reported.
     Log,
-    /// Every file is admitted, and labels are mended.
+    /// Every file is admitted, and labels are repaired.
     Fix,
-    /// There are no verdicts.
+    /// Appraisal is off, and no verdict is computed.
     Off,
 }
 
 impl Mode {
-    /// The word of the setting.
+    /// The word by which a setting names the mode.
     pub fn word(self) -> &'static str
         ensures { result.now ≡ mode_word self }
     {
@@ -71,10 +71,10 @@ impl Mode {
     }
 }
 
-/// The hook whose verdict is kept: each has a place of its own in the kernel's inode cache.
+/// A slot of cached verdicts: like the kernel's inode cache, an inode keeps one verdict for each.
 #[derive(Clone, Copy, Debug, PartialEq, Eq)]
 pub enum Slot {
-    /// Opened files, and every function with no slot of its own.
+    /// Opened files, and every function without a slot of its own.
     File,
     /// Files mapped for execution.
     Mmap,

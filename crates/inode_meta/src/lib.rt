@@ -1,6 +1,6 @@
-//! The plain values that every layer speaks of: an inode's metadata, a task's credentials, the
-//! place of a step, and the small choices of IMA and EVM (status, appraisal mode, template, bank,
-//! slot), each with its printed word.
+//! The plain values that every layer shares: an inode's metadata, a task's credentials, the
+//! position of a step, and the small enumerations of IMA and EVM (status, appraisal mode, template,
+//! bank, slot), each with its printed word.
 #![tactic(auto)]
 
 mod appraisal;

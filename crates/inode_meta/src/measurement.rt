@@ -2,9 +2,11 @@ ghost use Rattle.std.specs.Prelude.{◌≡◌};
 ghost use Rattle.inode_meta.specs.Fields.{template_fields};
 ghost use Rattle.inode_meta.specs.Words.{bank_word, template_word};
 
-/// The register that measurements extend where no rule names another (the kernel's
+/// The register that measurements extend if no rule names another (the kernel's
 /// `CONFIG_IMA_MEASURE_PCR_IDX`). Violations always extend it.
 pub const DEFAULT_PCR: u8 = 10;
+
+const _: () = prove!(DEFAULT_PCR == 10);
 
 /// The template of an entry of the measurement list (Documentation/security/IMA-templates.rst).
 #[derive(Clone, Copy, Debug, PartialEq, Eq)]
@@ -16,12 +18,12 @@ pub enum Template {
     /// The fields `d-ng`, `n-ng` and `sig`.
     ImaSig,
     /// The fields `d-ng`, `n-ng` and `buf`. Only buffers of critical data use it: no rule, action,
-    /// settings or script holds it.
+    /// setting or script can name it.
     ImaBuf,
 }
 
 impl Template {
-    /// The template's name as lists print it.
+    /// The template's name as measurement lists print it.
     pub fn word(self) -> &'static str
         ensures { result.now ≡ template_word self }
     {
@@ -33,7 +35,7 @@ impl Template {
         }
     }
 
-    /// The template's fields, in the order in which they stand in the template data.
+    /// The template's fields, in the order in which the template data has them.
     pub fn fields(self) -> &'static [Field]
         ensures { result.now ≡ template_fields self }
     {
@@ -49,26 +51,26 @@ impl Template {
 /// A field of a template, by its name in the documentation.
 #[derive(Clone, Copy, Debug, PartialEq, Eq)]
 pub enum Field {
-    /// `d`: the digest by SHA-1, whatever was collected.
+    /// `d`: the SHA-1 digest, whatever algorithm the file was collected with.
     Digest,
-    /// `n`: the name, in 256 bytes.
+    /// `n`: the name, in a field of 256 bytes.
     Name,
-    /// `d-ng`: the digest with its algorithm's name.
+    /// `d-ng`: the digest, after its algorithm's name.
     DigestNg,
-    /// `n-ng`: the name and a zero byte.
+    /// `n-ng`: the name and a terminating zero byte.
     NameNg,
-    /// `sig`: the signature in `security.ima`.
+    /// `sig`: the signature from `security.ima`.
     Sig,
-    /// `buf`: the buffer.
+    /// `buf`: the measured buffer itself.
     Buf,
 }
 
-/// A bank of platform configuration registers, named for its hash.
+/// A bank of platform configuration registers, named after its hash.
 #[derive(Clone, Copy, Debug, PartialEq, Eq)]
 pub enum Bank {
-    /// Registers of 20 bytes.
+    /// The SHA-1 bank, with registers of 20 bytes.
     Sha1,
-    /// Registers of 32 bytes.
+    /// The SHA-256 bank, with registers of 32 bytes.
     Sha256,
 }
 

@@ -1,5 +1,5 @@
-/// The place of a step: which task, which of its calls, and which step of that call, each counted
-/// from 0.
+/// The position of a step in a run: the task, the task's call, and the step of that call, each
+/// counted from 0.
 #[derive(Clone, Copy, Debug, PartialEq, Eq)]
 pub struct Who {
     /// The task's number.

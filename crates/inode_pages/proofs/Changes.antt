@@ -13,7 +13,7 @@ use Rattle.inode_pages.proofs.Lookups.{get-append_left, get-append_right, get-dr
 use Rattle.inode_pages.proofs.Paging.{paged}
 use Rattle.inode_pages.proofs.Writes.{piece_before, piece_behind, length-written}
 
--- the pages with others in place of as many from one on
+-- the pages, with as many of them replaced as there are new ones, from the number `first` on
 patched : List (List ℕ) → ℕ → List (List ℕ) → List (List ℕ)
 patched pages first new = take first pages ++ new ++ drop (first + length new) pages
 
@@ -60,8 +60,8 @@ module _ (pages new : List (List ℕ)) (first : ℕ) (within : first ≤ length 
       ∙ get-append_right (take first pages ++ new) (drop (first + length new) pages) j
       ∙ get-drop (first + length new) pages j
 
--- The pages of a content after a write: those from one on that the write reaches are the pieces of
--- the new content
+-- The pages of a content after a write: the pages that the write affects, from the number `first`
+-- on, are the pieces of the new content.
 module _ (content bytes : List ℕ) (pages new : List (List ℕ)) (from first : ℕ) where
   after : List ℕ
   after = overwritten content from bytes
@@ -113,7 +113,7 @@ module _ (content bytes : List ℕ) (pages new : List (List ℕ)) (from first : 
             (omega (arith, long));
       }
 
--- a write puts the new pages in, and they are then the new content's
+-- after the new pages are put in, the pages are those of the new content
 pub after_write : (content bytes : List ℕ) (kept pages new result : List (List ℕ)) (from first : ℕ)
     → concat kept ≡ content → IsPaged kept → pages ≡ kept
     → first ≡ min from (length content) / 4096 → length new
@@ -134,7 +134,7 @@ after_write content bytes kept pages new result from first whole paged_before sa
     after)
     (omega (arith, length-written content from bytes, ap length whole, paged_before.small, small))
 
--- the pages that are left by a cut: the whole ones, and perhaps a part of the next
+-- the pieces before the cut are unchanged; a cut may leave a part of the next one
 piece_of_front : (content : List ℕ) (len k : ℕ) → 4096 * (k + 1) ≤ len
     → piece_at (take len content) k ≡ piece_at content k
 piece_of_front content len k within =
@@ -151,7 +151,7 @@ last_of_front content whole rest short =
     (omega (arith, length-take rest (drop (4096 * whole) content)))
     ∙ sym (take-take rest 4096 (drop (4096 * whole) content) short)
 
--- a cut at the end of a page
+-- a cut at a page boundary
 pub cut_between : (content : List ℕ) (pages : List (List ℕ)) (len : ℕ) → ArePagesOf content pages
     → len < length content → len % 4096 ≡ 0
     → ArePagesOf (take len content) (take (len / 4096) pages)
@@ -209,7 +209,7 @@ cut_within content pages last len are shorter odd is = record {
     cut : 4096 * (len / 4096) + len % 4096 ≡ len
     cut = omega arith
 
--- a cut leaves the new content's pages
+-- the pages after a cut at a page boundary are those of the new content
 pub after_cut_between : (content : List ℕ) (kept result : List (List ℕ)) (len : ℕ) → concat kept
     ≡ content → IsPaged kept → len < length content → len % 4096 ≡ 0
     → result ≡ take (len / 4096) kept → IsPaged result × (concat result ≡ take len content)

@@ -1,13 +1,13 @@
--- Contents whose bytes are written out.
+-- Contents of a few bytes, computed.
 use Rattle.std.proofs.Common.{◌≡◌, [], ◌∷◌, ◌++◌, true, false, refl}
 use Rattle.std.specs.Prelude.{replicate}
 use Rattle.inode_pages.specs.Content.{bytes_at, is_last_piece, overwritten, piece_at, resized}
 
--- what was cut away doesn't come back
+-- bytes that were cut off don't come back when the content is extended
 cut_and_lengthened : resized (resized (97 ∷ 98 ∷ 99 ∷ []) 1) 3 ≡ 97 ∷ 0 ∷ 0 ∷ []
 cut_and_lengthened = refl
 
--- a write within, across the end, and behind a gap
+-- a write inside the content, across its end, and after a gap
 written_inside : overwritten (97 ∷ 98 ∷ 99 ∷ []) 1 (120 ∷ []) ≡ 97 ∷ 120 ∷ 99 ∷ []
 written_inside = refl
 
@@ -17,7 +17,7 @@ written_across = refl
 written_behind : overwritten (97 ∷ 98 ∷ 99 ∷ []) 4 (120 ∷ []) ≡ 97 ∷ 98 ∷ 99 ∷ 0 ∷ 120 ∷ []
 written_behind = refl
 
--- a read that goes past the end
+-- a read that extends past the end
 read_past : bytes_at (97 ∷ 98 ∷ 99 ∷ []) 1 9 ≡ 98 ∷ 99 ∷ []
 read_past = refl
 

@@ -1,4 +1,4 @@
--- The pieces of a content that is one byte so many times.
+-- The pieces of a content that repeats one byte.
 use Rattle.std.proofs.Common.{◌≡◌, ℕ, ◌-◌, ◌*◌, ◌<◌, ◌≤◌, ⊎_elim, List, length, take, Some, sym, ap, ◌∙◌, min, arith}
 use Rattle.std.specs.Prelude.{replicate, slice_get}
 use Rattle.std.specs.Int.{div_ceil}
@@ -10,7 +10,7 @@ use Rattle.inode_pages.specs.Content.{piece_at, most_bytes}
 use Rattle.inode_pages.specs.Pages.{IsPaged}
 use Rattle.inode_pages.proofs.Paging.{paged}
 
--- at most so many of n times one element
+-- the first `most` of n copies of one element
 take-replicate_min : (most n x : ℕ) → take most (replicate n x) ≡ replicate (min n most) x
 take-replicate_min most n x =
     ⊎_elim
@@ -23,20 +23,20 @@ take-replicate_min most n x =
     take-replicate most n x long ∙ ap (λ m. replicate m x) enough)
     (cases_lt n most)
 
--- each piece is as many of the byte as are left
+-- each piece repeats the byte, as often as the count leaves for it
 piece_of_filled : (count byte k : ℕ)
     → piece_at (replicate count byte) k ≡ replicate (min (count - 4096 * k) 4096) byte
 piece_of_filled count byte k = ap (take 4096) (drop-replicate (4096 * k) count byte)
     ∙ take-replicate_min 4096 (count - 4096 * k) byte
 
--- a page of so many of the byte
+-- a page with as many copies of the byte as the piece has is that piece
 pub filled_piece : (page : List ℕ) (count byte k len : ℕ)
     → page ≡ replicate len byte → len ≡ min (count - 4096 * k) 4096
     → page ≡ piece_at (replicate count byte) k
 filled_piece page count byte k len is size = is ∙ ap (λ n. replicate n byte) size
     ∙ sym (piece_of_filled count byte k)
 
--- the first page again, which has as many of the byte
+-- the first page serves for each piece of the same length
 pub first_again : (page first : List ℕ) (count byte k len : ℕ)
     → page ≡ first → first ≡ replicate (min count 4096) byte → len ≡ length first
     → len ≡ min (count - 4096 * k) 4096
@@ -45,7 +45,7 @@ first_again page first count byte k len is first_is full size =
     filled_piece page count byte k (min count 4096) (is ∙ first_is)
     (sym (full ∙ ap length first_is ∙ length-replicate (min count 4096) byte) ∙ size)
 
--- the pieces are the pages of the whole
+-- the pages that are pieces of the content are all its pages
 pub paged_filled : (pages : List (List ℕ)) (count byte : ℕ) → count ≤ most_bytes
     → length pages ≡ div_ceil count 4096
     → ((k : ℕ) → k < length pages → slice_get pages k ≡ Some (piece_at (replicate count byte) k))

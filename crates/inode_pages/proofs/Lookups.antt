@@ -1,16 +1,16 @@
--- What stands at a place of a list that is made of parts.
+-- The element at an index of a list that is put together from parts.
 use Rattle.std.proofs.Common.{◌≡◌, ℕ, zero, suc, ◌+◌, ◌<◌, List, [], ◌∷◌, ◌++◌, length, take, drop, refl, ap, ◌∙◌, arith}
 use Rattle.std.specs.Prelude.{slice_get}
 
 module _ {X : Type 0} where
-  -- in the first part
+  -- an element of the first part
   pub get-append_left : (xs ys : List X) (k : ℕ) → k < length xs → slice_get (xs ++ ys) k
       ≡ slice_get xs k
   get-append_left [] ys k within = absurd (omega arith)
   get-append_left (x ∷ xs) ys zero within = refl
   get-append_left (x ∷ xs) ys (suc k) within = get-append_left xs ys k (omega arith)
 
-  -- in the second part
+  -- an element of the second part
   pub get-append_right : (xs ys : List X) (k : ℕ) → slice_get (xs ++ ys) (length xs + k)
       ≡ slice_get ys k
   get-append_right [] ys k = let place : 0 + k ≡ k = omega arith in ap (slice_get ys) place
@@ -18,7 +18,7 @@ module _ {X : Type 0} where
       let place : suc (length xs) + k ≡ suc (length xs + k) = omega arith in
       ap (slice_get (x ∷ xs ++ ys)) place ∙ get-append_right xs ys k
 
-  -- behind the first n
+  -- an element after the first n
   pub get-drop : (n : ℕ) (xs : List X) (k : ℕ) → slice_get (drop n xs) k ≡ slice_get xs (n + k)
   get-drop zero xs k = let place : k ≡ 0 + k = omega arith in ap (slice_get xs) place
   get-drop (suc n) [] k = refl
@@ -26,7 +26,7 @@ module _ {X : Type 0} where
       let place : suc (n + k) ≡ suc n + k = omega arith in get-drop n xs k
       ∙ ap (slice_get (x ∷ xs)) place
 
-  -- among the first n
+  -- an element among the first n
   pub get-take : (n : ℕ) (xs : List X) (k : ℕ) → k < n → slice_get (take n xs) k ≡ slice_get xs k
   get-take zero xs k within = absurd (omega arith)
   get-take (suc n) [] k within = refl

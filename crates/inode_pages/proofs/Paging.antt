@@ -1,4 +1,4 @@
--- How pages and their content belong together.
+-- The relation between a content and its pages.
 use Rattle.std.proofs.Common.{◌≡◌, ℕ, zero, suc, ◌+◌, ◌-◌, ◌*◌, ◌/◌, ◌%◌, ◌<◌, ◌≤◌, List, [], ◌∷◌, ◌++◌, length, take, drop, Some, refl, sym, ap, ◌∙◌, subst, arith}
 use Rattle.std.specs.Prelude.{slice_get}
 use Rattle.std.specs.List.{concat}
@@ -8,7 +8,7 @@ use Rattle.std.proofs.lemmas.Option.{same_Some, slice_get_within}
 use Rattle.inode_pages.specs.Content.{bytes_at, piece_bytes, piece_at, most_bytes}
 use Rattle.inode_pages.specs.Pages.{ArePagesOf, IsPaged}
 
--- the pieces behind the first are those of what is left
+-- the pieces after the first are those of the content without its first piece
 piece_at-rest : (content : List ℕ) (k : ℕ) → piece_at content (suc k)
     ≡ piece_at (drop piece_bytes content) k
 piece_at-rest content k =
@@ -16,7 +16,7 @@ piece_at-rest content k =
     ap (λ (n : ℕ). take 4096 (drop n content)) place
     ∙ ap (take 4096) (sym (drop-drop (4096 * k) 4096 content))
 
--- a content is its pages, one behind the other
+-- a content is the concatenation of its pages
 pub concat_pages : (content : List ℕ) (pages : List (List ℕ)) → ArePagesOf content pages
     → concat pages ≡ content
 concat_pages content [] are = sym (nil_from_length content (omega (arith, are.enough)))
@@ -30,7 +30,7 @@ concat_pages content (page ∷ pages) are =
     }) in
     (λ i. first i ++ rest i) ∙ take-append-drop 4096 content
 
--- how many bytes a content has, by the last of its pages
+-- the length of a content, by the length of its last page
 pub length_by_last : (content : List ℕ) (pages : List (List ℕ)) (last : List ℕ)
     → ArePagesOf content pages → slice_get pages (length pages - 1) ≡ Some last
     → (length pages - 1) * 4096 + length last ≡ length content
@@ -49,7 +49,7 @@ length_by_last content pages last are at =
       are.needed,
     )
 
--- the list with one element in place of another
+-- a list with one element replaced, as the parts before and after it
 pub set_parts : {X : Type 0} (xs : List X) (k : ℕ) (y : X) → k < length xs → set xs k y ≡ take k xs
     ++ y ∷ drop (k + 1) xs
 set_parts [] k y within = absurd (omega arith)
@@ -59,7 +59,7 @@ set_parts {X = X} (x ∷ xs) (suc k) y within =
     ap (λ (l : List X). x ∷ l) (set_parts xs k y (omega arith))
     ∙ ap (λ (n : ℕ). x ∷ (take k xs ++ y ∷ drop n (x ∷ xs))) behind
 
--- the rest of the piece in which a place lies
+-- the part of a piece from an offset in it on
 pub rest_of_piece : (content : List ℕ) (at : ℕ)
     → bytes_at (piece_at content (at / 4096)) (at % 4096) (4096 - at % 4096)
     ≡ bytes_at content at (4096 - at % 4096)
@@ -74,7 +74,7 @@ rest_of_piece content at =
     ∙ ap (take (4096 - r)) (drop-drop r (4096 * (at / 4096)) content
     ∙ ap (λ n. drop n content) place)
 
--- pages as a content keeps them, from the content that they are of
+-- pages of a content satisfy the invariant of kept pages, and their concatenation is the content
 pub paged : (content : List ℕ) (pages : List (List ℕ)) → ArePagesOf content pages
     → length content ≤ most_bytes → IsPaged pages × (concat pages ≡ content)
 paged content pages are small =

@@ -1,16 +1,17 @@
--- How a read fills its buffer, part by part.
+-- Filling the buffer of a read, part by part.
 use Rattle.std.proofs.Common.{◌≡◌, ℕ, ◌+◌, ◌≤◌, List, ◌++◌, length, take, drop, sym, ap, ◌∙◌, arith, length-append}
 use Rattle.std.proofs.Math.Seq.{take-add}
 use Rattle.std.proofs.lemmas.List.{drop-drop, length-take, take-take, take_at, drop_at}
 use Rattle.inode_pages.specs.Content.{bytes_at}
 
--- so many bytes from a place on, and then some more
+-- n bytes at an offset, followed by the next m bytes
 bytes_at-add : (content : List ℕ) (from n m : ℕ) → bytes_at content from (n + m)
     ≡ bytes_at content from n ++ bytes_at content (from + n) m
 bytes_at-add content from n m = take-add n m (drop from content)
     ∙ ap (λ l. take n (drop from content) ++ take m l) (drop-drop n from content)
 
--- once `done` bytes are read, and the next part is put behind them
+-- after `done` bytes were read and the next part was copied after them, `done + count` bytes are
+-- read
 pub read_on : (content old buf new part : List ℕ) (from done count room : ℕ) → buf
     ≡ bytes_at content from done ++ drop done old → length (bytes_at content from done) ≡ done
     → part ≡ bytes_at content (from + done) room → count ≤ length part → new ≡ take done buf

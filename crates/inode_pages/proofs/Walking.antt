@@ -1,10 +1,10 @@
--- Going over the pages of a content, one after the other.
+-- Iterating over the pages of a content.
 use Rattle.std.proofs.Common.{◌≡◌, ℕ, ◌+◌, ◌<◌, List, [], ◌∷◌, ◌++◌, get_or, length, take, sym, ap, ◌∙◌}
 use Rattle.std.specs.List.{concat}
 use Rattle.std.proofs.lemmas.List.{append-nil, take_more}
 use Rattle.std.proofs.lemmas.List.Folds.{concat-append}
 
--- the bytes of one page more
+-- the concatenated bytes of one more page
 pub concat_more : (pages : List (List ℕ)) (i : ℕ) (page : List ℕ) → i < length pages
     → page ≡ get_or pages i page
     → concat (take (i + 1) pages) ≡ concat (take i pages) ++ page

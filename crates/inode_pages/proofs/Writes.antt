@@ -1,10 +1,10 @@
--- What stands at a part of a content after a write.
+-- The parts of a content after a write.
 use Rattle.std.proofs.Common.{◌≡◌, ℕ, zero, suc, ◌+◌, ◌-◌, ◌≤◌, List, [], ◌∷◌, ◌++◌, length, take, drop, refl, sym, ap, ◌∙◌, arith, min, max, length-append}
 use Rattle.std.specs.Prelude.{replicate}
 use Rattle.std.proofs.lemmas.List.{append-nil, drop_all, length-drop, length-replicate, length-take, take-append-drop}
 use Rattle.inode_pages.specs.Content.{bytes_at, overwritten}
 
--- nothing is left of nothing
+-- dropping elements of the empty list leaves it empty
 drop-nil : (n : ℕ) → drop {A = ℕ} n [] ≡ []
 drop-nil n = drop_all n [] (omega arith)
 
@@ -12,7 +12,7 @@ take-nil : (n : ℕ) → take {A = ℕ} n [] ≡ []
 take-nil zero = refl
 take-nil (suc n) = refl
 
--- a write into nothing, and a write of nothing, at the start
+-- a write into the empty content, and a write of no bytes at the start
 pub written_alone : (bytes : List ℕ) → overwritten [] 0 bytes ≡ bytes
 written_alone bytes = ap (λ (xs : List ℕ). bytes ++ xs) (drop-nil (0 + length bytes))
     ∙ append-nil bytes
@@ -20,7 +20,7 @@ written_alone bytes = ap (λ (xs : List ℕ). bytes ++ xs) (drop-nil (0 + length
 pub written_nothing : (content : List ℕ) → overwritten content 0 [] ≡ content
 written_nothing content = refl
 
--- a write at a later place leaves the first byte, or a zero
+-- a write at a later offset leaves the first byte, or makes it zero
 written_later : (x : ℕ) (content : List ℕ) (from : ℕ) (bytes : List ℕ)
     → overwritten (x ∷ content) (suc from) bytes ≡ x ∷ overwritten content from bytes
 written_later x content from bytes =
@@ -39,14 +39,14 @@ written_gap from bytes =
     ∙ (λ i. 0 ∷ (take from (replicate (less i) 0) ++ bytes
     ++ (drop-nil (suc (from + length bytes)) ∙ sym (drop-nil (from + length bytes))) i))
 
--- a write at the start begins with its first byte
+-- a content that is written at the start begins with the write's first byte
 written_first : (x y : ℕ) (content bytes : List ℕ) → overwritten (x ∷ content) 0 (y ∷ bytes) ≡ y
     ∷ overwritten content 0 bytes
 written_first x y content bytes =
     let end : 0 + suc (length bytes) ≡ suc (0 + length bytes) = omega arith in
     λ i. y ∷ (bytes ++ drop (end i) (x ∷ content))
 
--- the part behind a place, after a write
+-- the bytes from an offset on, after a write
 pub written-drop : (s : ℕ) (content : List ℕ) (from : ℕ) (bytes : List ℕ)
     → drop s (overwritten content from bytes)
     ≡ overwritten (drop s content) (from - s) (drop (s - from) bytes)
@@ -83,7 +83,7 @@ written-drop (suc s) (x ∷ content) (suc from) bytes =
     ap (drop (suc s)) (written_later x content from bytes) ∙ written-drop s content from bytes
     ∙ (λ i. overwritten (drop s content) (at i) (drop (past i) bytes))
 
--- the first part, after a write
+-- the first n bytes, after a write
 pub written-take : (n : ℕ) (content : List ℕ) (from : ℕ) (bytes : List ℕ)
     → take n (overwritten content from bytes)
     ≡ overwritten (take n content) (min from n) (take (n - from) bytes)
@@ -126,8 +126,8 @@ written-take (suc n) (x ∷ content) (suc from) bytes =
     ∙ sym (written_later x (take n content) (min from n) (take (suc n - suc from) bytes))
     ∙ (λ i. overwritten (x ∷ take n content) (at i) (take (suc n - suc from) bytes))
 
--- The bytes at a place, after a write: those that were there, with the write's part that falls
--- among them
+-- The n bytes at an offset, after a write: the old ones, overwritten by the part of the write that
+-- falls among them.
 pub bytes_at-written : (content : List ℕ) (from : ℕ) (bytes : List ℕ) (s n : ℕ)
     → bytes_at (overwritten content from bytes) s n
     ≡ overwritten (bytes_at content s n) (min (from - s) n)
@@ -136,7 +136,7 @@ bytes_at-written content from bytes s n =
     ap (take n) (written-drop s content from bytes)
     ∙ written-take n (drop s content) (from - s) (drop (s - from) bytes)
 
--- a write of nothing within a content leaves it
+-- a write of no bytes within a content changes nothing
 pub written_within : (content : List ℕ) (from : ℕ) → from ≤ length content
     → overwritten content from [] ≡ content
 written_within content from within =
@@ -147,7 +147,7 @@ written_within content from within =
     ∙ (λ i. take from (append-nil content i) ++ drop from content)
     ∙ take-append-drop from content
 
--- a piece that ends before a write, or begins behind it, stays
+-- a piece that ends before a write, or begins after it, doesn't change
 pub piece_before : (content : List ℕ) (from : ℕ) (bytes : List ℕ) (s n : ℕ) → s + n ≤ from
     → s + n ≤ length content
     → bytes_at (overwritten content from bytes) s n ≡ bytes_at content s n
@@ -170,7 +170,7 @@ piece_behind content from bytes s n behind =
     ∙ (λ i. overwritten (bytes_at content s n) (at i) (take (n - (from - s)) (none i)))
     ∙ ap (overwritten (bytes_at content s n) 0) (take-nil (n - (from - s)))
 
--- how long a content is after a write
+-- the length of a content after a write
 pub length-written : (content : List ℕ) (from : ℕ) (bytes : List ℕ)
     → length (overwritten content from bytes) ≡ max (length content) (from + length bytes)
 length-written content from bytes =

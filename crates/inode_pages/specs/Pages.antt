@@ -1,4 +1,4 @@
--- How a content is kept in pages.
+-- The representation of a content as pages.
 use Rattle.std.specs.Prelude.{◌≡◌, ℕ, ◌+◌, ◌*◌, ◌<◌, ◌≤◌, List, length, Some, slice_get}
 use Rattle.std.specs.List.{concat}
 use Rattle.inode_pages.specs.Content.{piece_bytes, most_bytes, piece_at}
@@ -9,7 +9,7 @@ pub record ArePagesOf (content : List ℕ) (pages : List (List ℕ)) : Type 0 wh
   pub needed : piece_bytes * length pages < length content + piece_bytes
   pub each : (k : ℕ) → k < length pages → slice_get pages k ≡ Some (piece_at content k)
 
--- pages as a content keeps them
+-- the pages are those of some content
 pub record IsPaged (pages : List (List ℕ)) : Type 0 where
   pub pages_are : ArePagesOf (concat pages) pages
   pub small : length (concat pages) ≤ most_bytes

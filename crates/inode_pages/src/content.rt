@@ -1,4 +1,4 @@
-//! The content of a file.
+//! The content of a file: its bytes, in shared pages.
 ghost use Rattle.std.specs.Prelude.{◌≡◌, ℕ, ◌∷◌, ◌+◌, ◌-◌, ◌*◌, ◌%◌, ◌<◌, ◌≤◌, ◌↔◌, ◌⊎◌, [], ◌++◌, length, take, drop, IfOk, IsErrOf, OnOk, OnErr, min, replicate, slice_get, vec_len, Some};
 ghost use Rattle.std.specs.List.{concat};
 ghost use Rattle.std.specs.Vec.{vec_capacity};
@@ -11,15 +11,15 @@ use crate::page::{PAGE_SIZE, Page, overwritten, shared};
 use std::alloc::{AllocError as OutOfMemory, Global};
 use std::marker::Model;
 
-/// The most bytes that a content may have.
+/// The most bytes that a file may have.
 pub const MOST_BYTES: u64 = 262_144;
 
-/// Why a content wasn't changed, or wasn't made.
+/// Why a content could not be created or changed.
 #[derive(Clone, Copy, Debug, PartialEq, Eq)]
 pub enum PageErr {
-    /// Its end would lie above [`MOST_BYTES`].
+    /// The content would be longer than [`MOST_BYTES`].
     TooBig,
-    /// There was no memory.
+    /// Memory ran out.
     OutOfMemory,
 }
 
@@ -31,9 +31,9 @@ impl From<OutOfMemory> for PageErr {
     }
 }
 
-/// The bytes of a file, at most [`MOST_BYTES`]. Contracts see their list. They are kept as pages of
-/// [`PAGE_SIZE`] bytes. A page that was handed out stays as it is: a write makes new pages in place
-/// of those that it changes, and makes them all before it puts any in.
+/// The bytes of a file, at most [`MOST_BYTES`]. Contracts see the list of bytes. They are kept as
+/// pages of [`PAGE_SIZE`] bytes. A page that was handed out never changes: a write replaces the
+/// pages that it affects by new ones, and creates all of these before it puts any in.
 #[derive(Drop)]
 pub struct Content {
     pages: Vec<Page>,
@@ -51,7 +51,7 @@ impl Model for Content {
     ghost invariant = { λ c. IsPaged c.pages.items };
 }
 
-// The bytes from a place on, at most so many.
+// At most `len` bytes from the offset `from` on.
 fn bytes_at(bytes: &[u8], from: usize, len: usize) -> &[u8]
     ensures { result.now ≡ bytes_at bytes.now from len }
 {
@@ -59,7 +59,7 @@ fn bytes_at(bytes: &[u8], from: usize, len: usize) -> &[u8]
     &rest[..len.min(rest.len())]
 }
 
-// Copies the bytes to a place in the buffer, as many as fit, and answers how many.
+// Copies the bytes to an offset in the buffer, as many as fit, and returns how many it copied.
 fn copy_part(buf: &mut [u8], at: usize, bytes: &[u8]) -> usize
     requires { at ≤ length buf.old }
     ensures count { result ≡ min (length bytes.now) (length buf.old - at) }
@@ -71,7 +71,7 @@ fn copy_part(buf: &mut [u8], at: usize, bytes: &[u8]) -> usize
     count
 }
 
-// Puts the page in place of the one with this number, or behind the last.
+// Replaces the page number `k` by this one, or appends it if `k` is the number of pages.
 fn put(pages: &mut Vec<Page>, k: usize, page: Page)
     requires place { k ≤ vec_len pages.old }
     requires room { k < vec_capacity pages.old }
@@ -86,7 +86,8 @@ fn put(pages: &mut Vec<Page>, k: usize, page: Page)
     }
 }
 
-// Puts the pages in place of as many from the number `first` on, or behind the last.
+// Replaces as many pages as there are new ones, from the number `first` on, and appends the new
+// ones that go beyond the end.
 fn put_all(pages: &mut Vec<Page>, first: usize, new: Vec<Page>)
     requires place { first ≤ vec_len pages.old }
     requires room { first + vec_len new ≤ vec_capacity pages.old }
@@ -101,7 +102,7 @@ fn put_all(pages: &mut Vec<Page>, first: usize, new: Vec<Page>)
 }
 
 impl Content {
-    /// The content without bytes.
+    /// The empty content.
     pub fn new(alloc: Global) -> Content
         ensures { result ≡ [] }
     {
@@ -110,7 +111,7 @@ impl Content {
         }
     }
 
-    /// The content with these bytes; `TooBig` exactly where they are more than [`MOST_BYTES`].
+    /// The content with these bytes; `TooBig` exactly if there are more than [`MOST_BYTES`].
     pub fn from_slice(alloc: Global, b: &[u8]) -> Result<Content, PageErr>
         ensures ok { IfOk result (λ content. content ≡ b.now) }
         ensures too_big { IsErrOf result PageErr.TooBig ↔ (most_bytes < length b.now) }
@@ -123,8 +124,8 @@ impl Content {
         Ok(content)
     }
 
-    /// So many times one byte; `TooBig` exactly where that is more than [`MOST_BYTES`]. All full
-    /// pages are one, which they share.
+    /// The content of `count` bytes, each equal to `byte`; `TooBig` exactly if `count` exceeds
+    /// [`MOST_BYTES`]. All full pages are one shared page.
     pub fn filled(alloc: Global, count: u64, byte: u8) -> Result<Content, PageErr>
         ensures ok { IfOk result (λ content. content ≡ replicate count byte) }
         ensures too_big { IsErrOf result PageErr.TooBig ↔ (most_bytes < count) }
@@ -137,7 +138,8 @@ impl Content {
         Ok(content)
     }
 
-    /// The same content. The pages are shared and not copied; a write to the one leaves the other.
+    /// A second handle on the same bytes. The pages are shared, not copied; a write to either
+    /// content leaves the other as it is.
     pub fn share(&self, alloc: Global) -> Result<Content, OutOfMemory>
         ensures { IfOk result (λ content. content ≡ self.now) }
     {
@@ -159,7 +161,7 @@ impl Content {
         }
     }
 
-    /// The pages, in order.
+    /// The pages, in order of their bytes.
     pub fn pages(&self) -> &[Page]
         ensures pages { ArePagesOf self.now result.now }
         ensures bytes { concat result.now ≡ self.now }
@@ -167,7 +169,7 @@ impl Content {
         self.pages.as_slice()
     }
 
-    // The piece with this number, none behind the last.
+    // The page's worth of bytes with this number; empty past the end.
     fn piece(&self, k: usize) -> &[u8]
         ensures piece { result.now ≡ piece_at self.now k }
         ensures small { length result.now ≤ piece_bytes }
@@ -179,7 +181,7 @@ impl Content {
     }
 
     /// The piece with this number, counted from 0: the bytes from `PAGE_SIZE * k` on, at most
-    /// [`PAGE_SIZE`], and none past the end.
+    /// [`PAGE_SIZE`] of them, and none past the end.
     pub fn chunk(&self, k: u32) -> &[u8]
         ensures piece { result.now ≡ piece_at self.now k }
         ensures small { length result.now ≤ piece_bytes }
@@ -187,7 +189,7 @@ impl Content {
         self.piece(k as usize)
     }
 
-    /// The page of the bytes of `chunk(k)`. It is shared and not copied, and no later write changes
+    /// The page with the bytes of `chunk(k)`. It is shared, not copied, and no later write changes
     /// it.
     pub fn page(&self, alloc: Global, k: u32) -> Result<Page, OutOfMemory>
         ensures piece { IfOk result (λ page. page ≡ piece_at self.now k) }
@@ -198,7 +200,7 @@ impl Content {
         }
     }
 
-    // The bytes from a place on as far as their page goes.
+    // The bytes from the offset `at` to the end of its page.
     fn rest_of_page(&self, at: usize) -> &[u8]
         ensures { result.now ≡ bytes_at self.now at (piece_bytes - at % piece_bytes) }
     {
@@ -209,8 +211,8 @@ impl Content {
 }
 
 impl Content {
-    // The pages with the numbers from `first` on, `count` many, as they are after a write. None of
-    // them is one of this content's.
+    // The `count` pages from the number `first` on, as a write would leave them. All of them are
+    // new: this content keeps its own.
     fn pages_after(
         &self,
         alloc: Global,
@@ -232,7 +234,7 @@ impl Content {
         Ok(pages)
     }
 
-    // The page with this number, as it is after a write.
+    // The page with this number, as a write would leave it.
     fn page_after(
         &self,
         alloc: Global,
@@ -250,8 +252,8 @@ impl Content {
         Ok(page)
     }
 
-    // Writes where the end lies within the limit. A write of nothing behind the end lengthens by
-    // zeros.
+    // A write whose end is within the limit. A write of no bytes past the end extends the content
+    // by zeros.
     fn overwrite(&mut self, alloc: Global, from: usize, b: &[u8]) -> Result<(), OutOfMemory>
         requires small { from + length b.now ≤ most_bytes }
         ensures ok { OnOk result (self.new ≡ overwritten self.old from b.now) }
@@ -265,8 +267,9 @@ impl Content {
         Ok(())
     }
 
-    /// Puts the bytes at a place, and zeros into a gap before it. `TooBig` exactly where their end
-    /// would lie above [`MOST_BYTES`]. After an error the content is as before.
+    /// Writes the bytes at the offset `from`, after filling any gap before it with zeros. `TooBig`
+    /// exactly if the write would end beyond [`MOST_BYTES`]. On an error the content doesn't
+    /// change.
     pub fn write(&mut self, alloc: Global, from: u64, b: &[u8]) -> Result<(), PageErr>
         requires { 1 ≤ length b.now }
         ensures ok { OnOk result (self.new ≡ overwritten self.old from b.now) }
@@ -280,7 +283,7 @@ impl Content {
         Ok(())
     }
 
-    // Keeps the first bytes alone.
+    // Truncates the content to its first `len` bytes.
     fn cut(&mut self, alloc: Global, len: usize) -> Result<(), OutOfMemory>
         requires shorter { len < length self.old }
         ensures ok { OnOk result (self.new ≡ take len self.old) }
@@ -299,8 +302,8 @@ impl Content {
         Ok(())
     }
 
-    /// Cuts the content, or lengthens it by zeros. `TooBig` exactly where `len` lies above
-    /// [`MOST_BYTES`]. After an error the content is as before.
+    /// Truncates the content to `len` bytes, or extends it by zeros. `TooBig` exactly if `len`
+    /// exceeds [`MOST_BYTES`]. On an error the content doesn't change.
     pub fn resize(&mut self, alloc: Global, len: u64) -> Result<(), PageErr>
         ensures ok { OnOk result (self.new ≡ resized self.old len) }
         ensures too_big { IsErrOf result PageErr.TooBig ↔ (most_bytes < len) }
@@ -317,8 +320,8 @@ impl Content {
         Ok(())
     }
 
-    /// Copies the bytes from a place on into the buffer, as many as it holds, and answers how many
-    /// they were: none from the end on. What lies behind them in the buffer stays.
+    /// Copies bytes from the offset `from` on into the buffer, as many as fit, and returns their
+    /// number, which is 0 at or past the end. The rest of the buffer doesn't change.
     pub fn read(&self, from: u64, buf: &mut [u8]) -> usize
         ensures bytes { buf.new ≡ bytes_at self.now from (length buf.old) ++ drop result buf.old }
         ensures count { result ≡ length (bytes_at self.now from (length buf.old)) }

@@ -1,4 +1,4 @@
-// The pages of a content that is one byte so many times.
+// The pages of a content that repeats one byte.
 ghost use Rattle.std.specs.Prelude.{◌≡◌, ◌<◌, ◌≤◌, min, replicate, IfOk};
 ghost use Rattle.std.specs.List.{concat};
 ghost use Rattle.inode_pages.specs.Content.{most_bytes, piece_at, piece_bytes};
@@ -7,7 +7,7 @@ ghost use Rattle.inode_pages.specs.Pages.{IsPaged};
 use crate::page::{PAGE_SIZE, Page};
 use std::alloc::{AllocError as OutOfMemory, Global};
 
-/// The pages of so many times this byte. All that are full are one page, which they share.
+/// The pages of `count` bytes that all equal `byte`. All full pages are one shared page.
 pub fn filled_pages(alloc: Global, count: usize, byte: u8) -> Result<Vec<Page>, OutOfMemory>
     requires { count ≤ most_bytes }
     ensures paged { IfOk result (λ pages. IsPaged pages.items) }
@@ -22,7 +22,7 @@ pub fn filled_pages(alloc: Global, count: usize, byte: u8) -> Result<Vec<Page>, 
     Ok(pages)
 }
 
-// The page with this number: the first one again, wherever it has as many bytes.
+// The page with this number: the first page again, if it has as many bytes as are needed.
 fn filled_page(
     alloc: Global,
     first: &Page,

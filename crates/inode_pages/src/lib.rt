@@ -1,5 +1,4 @@
-//! The bytes of a file, kept as pages of 4,096 bytes that may be shared, and are copied before they
-//! are changed.
+//! The bytes of a file, kept as pages of 4,096 bytes that may be shared and are copied on write.
 #![tactic(auto)]
 
 mod content;

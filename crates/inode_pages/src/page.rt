@@ -1,4 +1,4 @@
-//! A page: bytes that may have several owners, and are never changed.
+//! A page: immutable bytes that may have several owners.
 ghost use Rattle.std.specs.Prelude.{◌≡◌, ◌+◌, ◌≤◌, length, replicate, IfOk};
 ghost use Rattle.inode_pages.specs.Content.{overwritten, piece_bytes};
 
@@ -6,11 +6,11 @@ use std::alloc::{AllocError as OutOfMemory, Global};
 use std::marker::Model;
 use std::sync::Arc;
 
-/// How many bytes a page has, but for the last of a content.
+/// The size of a page in bytes. Only the last page of a content may be shorter.
 pub const PAGE_SIZE: usize = 4096;
 
-/// A page of a content as it was when it was handed out: at most 4,096 bytes, which no later write
-/// changes. Contracts see the list of its bytes.
+/// A page of a content, at most 4,096 bytes, as it was when it was handed out: no later write
+/// changes it. Contracts see the list of its bytes.
 #[derive(Drop)]
 pub struct Page {
     bytes: Arc<Vec<u8>, Global>,
@@ -29,7 +29,7 @@ impl Model for Page {
 }
 
 impl Page {
-    /// The bytes.
+    /// The page's bytes, borrowed.
     pub fn as_slice(&self) -> &[u8]
         ensures bytes { result.now ≡ self.now }
         ensures small { length self.now ≤ piece_bytes }
@@ -37,7 +37,7 @@ impl Page {
         self.bytes.as_slice()
     }
 
-    /// The page with these bytes, which it takes over.
+    /// A page that takes ownership of these bytes.
     pub fn from_vec(alloc: Global, bytes: Vec<u8>) -> Result<Page, OutOfMemory>
         requires small { length bytes.items ≤ piece_bytes }
         ensures bytes { IfOk result (λ p. p ≡ bytes.items) }
@@ -46,7 +46,7 @@ impl Page {
         Ok(Page { bytes })
     }
 
-    /// The page of so many times this byte.
+    /// A page of `count` bytes that all equal `byte`.
     pub fn filled(alloc: Global, count: usize, byte: u8) -> Result<Page, OutOfMemory>
         requires small { count ≤ piece_bytes }
         ensures bytes { IfOk result (λ p. p ≡ replicate count byte) }
@@ -54,7 +54,7 @@ impl Page {
         Page::from_vec(alloc, vec![in alloc; byte; count]?)
     }
 
-    /// The same page, with one owner more.
+    /// A second owner of the same page.
     pub fn share(&self) -> Result<Page, OutOfMemory>
         ensures bytes { IfOk result (λ p. p ≡ self.now) }
     {
@@ -63,7 +63,7 @@ impl Page {
     }
 }
 
-/// The same pages, each with one owner more.
+/// A second owner of each of these pages, in the same order.
 pub fn shared(alloc: Global, pages: &[Page]) -> Result<Vec<Page>, OutOfMemory>
     ensures { IfOk result (λ copy. copy.items ≡ pages.now) }
 {
@@ -74,7 +74,7 @@ pub fn shared(alloc: Global, pages: &[Page]) -> Result<Vec<Page>, OutOfMemory>
     Ok(copy)
 }
 
-/// A new page: the old one's bytes with others written over them from a place on.
+/// A new page: the old page's bytes, overwritten by others from an offset on.
 pub fn overwritten(
     alloc: Global,
     page: &[u8],

@@ -1,4 +1,4 @@
--- The open collection, one event on.
+-- The open collection after one more event.
 use Rattle.std.proofs.Common.{◌≡◌, ℕ, suc, ◌+◌, ◌≤◌, Bool, true, false, cond, List, [], ◌∷◌, length, Option, Some, None, refl, sym, ◌∙◌, ap, subst, arith}
 use Rattle.std.specs.Prelude.{◌==◌, is_none}
 use Rattle.std.proofs.lemmas.Bool.{cond-false, eqb-true, eq-eqb}
@@ -25,7 +25,7 @@ use Rattle.inode_state.specs.Collecting.{Asks, Chooses, HasAsked, IfAsked, IsAsk
 use Rattle.inode_state.specs.declared.collecting.Asked.{Asked}
 use Rattle.inode_state.specs.declared.collecting.Collecting.{Collecting}
 
--- a piece more
+-- one more piece keeps the collection in step with the journal
 more_same : (bytes : List ℕ) (b : Bool) (o : Option Collecting) (c : Option Collection)
     → shorts_seen o ≡ shortened c
     → shorts_seen (more_seen b o) ≡ shortened (collected_more bytes b c)
@@ -37,7 +37,7 @@ more_same bytes b (Some o) (Some c) e = ap (λ (s : Short). Some (record s {
   complete = b;
 })) (same_Some (short_seen o) (short_of c) e)
 
--- the collection, one event on
+-- the collection after one more event is the one that the journal defines
 pub collecting_on : (i : Inode) (p : List Event) (who : Who) (d : Deed) (t : Told) (algo : Algo)
     (asked : Option Asked) (old : Option Collecting)
     → Chooses i d p algo → Asks d p asked → shorts_seen old ≡ shortened (collecting i p)
@@ -82,9 +82,9 @@ collecting_on i p who (deed.CloseFinish file) told.Dropped algo asked old a b h 
 collecting_on i p who (deed.CloseFinish file) told.LabelledDropped algo asked old a b h = refl
 collecting_on i p who d t algo asked old a b h = h
 
--- ---- what was asked
+-- ---- what the check asked
 
--- a file that may be checked isn't collected
+-- a file at a stage that allows a check isn't being collected
 check_idle : (l : Stage) → may_check l ≡ true → is_collecting l ≡ false
 check_idle Gone m = refl
 check_idle Counted m = refl
@@ -95,19 +95,19 @@ check_idle Settled m = refl
 check_idle CloseCollecting m = cc
 check_idle CloseCollected m = cc
 
--- a piece more leaves it
+-- one more piece leaves what was asked
 more_asked : (p : List Event) (b : Bool) (o : Option Collecting) → HasAsked p o
     → HasAsked p (more_seen b o)
 more_asked p b None h = h
 more_asked p b (Some c) h = h
 
--- events that leave the file's last check leave it
+-- events that leave the file's last check leave what was asked
 calm_asked : (p q : List Event) (o : Option Collecting) → ((f : ℕ)
     → last_check f q ≡ last_check f p) → HasAsked p o → HasAsked q o
 calm_asked p q None same h = tt
 calm_asked p q (Some c) same h = subst (λ (x : Check). IfAsked x c.asked) (sym (same c.file)) h
 
--- a check is of another file than that of the open collection
+-- a check is never of the file whose collection is open
 apart : (i : Inode) (p : List Event) (g : ℕ) (o : Option Collecting) (k : Option Collection)
     → shorts_seen o ≡ shortened k → StageIs i p k
     → may_check (stage i g p) ≡ true → (c : Collecting) → o ≡ Some c → (b : Bool)
@@ -207,7 +207,7 @@ pieces_same (Some o) None e = cc
 pieces_same (Some o) (Some c) e = ap (λ (x : Short). x.pieces) (same_Some (short_seen o) (short_of
     c) e)
 
--- no more pieces were taken than there are events
+-- at most as many pieces were taken as there are events
 pub few_pieces : (i : Inode) (p : List Event) (o : Option Collecting)
     → shorts_seen o ≡ shortened (collecting i p) → pieces_taken o ≤ length p
 few_pieces i p o h = subst (λ (n : ℕ). n ≤ length p) (sym (pieces_same o (collecting i p) h))

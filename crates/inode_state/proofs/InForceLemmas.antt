@@ -1,4 +1,4 @@
--- The digest in force, one event on.
+-- The digest in force after one more event.
 use Rattle.std.proofs.Common.{◌≡◌, ℕ, Bool, true, false, ◌&&◌, ◌||◌, cond, List, [], ◌∷◌, length, Option, Some, None, refl, sym, ◌∙◌, ap, subst, arith}
 use Rattle.std.specs.Prelude.{not, option_map}
 use Rattle.std.proofs.lemmas.Option.{same_Some}
@@ -29,7 +29,7 @@ stale_same : (p : List Event) (w : Writes) → AreWrites p w → (f : Option InF
 stale_same p w h None = refl
 stale_same p w h (Some f) = sym (h.since f.begin)
 
--- whether the content is taken as changed
+-- the state and the journal agree on whether the content counts as changed
 pub changed_same : (i : Inode) (p : List Event) (m : Marks) (w : Writes) (f : Option InForce)
     → AreMarks p m → AreWrites p w → in_force_seen f ≡ in_force i p
     → changed_now m w f ≡ (new p || not (versions p) || is_stale (in_force i p) p)
@@ -39,7 +39,7 @@ changed_same i p m w f a b c =
     ∙ ap (λ (x : Bool). new p || not (versions p) || x) (stale_same p w b f
     ∙ ap (λ (x : Option journal.Digests). is_stale x p) c)
 
--- what voids the digest
+-- the state and the journal agree on which events void the digest
 pub voids_same : (d : Deed) (t : Told) (p : List Event) (f : Option journal.Digests) (drop changed
     : Bool) → drop ≡ is_last_drop d t p
     → changed ≡ (new p || not (versions p) || is_stale f p)
@@ -51,7 +51,7 @@ voids_same (deed.CloseFinish file) told.LabelledDropped p f drop changed a b = r
 voids_same d t p f drop changed a b = ap (λ (x : Bool). x && changed) a
     ∙ ap (λ (x : Bool). is_last_drop d t p && x) b
 
--- the digest of the collection that ends
+-- the digests given are those of the collection that ends
 given_same : (c : Option Collecting) (k : Option Collection) (sums : Option Sums)
     → shorts_seen c ≡ shortened k → option_map sums_of k ≡ sums
     → in_force_seen (given_now c sums) ≡ option_map digests_of k

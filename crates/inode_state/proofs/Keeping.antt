@@ -1,4 +1,4 @@
--- The journal, one event on.
+-- The invariant of a journal after one more event.
 use Rattle.std.proofs.Common.{◌≡◌, ℕ, ◌+◌, ◌<◌, List, [], ◌∷◌, ◌++◌, length, map, false, All, Option, Some, None, refl, sym, ◌∙◌, ap, subst, arith}
 use Rattle.std.proofs.lemmas.List.{length-reverse, map-append}
 use Rattle.std.proofs.lemmas.List.Elements.{All-append, All-cons, All-nil}
@@ -34,14 +34,14 @@ pub length_past : (list : List Event) → length (past list) ≡ length list
 unfolding past
 length_past list = length-reverse list
 
--- the birth stays
+-- appending an event leaves the birth
 pub birth_same : (list : List Event) (e : Event) → IsBorn (past list)
     → birth_in (list ++ e ∷ []) ≡ birth_in list
 unfolding past
 birth_same [] e b = absurd b
 birth_same (x ∷ xs) e b = refl
 
--- no more is counted than there are events
+-- each count is at most the number of events
 pub record IsSmall (s : State) (n : ℕ) : Type 0 where
   pub writers : s.counts.writers < n + 1
   pub readers : s.counts.readers < n + 1
@@ -63,13 +63,13 @@ small i list s h =
       pieces = omega (arith, p, len);
     }
 
--- an event that may be made and is told what the journal says
+-- an event follows if its deed may be done and its outcome is what the journal says
 pub follows_by : (i : Inode) (p : List Event) (who : Who) (d : Deed) (t : Told) → IsBorn p
     → May i p d → says i p (placed_in t) d ≡ Some t → Follows i p who d t
 follows_by i p who deed.Birth t b m s = absurd m
 follows_by i p who d t b m s = (b, m, s)
 
--- one event on
+-- the invariant holds after one more event
 pub kept_on : (i : Inode) (g g' : Grown Event) (own : Passed Event) (s s' : State) (e : Event)
     (number : ℕ) → Keeps i g own s
     → Follows i (past g.list) e.who e.deed e.told → IsBy (caller_of e) e.deed (past g.list)
@@ -96,7 +96,7 @@ kept_on i g g' own s s' e number k f by n name callers below list numbers state 
       state = subst (λ (q : List Event). IsState i q s') (sym p) state;
     }
 
--- how the file at the place was opened
+-- how the file that the event counts was opened
 abbrev pub how_of_event : Option Event → Option How
 how_of_event None = None
 how_of_event (Some e) = counted e.deed e.told
@@ -108,12 +108,12 @@ held_at i list file o legal is alive =
     let h = held_counted i file (past list) legal.1 alive in
     ap how_of_event (is ∙ sym (event_there file list) ∙ h.stands) ∙ h.said ∙ sym h.holds
 
--- a journal of one event
+-- the past of a journal of one event is that event
 pub past_one : (e : Event) → past (e ∷ []) ≡ e ∷ []
 unfolding past
 past_one e = refl
 
--- a birth alone
+-- the invariant holds for a journal that has only its birth
 pub keeps_born : (i : Inode) (g : Grown Event) (own : Passed Event) (s : State) (image : Image)
     → i.birth ≡ image → g.list ≡ birth_of image ∷ []
     → g.numbers ≡ 0 ∷ [] → own.name ≡ g.name → own.number ≡ 0 → own.mine ≡ (0, birth_of image) ∷ []

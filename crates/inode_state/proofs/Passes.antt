@@ -1,4 +1,4 @@
--- Passes to which a list is shown, one after the other.
+-- Showing a list to passes, one after the other.
 use Rattle.std.proofs.Common.{◌≡◌, ℕ, zero, suc, ◌+◌, ◌<◌, ◌==◌, List, [], ◌∷◌, ◌++◌, length, map, take, drop, get_or, All, Some, refl, sym, ◌∙◌, ap, arith}
 use Rattle.std.specs.Prelude.{count_by, slice_get, slice_set}
 use Rattle.std.proofs.lemmas.List.Elements.{All-cons, All-head, All-nil, All-tail}
@@ -9,11 +9,11 @@ use Rattle.inode_events.specs.declared.told.Event.{Event}
 use Rattle.inode_state.specs.Value.{HasOthers, KeptValue, having_seen, new_pass}
 
 module _ {X : Type 0} (f : X → X) where
-  -- the first k items are done
+  -- the items after the first k were replaced
   abbrev pub done : ℕ → List X → List X
   done k xs = map f (take k xs) ++ drop k xs
 
-  -- the next one isn't yet
+  -- item k isn't replaced yet
   pub done_at : (xs : List X) (k : ℕ) (d : X) → get_or (done k xs) k d ≡ get_or xs k d
   done_at [] zero d = refl
   done_at [] (suc k) d = refl
@@ -39,7 +39,7 @@ module _ {X : Type 0} (f : X → X) where
 
 -- ---- the passes of a journal that has shown them its birth
 
--- they are those of the journal, each once, as before
+-- after they have seen the list, the passes are still those of the journal, each once
 pub HasOthers-seen : (j : KeptValue) (list : List Event) (passes : List (Passed Event))
     → HasOthers j passes → HasOthers j (map (having_seen list) passes)
 HasOthers-seen j list passes others = record {
@@ -62,7 +62,7 @@ HasOthers-seen j list passes others = record {
       ∙ ap (λ c. bit (p.number == n) + c) (count n ps)
       ∙ sym (count_by-cons (λ p. p.number == n) p ps)
 
--- fresh passes have then seen it
+-- fresh passes, once they have seen the list, are new passes
 pub seen_at : (name later : ListName) (list list2 : List Event) (passes : List (Passed Event))
     (k : ℕ) (n : ℕ) → later ≡ name → list2 ≡ list → slice_get passes k ≡ Some (fresh name n)
     → slice_get (map (having_seen list) passes) k ≡ Some (new_pass later list2 n)

@@ -1,4 +1,4 @@
--- The verdicts in force, one event on.
+-- The verdicts in force after one more event.
 use Rattle.std.proofs.Common.{◌≡◌, ◌⊎◌, ℕ, Bool, true, false, ◌&&◌, cond, List, [], ◌∷◌, ◌++◌, length, Option, Some, None, refl, sym, ◌∙◌, ap, subst, inl, inr, ⊎_elim}
 use Rattle.std.specs.Prelude.{find, not, is_some, unwrap_or}
 use Rattle.std.specs.Option.{option_map, option_or}
@@ -34,7 +34,7 @@ use Rattle.inode_state.specs.declared.collecting.Asked.{Asked}
 use Rattle.inode_state.specs.declared.keys.Key.{Key as KeyKept}
 use Rattle.inode_state.specs.declared.verdicts.Kept.{Kept}
 
--- ---- one key is one value
+-- ---- equal keys are the same key
 
 both : (a b : Bool) → (a && b) ≡ true → (a ≡ true) × (b ≡ true)
 both true b e = (refl, e)
@@ -95,9 +95,9 @@ one_key a b e =
     let e3 = one_algos a.algos b.algos h.1 in
     λ i. record { slot = e1 i; need = e2 i; algos = e3 i }
 
--- ---- a verdict more
+-- ---- one more verdict
 
--- where a verdict was in force, a grant gives it again or gives none
+-- if a verdict was in force, a grant gives the same one or none
 abbrev GivesAgain : Option Verdict → Option Verdict → Type 0
 GivesAgain old given = (v : Verdict) → old ≡ Some v → (given ≡ None) ⊎ (given ≡ Some v)
 
@@ -158,7 +158,7 @@ given_on in_force kept key (Some v) all again k = at (found (key_seen key) kept)
         verdict = v;
       } ∷ []))) (sym f)
 
--- ---- what a grant gives
+-- ---- the verdict of a grant
 
 again_at : (i : Inode) (check : Check) (digest : Digest) (p : List Event)
     → GivesAgain (verdict_in_force i (key_of check) p) (verdict_for i check digest p)
@@ -192,7 +192,7 @@ again_finish i p file placed grant (Some c) e =
     subst (λ (g : Grant). GivesAgain (verdict_in_force i (key_of (last_check file p)) p) g.verdict)
     s (again_at i (last_check file p) (digest_from c) p)
 
--- ---- one event on
+-- ---- after one more event
 
 asked_key : (check : Check) (a : Asked) → IsAsked check a → key_seen (key_for a) ≡ key_of check
 asked_key check a h = let s = h.slot in let t = h.action in λ i. record {

@@ -1,4 +1,4 @@
--- The open collection without its bytes, as the journal before has it.
+-- The open collection without its bytes, compared with the journal's definition.
 use Rattle.std.specs.Prelude.{◌≡◌, ℕ, ◌+◌, Bool, true, false, is_none, List, Option, Some, None}
 use Rattle.hash_algos.specs.declared.algo.Algo.{Algo}
 use Rattle.inode_events.specs.Checks.{Check, last_check, slot_of}
@@ -51,7 +51,7 @@ abbrev pub shorts_seen : Option Collecting → Option Short
 shorts_seen None = None
 shorts_seen (Some c) = Some (short_seen c)
 
--- the slot and the action of the check
+-- the check has the slot and the action that were asked for
 pub record IsAsked (check : Check) (a : Asked) : Type 0 where
   pub slot : a.slot ≡ slot_of check.func
   pub action : a.action ≡ check.action
@@ -60,25 +60,25 @@ abbrev pub IfAsked : Check → Option Asked → Type 0
 IfAsked check None = Unit {0}
 IfAsked check (Some a) = IsAsked check a
 
--- a take's collection has what the file's last check asked for
+-- if a take began the collection, it holds what the file's last check asked for
 abbrev pub HasAsked : List Event → Option Collecting → Type 0
 HasAsked p None = Unit {0}
 HasAsked p (Some c) = IfAsked (last_check c.file p) c.asked
 
--- the algorithm by which the deed begins a collection
+-- the algorithm of the collection that the deed begins
 abbrev pub Chooses : Inode → Deed → List Event → Algo → Type 0
 Chooses inode (deed.Take file) p algo = algo ≡ chosen_algo inode p
 Chooses inode (deed.CloseTake file) p algo = algo ≡ inode.settings.hash
 Chooses inode _ p algo = Unit {0}
 
--- what was asked of the file for which the deed begins a collection, or which it grants
+-- what was asked of the file for which the deed begins a collection, or which the deed grants
 abbrev pub Asks : Deed → List Event → Option Asked → Type 0
 Asks (deed.Take file) p asked = (a : Asked) × ((asked ≡ Some a) × IsAsked (last_check file p) a)
 Asks (deed.Finish file) p asked = (a : Asked) × ((asked ≡ Some a) × IsAsked (last_check file p) a)
 Asks (deed.CloseTake file) p asked = asked ≡ None
 Asks _ p asked = Unit {0}
 
--- ---- one event on
+-- ---- after one more event
 
 abbrev pub pieces_taken : Option Collecting → ℕ
 pieces_taken None = 0

@@ -1,4 +1,4 @@
--- The open files by kind, as the journal before has them.
+-- The numbers of open files by kind, compared with the journal's definition.
 use Rattle.std.specs.Prelude.{◌≡◌, ℕ, Bool, List, Option, Some, None}
 use Rattle.inode_events.specs.Files.{dropped, execs, held, is_exec, is_reader, is_writer, readers, writers}
 use Rattle.inode_events.specs.declared.deed.How.{How}

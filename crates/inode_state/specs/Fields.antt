@@ -1,4 +1,4 @@
--- What the fields of a journal keep.
+-- The invariant of a journal's fields.
 use Rattle.std.specs.Prelude.{◌≡◌, ℕ, ◌-◌, ◌<◌, min, map, All, [], ◌∷◌, vec_len, vec_capacity}
 use Rattle.grow_list.specs.Shown.{Grown, Passed}
 use Rattle.inode_events.specs.Callers.{caller_of}
@@ -15,7 +15,7 @@ use Rattle.inode_state.specs.declared.journal.KeptJournal.TheInside.{Inside}
 abbrev pub inode_in : Inside → Inode
 inode_in c = record { path = c.path; settings = c.settings; birth = birth_in c.journal.list }
 
--- for how many more events there is room, in the list and among the verdicts
+-- the number of further events for which both the list and the verdicts have room
 abbrev pub spare_in : Inside → ℕ
 spare_in c = min c.journal.spare (vec_capacity c.state.verdicts.kept - vec_len
     c.state.verdicts.kept)
@@ -34,17 +34,17 @@ pub record Keeps (inode : Inode) (g : Grown Event) (own : Passed Event) (s : Sta
   pub legal : Legal inode (past g.list)
   -- each event was added by the pass of its caller
   pub numbers : g.numbers ≡ map caller_of g.list
-  -- each event on a file is by the caller who counted the file
+  -- each event on a file is by the caller who counted that file
   pub owned : IsOwned (past g.list)
   -- the journal's own pass has the number 0
   pub own_name : own.name ≡ g.name
   pub own_number : own.number ≡ 0
-  -- and has added the birth alone
+  -- the own pass has added only the birth
   pub birth : Event
   pub own_mine : own.mine ≡ (0, birth) ∷ []
   -- each event is by one of the callers
   pub within : All (λ e. caller_of e < g.callers) g.list
-  -- what is kept is what the journal says
+  -- the state is the one that the journal defines
   pub state : IsState inode (past g.list) s
 
 abbrev pub IsKept : Inside → Type 0

@@ -1,4 +1,4 @@
--- The digest in force, as the journal before has it.
+-- The digest in force, compared with the journal's definition.
 use Rattle.std.specs.Prelude.{◌≡◌, ℕ, Bool, true, false, ◌&&◌, ◌||◌, not, List, Option, Some, None, option_map, if◌then◌else◌}
 use Rattle.hash_algos.specs.Digest.{digest_of}
 use Rattle.hash_algos.specs.declared.algo.Algo.TheVariants.{Sha1}
@@ -29,7 +29,7 @@ abbrev pub AreSums : Inode → Deed → List Event → Option Sums → Type 0
 AreSums inode (deed.Finish file) p sums = option_map sums_of (journal.collecting inode p) ≡ sums
 AreSums inode _ p sums = Unit {0}
 
--- ---- one event on
+-- ---- after one more event
 
 abbrev pub stale_now : Option InForce → Option ℕ → Bool
 stale_now None last = false

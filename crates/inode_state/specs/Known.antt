@@ -1,4 +1,4 @@
--- What an event call knows of the journal before its event.
+-- What the caller of an event knows of the journal before it.
 use Rattle.std.specs.Prelude.{◌≡◌, false, List, None}
 use Rattle.hash_algos.specs.declared.algo.Algo.TheVariants.{Sha1}
 use Rattle.inode_events.specs.Inode.{Inode}
@@ -16,6 +16,6 @@ pub record IsKnown (inode : Inode) (p : List Event) (e : Event) (k : Known) : Ty
   pub asked : Asks e.deed p k.asked
   pub sums : AreSums inode e.deed p k.sums
 
--- nothing is known
+-- no facts, for an event that needs none
 abbrev pub no_knowledge : Known
 no_knowledge = record { gone = None; writing = false; algo = Sha1; asked = None; sums = None }

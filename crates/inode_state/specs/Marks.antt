@@ -1,4 +1,4 @@
--- The marks, as the journal before has them.
+-- The marks, compared with the journal's definitions.
 use Rattle.std.specs.Prelude.{◌≡◌, Bool, false, ◌&&◌, ◌||◌, List}
 use Rattle.inode_events.specs.Files.{is_writing}
 use Rattle.inode_events.specs.Marks.{is_passed, must_measure, update}
@@ -16,7 +16,7 @@ pub record AreMarks (p : List Event) (m : Marks) : Type 0 where
   pub update : m.update ≡ update p
   pub versions : m.versions ≡ versions p
 
--- the file that is checked or granted is open for writing
+-- whether the file that the deed checks or grants is open for writing
 abbrev pub writes_named : Deed → List Event → Bool
 writes_named (deed.Check file func action rules) p = is_writing file p
 writes_named (deed.Take file) p = is_writing file p

@@ -1,4 +1,4 @@
--- All values together, as the journal before has them.
+-- The state of an inode, compared with the journal's definitions.
 use Rattle.std.specs.Prelude.{◌≡◌, Bool, ◌||◌, not, List, Option}
 use Rattle.inode_events.specs.Inode.{Inode}
 use Rattle.inode_events.specs.Integrity as journal
@@ -25,6 +25,6 @@ pub record IsState (inode : Inode) (p : List Event) (s : State) : Type 0 where
   pub in_force : in_force_seen s.in_force ≡ journal.in_force inode p
   pub verdicts : AreVerdicts inode p s.verdicts.kept.items
 
--- a last writer's close would leave a content that is taken as changed
+-- whether the content would count as changed if the last writer closed now
 abbrev pub changed_now : Marks → Writes → Option InForce → Bool
 changed_now m w f = m.new || not m.versions || stale_now f w.last

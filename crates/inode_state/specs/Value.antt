@@ -1,4 +1,4 @@
--- What contracts see of a journal with what is kept beside it.
+-- The contract view of a journal with the state of its inode.
 use Rattle.std.specs.Prelude.{◌≡◌, ℕ, ◌<◌, ◌==◌, false, All, List, [], ◌∷◌, count_by}
 pub use Rattle.grow_list.specs.Others.{beside_own}
 use Rattle.grow_list.specs.Shown.{ListName, Passed}
@@ -9,8 +9,8 @@ use Rattle.inode_events.specs.declared.told.Event.{Event}
 use Rattle.inode_events.specs.declared.told.Told.{Told}
 use Rattle.inode_events.specs.declared.told.Told.TheVariants as told
 
--- the inode, the name of its journal, how many callers there are, for how many more events there is
--- room, and the journal
+-- the inode, the name of its journal, the number of callers, the number of further events for which
+-- there is room, and the events, oldest first
 pub record KeptValue : Type 0 where
   pub inode : Inode
   pub name : ListName
@@ -18,16 +18,16 @@ pub record KeptValue : Type 0 where
   pub spare : ℕ
   pub list : List Event
 
--- the same journal, with perhaps another room
+-- the same journal; only its room may differ
 pub record IsSameJournal (old new : KeptValue) : Type 0 where
   pub inode : new.inode ≡ old.inode
   pub name : new.name ≡ old.name
   pub callers : new.callers ≡ old.callers
   pub list : new.list ≡ old.list
 
--- ---- the birth, which isn't a copy: it is what the first event was told
+-- ---- the birth, read back from the first event: no copy is kept
 
--- no file
+-- the image of a file that doesn't exist
 abbrev pub nothing : Image
 nothing = record {
   present = false;
@@ -51,15 +51,15 @@ birth_of image = record { who = nobody; deed = deed.Birth; told = told.Image ima
 
 -- ---- passes
 
--- the passes are those of the journal but its own, each once
+-- the passes are all of the journal's except its own, each once
 pub record HasOthers (j : KeptValue) (passes : List (Passed Event)) : Type 0 where
   pub of_journal : All (λ p. p.name ≡ j.name) passes
   pub one_each : (n : ℕ) → n < j.callers → count_by (λ p. p.number == n) passes ≡ beside_own n
 
--- the pass when it has seen the list
+-- the pass once it has seen the list
 abbrev pub having_seen : List Event → Passed Event → Passed Event
 having_seen list p = record p { seen = list }
 
--- a pass that has seen the list, and has added nothing
+-- a pass that has seen the list and has added nothing
 abbrev pub new_pass : ListName → List Event → ℕ → Passed Event
 new_pass name list number = record { name = name; number = number; seen = list; mine = [] }

@@ -1,4 +1,4 @@
--- The verdicts in force, as the journal before has them.
+-- The verdicts in force, compared with the journal's definition.
 use Rattle.std.specs.Prelude.{◌≡◌, Bool, true, false, List, [], ◌∷◌, ◌++◌, Option, Some, None, find, is_some, if◌then◌else◌}
 use Rattle.std.specs.Option.{option_map}
 use Rattle.inode_events.specs.Inode.{Inode}
@@ -26,13 +26,13 @@ found k kept = option_map (λ x. x.verdict) (find (λ x. journal.same_key k (key
 abbrev pub AreVerdicts : Inode → List Event → List Kept → Type 0
 AreVerdicts inode p kept = (k : journal.Key) → journal.verdict_in_force inode k p ≡ found k kept
 
--- ---- one event on
+-- ---- after one more event
 
 abbrev pub voids_all : Deed → Told → Bool → Bool
 voids_all (deed.SetMeta change) told.Done voids = true
 voids_all d t voids = voids
 
--- a verdict more, unless there is one under the key
+-- the verdicts with one added, unless there is one under its key
 abbrev pub kept_with : Key → Option Verdict → List Kept → List Kept
 kept_with key None kept = kept
 kept_with key (Some verdict) kept = if is_some (found (key_seen key) kept) then kept else kept ++

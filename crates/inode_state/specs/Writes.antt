@@ -1,10 +1,10 @@
--- The writes, as the journal before has them.
+-- The summary of writes, compared with the journal's definition.
 use Rattle.std.specs.Prelude.{◌≡◌, ℕ, ◌<◌, Bool, false, nat_le, List, length, Option, Some, None}
 use Rattle.inode_events.specs.State.{modified_in, span, modified_since}
 use Rattle.inode_events.specs.declared.told.Event.{Event}
 use Rattle.inode_state.specs.declared.writes.Writes.{Writes}
 
--- the last write stands at the place or after it
+-- the last write is at the place or after it
 abbrev pub reaches : ℕ → Option ℕ → Bool
 reaches place None = false
 reaches place (Some last) = nat_le place last

@@ -1,4 +1,4 @@
-// The open collection.
+// The open collection, and how each event changes it.
 ghost use Rattle.std.specs.Prelude.{◌≡◌, ◌+◌, ◌<◌, ◌^◌, List, ◌∷◌, length, Some};
 ghost use Rattle.inode_events.specs.Inode.{Inode as AnyInode};
 ghost use Rattle.inode_events.specs.Integrity.{collecting};
@@ -11,33 +11,33 @@ use inode_events::policy::Action;
 use inode_events::{Deed, Event, Told};
 use inode_meta::Slot;
 
-/// What a check asked for a file.
+/// What a check asked of a file.
 #[derive(Drop)]
 pub struct Asked {
-    /// The slot of its hook.
+    /// The slot of the check's hook.
     pub slot: Slot,
-    /// Its action.
+    /// The action that the rules gave the check.
     pub action: Action,
 }
 
 /// A collection under way. Its bytes are with the task that hashes them.
 #[derive(Drop)]
 pub struct Collecting {
-    /// The file for which it is.
+    /// The file that is hashed, named by the place of its count.
     pub file: u64,
-    /// What the file's check asked for; `None` for the collection of a close.
+    /// What the file's last check asked for, or `None` if a writer's close began the collection.
     pub asked: Option<Asked>,
-    /// The algorithm by which it hashes.
+    /// The algorithm of the collection's digest.
     pub algo: Algo,
     /// The place of the event that began it.
     pub begin: u64,
-    /// How many pieces it took.
+    /// The number of pieces that it has taken.
     pub pieces: u64,
-    /// Whether it took the last piece.
+    /// Whether it has taken the last piece.
     pub complete: bool,
 }
 
-/// An equal value.
+/// A copy of what a check asked.
 pub fn copied(asked: &Option<Asked>) -> Option<Asked>
     ensures { result ≡ asked.now }
 {
@@ -80,7 +80,7 @@ fn more(old: Option<Collecting>, complete: bool) -> Option<Collecting>
     }
 }
 
-/// The open collection after an event at the place.
+/// The open collection after the event `e` at `place`.
 pub fn collecting_after(
     e: &Event,
     place: u64,

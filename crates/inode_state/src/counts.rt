@@ -8,30 +8,30 @@ ghost use Rattle.inode_state.specs.Counts.{AreCounts, how_dropped, test_of};
 use crate::events::counted;
 use inode_events::{Event, How};
 
-/// What a file counts as. One that is open for writing is a writer and no reader, and an execution
-/// is a reader too.
+/// What an open file counts as. A file that is open for writing is a writer and not a reader, and
+/// an execution is a reader too.
 #[derive(Clone, Copy, Debug, PartialEq, Eq)]
 pub enum Kind {
-    /// Open for writing.
+    /// Open for writing, whether or not it can be read too.
     Writer,
     /// Open for reading alone, or executed.
     Reader,
-    /// Executed.
+    /// Executed, which makes it a reader too.
     Exec,
 }
 
-/// How many files are held, by kind.
+/// The number of open files, by kind.
 #[derive(Clone, Copy, Debug, PartialEq, Eq)]
 pub struct Counts {
-    /// The writers.
+    /// Files that are open for writing.
     pub writers: u64,
-    /// The readers, among them the executions.
+    /// Files that are open for reading alone, executions included.
     pub readers: u64,
-    /// The executions.
+    /// Files that are executed; each is a reader too.
     pub execs: u64,
 }
 
-/// Whether a file that was opened so counts as this.
+/// Whether a file that was opened as `how` counts as `kind`. `None` is no file.
 pub fn counts_as(kind: Kind, how: Option<How>) -> bool
     ensures { result ≡ holds (test_of kind) how }
 {
@@ -65,7 +65,7 @@ fn count_after(kind: Kind, n: u64, e: &Event, gone: Option<How>) -> u64
 }
 
 impl Counts {
-    /// The counts after an event, where `gone` is how the file that it drops was opened.
+    /// The counts after an event. `gone` is how the file that the event drops was opened.
     pub fn after(self, e: &Event, gone: Option<How>) -> Counts
         requires small { (self.writers + 1 < 2 ^ 64) × ((self.readers + 1 < 2 ^ 64)
             × (self.execs + 1 < 2 ^ 64)) }

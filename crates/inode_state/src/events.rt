@@ -1,11 +1,11 @@
-// What an event is.
+// The effect of an event on files, content and writers.
 ghost use Rattle.std.specs.Prelude.{◌≡◌};
 ghost use Rattle.inode_events.specs.Files.{counted};
 ghost use Rattle.inode_events.specs.State.{drops_writer, modifies};
 
 use inode_events::{Deed, Event, How, Told};
 
-/// The file that the event counts, as it was opened.
+/// How the file that the event counts was opened. `None` if it counts no file.
 pub fn counted(e: &Event) -> Option<How>
     ensures { result ≡ counted e.now.deed e.now.told }
 {
@@ -15,7 +15,7 @@ pub fn counted(e: &Event) -> Option<How>
     }
 }
 
-// A write or truncation was done.
+// Whether the event is a write or truncation that was done.
 pub fn modifies(e: &Event) -> bool
     ensures { result ≡ modifies e.now.deed e.now.told }
 {
@@ -25,7 +25,7 @@ pub fn modifies(e: &Event) -> bool
     }
 }
 
-// A writer is dropped.
+// Whether the event drops a writer.
 pub fn drops_writer(e: &Event) -> bool
     ensures { result ≡ drops_writer e.now.deed e.now.told }
 {

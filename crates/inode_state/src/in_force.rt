@@ -1,4 +1,4 @@
-// The digest in force.
+// The digest in force, and how each event changes it.
 ghost use Rattle.std.specs.Prelude.{◌≡◌, ◌||◌, ◌&&◌, not};
 ghost use Rattle.inode_state.specs.InForce.{in_force_after_lem, in_force_next, given_now, stale_now, voids_now};
 
@@ -7,26 +7,26 @@ use crate::writes::Writes;
 use hash_algos::Digest;
 use inode_events::{Deed, Event, Told};
 
-/// What a collection gives.
+/// The digests that a collection yields.
 #[derive(Drop)]
 pub struct Sums {
     /// The digest by the collection's algorithm.
     pub digest: Digest,
-    /// The digest by SHA-1.
+    /// The SHA-1 digest of the same bytes.
     pub sha1: Digest,
 }
 
-/// A digest in force.
+/// A digest in force, with the start of its collection.
 #[derive(Drop)]
 pub struct InForce {
-    /// The digests.
+    /// The digests by the collection's algorithm and by SHA-1.
     pub sums: Sums,
     /// The place of the take that began its collection.
     pub begin: u64,
 }
 
 impl Sums {
-    /// An equal value.
+    /// A copy of the digests.
     pub fn copy(&self) -> Sums
         ensures { result ≡ self.now }
     {
@@ -47,8 +47,8 @@ pub fn is_stale(in_force: &Option<InForce>, writes: Writes) -> bool
     }
 }
 
-/// Whether the event voids the digest in force, where `drop` says whether it drops the last writer,
-/// and `changed` whether the content is then taken as changed.
+/// Whether the event voids the digest in force. `drop` says whether it drops the last writer, and
+/// `changed` whether the content then counts as changed.
 pub fn voids_digest(e: &Event, drop: bool, changed: bool) -> bool
     ensures { result ≡ voids_now e.now.deed e.now.told drop changed }
 {
@@ -87,7 +87,7 @@ fn in_force_next(
     }
 }
 
-/// The digest in force after an event, where `voids` says whether it voids it.
+/// The digest in force after an event. `voids` says whether the event voids it.
 pub fn in_force_after(
     e: &Event,
     voids: bool,

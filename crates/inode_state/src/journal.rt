@@ -22,7 +22,7 @@ use inode_meta::Who;
 use std::alloc::{AllocError as OutOfMemory, Global};
 use std::marker::Model;
 
-/// The journal of one inode.
+/// The journal of one inode, with the inode's state after its last event.
 #[derive(Drop)]
 pub struct KeptJournal {
     path: Bytes,
@@ -45,21 +45,21 @@ impl Model for KeptJournal {
 }
 
 impl KeptJournal {
-    /// The path of the inode.
+    /// The path of the inode, in bytes.
     pub fn path(&self) -> &[u8]
         ensures { result.now ≡ self.now.inode.path }
     {
         self.path.as_slice()
     }
 
-    /// The settings of the script.
+    /// The settings that the script gives all inodes.
     pub fn settings(&self) -> &Settings
         ensures { result.now ≡ self.now.inode.settings }
     {
         &self.settings
     }
 
-    /// What is kept of the inode.
+    /// The state of the inode after the last event.
     pub fn state(&self) -> &State
         ensures kept { IsState self.now.inode (past self.now.list) result.now }
         ensures legal { Legal self.now.inode (past self.now.list) }
@@ -67,21 +67,22 @@ impl KeptJournal {
         &self.state
     }
 
-    /// The number of events.
+    /// The number of events in the journal.
     pub fn len(&self) -> u64
         ensures { result ≡ length self.now.list }
     {
         self.journal.len()
     }
 
-    /// The event at a place, from 0 on. None from `len` on.
+    /// The event at a place, counted from 0. `None` from `len` on.
     pub fn at(&self, place: u64) -> Option<&Event>
         ensures { option_copied result ≡ slice_get self.now.list place }
     {
         self.journal.at(place)
     }
 
-    /// How the file was opened. It is found by its place in the journal.
+    /// How the file was opened, if it isn't dropped yet. `file` is the place of its count in the
+    /// journal.
     pub fn how_at(&self, file: u64) -> Option<How>
         ensures { is_gone (stage self.now.inode file (past self.now.list)) ≡ false
             → result ≡ held file (past self.now.list) }
@@ -92,7 +93,7 @@ impl KeptJournal {
         }
     }
 
-    /// Makes room for the next event. The journal stays, also where there is no memory.
+    /// Makes room for the next event. The journal is unchanged, even if memory runs out.
     pub fn reserve(&mut self) -> Result<(), OutOfMemory>
         ensures room { OnOk result (1 ≤ self.new.spare) }
         ensures same { IsSameJournal self.old self.new }
@@ -101,8 +102,8 @@ impl KeptJournal {
         self.state.verdicts.reserve()
     }
 
-    /// Adds an event in room that was reserved, and keeps everything else in step with it. The pass
-    /// is that of the event's caller, and has then seen the journal.
+    /// Adds an event in room that was reserved, and updates the state to match. The pass is that of
+    /// the event's caller, and has then seen the journal.
     pub fn enter(&mut self, pass: &mut Pass<Event>, event: Event, known: &Known)
         requires name { pass.old.name ≡ self.old.name }
         requires number { pass.old.number ≡ caller_of event }
@@ -128,7 +129,7 @@ impl KeptJournal {
         }
     }
 
-    /// A pass of this journal sees it. The journal's events of its number are then its own.
+    /// Shows the journal to one of its passes. The events with the pass's number are then its own.
     pub fn look(&mut self, pass: &mut Pass<Event>)
         requires { pass.old.name ≡ self.old.name }
         ensures same { IsSameJournal self.old self.new }
@@ -147,9 +148,9 @@ impl KeptJournal {
         self.journal.look(pass);
     }
 
-    /// The journal of an inode that comes into being, with a pass for each task: that of the task t
-    /// has the number t + 1, has seen the birth and has no event of its own. The birth is by the
-    /// journal's own pass, which has the number 0.
+    /// Creates the journal of a new inode, with a pass for each task: the pass of task t has the
+    /// number t + 1, has seen the birth and has no event of its own. The birth is by the journal's
+    /// own pass, which has the number 0.
     pub fn start(
         alloc: Global,
         path: Bytes,
@@ -187,9 +188,9 @@ impl KeptJournal {
         Ok((kept, passes))
     }
 
-    /// Hands out the path, the events and what is kept, and takes back the passes that `start`
-    /// answered. What each pass saw begins the journal, the journal's events of its number are its
-    /// own, and each event but the birth is one pass's.
+    /// Returns the path, the events and the state, and consumes the passes that `start` returned.
+    /// What each pass saw is a prefix of the journal, the events with its number are its own, and
+    /// each event except the birth belongs to exactly one pass.
     pub fn close(self, passes: Vec<Pass<Event>>) -> (Bytes, Vec<Event>, State)
         requires { HasOthers self passes.items }
         ensures path { result.0 ≡ self.inode.path }

@@ -1,4 +1,4 @@
-// Under what a verdict is kept.
+// The key under which a verdict is kept.
 ghost use Rattle.std.specs.Prelude.{◌≡◌};
 ghost use Rattle.inode_events.specs.Verdicts.{same_algos, same_bool, same_key, same_need, same_set, same_slot};
 ghost use Rattle.inode_state.specs.Verdicts.{key_for, key_seen};
@@ -7,18 +7,18 @@ use crate::collecting::Asked;
 use hash_algos::{Algo, AlgoSet};
 use inode_meta::{Need, Slot};
 
-/// Under what a verdict is kept. "No algorithms given" is another key than any set.
+/// The key under which a verdict is kept. `None` for `algos` differs from every set.
 #[derive(Clone, Copy, Debug, PartialEq, Eq)]
 pub struct Key {
-    /// The slot of the hook.
+    /// The slot of the check's hook.
     pub slot: Slot,
-    /// The label that appraisal asks for.
+    /// The kind of label that appraisal requires.
     pub need: Need,
-    /// The algorithms that the digest may have.
+    /// The algorithms that the label's digest may use; `None` if the rule names none.
     pub algos: Option<AlgoSet>,
 }
 
-/// The key of what was asked.
+/// The key for what a check asked.
 pub fn key_of(asked: &Asked) -> Key
     ensures { result ≡ key_for asked.now }
 {
@@ -74,7 +74,7 @@ fn same_algos(a: Option<AlgoSet>, b: Option<AlgoSet>) -> bool
     }
 }
 
-/// Whether the keys are one.
+/// Whether two keys are equal.
 pub fn same_key(a: Key, b: Key) -> bool
     ensures { result ≡ same_key (key_seen a) (key_seen b) }
 {

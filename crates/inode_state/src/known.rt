@@ -1,4 +1,4 @@
-// What an event call knows of the journal before it.
+// Facts about the journal that come with an event.
 ghost use Rattle.std.specs.Prelude.{◌≡◌, None, Some};
 ghost use Rattle.inode_state.specs.Known.{no_knowledge};
 
@@ -7,23 +7,23 @@ use crate::in_force::Sums;
 use hash_algos::Algo;
 use inode_events::How;
 
-/// What an event call knows of the journal before its event, as far as the event needs it.
+/// What the caller knows of the journal before its event, as far as that event needs it.
 #[derive(Drop)]
 pub struct Known {
     /// How the file that the event drops was opened.
     pub gone: Option<How>,
-    /// Whether the file that it checks or grants is open for writing.
+    /// Whether the file that the event checks or grants is open for writing.
     pub writing: bool,
-    /// The algorithm by which it begins a collection.
+    /// The algorithm of the collection that the event begins.
     pub algo: Algo,
-    /// What was asked of the file that it grants, or for which it begins a collection.
+    /// What was asked of the file that the event grants, or for which it begins a collection.
     pub asked: Option<Asked>,
-    /// The digests of the collection that it ends.
+    /// The digests of the collection that the event ends.
     pub sums: Option<Sums>,
 }
 
 impl Known {
-    /// Nothing, for an event that needs nothing.
+    /// No facts, for an event that needs none.
     pub fn nothing() -> Known
         ensures { result ≡ no_knowledge }
     {
@@ -36,7 +36,7 @@ impl Known {
         }
     }
 
-    /// How the file that is dropped was opened.
+    /// For an event that drops a file: `how` is how that file was opened.
     pub fn dropping(how: Option<How>) -> Known
         ensures { result ≡ record no_knowledge { gone = how } }
     {
@@ -49,8 +49,8 @@ impl Known {
         }
     }
 
-    /// How the file that a writer's close drops was opened, and the algorithm by which its
-    /// collection would hash.
+    /// For the start of a writer's close: `how` is how its file was opened, and `algo` the
+    /// algorithm of the collection that the close may begin.
     pub fn closing(how: Option<How>, algo: Algo) -> Known
         ensures { result ≡ record no_knowledge { gone = how; algo = algo } }
     {
@@ -63,7 +63,7 @@ impl Known {
         }
     }
 
-    /// Whether the file that is checked is open for writing.
+    /// For a check: `writing` says whether its file is open for writing.
     pub fn checking(writing: bool) -> Known
         ensures { result ≡ record no_knowledge { writing = writing } }
     {
@@ -76,9 +76,8 @@ impl Known {
         }
     }
 
-    /// What a take or finish knows: whether its file is open for writing, the algorithm by which
-    /// its collection would hash, what was asked of the file, and the digests of the collection
-    /// that ends.
+    /// For a take or finish: whether its file is open for writing, the algorithm of the collection
+    /// that it may begin, what was asked of the file, and the digests of the collection that ends.
     pub fn granting(writing: bool, algo: Algo, asked: Asked, sums: Option<Sums>) -> Known
         ensures { result ≡ record {
           gone = None;

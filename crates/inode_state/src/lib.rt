@@ -1,14 +1,14 @@
-//! The journal of one inode, with what is kept of the inode beside it, and how each event changes
-//! that.
+//! The journal of one inode, with the state of the inode beside it, and how each event changes that
+//! state.
 //!
-//! The definitions of a journal search it. The values here are what they say, moved along event by
-//! event: open files by kind, marks, metadata, whether there were writes, the open collection, the
-//! digest in force and the verdicts in force. Attributes and content are none of them: whoever
+//! The definitions of a journal search it. The state holds the values that they define, updated
+//! event by event: open files by kind, marks, metadata, the last write, the open collection, the
+//! digest in force and the verdicts in force. Attributes and content aren't part of it: whoever
 //! holds those changes them.
 //!
-//! A journal has one private way to grow: `enter` adds an event and moves all that is kept on with
-//! it. So it is legal, each event on a file is by the caller who counted the file, and what is kept
-//! is what the journal says.
+//! A journal has one private way to grow: `enter` adds an event and updates the state with it. So
+//! the journal is legal, each event on a file is by the caller who counted the file, and the state
+//! agrees with the journal.
 #![tactic(auto)]
 
 mod collecting;

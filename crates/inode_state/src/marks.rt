@@ -1,4 +1,4 @@
-// The marks of an inode.
+// The marks of an inode, and how each event changes them.
 ghost use Rattle.std.specs.Prelude.{◌≡◌, List, ◌∷◌};
 ghost use Rattle.inode_events.specs.Files.{writers};
 ghost use Rattle.inode_events.specs.Marks.{earns_update, must_measure_after, update_after};
@@ -10,18 +10,19 @@ use crate::events::drops_writer;
 use inode_events::labels::Verdict;
 use inode_events::{Deed, Event, Grant, Told};
 
-/// The marks of an inode.
+/// The marks of an inode: facts that steer its checks, grants and closes.
 #[derive(Clone, Copy, Debug, PartialEq, Eq)]
 pub struct Marks {
-    /// The file is there.
+    /// The file exists.
     pub present: bool,
     /// An open created the file, and its last writer hasn't closed it yet.
     pub new: bool,
-    /// A measured file was opened, and no writer met a reader since.
+    /// A measured file was opened, and no writer has met a reader since.
     pub must: bool,
-    /// A writer's close owes the file a label.
+    /// A grant of a writer passed or labelled the file, so the last close may have to renew the
+    /// label.
     pub update: bool,
-    /// The file system counts the changes of its inodes.
+    /// The file system keeps a change counter for its inodes.
     pub versions: bool,
 }
 
@@ -44,7 +45,7 @@ fn versions_after(e: &Event, old: bool) -> bool
     }
 }
 
-/// Whether the event drops the last writer, where there were so many before it.
+/// Whether the event drops the last writer. `count` is the number of writers before it.
 pub fn is_last_drop(e: &Event, count: u64) -> bool
     ensures { (p : List AnyEvent) → count ≡ writers p
         → result ≡ is_last_drop e.now.deed e.now.told p }
@@ -62,7 +63,7 @@ fn new_after(e: &Event, last: bool, is_there: bool, old: bool) -> bool
     }
 }
 
-// `writing` says whether the file of a check is open for writing.
+// `must` after an event. `writing` says whether the file of a check is open for writing.
 fn must_after(e: &Event, writing: bool, old: bool) -> bool
     ensures { (p : List AnyEvent) → writing ≡ writes_named e.now.deed p
         → result ≡ must_measure_after e.now.deed e.now.told p old }
@@ -76,7 +77,7 @@ fn must_after(e: &Event, writing: bool, old: bool) -> bool
     }
 }
 
-// A grant of a writer that passed or was labelled.
+// Whether a grant of a writer makes its close owe a label: the file passed or was labelled.
 fn earned(grant: Grant, writing: bool) -> bool
     ensures { result ≡ earned grant writing }
 {
@@ -96,7 +97,7 @@ fn update_after(e: &Event, writing: bool, last: bool, old: bool) -> bool
 }
 
 impl Marks {
-    /// The marks after an event. `last` says whether it drops the last writer, and `writing`
+    /// The marks after an event. `last` says whether the event drops the last writer, and `writing`
     /// whether the file that it checks or grants is open for writing.
     pub fn after(self, e: &Event, last: bool, writing: bool) -> Marks
         ensures { (p : List AnyEvent) → AreMarks p self

@@ -1,11 +1,11 @@
-// The metadata of an inode.
+// The metadata of an inode, and how each event changes it.
 ghost use Rattle.std.specs.Prelude.{◌≡◌};
 ghost use Rattle.inode_events.specs.State.{changed, metadata_after};
 
 use inode_events::{Change, Deed, Event, Told};
 use inode_meta::Meta;
 
-/// The metadata after a change.
+/// The metadata with a new mode, or a new owner and group.
 pub fn changed(change: Change, meta: Meta) -> Meta
     ensures { result ≡ changed change meta }
 {
@@ -15,7 +15,7 @@ pub fn changed(change: Change, meta: Meta) -> Meta
     }
 }
 
-/// The metadata after an event.
+/// The metadata after an event. Only a birth and a change that was done affect it.
 pub fn metadata_after(e: &Event, old: Meta) -> Meta
     ensures { result ≡ metadata_after e.now.deed e.now.told old }
 {

@@ -1,4 +1,4 @@
-// A list that is shown to passes.
+// Showing a growing list to several passes.
 ghost use Rattle.std.specs.Prelude.{◌≡◌, All, map};
 ghost use Rattle.grow_list.specs.Shown.{IsSameList};
 ghost use Rattle.inode_state.specs.Value.{having_seen};
@@ -6,7 +6,7 @@ ghost use Rattle.inode_state.specs.Value.{having_seen};
 use grow_list::{Grow, Pass};
 use inode_events::Event;
 
-/// Each of the passes sees the list.
+/// Shows the list to each of the passes.
 pub fn show(list: &mut Grow<Event>, passes: &mut Vec<Pass<Event>>)
     requires { All (λ p. p.name ≡ list.old.name) passes.old.items }
     ensures list { IsSameList list.old list.new }

@@ -1,4 +1,4 @@
-// All values together.
+// The state of an inode, with all its parts.
 ghost use Rattle.std.specs.Prelude.{◌≡◌, ◌+◌, ◌<◌, ◌≤◌, ◌^◌, List, [], ◌∷◌, length, vec_len, vec_capacity};
 ghost use Rattle.inode_events.specs.Inode.{Inode as AnyInode};
 ghost use Rattle.inode_events.specs.Legal.{EachFollows};
@@ -20,27 +20,27 @@ use inode_events::{Deed, Event, Image, Told};
 use inode_meta::Meta;
 use std::alloc::Global;
 
-/// What is kept of an inode beside its journal, but for attributes and content.
+/// The state of an inode after its last event, except for attributes and content.
 #[derive(Drop)]
 pub struct State {
-    /// The open files by kind.
+    /// The numbers of open files, by kind.
     pub counts: Counts,
-    /// The marks.
+    /// Presence, newness, and what checks and closes owe.
     pub marks: Marks,
-    /// The writes.
+    /// The place of the last write, and whether one fell in the present span of writers.
     pub writes: Writes,
-    /// The metadata.
+    /// Mode, owner, group and identity.
     pub meta: Meta,
-    /// The open collection.
+    /// The open collection. At most one is open at a time.
     pub collecting: Option<Collecting>,
-    /// The digest in force.
+    /// The digest in force, unless an event has voided it.
     pub in_force: Option<InForce>,
-    /// The verdicts in force.
+    /// The verdicts in force, one for each key.
     pub verdicts: Verdicts,
 }
 
 impl State {
-    /// What is kept behind a birth with this image.
+    /// The state after a birth with this image.
     pub fn born(alloc: Global, image: &Image) -> State
         ensures { (i : AnyInode) (who : AnyWho)
             → IsState i (record { who = who; deed = Deed.Birth; told = Told.Image image.now } ∷ [])
@@ -70,14 +70,14 @@ impl State {
         }
     }
 
-    // A last writer's close would leave a content that is taken as changed.
+    // Whether the content would count as changed if the last writer closed now.
     fn is_changed(&self) -> bool
         ensures { result ≡ changed_now self.now.marks self.now.writes self.now.in_force }
     {
         self.marks.new || !self.marks.versions || is_stale(&self.in_force, self.writes)
     }
 
-    /// Moves on by an event at the place.
+    /// Updates the state by the event `e` at `place`.
     pub fn advance(&mut self, e: &Event, place: u64, known: &Known)
         requires writers { self.old.counts.writers + 1 < 2 ^ 64 }
         requires readers { self.old.counts.readers + 1 < 2 ^ 64 }

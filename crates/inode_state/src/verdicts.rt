@@ -1,4 +1,4 @@
-// The verdicts in force.
+// The verdicts in force, and how each event changes them.
 ghost use Rattle.std.specs.Prelude.{◌≡◌, ◌+◌, ◌≤◌, [], ◌∷◌, ◌++◌, OnOk, OnErr, find, vec_len, vec_capacity};
 ghost use Rattle.std.specs.Option.{option_map};
 ghost use Rattle.inode_state.specs.Verdicts.{found, given_under, kept_with, key_seen, voids_all, verdicts_after, verdicts_next};
@@ -9,24 +9,24 @@ use inode_events::labels::Verdict;
 use inode_events::{Deed, Event, Told};
 use std::alloc::{AllocError as OutOfMemory, Global};
 
-/// A verdict with its key.
+/// A verdict in force, with its key.
 #[derive(Clone, Copy, Debug, PartialEq, Eq)]
 pub struct Kept {
-    /// The key.
+    /// The slot, label and algorithms for which the verdict was given.
     pub key: Key,
-    /// The verdict.
+    /// The outcome of the appraisal.
     pub verdict: Verdict,
 }
 
-/// The verdicts in force. There are as many as keys under which the inode was granted since its
-/// verdicts were voided.
+/// The verdicts in force. There is at most one for each key under which the inode was granted since
+/// its verdicts were last voided.
 #[derive(Drop)]
 pub struct Verdicts {
-    /// Each key once.
+    /// In the order in which they were given, each key once.
     pub kept: Vec<Kept>,
 }
 
-// The event voids the verdicts.
+// Whether the event voids all verdicts. `voids` says whether it voids the digest in force.
 fn voids_all(e: &Event, voids: bool) -> bool
     ensures { result ≡ voids_all e.now.deed e.now.told voids }
 {
@@ -37,7 +37,7 @@ fn voids_all(e: &Event, voids: bool) -> bool
 }
 
 impl Verdicts {
-    /// None.
+    /// The verdicts of an inode that was just created: none.
     pub fn new(alloc: Global) -> Verdicts
         ensures { result.kept.items ≡ [] }
     {
@@ -46,7 +46,7 @@ impl Verdicts {
         }
     }
 
-    /// The verdict under the key.
+    /// The verdict under the key, if one is in force.
     pub fn get(&self, key: Key) -> Option<Verdict>
         ensures { result ≡ found (key_seen key) self.now.kept.items }
     {
@@ -56,7 +56,7 @@ impl Verdicts {
             .map(|x| x.verdict)
     }
 
-    /// Makes room for one more.
+    /// Makes room for one more verdict.
     pub fn reserve(&mut self) -> Result<(), OutOfMemory>
         ensures room { OnOk result (vec_len self.new.kept + 1 ≤ vec_capacity self.new.kept) }
         ensures same { self.new.kept.items ≡ self.old.kept.items }
@@ -76,7 +76,7 @@ impl Verdicts {
         }
     }
 
-    // Keeps a verdict on what was asked.
+    // Keeps a verdict under the key for what was asked.
     fn keep_for(&mut self, asked: &Option<Asked>, verdict: Option<Verdict>)
         requires { vec_len self.old.kept + 1 ≤ vec_capacity self.old.kept }
         ensures { self.new.kept.items ≡ given_under asked.now verdict self.old.kept.items }
@@ -86,7 +86,7 @@ impl Verdicts {
         }
     }
 
-    // Keeps the verdict that the event gives.
+    // Keeps the verdict that the event gives, if any.
     fn keep_given(&mut self, e: &Event, asked: &Option<Asked>)
         requires { vec_len self.old.kept + 1 ≤ vec_capacity self.old.kept }
         ensures { self.new.kept.items ≡ verdicts_next e.now.deed e.now.told asked.now
@@ -99,7 +99,7 @@ impl Verdicts {
         }
     }
 
-    /// Moves on by an event, where `voids` says whether it voids the digest in force.
+    /// Updates the verdicts by an event. `voids` says whether the event voids the digest in force.
     pub fn advance(&mut self, e: &Event, voids: bool, asked: &Option<Asked>)
         requires { vec_len self.old.kept + 1 ≤ vec_capacity self.old.kept }
         ensures { self.new.kept.items ≡ verdicts_after e.now.deed e.now.told voids asked.now

@@ -1,4 +1,4 @@
-// Whether there were writes.
+// The last write to an inode.
 ghost use Rattle.std.specs.Prelude.{◌≡◌, List, ◌∷◌, length};
 ghost use Rattle.inode_events.specs.Files.{writers};
 ghost use Rattle.inode_events.specs.State.{raises_writers};
@@ -9,16 +9,16 @@ use crate::counts::{Kind, counts_as};
 use crate::events::{counted, modifies};
 use inode_events::Event;
 
-/// The writes and truncations that were done.
+/// Summary of the writes and truncations that were done.
 #[derive(Clone, Copy, Debug, PartialEq, Eq)]
 pub struct Writes {
-    /// The place of the last one.
+    /// The place of the last write or truncation.
     pub last: Option<u64>,
-    /// Whether there was one since the number of writers last rose from 0.
+    /// Whether one was done since the number of writers last rose from 0.
     pub in_span: bool,
 }
 
-// The event counts the first writer.
+// Whether the event counts the first writer. `count` is the number of writers before it.
 fn raises_writers(e: &Event, count: u64) -> bool
     ensures { (p : List AnyEvent) → count ≡ writers p
         → result ≡ raises_writers e.now.deed e.now.told p }
@@ -27,7 +27,7 @@ fn raises_writers(e: &Event, count: u64) -> bool
 }
 
 impl Writes {
-    /// Whether there was one at the place or after it.
+    /// Whether a write or truncation was done at the place or after it.
     pub fn since(self, place: u64) -> bool
         ensures { result ≡ reaches place self.last }
     {
@@ -37,7 +37,7 @@ impl Writes {
         }
     }
 
-    /// The writes after an event at the place, before which there were so many writers.
+    /// The summary after the event `e` at `place`. `count` is the number of writers before it.
     pub fn after(self, e: &Event, place: u64, count: u64) -> Writes
         ensures { (p : List AnyEvent) → AreWrites p self → place ≡ length p → count ≡ writers p
             → AreWrites (e.now ∷ p) result }

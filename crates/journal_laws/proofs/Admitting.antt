@@ -1,4 +1,4 @@
--- What an enforced grant says of its file.
+-- Grants in mode enforce.
 use Rattle.std.proofs.Common.{◌≡◌, ℕ, Bool, true, false, not, ◌&&◌, List, Option, Some, None, refl, sym, ◌∙◌, ap, subst}
 use Rattle.std.specs.Prelude.{unwrap_or, option_map}
 use Rattle.std.proofs.lemmas.Bool.{cond-true, not-true}
@@ -29,7 +29,7 @@ use Rattle.journal_laws.proofs.Fresh.{CollectionIs, DigestsIs, Fresh, FreshUnles
 use Rattle.journal_laws.proofs.FreshSteps.{collected_fresh, finished, freshness_lem}
 use Rattle.journal_laws.proofs.Stages.{Stages, stages}
 
--- in mode enforce an action that appraises does
+-- an action that appraises does so in mode enforce
 enforced : (i : Inode) (file : ℕ) (p : List Event) → i.settings.mode ≡ Enforce
     → (last_check file p).action.appraise ≡ true
     → appraises i (last_check file p).action ≡ true
@@ -40,7 +40,8 @@ enforced i file p m a =
 admits_passed : (m : Mode) (v : Verdict) → m ≡ Enforce → admits m (Some v) ≡ is_pass v
 admits_passed m v e = subst (λ (x : Mode). admits x (Some v) ≡ is_pass v) (sym e) refl
 
--- a grant from a digest that is fresh where nothing was written
+-- a grant from a digest that is fresh unless the file was written since the digest's collection
+-- began
 admitted : (i : Inode) (p : List Event) (file : ℕ) (placed : Placed) (digest : Digest)
     (grant : Grant) (stale : Bool)
     → grant_of i file placed digest p ≡ grant → i.settings.mode ≡ Enforce
@@ -139,7 +140,7 @@ finish_admits i p who file grant h s fr m a =
             (λ u. r.2 (not-true (modified_since c.begin p) (sym un ∙ u))),
           )
 
--- either
+-- the law for a take or a finish
 pub admits_lem : (i : Inode) (p : List Event) (who : Who) (d : Deed) (grant : Grant) (file : ℕ)
     → Follows i p who d (told.Grant grant) → EachFollows i p
     → granted_file d ≡ Some file → i.settings.mode ≡ Enforce

@@ -1,4 +1,4 @@
--- What an event adds and finds is what it asked for, by the list's answer.
+-- What an event adds and finds is what it asks for, by the list's answer.
 use Rattle.std.proofs.Common.{◌≡◌, ℕ, suc, Bool, true, false, cond, List, [], ◌∷◌, length, Option, Some, None, refl, sym, ◌∙◌, ap, subst, arith}
 use Rattle.std.specs.Prelude.{◌+◌, not, nat_lt, ◌&&◌, option_map, is_some}
 use Rattle.std.proofs.lemmas.Bool.{and_left, and_right, not_from_true, cond-false, le-ltb}
@@ -26,24 +26,24 @@ use Rattle.inode_events.specs.policy.declared.rule.Func.{Func}
 use Rattle.std.specs.List.{position_or_len}
 use Rattle.journal_laws.specs.Asked.{added_for, found_for}
 
--- a violation's answer is that it is added
+-- the list's answer to a check is that the violation is added
 abbrev pub IsNew : Deed → Placed → Type 0
 IsNew (deed.Check file func action rules) placed = Added (place_of placed) ≡ placed
 IsNew _ placed = Unit {0}
 
--- the event adds and finds what was asked for, at that placed
+-- the event adds and finds the entry that is asked for, as the list's answer says
 abbrev pub AddsAsked : Inode → List Event → Placed → Deed → Told → Type 0
 AddsAsked i p placed d t = (adds i d t p ≡ added_for placed (asked i d p))
     × (finds i d t p ≡ found_for placed (asked i d p))
 
 -- ---- a check
 
--- what a check is told, by the tests that decide it
+-- the outcome of a check, given the tests that decide it
 abbrev pub checked : Bool → Bool → Bool → ℕ → Told
 checked w a b place =
     cond w (cond a (told.ToMToU place) told.Quiet) (cond b (told.OpenWriters place) told.Quiet)
 
--- a check adds the violation that it is told, and finds nothing
+-- a check adds the violation in its outcome, and finds nothing
 check_adds : (i : Inode) (p : List Event) (file rules : ℕ) (func : Func) (action : Action)
     (placed : Placed) (w a b : Bool) → Added (place_of placed) ≡ placed
     → (adds i (deed.Check file func action rules) (checked w a b (place_of placed)) p
@@ -58,7 +58,7 @@ check_adds i p file rules func action (Added k) false a false n = (refl, refl)
 
 -- ---- a grant
 
--- the file's last check measures
+-- whether the file's last check measures
 abbrev pub measures : ℕ → List Event → Bool
 measures file p = (last_check file p).action.measure
 
@@ -68,7 +68,7 @@ pub measured_none : (m : Bool) (i : Inode) (file : ℕ) (p : List Event)
 measured_none true i file p = refl
 measured_none false i file p = refl
 
--- a grant adds or finds its measurement, where its check measures
+-- a grant adds or finds its measurement if the file's check measures
 placed_adds : (i : Inode) (p : List Event) (file : ℕ) (placed : Placed) (x : Digests) (m : Bool)
     → (added_at (cond m (Some placed) None) (Some x) i file p ≡ added_for placed
     (measured_if m i file (Some x) p))
@@ -78,13 +78,13 @@ placed_adds i p file (Added k) x true = (refl, refl)
 placed_adds i p file (Already k) x true = (refl, refl)
 placed_adds i p file placed x false = (refl, refl)
 
--- what the grant names, where it is made from these digests
+-- the grant adds and finds the entry that is asked for, if made from these digests
 abbrev GrantAsked : Inode → ℕ → List Event → Placed → Option Placed → Option Digests → Option Entry
     → Type 0
 GrantAsked i file p placed place o e = (added_at place o i file p ≡ added_for placed e)
     × (found_at place o i file p ≡ found_for placed e)
 
--- the same, where the digests are known
+-- a grant adds and finds the entry that is asked for, if the digests are known
 grant_adds : (i : Inode) (p : List Event) (file : ℕ) (placed : Placed) (o : Option Digests)
     (x : Digests) → o ≡ Some x
     → GrantAsked i file p placed (placed_if_measured (last_check file p).action placed) o
@@ -95,7 +95,7 @@ grant_adds i p file placed o x e =
     (measured_if (measures file p) i file (Some x) p)) (sym e)
     (placed_adds i p file placed x (last_check file p).action.measure)
 
--- a take asks where a digest is in force and the mutex is free
+-- a take asks for an entry if a digest is in force and no collection is open
 take_adds : (i : Inode) (p : List Event) (file : ℕ) (placed : Placed) (t : Told)
     (c : Option Collection) (o : Option Digests) → in_force i p ≡ o
     → unless_collecting c (take_told i file placed o p) ≡ Some t
@@ -121,7 +121,7 @@ take_adds i p file placed t None (Some x) e h =
     (measured_if (measures file p) i file (Some x) p)))
     (same_Some _ t h) (grant_adds i p file placed (in_force i p) x e)
 
--- a finish asks where a collection is open
+-- a finish asks for an entry if a collection is open
 finish_adds : (i : Inode) (p : List Event) (file : ℕ) (placed : Placed) (t : Told)
     (c : Option Collection) → collecting i p ≡ c
     → finish_told i file placed c p ≡ Some t
@@ -139,7 +139,7 @@ finish_adds i p file placed t (Some c) e h =
     (same_Some _ t h) (grant_adds i p file placed (option_map digests_of (collecting i p))
     (digests_of c) (ap (option_map digests_of) e))
 
--- each deed
+-- each deed adds and finds what it asks for
 pub adds_asked : (i : Inode) (p : List Event) (placed : Placed) (d : Deed) (t : Told)
     → IsNew d placed → says i p placed d ≡ Some t → AddsAsked i p placed d t
 adds_asked i p placed (deed.Check file func action rules) t n h =
@@ -153,7 +153,7 @@ adds_asked i p placed (deed.Finish file) t n h =
     finish_adds i p file placed t (collecting i p) refl h
 adds_asked i p placed d t n h = (refl, refl)
 
--- ---- a violation is new to each list
+-- ---- a violation is new to every list
 
 -- no entry is the same as a violation
 violation_same : (x e : Entry) → e.violation ≡ true → same x e ≡ false
@@ -162,7 +162,7 @@ violation_same x e v =
     and_left _ _
     (and_left _ _ (and_right (not x.violation) (not e.violation) (not_from_true e.violation v)))
 
--- so a search for it ends at the end
+-- a search for a violation reaches the end of the list
 violation_apart : (list : List Entry) (e : Entry) → e.violation ≡ true
     → position_or_len (λ (y : Entry). same y e) list ≡ length list
 violation_apart [] e v = refl
@@ -173,7 +173,7 @@ violation_apart (x ∷ list) e v =
     ap (λ (b : Bool). cond (not b) (1 + position_or_len (λ (y : Entry). same y e) list) 0)
     (violation_same x e v) ∙ q
 
--- and it is added there
+-- a violation is added at the end of the list
 violation_new : (list : List Entry) (e : Entry) → e.violation ≡ true
     → placed list e ≡ Added (length list)
 violation_new list e v =
@@ -200,7 +200,7 @@ asked_new i p (deed.Check file func action rules) list e h =
     subst (λ (s : Placed). Added (place_of s) ≡ s) (sym (violation_new list e v)) refl
 asked_new i p d list e h = tt
 
--- where nothing is asked for, any place is new
+-- if nothing is asked for, any place is new
 pub none_new : (d : Deed) (k : ℕ) → IsNew d (Added k)
 none_new (deed.Check file func action rules) k = refl
 none_new d k = tt

@@ -1,4 +1,4 @@
--- A list as callers share it, oldest first, and the journal, read from its newest event back.
+-- The list that callers share, oldest event first, and the journal, newest event first.
 use Rattle.std.proofs.Common.{◌≡◌, ◌≢◌, ℕ, zero, suc, Bool, true, false, cond, eqb, List, [], ◌∷◌, ◌++◌, length, map, Some, refl, sym, ◌∙◌, ap}
 use Rattle.std.specs.Prelude.{◌==◌, reverse, slice_get}
 use Rattle.std.proofs.lemmas.Bool.{eqb-true, eq-eqb}
@@ -14,15 +14,15 @@ use Rattle.journal_laws.specs.OwnLaws.{EventIsAt, OwnIsOwn, OwnIsWithin}
 
 -- ---- own entries
 
--- the entries of one number, where each entry has the number of its caller
+-- the entries of one number, if each element has the number of its caller
 abbrev owns : ℕ → List Event → List (ℕ × Event)
 owns n list = entries_of n (map caller_of list) list
 
--- no test answers both
+-- a test isn't both true and false
 not_both : (b : Bool) → b ≡ true → b ≡ false → ⊥
 not_both b y n = cc
 
--- one event more is an own entry more, or none
+-- one more event adds one own entry or none
 owns_more : (n : ℕ) (list : List Event) (e : Event)
     → owns n (list ++ e ∷ []) ≡ cond (eqb n (caller_of e)) (owns n list ++ (length list, e) ∷ [])
     (owns n list)
@@ -43,7 +43,7 @@ owns_more n list e =
           entries-other n (caller_of e) (map caller_of list) list e
           (λ is. not_both (eqb n (caller_of e)) (eq-eqb n (caller_of e) is) q) even
 
--- by the newest event
+-- own entries, by induction on the newest event
 newest : (n : ℕ) (p : List Event) → own_past n p ≡ reverse (owns n (reverse p))
 newest n [] = refl
 newest n (e ∷ before) =
@@ -61,24 +61,24 @@ newest n (e ∷ before) =
           ∙ (λ i. (len i, e) ∷ sym ih i)
       at false len ih = sym ih
 
--- in the order of the list
+-- own entries, in the order of the shared list
 pub own_bridge : OwnIsOwn
 unfolding past
 own_bridge n list =
     newest n (reverse list) ∙ ap (λ (l : List Event). reverse (owns n l)) (reverse-reverse list)
 
--- an own entry's place lies below the list's length
+-- the place of an own entry is below the length of the list
 pub within : OwnIsWithin
 within n list = entries-below n (map caller_of list) list
 
 -- ---- places
 
--- the last of a list with one more
+-- the last element of a list with one appended is the appended one
 get_end : (xs : List Event) (x : Event) → slice_get (xs ++ x ∷ []) (length xs) ≡ Some x
 get_end [] x = refl
 get_end (y ∷ xs) x = get_end xs x
 
--- and the others
+-- appending leaves the elements at other places
 get_other : (xs : List Event) (x : Event) (k : ℕ) → length xs ≢ k
     → slice_get (xs ++ x ∷ []) k ≡ slice_get xs k
 get_other [] x zero ne = absurd (ne refl)
@@ -86,7 +86,7 @@ get_other [] x (suc k) ne = refl
 get_other (y ∷ xs) x zero ne = refl
 get_other (y ∷ xs) x (suc k) ne = get_other xs x k (λ e. ne (ap suc e))
 
--- the entry at a place of a list with one more
+-- the element at a place of a list with one appended
 get_more : (xs : List Event) (x : Event) (k : ℕ) (b : Bool) → (length xs == k) ≡ b
     → slice_get (xs ++ x ∷ []) k ≡ cond b (Some x) (slice_get xs k)
 get_more xs x k true q =
@@ -94,7 +94,7 @@ get_more xs x k true q =
 get_more xs x k false q =
     get_other xs x k (λ e. not_both (length xs == k) (eq-eqb (length xs) k e) q)
 
--- by the newest event
+-- the event at a place, by induction on the newest event
 there : (k : ℕ) (p : List Event) → event_at k p ≡ slice_get (reverse p) k
 there k [] = refl
 there k (e ∷ before) =
@@ -104,7 +104,7 @@ there k (e ∷ before) =
     ∙ sym (get_more (reverse before) e k (length before == k) (ap (λ (n : ℕ). n == k) len))
     ∙ sym (ap (λ (l : List Event). slice_get l k) split)
 
--- in the order of the list
+-- the event at a place, in the order of the shared list
 pub event_there : EventIsAt
 unfolding past
 event_there k list =

@@ -1,4 +1,4 @@
--- What a last writer's close hashes is the content as it is when the close ends.
+-- A last writer's close hashes the content as it is when the close ends.
 use Rattle.std.proofs.Common.{◌≡◌, ℕ, ◌<◌, Bool, true, false, cond, List, Option, Some, None, refl, ◌∙◌, ap, subst, arith}
 use Rattle.std.specs.Prelude.{◌==◌, option_map}
 use Rattle.std.proofs.lemmas.Bool.{cond-true, eqb-true}
@@ -22,7 +22,7 @@ use Rattle.journal_laws.proofs.FreshSteps.{finished, freshness_lem}
 use Rattle.journal_laws.proofs.Stages.{Busy, Stages, stages}
 use Rattle.journal_laws.specs.Laws.{labelled_close}
 
--- the label is written where one writer is left
+-- the label is written only if one writer is left
 one_left : (n : ℕ) → Some (close_finish_told n) ≡ Some told.LabelledDropped → n ≡ 1
 one_left n e = at (n == 1) refl e where
   at : (b : Bool) → (n == 1) ≡ b
@@ -30,7 +30,7 @@ one_left n e = at (n == 1) refl e where
   at true q f = eqb-true n 1 q
   at false q f = cc
 
--- the digest that a close gives where its writer is the only one
+-- if a close's writer is the only one, its collection gives the digest of the present content
 closed_digest : (i : Inode) (p : List Event) (c : Collection) → CollectionIs i p (Some c)
     → c.closing ≡ true → c.complete ≡ true → writers p ≡ 1
     → digest_from c ≡ digest_of i.settings.hash (content p)
@@ -45,7 +45,7 @@ closed_digest i p c h k m one = at (modified_since c.begin p) refl where
       ∙ ap (λ (x : Algo). digest_of x (content p))
       (h.3 ∙ cond-true c.closing i.settings.hash (chosen_algo i p) k)
 
--- the close writes what its collection gives
+-- the label that a close writes is that of the present content's digest
 labelled_lem : (i : Inode) (p : List Event) (file : ℕ) → stage i file p ≡ CloseCollected
     → writers p ≡ 1 → Stages i p → Fresh i p → (o : Option Collection) → collecting i p ≡ o
     → labelled_by i (option_map digest_from o) (metadata p) (attributes i p) ≡ labelled_with i
@@ -61,7 +61,7 @@ labelled_lem i p file l one s fr (Some c) e =
     ap (λ (d : Digest). labelled_with i d (metadata p) (attributes i p))
     (closed_digest i p c ci ends.1 ends.2 one)
 
--- where it is told that it did
+-- the law, for a close that wrote the label
 pub labelled : (i : Inode) (p : List Event) (who : Who) (file : ℕ)
     → Follows i p who (deed.CloseFinish file) told.LabelledDropped → EachFollows i p
     → attributes i (labelled_close who file p) ≡ labelled_with i

@@ -1,4 +1,4 @@
--- Takes that begin a collection, and events that void the digest.
+-- Takes that begin a collection, against events that void the digest.
 use Rattle.std.proofs.Common.{◌≡◌, ℕ, ◌+◌, ◌≤◌, Bool, true, false, ◌||◌, not, cond, List, [], ◌∷◌, Option, Some, None, refl, sym, ◌∙◌, ap, arith}
 use Rattle.std.specs.Prelude.{is_some, option_map}
 use Rattle.std.proofs.lemmas.Bool.{cond-false, or_right}
@@ -21,26 +21,26 @@ use Rattle.journal_laws.proofs.FreshSteps.{finished}
 use Rattle.journal_laws.proofs.Small.{event}
 use Rattle.journal_laws.proofs.Stages.{Stages, free_at, stages}
 
--- a collection for a take is open
+-- whether a collection for a take is open
 is_taking : Option Collection → Bool
 is_taking None = false
 is_taking (Some c) = not c.closing
 
--- a begun collection that wasn't voided: it is open, or its digest is in force
+-- whether a take's collection is still unvoided: it is open, or its digest is in force
 owed : Option Digests → Option Collection → Bool
 unfolding is_taking
 owed f c = is_some f || is_taking c
 
--- 1 where the test holds
+-- 1 if the test holds, else 0
 one_if : Bool → ℕ
 one_if b = cond b 1 0
 
--- by the events that voided so far, and by those before the last begin
+-- bounds by all events that voided, and by those before the last take that began a collection
 record Few (i : Inode) (p : List Event) : Type 0 where
   by_voids : takes_begun p ≤ times_voided i p + one_if (owed (in_force i p) (collecting i p))
   by_last : takes_begun p ≤ times_voided_before_last i p + 1
 
--- an event that neither begins, voids nor ends
+-- an event that begins, voids and ends nothing keeps the bounds
 few_kept : (i : Inode) (p q : List Event) → takes_begun q ≡ takes_begun p
     → times_voided i q ≡ times_voided i p
     → times_voided_before_last i q ≡ times_voided_before_last i p
@@ -52,13 +52,13 @@ few_kept i p q t v l o h = record {
   by_last = omega (arith, h.by_last);
 }
 
--- at most 1
+-- the number for a test is at most 1
 one_most : (b : Bool) → one_if b ≤ 1
 unfolding one_if
 one_most true = omega arith
 one_most false = omega arith
 
--- an event that voids
+-- an event that voids keeps the bounds
 few_void : (i : Inode) (p q : List Event) → takes_begun q ≡ takes_begun p
     → times_voided i q ≡ 1 + times_voided i p
     → times_voided_before_last i q ≡ times_voided_before_last i p → Few i p → Few i q
@@ -68,7 +68,7 @@ few_void i p q t v l h = record {
   by_last = omega (arith, h.by_last);
 }
 
--- a take that begins
+-- a take that begins a collection keeps the bounds
 few_begun : (i : Inode) (p q : List Event) → takes_begun q ≡ 1 + takes_begun p
     → times_voided i q ≡ times_voided i p → times_voided_before_last i q ≡ times_voided i p
     → in_force i p ≡ None → collecting i p ≡ None → owed (in_force i q) (collecting i q) ≡ true
@@ -81,7 +81,7 @@ few_begun i p q t v l f c o h =
     let w : one_if (owed (in_force i q) (collecting i q)) ≡ 1 = ap one_if o in
     record { by_voids = omega (arith, h.by_voids); by_last = omega (arith, h.by_voids) }
 
--- a grant that is labelled voids, and another leaves what is owed
+-- a grant keeps the bounds: it voids if it labels, and otherwise leaves what is unvoided
 few_either : (i : Inode) (p q : List Event) (b : Bool) → takes_begun q ≡ takes_begun p
     → times_voided i q ≡ cond b (1 + times_voided i p) (times_voided i p)
     → times_voided_before_last i q ≡ times_voided_before_last i p
@@ -90,20 +90,20 @@ few_either : (i : Inode) (p q : List Event) (b : Bool) → takes_begun q ≡ tak
 few_either i p q true t v l o h = few_void i p q t v l h
 few_either i p q false t v l o h = few_kept i p q t v l (o refl) h
 
--- a piece more leaves what a collection is for
+-- one more piece leaves whether a collection is for a take
 taking_more : (bytes : List ℕ) (complete : Bool) (o : Option Collection)
     → is_taking (collected_more bytes complete o) ≡ is_taking o
 unfolding is_taking
 taking_more bytes complete None = refl
 taking_more bytes complete (Some c) = refl
 
--- and so what is owed
+-- one more piece leaves whether a take's collection is unvoided
 owed_more : (f : Option Digests) (bytes : List ℕ) (complete : Bool) (o : Option Collection)
     → owed f (collected_more bytes complete o) ≡ owed f o
 unfolding owed
 owed_more f bytes complete o = ap (λ (b : Bool). is_some f || b) (taking_more bytes complete o)
 
--- a finish brings in force what was owed
+-- a finish puts in force the digest of a collection that was unvoided
 finish_owes : (i : Inode) (p : List Event) (g : ℕ) (grant : Grant) (who : Who)
     → Follows i p who (deed.Finish g) (told.Grant grant) → Stages i p
     → owed (option_map digests_of (collecting i p)) None ≡ owed (in_force i p) (collecting i p)
@@ -123,7 +123,7 @@ finish_owes i p g grant who h s = at made.0 made.1.0 where
       ∙ sym (ap (owed (in_force i p)) e ∙ or_right (is_some (in_force i p)) (not c.closing)
       (ap not ends.1))
 
--- a close's finish ends no collection of a take
+-- the finish of a close ends no take's collection
 close_owes : (i : Inode) (p : List Event) (g : ℕ) → stage i g p ≡ CloseCollected → Stages i p
     → (f : Option Digests) → owed f None ≡ owed f (collecting i p)
 unfolding owed is_taking
@@ -134,7 +134,7 @@ close_owes i p g l s f = at (collecting i p) refl where
       finished i p g true l s c e in
       ap (λ (b : Bool). is_some f || b) (sym (ap not ends.1))
 
--- event by event
+-- each event keeps the bounds
 step : (i : Inode) (p : List Event) (who : Who) (d : Deed) (t : Told) → Follows i p who d t
     → Stages i p → Few i p → Few i (event who d t ∷ p)
 unfolding owed is_taking
@@ -182,13 +182,13 @@ step i p who (deed.CloseFinish g) told.LabelledDropped h s few =
     few_void i p (event who (deed.CloseFinish g) told.LabelledDropped ∷ p) refl refl refl few
 step i p who d t h s few = few_kept i p (event who d t ∷ p) refl refl refl refl few
 
--- along the journal
+-- the bounds hold for every journal
 few : (i : Inode) (p : List Event) → EachFollows i p → Few i p
 few i [] h = record { by_voids = omega arith; by_last = omega arith }
 few i (e ∷ before) h =
     step i before e.who e.deed e.told h.0 (stages i before h.1) (few i before h.1)
 
--- so the law
+-- the law of few collections
 pub few_takes : (i : Inode) (p : List Event) → EachFollows i p
     → takes_begun p ≤ times_voided_before_last i p + 1
 few_takes i p h = (few i p h).by_last

@@ -1,10 +1,10 @@
--- Coverage: every check of a read-only file that measures is answered before the file is read.
+-- Coverage: every measuring check of a read-only file is answered before the file is read.
 use Rattle.std.proofs.Common.{◌≡◌, ℕ, ◌<◌, ◌≤◌, Bool, true, false, ◌&&◌, not, cond, List, [], ◌∷◌, ◌++◌, length, get_or, Option, Some, None, refl, sym, ◌∙◌, ap, subst, arith, inl, inr, length-append}
 use Rattle.std.specs.Prelude.{◌⊎◌, ◌==◌, All, Contains, nat_lt, option_map, slice_get}
 use Rattle.std.proofs.lemmas.Bool.{and_parts, cond-true, cond-false, eqb-true, ltb-false, or_right}
 use Rattle.hash_algos.specs.Digest.{digest_of}
 use Rattle.hash_algos.specs.declared.algo.Algo.TheVariants.{Sha1}
-use Rattle.ima_templates.specs.IsEntry.{IsEntry}
+use Rattle.ima_templates.proofs.DataLemmas.{IsNamed}
 use Rattle.ima_templates.specs.Path.{IsMeasuredPath}
 use Rattle.ima_templates.specs.declared.entry.Entry.{Entry}
 use Rattle.ima_templates.specs.declared.entry.Placed.{Placed}
@@ -47,7 +47,7 @@ use Rattle.journal_laws.proofs.Tallies.{tally_held}
 
 -- ---- violations
 
--- a list of one contains that one
+-- the only element of a list of one is that one
 contains_one : (place v : ℕ) → Contains (place ∷ []) v → place ≡ v
 contains_one place v h =
     let z : h.0 ≡ 0 = omega (arith, h.1) in subst (λ (k : ℕ). get_or (place ∷ []) k v ≡ v) z h.2
@@ -56,7 +56,7 @@ contains_one place v h =
 contains_none : (v : ℕ) → Contains {X = ℕ} [] v → ⊥
 contains_none v h = omega (arith, h.1)
 
--- a violation that an event is told stands in the list
+-- the violation in an event's outcome is in the list
 violation_shown : (i : Inode) (list : List Entry) (before : List Event) (d : Deed) (t : Told)
     (v : ℕ) → StandsIn list (adds i d t before) → Contains (violation_places d t) v
     → ShowsViolation i list v
@@ -68,7 +68,7 @@ violation_shown i list before (deed.Check g func action rules) (told.ToMToU plac
     (violated i, (subst (λ (k : ℕ). slice_get list k ≡ Some (violated i)) e s, refl, refl))
 violation_shown i list before d t v s c = absurd (contains_none v c)
 
--- so does each that the events are told
+-- each violation in these events' outcomes is in the list
 violations_shown : (i : Inode) (list : List Entry) (later : List Event) (check : Event)
     (before : List Event) (v : ℕ) → IsListed i list (later ++ check ∷ before)
     → Contains (places_violated (later ++ check ∷ [])) v → ShowsViolation i list v
@@ -90,11 +90,11 @@ violations_shown i list (e ∷ later) check before v l c =
 
 -- ---- from the check on
 
--- a file stays within the journal
+-- a file's place stays within a longer journal
 longer : (f : ℕ) (later b : List Event) → f < length b → f < length (later ++ b)
 longer f later b h = omega (arith, length-append later b)
 
--- from the check on, the file is owed a grant or got one
+-- after the check, the file is owed a grant or has had one
 walk_any : (i : Inode) (f : ℕ) (b : List Event) (later : List Event) → EachFollows i (later ++ b)
     → f < length b → Progress (λ q. Unit {0}) i f b []
     → Progress (λ q. Unit {0}) i f (later ++ b) (places_granted f later)
@@ -104,13 +104,13 @@ walk_any i f b (e ∷ later) h l p =
     (longer f later b l) (λ grant placed a c d k. tt)
     (walk_any i f b later h.1 l p)
 
--- what a take grants shows the content
+-- the entry that a take's grant names shows the content
 take_shows : (i : Inode) (list : List Entry) (f g : ℕ) (p : List Event) (bytes : List ℕ) (who : Who)
     (grant : Grant) (placed : Placed)
     → Follows i p who (deed.Take g) (told.Grant grant) → Fresh i p → Guarded i bytes p
     → StandsIn list (adds i (deed.Take g) (told.Grant grant) p)
     → IsFirstIn list (finds i (deed.Take g) (told.Grant grant) p) → IsMeasuredPath Ima i.path
-    → All IsEntry list
+    → All IsNamed list
     → grant.placed ≡ Some placed → ShowsContent i list bytes (place_of placed)
 take_shows i list f g p bytes who grant placed h fr gu st fi path kept names_it =
     let made : (x : Digests)
@@ -138,14 +138,14 @@ take_shows i list f g p bytes who grant placed h fr gu st fi path kept names_it 
           (subst (λ (o : Option Listed). StandsIn list o) ats st)
           (subst (λ (o : Option Listed). IsFirstIn list o) founds fi) path kept
 
--- and what a finish grants
+-- the entry that a finish's grant names shows the content
 finish_shows : (i : Inode) (list : List Entry) (f g : ℕ) (p : List Event) (bytes : List ℕ)
     (who : Who) (grant : Grant) (placed : Placed)
     → Follows i p who (deed.Finish g) (told.Grant grant) → Stages i p → Fresh i p
     → Guarded i bytes p
     → StandsIn list (adds i (deed.Finish g) (told.Grant grant) p)
     → IsFirstIn list (finds i (deed.Finish g) (told.Grant grant) p) → IsMeasuredPath Ima i.path
-    → All IsEntry list
+    → All IsNamed list
     → grant.placed ≡ Some placed → ShowsContent i list bytes (place_of placed)
 finish_shows i list f g p bytes who grant placed h s fr gu st fi path kept names_it =
     let made : (c : Collection)
@@ -177,12 +177,12 @@ finish_shows i list f g p bytes who grant placed h s fr gu st fi path kept names
           (subst (λ (o : Option Listed). StandsIn list o) ats st)
           (subst (λ (o : Option Listed). IsFirstIn list o) founds fi) path kept
 
--- so what any grant of the file names
+-- the entry that any grant of the file names shows the content
 event_shows : (i : Inode) (list : List Entry) (f : ℕ) (p : List Event) (bytes : List ℕ) (who : Who)
     (d : Deed) (t : Told) (grant : Grant) (placed : Placed)
     → Follows i p who d t → Stages i p → Fresh i p → Guarded i bytes p
     → StandsIn list (adds i d t p) → IsFirstIn list (finds i d t p) → IsMeasuredPath Ima i.path
-    → All IsEntry list
+    → All IsNamed list
     → t ≡ told.Grant grant → grant_places f d t ≡ place_of placed ∷ [] → grant.placed ≡ Some placed
     → ShowsContent i list bytes (place_of placed)
 event_shows i list f p bytes who (deed.Take g) (told.Grant gr) grant placed h s fr gu st fi path
@@ -197,19 +197,19 @@ event_shows i list f p bytes who (deed.Finish g) (told.Grant gr) grant placed h 
     (ap (λ (x : Grant). x.placed) same ∙ names_it)
 event_shows i list f p bytes who d t grant placed h s fr gu st fi path kept e named names_it = cc
 
--- where two lists joined are empty, both are
+-- if two lists joined are empty, both are
 nil_parts : (xs ys : List ℕ) → xs ++ ys ≡ [] → (xs ≡ []) × (ys ≡ [])
 nil_parts [] ys h = (refl, h)
 nil_parts (x ∷ xs) ys h = cc
 
--- from the check on, while no violation is told, nothing is written
+-- after the check, nothing is written while no violation occurs
 walk_guarded : (i : Inode) (list : List Entry) (f : ℕ) (check : Event) (before : List Event)
     (bytes : List ℕ) (later : List Event)
     → EachFollows i (later ++ check ∷ before) → f < length (check ∷ before)
     → places_violated (later ++ check ∷ []) ≡ []
     → is_gone (stage i f (later ++ check ∷ before)) ≡ false
     → holds is_reader (held f (later ++ check ∷ before)) ≡ true
-    → IsListed i list (later ++ check ∷ before) → IsMeasuredPath Ima i.path → All IsEntry list
+    → IsListed i list (later ++ check ∷ before) → IsMeasuredPath Ima i.path → All IsNamed list
     → (violation_places check.deed check.told ≡ []
     → holds is_reader (held f (check ∷ before)) ≡ true → Guarded i bytes (check ∷ before))
     → Progress (ShowsContent i list bytes) i f (check ∷ before) []
@@ -250,7 +250,7 @@ reader_no_writer (Some (how.Read create)) h = refl
 reader_no_writer (Some (how.Write read create)) h = cc
 reader_no_writer (Some how.Exec) h = refl
 
--- a measuring check of a reader that tells no violation meets no writer
+-- if a measuring check of a reader finds no violation, there is no writer
 quiet_check : (r w place : ℕ) (must : Bool) (g : ℕ) (func : Func) (action : Action) (rules : ℕ)
     (t : Told) → action.measure ≡ true
     → Some (check_told false action.measure r w must place) ≡ Some t
@@ -275,7 +275,7 @@ quiet_check r w place must g func action rules t m e v = at (nat_lt 0 w) refl wh
         omega arith,
       )
 
--- without a writer, nothing was written since the begin of the digests in force
+-- without a writer, nothing was written since the collection of the digests in force began
 clean_digests_at : (i : Inode) (p : List Event) → writers p ≡ 0 → (o : Option Digests)
     → DigestsIs i p o → DigestsClean p o
 clean_digests_at i p none None h = tt
@@ -284,7 +284,7 @@ clean_digests_at i p none (Some x) h = at (modified_since x.begin p) refl where
   at true e = let some : 0 < writers p = h.1 e in absurd (omega arith)
   at false e = e
 
--- nor since that of the open collection
+-- without a writer, nothing was written since the open collection began
 clean_collecting_at : (i : Inode) (p : List Event) → writers p ≡ 0 → (o : Option Collection)
     → CollectionIs i p o → CollectionClean p o
 clean_collecting_at i p none None h = tt
@@ -293,20 +293,20 @@ clean_collecting_at i p none (Some c) h = at (modified_since c.begin p) refl whe
   at true e = let some : cond c.closing 1 0 < writers p = h.1 e in absurd (omega arith)
   at false e = e
 
--- an event that writes nothing leaves that
+-- an event that writes nothing leaves the digests in force unwritten
 clean_more : (p q : List Event) → ((place : ℕ) → modified_since place q ≡ modified_since place p)
     → (o : Option Digests) → DigestsClean p o → DigestsClean q o
 clean_more p q since None h = tt
 clean_more p q since (Some x) h = since x.begin ∙ h
 
--- of a collection too
+-- an event that writes nothing leaves the open collection unwritten
 collection_more : (p q : List Event)
     → ((place : ℕ) → modified_since place q ≡ modified_since place p) → (o : Option Collection)
     → CollectionClean p o → CollectionClean q o
 collection_more p q since None h = tt
 collection_more p q since (Some x) h = since x.begin ∙ h
 
--- at a quiet check nothing was written and the mark is set
+-- after a measuring check without writers nothing was written and the mark is set
 quiet_base : (i : Inode) (p : List Event) (who : Who) (g : ℕ) (func : Func) (action : Action)
     (rules : ℕ) → action.measure ≡ true → is_writing g p ≡ false → writers p ≡ 0
     → Fresh i p → Guarded i (content p) (event who (deed.Check g func action rules) told.Quiet ∷ p)
@@ -324,7 +324,7 @@ quiet_base i p who g func action rules m w none fr = record {
       (clean_collecting_at i p none (collecting i p) fr.collection_is);
 }
 
--- so at each measuring check without a violation
+-- after each measuring check without a violation nothing was written and the mark is set
 base : (i : Inode) (p : List Event) (who : Who) (d : Deed) (t : Told) (f : ℕ)
     → is_measuring f d ≡ true → Follows i p who d t → Fresh i p → violation_places d t ≡ []
     → holds is_reader (held f (event who d t ∷ p)) ≡ true → Guarded i (content (event who d t ∷ p))
@@ -346,13 +346,13 @@ base i p who d t f e h fr v reads = cc
 
 -- ---- the law
 
--- an earlier part of a journal in which each event follows is one
+-- if each event of a journal follows, so does each event of an earlier part
 pub follows_at : (i : Inode) (later : List Event) (b : List Event) → EachFollows i (later ++ b)
     → EachFollows i b
 follows_at i [] b h = h
 follows_at i (e ∷ later) b h = follows_at i later b h.1
 
--- a settled file is owed nothing
+-- a settled file is owed nothing, so its grant has been given
 settled : (P : ℕ → Type 0) (i : Inode) (f : ℕ) (p : List Event) (places : List ℕ)
     → stage i f p ≡ Settled → Progress P i f p places → (q : ℕ) × (Contains places q × P q)
 settled P i f p places e (inl o) = let z : is_owing (stage i f p) ≡ false = ap is_owing e in cc
@@ -364,7 +364,7 @@ answered : (i : Inode) (list : List Entry) (f : ℕ) (later : List Event) (check
     → stage i f (later ++ check ∷ before) ≡ Settled
     → holds is_reader (held f (later ++ check ∷ before)) ≡ true
     → is_measuring f check.deed ≡ true
-    → IsListed i list (later ++ check ∷ before) → IsMeasuredPath Ima i.path → All IsEntry list
+    → IsListed i list (later ++ check ∷ before) → IsMeasuredPath Ima i.path → All IsNamed list
     → IsAnswered i list f (content (later ++ check ∷ before)) later check
 answered i list f later check before h s reads m listed path kept =
     at (places_violated (later ++ check ∷ [])) refl where
@@ -414,10 +414,10 @@ answered i list f later check before h s reads m listed path kept =
             (got.1.0, inr (v, (has, violations_shown i list later check before v listed has))),
           )
 
--- for every way to cut the journal at a check
+-- the law, for every way to split the journal at a check
 pub covered : (i : Inode) (list : List Entry) (p : List Event) (file : ℕ) → EachFollows i p
     → stage i file p ≡ Settled → holds is_reader (held file p) ≡ true
-    → IsListed i list p → IsMeasuredPath Ima i.path → All IsEntry list → IsCovered i list file p
+    → IsListed i list p → IsMeasuredPath Ima i.path → All IsNamed list → IsCovered i list file p
 covered i list p file h s reads listed path kept = λ later check before e m.
     subst (λ (x : List Event). IsAnswered i list file (content x) later check) (sym e)
     (answered i list file later check before (subst (λ (x : List Event). EachFollows i x) e h)

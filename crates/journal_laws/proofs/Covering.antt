@@ -1,4 +1,4 @@
--- A check that measures is answered by a later grant of its file.
+-- A measuring check is answered by a later grant of its file.
 use Rattle.std.proofs.Common.{◌≡◌, ℕ, ◌<◌, Bool, true, false, ◌&&◌, not, cond, List, [], ◌∷◌, ◌++◌, length, get_or, Option, Some, None, refl, sym, ◌∙◌, ap, subst, arith, inl, inr}
 use Rattle.std.specs.Prelude.{◌≤◌, nat_le, ◌⊎◌, ◌==◌, All, Contains, slice_get}
 use Rattle.std.specs.Str.{bytes_eq}
@@ -12,9 +12,8 @@ use Rattle.hash_algos.proofs.HashLemmas.{length-hash}
 use Rattle.hash_algos.specs.declared.algo.Algo.{Algo}
 use Rattle.hash_algos.specs.declared.algo.Algo.TheVariants.{Sha1}
 use Rattle.hash_algos.specs.declared.digest.Digest.{Digest}
-use Rattle.ima_templates.proofs.DataLemmas.{IsNamed, entry_named, template_data-named}
+use Rattle.ima_templates.proofs.DataLemmas.{IsNamed, template_data-named}
 use Rattle.ima_templates.specs.Data.{template_data}
-use Rattle.ima_templates.specs.IsEntry.{IsEntry}
 use Rattle.ima_templates.specs.Path.{IsGraphic, IsMeasuredPath, last_component}
 use Rattle.ima_templates.specs.Same.{place_of_same, same, same_data, same_template}
 use Rattle.ima_templates.specs.Shown.{shown_digest, shown_name}
@@ -44,7 +43,7 @@ use Rattle.journal_laws.proofs.Fresh.{finish_grants, take_grants}
 use Rattle.journal_laws.proofs.Lives.{check_alive}
 use Rattle.journal_laws.proofs.Small.{cond_same, event}
 
--- ---- what a place of the list shows
+-- ---- what an entry of the list shows
 
 -- templates that compare equal are equal
 template_true : (a b : Template) → same_template a b ≡ true → a ≡ b
@@ -54,12 +53,12 @@ template_true ImaSig ImaSig e = refl
 template_true ImaBuf ImaBuf e = refl
 template_true _ _ e = cc
 
--- an entry that is the same as one shows the same digest and name
-same_shows : (x e : Entry) → same x e ≡ true → IsEntry x → IsNamed e
+-- entries that are the same show the same digest and name
+same_shows : (x e : Entry) → same x e ≡ true → IsNamed x → IsNamed e
     → (x.violation ≡ false) × (x.template ≡ e.template)
     × ((x.digest ≡ e.digest) × (x.name ≡ e.name))
 unfolding same
-same_shows x e s kept_x named_e =
+same_shows x e s named_x named_e =
     let a : ((not x.violation && not e.violation && x.pcr == e.pcr) ≡ true)
     × (same_data x e ≡ true) = and_parts _ _ s in
     let b : ((not x.violation && not e.violation) ≡ true) × ((x.pcr == e.pcr) ≡ true) =
@@ -70,11 +69,11 @@ same_shows x e s kept_x named_e =
     let t : x.template ≡ e.template = template_true x.template e.template d.0 in (
       not-true x.violation c.0,
       t,
-      template_data-named x e (entry_named x kept_x) named_e t
+      template_data-named x e named_x named_e t
           ((bytes_eq-Decides (template_data x) (template_data e)).0 d.1),
     )
 
--- what a template shows of two digests of the same bytes
+-- the digest that a template shows, of two digests of the same bytes
 shown_of : (t : Template) (algo : Algo) (bytes : List ℕ) → shown_digest t (digest_of algo bytes)
     (digest_of Sha1 bytes) ≡ digest_of
     (shown_digest t (digest_of algo bytes) (digest_of Sha1 bytes)).algo bytes
@@ -83,7 +82,7 @@ shown_of ImaNg algo bytes = refl
 shown_of ImaSig algo bytes = refl
 shown_of ImaBuf algo bytes = refl
 
--- the digest of a measurement
+-- the digest that a measurement shows
 measured_digest : (i : Inode) (f : ℕ) (x : Digests) (p : List Event) (algo : Algo) (bytes : List ℕ)
     → x.digest ≡ digest_of algo bytes → x.sha1 ≡ digest_of Sha1 bytes
     → (measured i f x p).digest ≡ digest_of (measured i f x p).digest.algo bytes
@@ -97,8 +96,8 @@ measured_digest i f x p algo bytes d s =
     e ∙ shown_of (template_for i (last_check f p).action) algo bytes
     ∙ sym (ap (λ (y : Digest). digest_of y.algo bytes) e)
 
--- what a template shows of a path
-graphic_shown : (t : Template) (path : List ℕ) → All IsGraphic path
+-- a template shows a printable path as printable bytes
+pub graphic_shown : (t : Template) (path : List ℕ) → All IsGraphic path
     → All IsGraphic (shown_name t path)
 graphic_shown Ima path h = at (nat_le (length path) 255) where
   at : (b : Bool) → All IsGraphic (cond b path (last_component path))
@@ -108,8 +107,8 @@ graphic_shown ImaNg path h = h
 graphic_shown ImaSig path h = h
 graphic_shown ImaBuf path h = h
 
--- it has at most 1,024 bytes
-short_shown : (t : Template) (path : List ℕ) → length path ≤ 1024
+-- a template shows at most 1,024 bytes of a path
+pub short_shown : (t : Template) (path : List ℕ) → length path ≤ 1024
     → length (last_component path) ≤ 255 → length (shown_name t path) ≤ 1024
 short_shown Ima path h l = at (nat_le (length path) 255) where
   at : (b : Bool) → length (cond b path (last_component path)) ≤ 1024
@@ -119,8 +118,9 @@ short_shown ImaNg path h l = h
 short_shown ImaSig path h l = h
 short_shown ImaBuf path h l = h
 
--- the entry of a measurement has a digest of its algorithm's size, and a name that the path gives
-measured_named : (i : Inode) (f : ℕ) (x : Digests) (p : List Event) (algo : Algo) (bytes : List ℕ)
+-- the entry of a measurement has a digest of its algorithm's size and a name that comes from the
+-- path
+pub measured_named : (i : Inode) (f : ℕ) (x : Digests) (p : List Event) (algo : Algo) (bytes : List ℕ)
     → x.digest ≡ digest_of algo bytes
     → x.sha1 ≡ digest_of Sha1 bytes → IsMeasuredPath Ima i.path → IsNamed (measured i f x p)
 measured_named i f x p algo bytes d s path = record {
@@ -140,7 +140,7 @@ measured_named i f x p algo bytes d s path = record {
   size ImaSig = hashed x.digest algo d
   size ImaBuf = hashed x.digest algo d
 
--- the first entry that is the same stands there and is the same
+-- the first entry that is the same as this one is at its place
 pub first_shows : (list : List Entry) (e : Entry) (place : ℕ) → place_of_same list e ≡ Some place
     → (slice_get list place ≡ Some (get_or list place e)) × (same (get_or list place e) e ≡ true)
     × (place < length list)
@@ -150,13 +150,13 @@ first_shows list e place h =
     position-Some (λ (y : Entry). same y e) list place e h in
     (slice_get-get_or list place e a.0, a.1, a.0)
 
--- the place of a measurement shows the content, whether added or found
+-- the entry at a measurement's place shows the content, whether it was added or found
 pub shows_listed : (i : Inode) (list : List Entry) (f : ℕ) (p : List Event) (x : Digests)
     (algo : Algo) (bytes : List ℕ) (placed : Placed)
     → x.digest ≡ digest_of algo bytes → x.sha1 ≡ digest_of Sha1 bytes
     → StandsIn list (added_at (Some placed) (Some x) i f p)
     → IsFirstIn list (found_at (Some placed) (Some x) i f p)
-    → IsMeasuredPath Ima i.path → All IsEntry list → ShowsContent i list bytes (place_of placed)
+    → IsMeasuredPath Ima i.path → All IsNamed list → ShowsContent i list bytes (place_of placed)
 shows_listed i list f p x algo bytes (Added place) d s st fi path kept =
     (measured i f x p, (st, refl, refl, measured_digest i f x p algo bytes d s))
 shows_listed i list f p x algo bytes (Already place) d s st fi path kept =
@@ -170,7 +170,7 @@ shows_listed i list f p x algo bytes (Already place) d s st fi path kept =
     × (((get_or list place (measured i f x p)).digest ≡ (measured i f x p).digest)
     × ((get_or list place (measured i f x p)).name ≡ (measured i f x p).name)) =
     same_shows (get_or list place (measured i f x p)) (measured i f x p) at.1
-    (All-get_or IsEntry list place (measured i f x p) at.2 kept)
+    (All-get_or IsNamed list place (measured i f x p) at.2 kept)
     (measured_named i f x p algo bytes d s path) in (
       get_or list place (measured i f x p),
       (
@@ -184,14 +184,14 @@ shows_listed i list f p x algo bytes (Already place) d s st fi path kept =
 
 -- ---- a grant is owed until it is given
 
--- the file is owed a grant
+-- whether the file is owed a grant
 abbrev pub is_owing : Stage → Bool
 is_owing Asked = true
 is_owing Collecting = true
 is_owing Collected = true
 is_owing _ = false
 
--- the file is owed a measuring grant, or got one at a place for which P holds
+-- the file is owed a measuring grant, or has had one at a place for which P holds
 abbrev pub Progress : (ℕ → Type 0) → Inode → ℕ → List Event → List ℕ → Type 0
 Progress P i f p places =
     ((is_owing (stage i f p) ≡ true) × ((last_check f p).action.measure ≡ true))
@@ -208,7 +208,7 @@ check_not_owing Settled m = refl
 check_not_owing CloseCollecting m = cc
 check_not_owing CloseCollected m = cc
 
--- an event of a file that is owed nothing leaves what others are owed
+-- an event on a file that is owed nothing leaves what others are owed
 owe_other : (i : Inode) (p : List Event) (g f : ℕ) (after l : Stage) → stage i g p ≡ l
     → is_owing l ≡ false → is_owing (stage i f p) ≡ true
     → is_owing (cond (g == f) after (stage i f p)) ≡ true
@@ -219,13 +219,13 @@ owe_other i p g f after l e n o = at (g == f) refl where
       cc (ap is_owing z)
   at false q = o
 
--- so does an event that leaves its file owed
+-- an event after which its file is still owed leaves what is owed
 owe_after : (b : Bool) (after old : Stage) → is_owing after ≡ true → is_owing old ≡ true
     → is_owing (cond b after old) ≡ true
 owe_after true after old a o = a
 owe_after false after old a o = o
 
--- and a count
+-- a count leaves what earlier files are owed
 owe_counted : (f : ℕ) (p : List Event) (old : Stage) → f < length p → is_owing old ≡ true
     → is_owing (cond (length p == f) Counted old) ≡ true
 owe_counted f p old b o = at (length p == f) refl where
@@ -244,7 +244,7 @@ owe_check i p g f new m o = at (g == f) refl where
       (check_not_owing (stage i g p) m) in cc
   at false q = refl
 
--- the grant of the file names a place
+-- the grant of a file that is owed one names a place
 given : (P : ℕ → Type 0) (i : Inode) (f g : ℕ) (p : List Event) (grant : Grant) (placed : Placed)
     (places : List ℕ) → (last_check f p).action.measure ≡ true
     → ((g == f) ≡ true → grant.placed ≡ cond (last_check g p).action.measure (Some placed) None)
@@ -274,7 +274,7 @@ given P i f g p grant placed places m made o shows = at (g == f) refl where
       )
   at false e = inl (o, m)
 
--- event by event
+-- each event keeps the file owed or gives it its grant
 pub step : (P : ℕ → Type 0) (i : Inode) (f : ℕ) (p : List Event) (who : Who) (d : Deed) (t : Told)
     (places : List ℕ) → Follows i p who d t → f < length p
     → ((grant : Grant) (placed : Placed) → t ≡ told.Grant grant
@@ -332,7 +332,7 @@ step P i f p who d t places h b shows (inl o) =
 
 -- ---- the check
 
--- it asks for a take
+-- a measuring check asks for a take
 pub check_asks : (i : Inode) (f : ℕ) (before : List Event) (check : Event)
     → is_measuring f check.deed ≡ true → Follows i before check.who check.deed check.told
     → (is_owing (stage i f (check ∷ before)) ≡ true)

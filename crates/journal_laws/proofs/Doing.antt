@@ -1,4 +1,4 @@
--- What may be done by own entries may be done.
+-- A deed that own entries allow may be done.
 use Rattle.std.proofs.Common.{◌≡◌, ℕ, Bool, true, false, List, Some, refl, ◌∙◌, ap, subst}
 use Rattle.std.specs.Prelude.{◌==◌}
 use Rattle.std.proofs.lemmas.Bool.{eqb-true}
@@ -18,7 +18,7 @@ use Rattle.journal_laws.proofs.Owning.{file_own, stage_own}
 use Rattle.journal_laws.proofs.OwnHolding.{how_own}
 
 module _ (i : Inode) (n : ℕ) (p : List Event) (legal : EachFollows i p) (owned : IsOwned p) where
-  -- a file that isn't gone by the entries is the caller's, at that stage
+  -- a file that isn't gone according to the entries is at the stage that they say
   stands : (f : ℕ) → is_gone (stage_in i f (own_past n p)) ≡ false
       → stage i f p ≡ stage_in i f (own_past n p)
   stands f a = stage_own i n f p owned (file_own i n f p owned a)
@@ -27,19 +27,20 @@ module _ (i : Inode) (n : ℕ) (p : List Event) (legal : EachFollows i p) (owned
       → counter g p ≡ Some n
   by f g a e = subst (λ (x : ℕ). counter x p ≡ Some n) (eqb-true f g e) (file_own i n f p owned a)
 
-  -- it is held as the entries tell
+  -- the file is held in the way that the entries say
   held_so : (f : ℕ) → is_gone (stage_in i f (own_past n p)) ≡ false
       → held f p ≡ how_in f (own_past n p)
   held_so f a = how_own i n f p legal (file_own i n f p owned a) (ap is_gone (stands f a) ∙ a)
 
-  -- at a stage that isn't the end
+  -- a file at this stage according to the entries is at it, and is the caller's
   at_stage : (f : ℕ) (s : Stage) → is_gone s ≡ false → stage_in i f (own_past n p) ≡ s
       → (stage i f p ≡ s) × ((g : ℕ) → (f == g) ≡ true → counter g p ≡ Some n)
   at_stage f s a e =
       let alive : is_gone (stage_in i f (own_past n p)) ≡ false = ap is_gone e ∙ a in
       (stands f alive ∙ e, (λ g. by f g alive))
 
-  -- settled, and held in a way that passes the test or doesn't
+  -- a file that is settled according to the entries is settled, and its mode of opening passes the
+  -- test if they say so
   settled : (f : ℕ) (test : How → Bool) (b : Bool) → stage_in i f (own_past n p) ≡ Settled
       → holds test (how_in f (own_past n p)) ≡ b
       → ((stage i f p ≡ Settled) × (holds test (held f p) ≡ b))
@@ -71,6 +72,6 @@ module _ (i : Inode) (n : ℕ) (p : List Event) (legal : EachFollows i p) (owned
   may (deed.Post sem) m = absurd m
   may (deed.Wait sem) m = absurd m
 
--- the law
+-- the law of allowed deeds
 pub may_own : MayIsOwn
 may_own i n p d legal owned m = may i n p legal owned d m

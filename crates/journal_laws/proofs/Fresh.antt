@@ -1,6 +1,6 @@
--- Freshness: while nothing was written since its begin, a collection has taken the content as it
--- is, and the digest and the verdicts in force are those computed anew. Where something was
--- written, a writer is still there.
+-- Freshness: while nothing was written since it began, a collection has taken the present content,
+-- and digest and verdicts in force equal those computed afresh. If something was written, a writer
+-- is still there.
 use Rattle.std.proofs.Common.{◌≡◌, ℕ, ◌+◌, ◌*◌, ◌<◌, ◌≤◌, suc, Bool, true, false, cond, List, [], ◌∷◌, ◌++◌, length, take, drop, Option, Some, None, refl, sym, ◌∙◌, ap, subst, arith}
 use Rattle.std.specs.Prelude.{◌==◌}
 use Rattle.std.specs.Option.{option_or}
@@ -35,9 +35,9 @@ use Rattle.journal_laws.proofs.Keys.{same_key-true}
 use Rattle.journal_laws.proofs.Stages.{StageIs, stage_busy}
 use Rattle.journal_laws.proofs.Tallies.{tally_held, tally_two}
 
--- ---- what holds of each part
+-- ---- invariants of each part
 
--- what the open collection says: of its bytes, its pieces, its algorithm
+-- the invariant of the open collection: its bytes, its pieces, its algorithm
 abbrev pub CollectionIs : Inode → List Event → Option Collection → Type 0
 CollectionIs i p None = Unit {0}
 CollectionIs i p (Some c) =
@@ -48,7 +48,7 @@ CollectionIs i p (Some c) =
     × (c.algo ≡ cond c.closing i.settings.hash (chosen_algo i p))
     × (c.closing ≡ false → in_force i p ≡ None)
 
--- what the digests in force say
+-- the invariant of the digests in force
 abbrev pub DigestsIs : Inode → List Event → Option Digests → Type 0
 DigestsIs i p None = Unit {0}
 DigestsIs i p (Some f) =
@@ -57,26 +57,26 @@ DigestsIs i p (Some f) =
     × (modified_since f.begin p ≡ false → (f.digest ≡ fresh_digest i p)
     × (f.sha1 ≡ digest_of Sha1 (content p)))
 
--- a verdict is the one computed anew, unless the test holds
+-- the verdict is the one computed afresh, unless the test holds
 abbrev pub FreshUnless : Inode → Key → List Event → Bool → Option Verdict → Type 0
 FreshUnless i k p stale None = Unit {0}
 FreshUnless i k p stale (Some v) = stale ≡ false → v ≡ fresh_verdict i k.need k.algos p
 
--- what a verdict in force says
+-- the invariant of a verdict in force
 abbrev pub VerdictIs : Inode → Key → List Event → Option Verdict → Option Digests → Type 0
 VerdictIs i k p v None = v ≡ None
 VerdictIs i k p v (Some f) = FreshUnless i k p (modified_since f.begin p) v
 
--- all three
+-- the invariants of collection, digests and verdicts together
 pub record Fresh (i : Inode) (p : List Event) : Type 0 where
   pub collection_is : CollectionIs i p (collecting i p)
   pub digests_is : DigestsIs i p (in_force i p)
   pub verdict_is : (k : Key) → VerdictIs i k p (verdict_in_force i k p) (in_force i p)
   pub absent : present p ≡ false → in_force i p ≡ None
 
--- ---- events that move nothing of it
+-- ---- events that leave these parts
 
--- the events leave content, label and writes as they are
+-- the event leaves content, label and writes as they are
 pub record Still (i : Inode) (p q : List Event) : Type 0 where
   pub longer : length q ≡ suc (length p)
   pub since : (place : ℕ) → modified_since place q ≡ modified_since place p
@@ -84,14 +84,14 @@ pub record Still (i : Inode) (p q : List Event) : Type 0 where
   pub content : content q ≡ content p
   pub label : label i q ≡ label i p
 
--- so they leave the digest computed anew
+-- the digest computed afresh is the same if content and label are
 pub digest_same : (i : Inode) (p q : List Event) → content q ≡ content p → label i q ≡ label i p
     → fresh_digest i q ≡ fresh_digest i p
 digest_same i p q c l =
     ap (λ (x : List ℕ). digest_of (chosen_algo i q) x) c
     ∙ ap (λ (x : Option (List ℕ)). digest_of (collect_algo x i.settings.hash) (content p)) l
 
--- the open collection stays
+-- a still event keeps the invariant of the open collection
 pub collection_still : (i : Inode) (p q : List Event) → Still i p q
     → (in_force i p ≡ None → in_force i q ≡ None)
     → (o : Option Collection) → CollectionIs i p o → CollectionIs i q o
@@ -111,7 +111,7 @@ collection_still i p q still alone (Some c) h = (
   (λ k. alone (h.4 k)),
 )
 
--- and the digests in force
+-- a still event keeps the invariant of the digests in force
 pub digests_still : (i : Inode) (p q : List Event) → Still i p q → (o : Option Digests)
     → DigestsIs i p o → DigestsIs i q o
 digests_still i p q still None h = tt
@@ -127,7 +127,7 @@ digests_still i p q still (Some f) h = (
       )),
 )
 
--- and a verdict, where it is computed anew alike
+-- a verdict stays fresh if computing it afresh gives the same
 pub fresh_unless : (i : Inode) (k : Key) (p q : List Event) (s s' : Bool) → s' ≡ s
     → ((need : Need) (algos : Option AlgoSet)
     → fresh_verdict i need algos q ≡ fresh_verdict i need algos p)
@@ -135,7 +135,7 @@ pub fresh_unless : (i : Inode) (k : Key) (p q : List Event) (s s' : Bool) → s'
 fresh_unless i k p q s s' e f None h = tt
 fresh_unless i k p q s s' e f (Some v) h = λ w. h (sym e ∙ w) ∙ sym (f k.need k.algos)
 
--- whatever is in force
+-- a still event keeps the invariant of verdicts, whatever is in force
 pub verdict_still : (i : Inode) (k : Key) (p q : List Event) → Still i p q
     → (present p ≡ true → (need : Need) (algos : Option AlgoSet)
     → fresh_verdict i need algos q ≡ fresh_verdict i need algos p)
@@ -148,16 +148,16 @@ verdict_still i k p q still f v (Some x) a h = at (present p) refl where
       (still.since x.begin) (f e) v h
   at false e = let n : Some x ≡ None = a e in cc
 
--- ---- kinds of event
+-- ---- kinds of events
 
--- the place of an event: nothing was written at it or after it before it stands there
+-- nothing was written at a place that the journal doesn't reach yet
 pub unmodified : (place : ℕ) (p : List Event) → length p ≤ place → modified_since place p ≡ false
 unmodified place [] h = refl
 unmodified place (e ∷ before) h =
     or_from _ _ (and_right _ _ (lt-leb place (length before) (omega arith)))
     (unmodified place before (omega arith))
 
--- at the last piece nothing of the content is left
+-- with the last piece, the collection has all of the content
 pub last_told : (content : List ℕ) (o : Option Collection) → chunk_told content o ≡ Some told.Last
     → (c : Collection) → o ≡ Some c → length content ≤ 4096 * (c.pieces + 1)
 last_told content None h c e = cc
@@ -178,7 +178,7 @@ pieces_join n k xs bytes e =
     ap (λ (x : List ℕ). x ++ take n (drop (n * k) xs)) e ∙ sym (take-add (n * k) n xs)
     ∙ ap (λ (m : ℕ). take m xs) (sym f)
 
--- a collection takes its next piece
+-- taking the next piece keeps the invariant of the collection
 pub piece_taken : (i : Inode) (p q : List Event) (complete : Bool) → Still i p q
     → (in_force i p ≡ None → in_force i q ≡ None)
     → (o : Option Collection)
@@ -203,7 +203,7 @@ piece_taken i p q complete still alone (Some c) last h =
                 ∙ sym still.content),
           )
 
--- a write: the writer that made it is held
+-- a write keeps the invariant of the collection, since its writer is held
 pub collection_written : (i : Inode) (p q : List Event) (g : ℕ) → length q ≡ suc (length p)
     → ((place : ℕ) → place ≤ length p → modified_since place q ≡ true)
     → writers q ≡ writers p → label i q ≡ label i p → in_force i q ≡ in_force i p
@@ -233,7 +233,7 @@ collection_written i p q g longer since w l fo settled writing (Some c) s h = (
   at false e f =
       let one : 0 < writers p = tally_held is_writer g (files p) writing in omega (arith, one, w)
 
--- a write leaves digests of another content, while its writer is there
+-- a write keeps the invariant of the digests, since its writer is held
 digests_written : (i : Inode) (p q : List Event) (g : ℕ) → length q ≡ suc (length p)
     → ((place : ℕ) → place ≤ length p → modified_since place q ≡ true)
     → writers q ≡ writers p → is_writing g p ≡ true → (o : Option Digests) → DigestsIs i p o
@@ -246,13 +246,13 @@ digests_written i p q g longer since w writing (Some f) h = (
   (λ u. let v : modified_since f.begin q ≡ true = since f.begin (omega (arith, h.0)) in cc),
 )
 
--- of a stale verdict nothing is said
+-- the invariant requires nothing of a stale verdict
 stale_unless : (i : Inode) (k : Key) (q : List Event) (s : Bool) → s ≡ true → (v : Option Verdict)
     → FreshUnless i k q s v
 stale_unless i k q s e None = tt
 stale_unless i k q s e (Some v) = λ w. cc
 
--- so of verdicts
+-- a write keeps the invariant of verdicts, since they become stale
 verdict_written : (i : Inode) (k : Key) (p q : List Event)
     → ((place : ℕ) → place ≤ length p → modified_since place q ≡ true)
     → (v : Option Verdict) (o : Option Digests) → DigestsIs i p o → VerdictIs i k p v o
@@ -261,7 +261,7 @@ verdict_written i k p q since v None f h = h
 verdict_written i k p q since v (Some x) f h =
     stale_unless i k q (modified_since x.begin q) (since x.begin (omega (arith, f.0))) v
 
--- the event writes by a held file
+-- the event writes through a held file
 pub record Written (i : Inode) (p q : List Event) (g : ℕ) : Type 0 where
   pub longer : length q ≡ suc (length p)
   pub since : (place : ℕ) → place ≤ length p → modified_since place q ≡ true
@@ -272,7 +272,7 @@ pub record Written (i : Inode) (p q : List Event) (g : ℕ) : Type 0 where
   pub verdict : (k : Key) → verdict_in_force i k q ≡ verdict_in_force i k p
   pub present : present q ≡ present p
 
--- a write
+-- a write keeps all invariants
 pub write_fresh : (i : Inode) (p q : List Event) (g : ℕ) → Written i p q g → stage i g p ≡ Settled
     → is_writing g p ≡ true
     → StageIs i p (collecting i p) → Fresh i p → Fresh i q
@@ -290,7 +290,7 @@ write_fresh i p q g w settled writing s h = record {
   absent = λ a. w.digests ∙ h.absent (sym w.present ∙ a);
 }
 
--- an event that leaves the digest and the verdicts in force
+-- the event leaves the digest and the verdicts in force
 pub record Leaves (i : Inode) (p q : List Event) : Type 0 where
   pub still : Still i p q
   pub fresh : present p ≡ true → (need : Need) (algos : Option AlgoSet)
@@ -299,7 +299,7 @@ pub record Leaves (i : Inode) (p q : List Event) : Type 0 where
   pub verdict : (k : Key) → verdict_in_force i k q ≡ verdict_in_force i k p
   pub present : present q ≡ false → present p ≡ false
 
--- an event that leaves all but the collection
+-- an event that leaves all but the collection keeps the invariants
 pub leaves_fresh : (i : Inode) (p q : List Event) → Leaves i p q → CollectionIs i q (collecting i q)
     → Fresh i p → Fresh i q
 leaves_fresh i p q w c h = record {
@@ -314,14 +314,14 @@ leaves_fresh i p q w c h = record {
   absent = λ a. w.digests ∙ h.absent (w.present a);
 }
 
--- an event that leaves all
+-- an event that leaves everything keeps the invariants
 pub kept_fresh : (i : Inode) (p q : List Event) → Leaves i p q → collecting i q ≡ collecting i p
     → Fresh i p → Fresh i q
 kept_fresh i p q w c h = leaves_fresh i p q w
     (subst (λ (o : Option Collection). CollectionIs i q o) (sym c)
     (collection_still i p q w.still (λ n. w.digests ∙ n) (collecting i p) h.collection_is)) h
 
--- an event that voids both
+-- an event that voids digests and verdicts keeps the invariants
 pub void_fresh : (i : Inode) (q : List Event) → in_force i q ≡ None
     → ((k : Key) → verdict_in_force i k q ≡ None) → CollectionIs i q (collecting i q) → Fresh i q
 void_fresh i q f v c = record {
@@ -334,7 +334,7 @@ void_fresh i q f v c = record {
 
 -- ---- collections that begin
 
--- a take begins where nothing is in force
+-- a take begins a collection only if no digest is in force
 pub take_begins : (i : Inode) (p : List Event) (g : ℕ) (placed : Placed) (o : Option Collection)
     (f : Option Digests)
     → unless_collecting o (take_told i g placed f p) ≡ Some told.Begun → f ≡ None
@@ -369,7 +369,7 @@ pub verdict_fresh : (i : Inode) (p : List Event) (k : Key) (digest : Digest) (st
 verdict_fresh i p k digest stale d None h s = ap (λ (x : Digest). judged i k.need k.algos x p) (d s)
 verdict_fresh i p k digest stale d (Some v) h s = h s
 
--- what a grant keeps under a key
+-- the verdict that a grant keeps under a key is fresh
 pub given_fresh : (i : Inode) (p : List Event) (k : Key) (check : Check) (digest : Digest)
     (stale : Bool) → (stale ≡ false → digest ≡ fresh_digest i p)
     → ((k : Key) → FreshUnless i k p stale (verdict_in_force i k p))
@@ -396,9 +396,9 @@ given_fresh i p k check digest stale d h =
           (verdict_in_force i (key_of check) p)
           (h (key_of check)) s)
 
--- ---- where no writer holds the inode
+-- ---- while no writer holds the inode
 
--- without a writer nothing was written since the begin
+-- without a writer, nothing was written since the collection of the digests in force began
 unwritten_now : (i : Inode) (p : List Event) (f : Digests) → DigestsIs i p (Some f) → writers p ≡ 0
     → modified_since f.begin p ≡ false
 unwritten_now i p f h none = at (modified_since f.begin p) refl where
@@ -406,7 +406,7 @@ unwritten_now i p f h none = at (modified_since f.begin p) refl where
   at true e = let some : 0 < writers p = h.1 e in absurd (omega arith)
   at false e = refl
 
--- so a verdict in force is the one computed anew
+-- without a writer, each verdict in force is the one computed afresh
 verdict_now : (i : Inode) (p : List Event) (k : Key) (w : Verdict) (v : Option Verdict)
     (o : Option Digests) → DigestsIs i p o → writers p ≡ 0
     → VerdictIs i k p v o → v ≡ Some w → w ≡ fresh_verdict i k.need k.algos p
@@ -415,7 +415,7 @@ verdict_now i p k w None (Some x) f none h e = cc
 verdict_now i p k w (Some u) (Some x) f none h e =
     let same : u ≡ w = cc in sym same ∙ h (unwritten_now i p x f none)
 
--- and so are the digests
+-- without a writer, digests and verdicts in force equal those computed afresh
 pub fresh_at : (i : Inode) (p : List Event) → Fresh i p → writers p ≡ 0 → IsDigestFresh i p
     × AreVerdictsFresh i p
 fresh_at i p h none = (

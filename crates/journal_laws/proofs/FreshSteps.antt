@@ -44,16 +44,16 @@ use Rattle.inode_events.specs.evm.Status.{evm_status}
 use Rattle.ima_templates.specs.xattrs.Attrs.{Pair}
 use Rattle.inode_events.specs.declared.image.Image.{Image}
 
--- ---- the verdict over its parts
+-- ---- the verdict as a function of its parts
 
--- the verdict over what it reads
+-- the verdict as a function of what it reads
 verdict_over : Inode → Need → Option AlgoSet → List Pair → Meta → List ℕ → Bool → Verdict
 verdict_over i need algos attrs meta bytes new =
     judge need algos (label_in attrs) (evm_status i.settings.evm attrs meta)
     (digest_of (collect_algo (label_in attrs) i.settings.hash) bytes)
     i.settings.hash (length bytes) new
 
--- what leaves that leaves the verdict
+-- an event that leaves what a verdict reads leaves the verdict
 verdict_new : (i : Inode) (p q : List Event) → attributes i q ≡ attributes i p
     → metadata q ≡ metadata p → content q ≡ content p → new q ≡ new p
     → (need : Need) (algos : Option AlgoSet)
@@ -72,7 +72,7 @@ unlabelled : (i : Inode) (b : Bool) (d : Option Digest) (meta : Meta) (attrs : L
     → b ≡ false → fixed_by i b d meta attrs ≡ attrs
 unlabelled i b d meta attrs e = subst (λ (x : Bool). fixed_by i x d meta attrs ≡ attrs) (sym e) refl
 
--- the grant gives its verdict, and the digest from which it is made is in force
+-- a grant keeps the invariants: its verdict and its digest are those in force
 granted_fresh : (i : Inode) (p q : List Event) (check : Check) (digest : Digest) (x : Digests)
     → in_force i q ≡ Some x → DigestsIs i q (Some x)
     → modified_since x.begin q ≡ modified_since x.begin p
@@ -96,7 +96,7 @@ granted_fresh i p q check digest x f fi w d h v n c there = record {
   absent = λ a. cc;
 }
 
--- a take's grant, by whether it mends
+-- a take's grant keeps the invariants, whether or not it mends
 take_granted : (i : Inode) (p : List Event) (who : Who) (g : ℕ) (grant : Grant) (b : Bool)
     → grant.labelled ≡ b
     → Follows i p who (deed.Take g) (told.Grant grant) → Lives i p → Fresh i p
@@ -147,7 +147,7 @@ take_granted i p who g grant false e h v fr =
           (sym (free_at (collecting i p) _ _ h.2)) tt)
           (v g (ap is_gone h.1)).1
 
--- the stage of a collection that is through
+-- the stage of a collection that has its last piece
 pub stage_ends : (a b k : Bool) → collecting_stage a b ≡ collecting_stage k true → (a ≡ k)
     × (b ≡ true)
 stage_ends false true false e = (refl, refl)
@@ -159,7 +159,7 @@ stage_ends true false true e = cc
 stage_ends false true true e = cc
 stage_ends true true false e = cc
 
--- the collection of a file that owes a finish
+-- the collection of a file that is due to finish is complete
 pub finished : (i : Inode) (p : List Event) (g : ℕ) (k : Bool)
     → stage i g p ≡ collecting_stage k true → Stages i p
     → (c : Collection) → collecting i p ≡ Some c → (c.file ≡ g) × (c.closing ≡ k)
@@ -172,7 +172,7 @@ finished i p g k l s c e =
     (sym t.0 ∙ ap (λ (x : ℕ). stage i x p) mine ∙ l) in
     (mine, ends.0, ends.1)
 
--- what a finished collection gives, where nothing was written since its begin
+-- a complete collection gives the fresh digest, if nothing was written since it began
 pub collected_fresh : (i : Inode) (p : List Event) (c : Collection) → CollectionIs i p (Some c)
     → c.complete ≡ true
     → modified_since c.begin p ≡ false → c.closing ≡ false → digest_from c ≡ fresh_digest i p
@@ -181,7 +181,7 @@ collected_fresh i p c h m w k =
     ∙ ap (λ (x : Algo). digest_of x (content p))
     (h.3 ∙ cond-false c.closing i.settings.hash (chosen_algo i p) k)
 
--- a finish's grant, by whether it mends
+-- a finish's grant keeps the invariants, whether or not it mends
 finish_granted : (i : Inode) (p : List Event) (who : Who) (g : ℕ) (grant : Grant) (b : Bool)
     → grant.labelled ≡ b
     → Follows i p who (deed.Finish g) (told.Grant grant) → Lives i p → Stages i p → Fresh i p
@@ -262,7 +262,7 @@ digests_dropped i p q longer since w c l (Some f) v h = (
       (a.0 ∙ sym (digest_same i p q c l), a.1 ∙ sym (ap (digest_of Sha1) c))),
 )
 
--- and newness
+-- a drop that voids nothing leaves newness
 new_dropped : (n : ℕ) (new rest : Bool) → ((n == 1) && (new || rest)) ≡ false
     → cond (n == 1) false new ≡ new
 new_dropped n new rest e = at (n == 1) e where
@@ -270,7 +270,7 @@ new_dropped n new rest e = at (n == 1) e where
   at true f = sym (or_parts new rest f).0
   at false f = refl
 
--- and verdicts
+-- a drop that voids nothing leaves the verdicts
 verdict_dropped : (i : Inode) (k : Key) (p q : List Event)
     → ((place : ℕ) → modified_since place q ≡ modified_since place p)
     → ((need : Need) (algos : Option AlgoSet)
@@ -279,7 +279,7 @@ verdict_dropped : (i : Inode) (k : Key) (p q : List Event)
 verdict_dropped i k p q since f v None h = h
 verdict_dropped i k p q since f v (Some x) h = fresh_unless i k p q _ _ (since x.begin) f v h
 
--- a writer is dropped
+-- the event drops a writer
 record Drops (i : Inode) (p q : List Event) : Type 0 where
   longer : length q ≡ suc (length p)
   since : (place : ℕ) → modified_since place q ≡ modified_since place p
@@ -297,7 +297,7 @@ record Drops (i : Inode) (p q : List Event) : Type 0 where
   collecting_is : collecting i q ≡ None
   present_is : present q ≡ present p
 
--- a drop
+-- a drop keeps the invariants
 dropped_fresh : (i : Inode) (p q : List Event) → Drops i p q → Fresh i p → Fresh i q
 dropped_fresh i p q d h =
     at ((writers p == 1) && (new p || not (versions p) || is_stale (in_force i p) p)) refl where
@@ -330,7 +330,7 @@ dropped_fresh i p q d h =
             absent = λ a. f ∙ h.absent (sym d.present_is ∙ a);
           }
 
--- a drop takes one writer away
+-- a drop subtracts one writer
 dropped_one : (g : ℕ) (p : List Event) → is_writing g p ≡ true
     → tally is_writer (less_file g (files p)) + 1 ≡ writers p
 dropped_one g p w = rw w at (tally-less is_writer g (files p))
@@ -351,20 +351,20 @@ closing_writer i p g l s = at (collecting i p) refl where
 
 -- ---- other kinds
 
--- a count of a file that is there leaves newness
+-- a count of a file that exists leaves newness
 new_held : (new there : Bool) → there ≡ true → (new || not there) ≡ new
 new_held new there e = rw e (or_none new)
 
--- where no verdict is in force nothing is said
+-- if no verdict is in force, the invariant requires nothing
 none_is : (i : Inode) (k : Key) (q : List Event) (o : Option Digests) → VerdictIs i k q None o
 none_is i k q None = refl
 none_is i k q (Some f) = tt
 
--- where no collection is open nothing is said
+-- if no collection is open, the invariant requires nothing
 nothing_open : (i : Inode) (q : List Event) (o : Option Collection) → o ≡ None → CollectionIs i q o
 nothing_open i q o e = subst (λ (x : Option Collection). CollectionIs i q x) (sym e) tt
 
--- a birth
+-- a birth establishes the invariants
 born : (i : Inode) (who : Who) (image : Image) (p : List Event) → p ≡ []
     → Fresh i (event who deed.Birth (told.Image image) ∷ p)
 born i who image p e =
@@ -373,7 +373,7 @@ born i who image p e =
 
 -- ---- all events
 
--- event by event
+-- each event keeps the invariants
 step : (i : Inode) (p : List Event) (who : Who) (d : Deed) (t : Told) → Follows i p who d t
     → Lives i p → Stages i p → Fresh i p → Fresh i (event who d t ∷ p)
 step i p who deed.Birth (told.Image image) h v s fr = born i who image p h.0
@@ -658,7 +658,7 @@ step i p who d t h v s fr = kept_fresh i p (event who d t ∷ p)
       present = λ a. a;
     }) refl fr
 
--- along the journal
+-- the invariants hold for every journal
 pub freshness_lem : (i : Inode) (p : List Event) → EachFollows i p → Fresh i p
 freshness_lem i [] h =
     record { collection_is = tt; digests_is = tt; verdict_is = λ k. refl; absent = λ a. refl }

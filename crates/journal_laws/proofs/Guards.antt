@@ -1,5 +1,5 @@
--- From a measured check on that meets no violation, nothing is written while its file is held: a
--- writer that is there was counted later, and its check would be told of the reader.
+-- After a measuring check without a violation, nothing is written while the file is held: any
+-- writer was counted later, and its check would find the reader.
 use Rattle.std.proofs.Common.{◌≡◌, ℕ, ◌<◌, Bool, true, false, ◌&&◌, cond, List, [], ◌∷◌, length, Option, Some, None, refl, sym, ◌∙◌, ap, subst, arith}
 use Rattle.std.specs.Prelude.{◌==◌, nat_lt, option_map}
 use Rattle.std.proofs.lemmas.Bool.{cond-true, cond-false, eqb-true, lt-ltb, ne_eqb, or_left}
@@ -37,7 +37,7 @@ held_apart : (f : ℕ) (how : How) (p : List Event) → f < length p
 held_apart f how p b =
     cond-false (length p == f) (Some how) (held f p) (ne_eqb (length p) f (λ e. omega arith))
 
--- a drop leaves other files
+-- a drop leaves how other files are held
 held_dropped : (i : Inode) (f g : ℕ) (p : List Event) (old : Stage)
     → is_gone (cond (g == f) Gone old) ≡ false → find_file f (less_file g (files p)) ≡ held f p
 held_dropped i f g p old a = at (g == f) refl a where
@@ -46,7 +46,7 @@ held_dropped i f g p old a = at (g == f) refl a where
   at true e h = cc
   at false e h = find-less g f (files p) e
 
--- an event leaves how a file is held that isn't gone after it
+-- an event leaves how a file is held, if the file isn't gone after it
 pub held_same : (i : Inode) (p : List Event) (who : Who) (d : Deed) (t : Told) → (f : ℕ)
     → f < length p
     → is_gone (next_stage i f (length p) d t (stage i f p)) ≡ false
@@ -59,25 +59,24 @@ held_same i p who (deed.CloseFinish g) told.LabelledDropped f b a =
     held_dropped i f g p (stage i f p) a
 held_same i p who d t f b a = refl
 
--- ---- what holds from the check on
+-- ---- what holds after the check
 
--- nothing was written since the begin of the digests in force
+-- nothing was written since the collection of the digests in force began
 abbrev pub DigestsClean : List Event → Option Digests → Type 0
 DigestsClean p None = Unit {0}
 DigestsClean p (Some x) = modified_since x.begin p ≡ false
 
--- nor since that of the open collection
+-- nothing was written since the open collection began
 abbrev pub CollectionClean : List Event → Option Collection → Type 0
 CollectionClean p None = Unit {0}
 CollectionClean p (Some c) = modified_since c.begin p ≡ false
 
--- the writers that are there are unchecked
+-- no writer has been checked yet
 abbrev pub Unchecked : Inode → List Event → Type 0
 Unchecked i p =
     (g : ℕ) → is_gone (stage i g p) ≡ false → is_writing g p ≡ true → stage i g p ≡ Counted
 
--- what holds while no violation is told: the content stays, the mark is set, and each writer is
--- unchecked
+-- while no violation occurs: the content stays, the mark is set, and no writer has been checked
 pub record Guarded (i : Inode) (bytes : List ℕ) (p : List Event) : Type 0 where
   pub same : content p ≡ bytes
   pub marked : must_measure p ≡ true
@@ -91,37 +90,37 @@ digests_kept : (p q : List Event) → ((place : ℕ) → modified_since place q 
 digests_kept p q since None h = tt
 digests_kept p q since (Some x) h = since x.begin ∙ h
 
--- so where they may be voided
+-- digests in force that may be voided are clean
 digests_cond : (q : List Event) (b : Bool) (o : Option Digests) → DigestsClean q o
     → DigestsClean q (cond b None o)
 digests_cond q true o h = tt
 digests_cond q false o h = h
 
--- what a clean collection gives is clean
+-- a clean collection gives clean digests
 digests_made : (q : List Event) (o : Option Collection) → CollectionClean q o
     → DigestsClean q (option_map digests_of o)
 digests_made q None h = tt
 digests_made q (Some c) h = h
 
--- it leaves a collection clean
+-- an event that writes nothing leaves the collection clean
 collection_kept : (p q : List Event)
     → ((place : ℕ) → modified_since place q ≡ modified_since place p) → (o : Option Collection)
     → CollectionClean p o → CollectionClean q o
 collection_kept p q since None h = tt
 collection_kept p q since (Some c) h = since c.begin ∙ h
 
--- so does a piece more
+-- one more piece leaves the collection clean
 collection_more : (q : List Event) (bytes : List ℕ) (complete : Bool) (o : Option Collection)
     → CollectionClean q o → CollectionClean q (collected_more bytes complete o)
 collection_more q bytes complete None h = tt
 collection_more q bytes complete (Some c) h = h
 
--- a file that was counted and not checked
+-- whether the file was counted and not checked yet
 is_counted : Stage → Bool
 is_counted Counted = true
 is_counted _ = false
 
--- an event of a file that stands elsewhere than at its count leaves the unchecked ones as they are
+-- an event on a file that isn't at its count leaves writers unchecked
 unchecked_named : (i : Inode) (p : List Event) (g : ℕ) (after : Stage) (l : Stage) → stage i g p ≡ l
     → is_counted l ≡ false → is_gone l ≡ false → Unchecked i p
     → (x : ℕ) → is_gone (cond (g == x) after (stage i x p)) ≡ false → is_writing x p ≡ true
@@ -137,14 +136,14 @@ unchecked_named i p g after l e n a u x alive w = at (g == x) refl alive where
       let d : is_counted l ≡ true = sym (ap is_counted z) ∙ ap is_counted c in cc
   at false q h = u x h w
 
--- an event that changes no stage
+-- an event that changes no stage leaves writers unchecked
 unchecked_same : (i : Inode) (p : List Event) (b : Bool) (x : ℕ) → Unchecked i p
     → is_gone (cond b (stage i x p) (stage i x p)) ≡ false → is_writing x p ≡ true
     → cond b (stage i x p) (stage i x p) ≡ Counted
 unchecked_same i p b x u a w =
     cond_same b (stage i x p) ∙ u x (sym (ap is_gone (cond_same b (stage i x p))) ∙ a) w
 
--- a count: the new writer is unchecked
+-- a count leaves writers unchecked, the new one included
 unchecked_counted : (i : Inode) (p : List Event) (how : How) → Unchecked i p → (x : ℕ)
     → is_gone (cond (length p == x) Counted (stage i x p)) ≡ false
     → holds is_writer (cond (length p == x) (Some how) (held x p)) ≡ true
@@ -156,7 +155,7 @@ unchecked_counted i p how u x a w = at (length p == x) a w where
   at true a w = refl
   at false a w = u x a w
 
--- a file that goes
+-- an event after which a file is gone leaves writers unchecked
 unchecked_closed : (i : Inode) (p : List Event) (g : ℕ) → Unchecked i p → (x : ℕ)
     → is_gone (cond (g == x) Gone (stage i x p)) ≡ false
     → holds is_writer (find_file x (less_file g (files p))) ≡ true
@@ -167,7 +166,7 @@ unchecked_closed i p g u x a w = at (g == x) refl a where
   at true e h = cc
   at false e h = u x h (sym (ap (holds is_writer) (find-less g x (files p) e)) ∙ w)
 
--- a check that meets no violation isn't a writer's
+-- a check without a violation isn't a writer's
 no_violation : (readers writers place : ℕ) (must writing measure : Bool) (func : Func)
     (action : Action) (g rules : ℕ) (t : Told) → 0 < readers → must ≡ true
     → Some (check_told writing measure readers writers must place) ≡ Some t
@@ -184,7 +183,7 @@ no_violation readers writers place must true measure func action g rules t r m e
           → check_told true measure readers writers must place ≡ t
       parted e = cc
 
--- a check of a file that isn't open for writing
+-- a check of a file that isn't open for writing leaves writers unchecked
 unchecked_check : (i : Inode) (p : List Event) (g : ℕ) (after : Stage) → is_writing g p ≡ false
     → Unchecked i p
     → (x : ℕ) → is_gone (cond (g == x) after (stage i x p)) ≡ false → is_writing x p ≡ true
@@ -196,7 +195,7 @@ unchecked_check i p g after n u x alive w = at (g == x) refl alive where
       (eqb-true g x q) n in cc
   at false q h = u x h w
 
--- a writer that is settled would have been checked
+-- while no writer has been checked, no file past its count is open for writing
 no_writer : (i : Inode) (p : List Event) (g : ℕ) (l : Stage) → stage i g p ≡ l
     → is_counted l ≡ false → is_gone l ≡ false → is_writing g p ≡ true → Unchecked i p → ⊥
 unfolding is_counted
@@ -204,7 +203,7 @@ no_writer i p g l e n a w u =
     let c : stage i g p ≡ Counted = u g (ap is_gone e ∙ a) w in
     let d : is_counted l ≡ true = sym (ap is_counted e) ∙ ap is_counted c in cc
 
--- event by event
+-- each event without a violation keeps the guard
 pub guard_step : (i : Inode) (bytes : List ℕ) (p : List Event) (who : Who) (d : Deed) (t : Told)
     (f : ℕ) → Follows i p who d t → Stages i p
     → holds is_reader (held f p) ≡ true → violation_places d t ≡ [] → Guarded i bytes p

@@ -1,4 +1,4 @@
--- A file that isn't gone is held as its count said.
+-- A file that isn't gone is held in the way that its count says.
 use Rattle.std.proofs.Common.{◌≡◌, ◌≢◌, ℕ, ◌<◌, suc, Bool, true, false, List, [], ◌∷◌, length, Some, refl, ◌∙◌, arith}
 use Rattle.std.specs.Prelude.{◌==◌}
 use Rattle.std.proofs.lemmas.Bool.{cond-false, cond-true, eq-eqb, eqb-true}
@@ -18,7 +18,7 @@ use Rattle.journal_laws.proofs.Guards.{held_same}
 use Rattle.journal_laws.proofs.Lives.{Lives, alive_before, alive_kept, lives}
 use Rattle.journal_laws.proofs.Small.{event}
 
--- what isn't gone at the newest event's place was counted by it
+-- a file named by the newest event's place was counted by that event, if it isn't gone
 newest : (i : Inode) (p : List Event) (who : Who) (d : Deed) (t : Told) (f : ℕ)
     → Follows i p who d t → Lives i p → length p ≡ f
     → is_gone (next_stage i f (length p) d t (stage i f p)) ≡ false → (how : How)
@@ -28,16 +28,16 @@ newest i p who (deed.Count how) told.Held f h v e a =
 newest i p who d t f h v e a =
     let b : f < length p = (v f (alive_kept i p who d t h refl f a)).0 in absurd (omega arith)
 
--- no test answers both
+-- a test isn't both true and false
 not_both : (b : Bool) → b ≡ true → b ≡ false → ⊥
 not_both b y n = cc
 
--- a file of the journal before is none of the newest event's place
+-- a file at another place than the newest event's is in the journal before
 older : (f place : ℕ) → f < suc place → (place == f) ≡ false → f < place
 older f place l ne =
     let apart : place ≢ f = λ e. not_both (place == f) (eq-eqb place f e) ne in omega arith
 
--- by the newest event
+-- the law, by induction on the newest event
 pub held_counted : (i : Inode) (f : ℕ) (p : List Event) → EachFollows i p
     → is_gone (stage i f p) ≡ false → IsHeldAsCounted f p
 held_counted i f [] h a = absurd (cc)

@@ -1,4 +1,4 @@
--- What the pass has of the journal stays.
+-- The pass stays in agreement with the journal.
 use Rattle.std.proofs.Common.{◌≡◌, ℕ, ◌<◌, ◌≤◌, List, [], ◌∷◌, ◌++◌, length, Option, Some, None, refl, sym, ◌∙◌, ap, subst, arith, length-append}
 use Rattle.std.specs.Prelude.{All}
 use Rattle.std.proofs.lemmas.List.{append-nil}
@@ -26,7 +26,7 @@ use Rattle.journal_laws.proofs.Asking.{adds_asked, asked_new, none_new}
 
 -- ---- a look
 
--- places below the length of a list lie below that of a longer one
+-- places below the length of a list are below that of a longer one
 below_more : (i : Inode) (p : List Event) (xs ys : List Entry) → IsPrefix xs ys
     → All (λ named. named.1 < length xs) (places_named i p) → All (λ named. named.1 < length ys)
     (places_named i p)
@@ -35,7 +35,7 @@ below_more i p xs ys a h =
     All-weaker (λ (n : Named). n.1 < length xs) (λ (n : Named). n.1 < length ys)
     (λ n b. omega arith) (places_named i p) h
 
--- each fact holds of a list that goes on
+-- the pass agrees with the journal after a look
 pub kept_look : KeptByLook
 kept_look i p seen seen2 mine a b = record {
   mine_is = b.mine_is;
@@ -57,11 +57,11 @@ kept_birth i who t = record {
 
 -- ---- an event
 
--- all places named before lie below this one
+-- all places that were named before lie below this one
 abbrev RisesAbove : Inode → List Event → Named → Type 0
 RisesAbove i p added = All (λ n. n.1 < added.1) (places_named i p)
 
--- what an event that adds a and finds f has to show
+-- what has to be shown for an event that adds `a` and finds `f`
 record Step (i : Inode) (p : List Event) (who : Who) (a f : Option Listed)
     (seen : List Entry) : Type 0 where
   stands : StandsIn seen a
@@ -70,7 +70,7 @@ record Step (i : Inode) (p : List Event) (who : Who) (a f : Option Listed)
   rise : All (RisesAbove i p) (named who a)
   below : All (λ n. n.1 < length seen) (named who a ++ named who f ++ places_named i p)
 
--- the facts of the journal with one event more, from those of the event
+-- agreement after one more event, from the facts of that event
 from_step : (i : Inode) (p : List Event) (who : Who) (d : Deed) (t : Told) (seen : List Entry)
     (had has : List Listed)
     → Step i p who (adds i d t p) (finds i d t p) seen → IsBooked i p seen had
@@ -84,7 +84,7 @@ from_step i p who d t seen had has s b m = record {
   below = s.below;
 }
 
--- the same, where what is added and found is known by another name
+-- agreement after one more event, for an entry that is only equal to the event's
 step_at : (i : Inode) (p : List Event) (who : Who) (d : Deed) (t : Told) (a f : Option Listed)
     (seen : List Entry)
     → adds i d t p ≡ a → finds i d t p ≡ f → Step i p who a f seen
@@ -114,7 +114,7 @@ kept_none i p who d t seen mine b q h =
     }))
     b (sym (append-nil mine) ∙ ap (λ (o : Option Listed). mine ++ listed_in o) (sym ea))
 
--- the step of an entry that is asked for, by the place of the first that is the same
+-- the facts of an event that asks for an entry, given the place of the first that is the same
 asked_step : (i : Inode) (p : List Event) (who : Who) (list : List Entry) (e : Entry)
     (seen : List Entry) (o : Option ℕ) → place_of_same list e ≡ o
     → IsPrefix seen list → All (λ n. n.1 < length seen) (places_named i p)
@@ -147,12 +147,12 @@ asked_step i p who list e seen (Some k) h a b =
           (below_more i p seen list a b);
     }
 
--- a list stays where an entry is added
+-- adding an entry extends the list
 add_prefix : (list : List Entry) (e : Entry) (o : Option ℕ) → IsPrefix list (add_by o list e)
 add_prefix list e None = prefix_append list (e ∷ [])
 add_prefix list e (Some k) = prefix_refl list
 
--- an event that asks for an entry adds or finds that one
+-- an event that asks for an entry keeps the pass in agreement
 kept_added : (i : Inode) (p : List Event) (who : Who) (d : Deed) (t : Told) (list : List Entry)
     (e : Entry) (seen seen2 : List Entry) (mine mine2 : List Listed)
     → IsBooked i p seen mine → asked i d p ≡ Some e → BooksEntry list e seen seen2 mine mine2
@@ -174,7 +174,7 @@ kept_added i p who d t list e seen seen2 mine mine2 b q x h =
     (add list e) ea ef step)
     (kept_look i p seen (add list e) mine seen_more b) m)
 
--- each event, by what it asks for
+-- each event keeps the pass in agreement, whatever it asks for
 books : (i : Inode) (p : List Event) (who : Who) (d : Deed) (t : Told)
     (list seen seen2 : List Entry) (mine mine2 : List Listed) (o : Option Entry) → asked i d p ≡ o
     → IsBooked i p seen mine → Books list o seen seen2 mine mine2
@@ -186,7 +186,7 @@ books i p who d t list seen seen2 mine mine2 None q b x h =
 books i p who d t list seen seen2 mine mine2 (Some e) q b x h =
     kept_added i p who d t list e seen seen2 mine mine2 b q x h
 
--- the outcome is what the journal says with the answer of the list
+-- the law for an outcome that the journal gives for the list's answer
 pub kept_outcome : KeptByOutcome
 kept_outcome i p who d t list seen seen2 mine mine2 b x h =
     books i p who d t list seen seen2 mine mine2 (asked i d p) refl b x h

@@ -8,27 +8,27 @@ use Rattle.inode_meta.specs.declared.appraisal.Slot.{Slot}
 use Rattle.inode_meta.specs.declared.appraisal.Slot.TheVariants as slot
 use Rattle.inode_events.specs.Verdicts.{Key, same_algos, same_bool, same_key, same_need, same_set, same_slot}
 
--- slots
+-- slots that compare equal are equal
 slot_true : (a b : Slot) → same_slot a b ≡ true → a ≡ b
 slot_true slot.File slot.File e = refl
 slot_true slot.Mmap slot.Mmap e = refl
 slot_true slot.Bprm slot.Bprm e = refl
 slot_true _ _ e = cc
 
--- needs
+-- needs that compare equal are equal
 need_true : (a b : Need) → same_need a b ≡ true → a ≡ b
 need_true need.Any need.Any e = refl
 need_true need.Signature need.Signature e = refl
 need_true _ _ e = cc
 
--- truth values
+-- truth values that compare equal are equal
 bool_true : (a b : Bool) → same_bool a b ≡ true → a ≡ b
 bool_true true true e = refl
 bool_true true false e = cc
 bool_true false true e = cc
 bool_true false false e = refl
 
--- sets of algorithms
+-- sets of algorithms that compare equal are equal
 set_true : (a b : AlgoSet) → same_set a b ≡ true → a ≡ b
 set_true a b e =
     let h1 : (same_bool a.md5 b.md5 && same_bool a.sha1 b.sha1 && same_bool a.sha256 b.sha256 &&
@@ -52,7 +52,7 @@ set_true a b e =
       sha224 = bool_true a.sha224 b.sha224 h1.1 i;
     }
 
--- sets, or none
+-- optional sets of algorithms that compare equal are equal
 algos_true : (a b : Option AlgoSet) → same_algos a b ≡ true → a ≡ b
 algos_true None None e = refl
 algos_true (Some a) (Some b) e = ap Some (set_true a b e)

@@ -1,4 +1,4 @@
--- A renewal of the HMAC leaves the label.
+-- Renewing the HMAC leaves the label.
 use Rattle.std.proofs.Common.{◌≡◌, ℕ, Bool, true, false, List, [], ◌∷◌, Option, Some, None, refl, sym, ◌∙◌, ap, cond}
 use Rattle.std.specs.BTreeMap.{insert_entry}
 use Rattle.std.specs.Map.{remove_entry}
@@ -20,11 +20,11 @@ use Rattle.inode_events.specs.Integrity.{ima_name, label_in}
 same_names : (a b : List ℕ) → byte_order a b ≡ Equal → a ≡ b
 same_names a b e = (bytes_eq-Decides a b).0 (sym (is_eq-slice_cmp a b) ∙ ap is_eq e)
 
--- no name is that of the label and that of the HMAC
+-- the name of the HMAC isn't that of the label
 no_label : (name : List ℕ) → evm_name ≡ name → bytes_eq ima_name name ≡ false
 no_label name e = ap (bytes_eq ima_name) (sym e)
 
--- another name's value stays where one is put
+-- putting the HMAC leaves the label
 value-put : (attrs : List Pair) (bytes : List ℕ)
     → value ima_name (put evm_name bytes attrs) ≡ value ima_name attrs
 value-put [] bytes = refl
@@ -39,7 +39,7 @@ value-put (p ∷ ps) bytes = put_at (value-put ps bytes) (byte_order evm_name p.
       cond-false _ (Some bytes) _ f ∙ sym (cond-false _ (Some p.1) _ f)
   put_at ih Greater e = ap (λ (r : Option (List ℕ)). cond (bytes_eq ima_name p.0) (Some p.1) r) ih
 
--- nor where one is removed
+-- removing the HMAC leaves the label
 value-without : (attrs : List Pair) → value ima_name (without evm_name attrs) ≡ value ima_name attrs
 value-without [] = refl
 value-without (p ∷ ps) = left_at (value-without ps) (bytes_eq evm_name p.0) refl where
@@ -51,13 +51,13 @@ value-without (p ∷ ps) = left_at (value-without ps) (bytes_eq evm_name p.0) re
       sym (cond-false _ (Some p.1) _ (no_label p.0 ((bytes_eq-Decides evm_name p.0).0 e)))
   left_at ih false e = ap (λ (r : Option (List ℕ)). cond (bytes_eq ima_name p.0) (Some p.1) r) ih
 
--- either of two
+-- either of two lists with this label has it
 label-cond : (b : Bool) (x y z : List Pair) → label_in x ≡ label_in z → label_in y ≡ label_in z
     → label_in (cond b x y) ≡ label_in z
 label-cond true x y z e f = e
 label-cond false x y z e f = f
 
--- by whether there is a key
+-- renewing leaves the label, with or without a key
 renewed_lem : (key : Option (List ℕ)) (evm : Setup) (attrs : List Pair) (meta : Meta)
     → label_in (renewed_under key evm attrs meta) ≡ label_in attrs
 renewed_lem None evm attrs meta = refl
@@ -67,12 +67,12 @@ renewed_lem (Some key) evm attrs meta =
     (without evm_name attrs) attrs
     (value-put attrs (evm_value key (evm_input evm attrs meta))) (value-without attrs)
 
--- a renewal leaves the label
+-- renewing the HMAC leaves the label
 pub label-renewed : (evm : Setup) (attrs : List Pair) (meta : Meta)
     → label_in (renewed evm attrs meta) ≡ label_in attrs
 label-renewed evm attrs meta = renewed_lem evm.key evm attrs meta
 
--- the value that is put is there
+-- a label that was put can be read
 put_same : (attrs : List Pair) (bytes : List ℕ)
     → value ima_name (put ima_name bytes attrs) ≡ Some bytes
 put_same [] bytes = refl
@@ -87,7 +87,7 @@ put_same (p ∷ ps) bytes = put_at (put_same ps bytes) (byte_order ima_name p.0)
   put_at ih Greater e = cond-false (bytes_eq ima_name p.0) (Some p.1) _
       (sym (is_eq-slice_cmp ima_name p.0) ∙ ap is_eq e) ∙ ih
 
--- a label that is put is there after the renewal
+-- a label that was put is still there after the HMAC is renewed
 pub label-put : (evm : Setup) (attrs : List Pair) (bytes : List ℕ) (meta : Meta)
     → label_in (renewed evm (put ima_name bytes attrs) meta) ≡ Some bytes
 label-put evm attrs bytes meta =

@@ -1,4 +1,4 @@
--- A file that isn't gone was counted before, and its inode is there.
+-- A file that isn't gone was counted before, and its inode exists.
 use Rattle.std.proofs.Common.{◌≡◌, ℕ, ◌<◌, suc, Bool, true, false, cond, List, [], ◌∷◌, length, None, refl, ◌∙◌, ap, subst, arith}
 use Rattle.std.specs.Prelude.{◌==◌}
 use Rattle.std.proofs.lemmas.Bool.{eqb-true}
@@ -26,33 +26,33 @@ check_alive Settled m = refl
 check_alive CloseCollecting m = refl
 check_alive CloseCollected m = refl
 
--- a file that isn't gone was counted before, and the inode is there
+-- a file that isn't gone was counted before, and its inode exists
 abbrev pub Lives : Inode → List Event → Type 0
 Lives i p = (f : ℕ) → is_gone (stage i f p) ≡ false → (f < length p) × (present p ≡ true)
 
--- a deed names no file that is gone
+-- if a deed names no file that is gone, a file that isn't gone after it wasn't gone before
 was : (b : Bool) (after old : Stage) → (b ≡ true → is_gone old ≡ false)
     → is_gone (cond b after old) ≡ false → is_gone old ≡ false
 was true after old m a = m refl
 was false after old m a = a
 
--- nor where the stage stays
+-- if the stage stays, a file that isn't gone after the event wasn't gone before
 was_same : (b : Bool) (x : Stage) → is_gone (cond b x x) ≡ false → is_gone x ≡ false
 was_same true x a = a
 was_same false x a = a
 
--- a deed names a file that isn't gone
+-- a file at a stage other than gone isn't gone under an equal name
 pub named : (i : Inode) (p : List Event) (g f : ℕ) (l : Stage) → stage i g p ≡ l → is_gone l ≡ false
     → (g == f) ≡ true → is_gone (stage i f p) ≡ false
 named i p g f l e n h =
     subst (λ (x : ℕ). is_gone (stage i x p) ≡ false) (eqb-true g f h) (ap is_gone e ∙ n)
 
--- with an event more
+-- one more event keeps that the file was counted and the inode exists
 later : (f : ℕ) (p : List Event) → (f < length p) × (present p ≡ true) → (f < suc (length p))
     × (present p ≡ true)
 later f p h = (omega (arith, h.0), h.1)
 
--- a count
+-- a count keeps that files were counted and the inode exists
 count_lives : (f place : ℕ) (old : Stage) (p : List Event) → place ≡ length p
     → (is_gone old ≡ false → (f < length p) × (present p ≡ true))
     → (b : Bool) → (place == f) ≡ b → is_gone (cond b Counted old) ≡ false → (f < suc (length p))
@@ -61,12 +61,12 @@ count_lives f place old p e h true q a =
     let s : place ≡ f = eqb-true place f q in (omega arith, refl)
 count_lives f place old p e h false q a = (omega (arith, (h a).0), refl)
 
--- without events each file is gone
+-- in an empty journal every file is gone
 no_stage : (i : Inode) (p : List Event) (f : ℕ) → p ≡ [] → is_gone (stage i f p) ≡ false → ⊥
 no_stage i p f e a = let z : is_gone (stage i f []) ≡ false =
     subst (λ (q : List Event). is_gone (stage i f q) ≡ false) e a in cc
 
--- a count of another file
+-- a count of another file leaves whether this one is gone
 apart_count : (f : ℕ) (p : List Event) (old : Stage) → f < length p
     → is_gone (cond (length p == f) Counted old) ≡ false → is_gone old ≡ false
 apart_count f p old b a = at (length p == f) refl a where
@@ -74,7 +74,7 @@ apart_count f p old b a = at (length p == f) refl a where
   at true q h = let s : length p ≡ f = eqb-true (length p) f q in absurd (omega arith)
   at false q h = h
 
--- the event counts no file: what isn't gone after it wasn't gone before it
+-- if the event counts no file, one that isn't gone after it wasn't gone before it
 pub alive_kept : (i : Inode) (p : List Event) (who : Who) (d : Deed) (t : Told)
     → Follows i p who d t → counted d t ≡ None → (f : ℕ)
     → is_gone (next_stage i f (length p) d t (stage i f p)) ≡ false → is_gone (stage i f p) ≡ false
@@ -116,7 +116,7 @@ pub alive_before : (i : Inode) (p : List Event) (who : Who) (d : Deed) (t : Told
 alive_before i p who (deed.Count how) told.Held h f b a = apart_count f p (stage i f p) b a
 alive_before i p who d t h f b a = alive_kept i p who d t h refl f a
 
--- only a count adds a file
+-- each event keeps the law; only a count adds a file
 step : (i : Inode) (p : List Event) (who : Who) (d : Deed) (t : Told) → Follows i p who d t
     → Lives i p → (f : ℕ)
     → is_gone (next_stage i f (length p) d t (stage i f p)) ≡ false → (f < suc (length p))
@@ -126,7 +126,7 @@ step i p who (deed.Count how) told.Held h v f a =
     count_lives f (length p) (stage i f p) p refl (v f) (length p == f) refl a
 step i p who d t h v f a = later f p (v f (alive_kept i p who d t h refl f a))
 
--- along the journal
+-- the law holds for every journal
 pub lives : (i : Inode) (p : List Event) → EachFollows i p → Lives i p
 lives i [] h f a = cc
 lives i (e ∷ before) h f a = step i before e.who e.deed e.told h.0 (lives i before h.1) f a

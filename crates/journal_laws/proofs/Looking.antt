@@ -1,4 +1,4 @@
--- What the entries of a pass that has looked tell.
+-- What the entries of a pass imply once the pass has looked.
 use Rattle.std.proofs.Common.{◌≡◌, ◌<◌, ℕ, length, sym, ◌∙◌, ap, subst}
 use Rattle.std.specs.Prelude.{All, reverse}
 use Rattle.inode_events.specs.Past.{past}
@@ -11,7 +11,7 @@ use Rattle.journal_laws.proofs.Doing.{may_own}
 use Rattle.journal_laws.proofs.Owning.{check_own, file_own}
 use Rattle.journal_laws.proofs.Seeing.{collection_seen}
 
--- in the order of the journal
+-- the law, in the order of the journal
 pub tells : LookTells
 tells i n seen list mine legal owned before own =
     let same : own_past n (past list) ≡ reverse mine = own_bridge n list

@@ -11,7 +11,7 @@ use Rattle.journal_laws.proofs.Holding.{held_counted}
 use Rattle.journal_laws.specs.Own.{how_in, own_past}
 use Rattle.journal_laws.specs.OwnLaws.{HowIsOwn}
 
--- an own event at the place tells how the file was opened
+-- the own event at the file's place says how the file was opened
 how_counted : (n f : ℕ) (e : Event) (p : List Event) → event_at f p ≡ Some e → caller_of e ≡ n
     → how_in f (own_past n p) ≡ counted e.deed e.told
 how_counted n f e [] h s = absurd (cc)
@@ -36,7 +36,7 @@ how_counted n f e (x ∷ p) h s = at (how_counted n f e p) (n == caller_of x) re
   at ih true q = here ih (length p == f) h
   at ih false q = other ih q (length p == f) h
 
--- the event that counted the file is its caller's own
+-- own entries say how a file is held, since its count is one of them
 pub how_own : HowIsOwn
 how_own i n f p legal c a =
     let r = held_counted i f p legal a in

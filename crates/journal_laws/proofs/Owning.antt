@@ -1,4 +1,4 @@
--- All events on a file are its caller's, so that its own entries tell all of it.
+-- All events on a file are by its caller, so the caller's own entries say all about it.
 use Rattle.std.proofs.Common.{◌≡◌, ℕ, suc, ◌<◌, ◌≤◌, Bool, true, false, cond, List, [], ◌∷◌, length, Some, refl, sym, ◌∙◌, ap, arith}
 use Rattle.std.specs.Prelude.{◌==◌, option_map}
 use Rattle.std.proofs.lemmas.Bool.{eqb-true, eq-eqb, ne_eqb, cond-false}
@@ -14,9 +14,9 @@ use Rattle.journal_laws.specs.Standing.{event_at}
 use Rattle.journal_laws.specs.Own.{IsOwned, check_in, counter, names_file, own_past}
 use Rattle.journal_laws.specs.OwnLaws.{CheckIsOwn, FileIsOwn, StageIsOwn}
 
--- ---- who counted a file
+-- ---- the caller who counted a file
 
--- an event touches a file by naming it, or as its count
+-- an event touches a file by naming it or by counting it
 pub touched : (f place : ℕ) (d : Deed) → (place == f) ≡ false → touches f place d ≡ true
     → names_file f d ≡ true
 touched f place (deed.Count how) ne t = cc
@@ -37,7 +37,7 @@ touched f place (deed.CloseFinish g) ne t = t
 touched f place (deed.Post sem) ne t = t
 touched f place (deed.Wait sem) ne t = t
 
--- what was counted stands within the journal
+-- a counted file's place lies within the journal
 pub counted_within : (f n : ℕ) (p : List Event) → counter f p ≡ Some n → f < length p
 counted_within f n [] h = absurd (cc)
 counted_within f n (e ∷ before) h = at (counted_within f n before) (length before == f) refl h where
@@ -47,7 +47,7 @@ counted_within f n (e ∷ before) h = at (counted_within f n before) (length bef
   at ih true q g = let s : length before ≡ f = eqb-true (length before) f q in omega arith
   at ih false q g = let s : f < length before = ih g in omega arith
 
--- a file that was counted isn't the newest event's
+-- a file that was counted before isn't named by the newest event's place
 pub not_here : (f n : ℕ) (before : List Event) → counter f before ≡ Some n
     → (length before == f) ≡ false
 not_here f n before c =
@@ -80,7 +80,7 @@ unborn f n (e ∷ before) o le = ((λ t. absurd (none t)), unborn f n before o.1
       let w : f < length before = counted_within f (caller_of e) before c in
       absurd (omega arith)
 
--- and from its count on only its caller touches it
+-- from its count on, only its caller touches a file
 alone : (f n : ℕ) (p : List Event) → IsOwned p → counter f p ≡ Some n → Alone f n p
 alone f n [] o h = tt
 alone f n (e ∷ before) o h = at (alone f n before o.1) (length before == f) refl h where
@@ -98,7 +98,7 @@ alone f n (e ∷ before) o h = at (alone f n before o.1) (length before == f) re
 
 -- ---- stages
 
--- the caller's entries tell the stage of a file that it alone touches
+-- own entries give the stage of a file that only the caller touches
 stage_alone : (i : Inode) (n f : ℕ) (p : List Event) → Alone f n p
     → stage i f p ≡ stage_in i f (own_past n p)
 stage_alone i n f [] a = refl
@@ -115,7 +115,7 @@ stage_alone i n f (e ∷ before) a = at (stage_alone i n f before a.1) (n == cal
       at ih false q false t =
           cond-false (touches f (length before) e.deed) _ (stage i f before) t ∙ ih
 
--- so of each file that it counted
+-- own entries give the stage of each file that the caller counted
 pub stage_own : StageIsOwn
 stage_own i n f p o h = stage_alone i n f p (alone f n p o h)
 
@@ -128,7 +128,7 @@ check_apart f place (deed.Check g func action rules) old t =
     cond-false (g == f) (record { func = func; action = action }) old t
 check_apart f place d old t = refl
 
--- they tell its last check
+-- own entries give the last check of a file that only the caller touches
 check_alone : (n f : ℕ) (p : List Event) → Alone f n p → last_check f p ≡ check_in f (own_past n p)
 check_alone n f [] a = refl
 check_alone n f (e ∷ before) a = at (check_alone n f before a.1) (n == caller_of e) refl
@@ -144,13 +144,13 @@ check_alone n f (e ∷ before) a = at (check_alone n f before a.1) (n == caller_
           let y : (n == caller_of e) ≡ true = eq-eqb n (caller_of e) (sym s) in cc
       at ih false q false t = check_apart f (length before) e.deed (last_check f before) t ∙ ih
 
--- so of each file that it counted
+-- own entries give the last check of each file that the caller counted
 pub check_own : CheckIsOwn
 check_own n f p o h = check_alone n f p (alone f n p o h)
 
--- ---- whose a file is
+-- ---- the owner of a file
 
--- an entry that makes a file be there is its count, or names it and so is its caller's
+-- an own entry after which a file exists is its count, or names it and so is by its owner
 pub file_own : FileIsOwn
 file_own i n f [] o a = absurd (cc)
 file_own i n f (e ∷ before) o a = at (λ g. counter_more f n e before (file_own i n f before o.1 g))

@@ -1,4 +1,4 @@
--- What a caller has seen of a journal, and what stands beyond.
+-- What a caller has seen of a journal, and the events beyond that.
 use Rattle.std.proofs.Common.{◌≡◌, ◌≢◌, ◌<◌, ◌≤◌, ℕ, Bool, true, false, cond, List, [], ◌∷◌, ◌++◌, length, map, Some, refl, sym, ◌∙◌, ap, subst, arith, length-append}
 use Rattle.std.specs.Prelude.{◌==◌, All, reverse}
 use Rattle.std.proofs.lemmas.Bool.{cond-false, eq-eqb, ne_eqb}
@@ -20,9 +20,9 @@ use Rattle.journal_laws.proofs.Bridge.{own_bridge}
 use Rattle.journal_laws.proofs.Owning.{file_own, stage_own}
 use Rattle.journal_laws.proofs.Staying.{collection_own}
 
--- ---- what stands beyond
+-- ---- the events beyond
 
--- where all own entries lie below a place, no event from there on is an own one
+-- if all own entries are below a place, no event from there on is the caller's
 none_later : (n limit : ℕ) (later p : List Event) → limit ≤ length p
     → All (λ x. x.0 < limit) (own_past n (later ++ p)) → NoneOf n later
 none_later n limit [] p l h = tt
@@ -40,14 +40,14 @@ none_later n limit (e ∷ later) p l h =
       at ih false q g =
           ((λ s. let y : (n == caller_of e) ≡ true = eq-eqb n (caller_of e) (sym s) in cc), ih g)
 
--- what holds of each entry, in either order
+-- a property of all entries holds in the reverse order too
 all_reverse : (P : ℕ × Event → Type 0) (xs : List (ℕ × Event)) → All P xs → All P (reverse xs)
 all_reverse P [] h = All-nil P
 all_reverse P (x ∷ xs) h =
     subst (All P) (sym (reverse-append (x ∷ []) xs))
     (All-push P (reverse xs) x (all_reverse P xs (All-tail P x xs h)) (All-head P x xs h))
 
--- the rest of a list behind what was seen
+-- the rest of a journal, after what the caller saw, has no event of the caller
 pub beyond : NoneBeyond
 unfolding past
 beyond n seen list a below =
@@ -78,7 +78,7 @@ owned_at : (later p : List Event) → IsOwned (later ++ p) → IsOwned p
 owned_at [] p o = o
 owned_at (e ∷ later) p o = owned_at later p o.1
 
--- a file with an open collection isn't gone
+-- a file that is being collected isn't gone
 alive_of : (l : Stage) → is_collecting l ≡ true → is_gone l ≡ false
 alive_of Gone h = cc
 alive_of Counted h = refl
@@ -89,7 +89,7 @@ alive_of Settled h = refl
 alive_of CloseCollecting h = refl
 alive_of CloseCollected h = refl
 
--- the collection of an own file is as before the events of others
+-- events of others leave the collection of an own file
 seen_at : (i : Inode) (n f : ℕ) (later p : List Event) → EachFollows i (later ++ p)
     → IsOwned (later ++ p) → NoneOf n later
     → is_collecting (stage_in i f (own_past n (later ++ p))) ≡ true
@@ -103,7 +103,7 @@ seen_at i n f later p legal owned none busy =
     (collection_own i n f later p legal owned none c (ap is_collecting (stage_own i n f p o c)
     ∙ b)).1
 
--- what lies behind the seen part is by others
+-- the collection is as last seen, since the events beyond are by others
 pub collection_seen : CollectionIsSeen
 collection_seen i n f seen list legal owned a below busy =
     let r = beyond n seen list a below in

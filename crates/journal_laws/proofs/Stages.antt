@@ -1,4 +1,4 @@
--- Where a collection is open, its file is at the matching stage, and no other file collects.
+-- If a collection is open, its file is at the matching stage, and no other file collects.
 use Rattle.std.proofs.Common.{◌≡◌, ℕ, ◌<◌, Bool, true, false, cond, List, [], ◌∷◌, length, Option, Some, None, refl, sym, ◌∙◌, ap, subst, arith}
 use Rattle.std.specs.Prelude.{◌==◌}
 use Rattle.std.proofs.lemmas.Bool.{eqb-true, eq-eqb, ne_eqb, cond-true, cond-false}
@@ -28,21 +28,21 @@ abbrev pub Collects : ℕ → Option Collection → Type 0
 Collects f None = ⊥
 Collects f (Some c) = c.file ≡ f
 
--- a file at a collecting stage is that of the open collection
+-- if a file is at a collecting stage, the open collection is of that file
 abbrev pub Busy : Inode → List Event → Option Collection → Type 0
 Busy i p o = (f : ℕ) → is_collecting (stage i f p) ≡ true → Collects f o
 
--- the file of the open collection is at its stage, and for a close open for writing
+-- the file of the open collection is at its stage, and is open for writing if it is being closed
 abbrev pub StageIs : Inode → List Event → Option Collection → Type 0
 StageIs i p None = Unit {0}
 StageIs i p (Some c) = (stage i c.file p ≡ collecting_stage c.closing c.complete)
     × (c.closing ≡ true → is_writing c.file p ≡ true)
 
--- both
+-- the open collection and its file's stage match, both ways
 abbrev pub Stages : Inode → List Event → Type 0
 Stages i p = Busy i p (collecting i p) × StageIs i p (collecting i p)
 
--- these stages are collecting
+-- the stages of a collection's file are collecting
 pub stage_busy : (a b : Bool) → is_collecting (collecting_stage a b) ≡ true
 stage_busy false false = refl
 stage_busy false true = refl
@@ -71,20 +71,20 @@ check_idle Settled m = refl
 check_idle CloseCollecting m = cc
 check_idle CloseCollected m = cc
 
--- nor does one that was checked
+-- a file that was just checked doesn't collect
 asked_idle : (b : Bool) → is_collecting (cond b Asked Settled) ≡ false
 asked_idle true = refl
 asked_idle false = refl
 
 -- ---- events that leave the collection
 
--- what an event does to the lives of files: it makes none busy, and leaves those that are
+-- the event makes no file collect, and leaves the files that do
 record Calm (i : Inode) (p q : List Event) : Type 0 where
   none_new : (f : ℕ) → is_collecting (stage i f q) ≡ true → is_collecting (stage i f p) ≡ true
   same : (f : ℕ) → is_collecting (stage i f p) ≡ true → stage i f q ≡ stage i f p
   writing : (f : ℕ) → is_collecting (stage i f p) ≡ true → is_writing f q ≡ is_writing f p
 
--- an event that leaves stages leaves both
+-- a calm event keeps the match of collection and stage
 kept : (i : Inode) (p q : List Event) → Calm i p q → (o : Option Collection) → Busy i p o
     → StageIs i p o → Busy i q o × StageIs i q o
 kept i p q calm None b s = ((λ f h. b f (calm.none_new f h)), tt)
@@ -95,25 +95,25 @@ kept i p q calm (Some c) b s =
       (calm.same c.file busy ∙ s.0, (λ k. calm.writing c.file busy ∙ s.1 k)),
     )
 
--- a file doesn't begin to collect
+-- an event that makes no file collect: a file that collects after it collected before
 quiet : (b : Bool) (after old : Stage) → (b ≡ true → is_collecting old ≡ false)
     → is_collecting after ≡ false → is_collecting (cond b after old) ≡ true
     → is_collecting old ≡ true
 quiet true after old m n a = cc
 quiet false after old m n a = a
 
--- a file that collects stays as it is
+-- a file that collects keeps its stage
 calm_at : (b : Bool) (after old : Stage) → (b ≡ true → is_collecting old ≡ false)
     → is_collecting old ≡ true → cond b after old ≡ old
 calm_at true after old m a = let n : is_collecting old ≡ false = m refl in cc
 calm_at false after old m a = refl
 
--- one file by two names
+-- a file that doesn't collect doesn't under an equal name
 idle : (i : Inode) (p : List Event) (g f : ℕ) → is_collecting (stage i g p) ≡ false
     → (g == f) ≡ true → is_collecting (stage i f p) ≡ false
 idle i p g f n h = subst (λ (x : ℕ). is_collecting (stage i x p) ≡ false) (eqb-true g f h) n
 
--- a file that isn't busy and doesn't get so
+-- an event on a file that doesn't collect, before or after, is calm
 calm_file : (i : Inode) (p q : List Event) (g : ℕ) (after : Stage)
     → is_collecting (stage i g p) ≡ false → is_collecting after ≡ false
     → ((f : ℕ) → stage i f q ≡ cond (g == f) after (stage i f p))
@@ -125,7 +125,7 @@ calm_file i p q g after n m l w = record {
   writing = w;
 }
 
--- no stage changes
+-- an event that changes no stage is calm
 calm_all : (i : Inode) (p q : List Event) → ((f : ℕ) → stage i f q ≡ stage i f p)
     → ((f : ℕ) → is_writing f q ≡ is_writing f p) → Calm i p q
 calm_all i p q l w = record {
@@ -135,7 +135,7 @@ calm_all i p q l w = record {
   writing = λ f h. w f;
 }
 
--- a new file is none of the others
+-- a count leaves whether a collecting file is open for writing
 new_writing : (i : Inode) (p : List Event) (how : How) → Lives i p → (f : ℕ)
     → is_collecting (stage i f p) ≡ true
     → holds is_writer (find_file f ((length p, how) ∷ files p)) ≡ is_writing f p
@@ -145,7 +145,7 @@ new_writing i p how v f b =
       apart : (f : ℕ) → f < length p → (length p == f) ≡ false
       apart f h = ne_eqb (length p) f (λ e. omega arith)
 
--- a dropped file isn't a busy one
+-- dropping another file leaves whether a collecting file is open for writing
 less_writing : (i : Inode) (p : List Event) (g : ℕ) → is_collecting (stage i g p) ≡ false → (f : ℕ)
     → is_collecting (stage i f p) ≡ true
     → holds is_writer (find_file f (less_file g (files p))) ≡ is_writing f p
@@ -157,7 +157,7 @@ less_writing i p g n f b = less_at (g == f) refl where
 
 -- ---- events of the collection
 
--- it begins
+-- beginning a collection keeps the match
 begun : (i : Inode) (p q : List Event) (g : ℕ) (k : Bool) (algo : Algo) (place : ℕ) → Busy i p None
     → ((f : ℕ) → stage i f q ≡ cond (g == f) (collecting_stage k false) (stage i f p))
     → (k ≡ true → is_writing g q ≡ true)
@@ -172,7 +172,7 @@ begun i p q g k algo place b l w = (
   at f true e h = eqb-true g f e
   at f false e h = absurd (b f h)
 
--- the stage says what the collection is for
+-- the stage of a collecting file says what the collection is for
 pub stage_parts : (a b k : Bool) → collecting_stage a b ≡ collecting_stage k false → (a ≡ k)
     × (b ≡ false)
 stage_parts false false false e = (refl, refl)
@@ -184,7 +184,7 @@ stage_parts true false true e = (refl, refl)
 stage_parts true true false e = cc
 stage_parts true true true e = cc
 
--- it takes a piece
+-- taking a piece keeps the match
 taken : (i : Inode) (p q : List Event) (g : ℕ) (k complete : Bool) (bytes : List ℕ)
     → stage i g p ≡ collecting_stage k false
     → ((f : ℕ) → stage i f q ≡ cond (g == f) (collecting_stage k complete) (stage i f p))
@@ -210,7 +210,7 @@ taken i p q g k complete bytes was l w (Some c) b s =
       at mine f true e h = mine ∙ eqb-true g f e
       at mine f false e h = b f h
 
--- it ends
+-- ending a collection keeps the match
 ended : (i : Inode) (p q : List Event) (g : ℕ) (after : Stage) → is_collecting (stage i g p) ≡ true
     → is_collecting after ≡ false
     → ((f : ℕ) → stage i f q ≡ cond (g == f) after (stage i f p)) → (o : Option Collection)
@@ -233,12 +233,12 @@ more_at i p g l e f = at (g == f) refl where
 
 -- ---- all events
 
--- an event that needs the mutex finds it free
+-- an event that needs the mutex is made only while no collection is open
 pub free_at : (o : Option Collection) (t u : Told) → unless_collecting o t ≡ Some u → o ≡ None
 free_at None t u e = refl
 free_at (Some c) t u e = cc
 
--- event by event
+-- each event keeps the match
 step : (i : Inode) (p : List Event) (who : Who) (d : Deed) (t : Told) → Follows i p who d t
     → Lives i p → Stages i p → Stages i (event who d t ∷ p)
 step i p who (deed.Count how) told.Held h v s =
@@ -308,7 +308,7 @@ step i p who d t h v s = kept i p (event who d t ∷ p)
     (calm_all i p _ (λ f. cond_same (touches f (length p) d) (stage i f p)) (λ f. refl))
     (collecting i p) s.0 s.1
 
--- along the journal
+-- the match holds for every journal
 pub stages : (i : Inode) (p : List Event) → EachFollows i p → Stages i p
 stages i [] h = ((λ f a. cc), tt)
 stages i (e ∷ before) h =
@@ -316,12 +316,12 @@ stages i (e ∷ before) h =
 
 -- ---- the open collection and its file
 
--- where a collection is open
+-- the open collection's file is at the matching stage
 pub collection_stands : (i : Inode) (p : List Event) (c : Collection) → EachFollows i p
     → collecting i p ≡ Some c → StageIs i p (Some c)
 collection_stands i p c h e = subst (λ (o : Option Collection). StageIs i p o) e (stages i p h).1
 
--- where a file collects
+-- a file at a collecting stage is the open collection's
 pub stage_collects : (i : Inode) (p : List Event) (f : ℕ) → EachFollows i p
     → is_collecting (stage i f p) ≡ true
     → (c : Collection) × ((collecting i p ≡ Some c) × (c.file ≡ f))

@@ -1,4 +1,4 @@
--- Events of others leave a caller's collection.
+-- Events of other callers leave a caller's collection.
 use Rattle.std.proofs.Common.{◌≡◌, ◌≢◌, ℕ, Bool, true, false, List, [], ◌∷◌, ◌++◌, length, Option, Some, None, refl, sym, ◌∙◌, ap}
 use Rattle.std.specs.Prelude.{◌==◌}
 use Rattle.std.proofs.lemmas.Bool.{cond-false, eq-eqb}
@@ -20,12 +20,12 @@ use Rattle.journal_laws.specs.Own.{IsOwned, counter}
 use Rattle.journal_laws.specs.OwnLaws.{CollectionStays}
 use Rattle.journal_laws.proofs.Owning.{counter_more, not_here, touched}
 
--- one collection is of one file
+-- a collection is of only one file
 other_file : (o : Option Collection) (f g : ℕ) → Collects f o → Collects g o → (g == f) ≡ false → ⊥
 other_file None f g a b ne = a
 other_file (Some c) f g a b ne = let y : (g == f) ≡ true = eq-eqb g f (sym b ∙ a) in cc
 
--- where a file collects, the collection is open
+-- if a file collects, a collection is open
 not_free : (o : Option Collection) (f : ℕ) → Collects f o → o ≡ None → ⊥
 not_free None f a e = a
 not_free (Some c) f a e = cc
@@ -60,7 +60,7 @@ pub counter_later : (f n : ℕ) (later p : List Event) → counter f p ≡ Some 
 counter_later f n [] p h = h
 counter_later f n (e ∷ later) p h = counter_more f n e (later ++ p) (counter_later f n later p h)
 
--- another's event doesn't touch the file
+-- an event of another caller doesn't touch the file
 untouched : (f n : ℕ) (e : Event) (p : List Event) → IsOwned (e ∷ p) → counter f p ≡ Some n
     → caller_of e ≢ n
     → (b : Bool) → touches f (length p) e.deed ≡ b → b ≡ false
@@ -70,7 +70,7 @@ untouched f n e p o c ne true t =
     ∙ c)))
 untouched f n e p o c ne false t = refl
 
--- event by event
+-- the law, by induction on the later events
 pub collection_own : CollectionStays
 collection_own i n f [] p legal owned none c b = (refl, refl)
 collection_own i n f (e ∷ later) p legal owned none c b =

@@ -5,7 +5,7 @@ use Rattle.std.proofs.lemmas.Bool.{cond-false, eqb-true, eq-eqb}
 use Rattle.inode_events.specs.Files.{tally, find_file, less_file, holds}
 use Rattle.inode_events.specs.declared.deed.How.{How}
 
--- 1 where the test holds
+-- 1 if the test holds, else 0
 abbrev one_if : Bool → ℕ
 one_if b = cond b 1 0
 
@@ -20,7 +20,7 @@ tally_held test file (x ∷ xs) h = held_at (tally_held test file xs) (x.0 == fi
   held_at ih true e g = rw g (omega arith)
   held_at ih false e g = let t : 0 < tally test xs = ih g in omega arith
 
--- two held files that pass the test count two
+-- two held files that pass the test are counted as at least two
 pub tally_two : (test : How → Bool) (f g : ℕ) (hs : List (ℕ × How)) → (f == g) ≡ false
     → holds test (find_file f hs) ≡ true → holds test (find_file g hs) ≡ true → 1 < tally test hs
 tally_two test f g [] n hf hg = cc
@@ -39,7 +39,7 @@ tally_two test f g (x ∷ xs) n hf hg =
           let t : 0 < tally test xs = tally_held test f xs p in rw q (omega arith)
       two_at ih false e false e' p q = let t : 1 < tally test xs = ih p q in omega arith
 
--- dropping a file takes away what it counted
+-- dropping a file subtracts what the file counted as
 pub tally-less : (test : How → Bool) (file : ℕ) (hs : List (ℕ × How))
     → tally test (less_file file hs) + one_if (holds test (find_file file hs)) ≡ tally test hs
 tally-less test file [] = refl
@@ -51,7 +51,7 @@ tally-less test file (x ∷ xs) = less_at (tally-less test file xs) (x.0 == file
   less_at ih true = omega arith
   less_at ih false = omega arith
 
--- another file stays as it is
+-- dropping a file leaves how another is held
 pub find-less : (f g : ℕ) (hs : List (ℕ × How)) → (f == g) ≡ false
     → find_file g (less_file f hs) ≡ find_file g hs
 find-less f g [] n = refl

@@ -1,5 +1,5 @@
--- The laws of journals, each for every legal journal. Since what lies before an event of a legal
--- journal is legal too, a law holds at each place of it.
+-- The laws of journals, each for every legal journal. The part of a legal journal before an event
+-- is legal too, so a law holds at each place in a journal.
 use Rattle.std.specs.Prelude.{◌≡◌, ℕ, ◌+◌, ◌≤◌, true, false, All, List, ◌∷◌, ◌++◌, Some}
 use Rattle.hash_algos.specs.Digest.{digest_of}
 use Rattle.hash_algos.specs.declared.algo.Algo.TheVariants.{Sha1}
@@ -32,51 +32,51 @@ use Rattle.inode_events.specs.declared.told.Grant.{Grant}
 use Rattle.inode_events.specs.declared.told.Told.TheVariants as told
 use Rattle.journal_laws.specs.Standing.{IsHeldAsCounted, collecting_stage}
 
--- ---- where files stand
+-- ---- stages of files
 
 -- Every earlier part of a legal journal is legal.
 abbrev pub EarlierLegal : Type 0
 EarlierLegal = (i : Inode) (later p : List Event) → Legal i (later ++ p) → IsBorn p → Legal i p
 
--- A file that isn't gone was counted, and is held as its count said.
+-- A file that isn't gone was counted, and is held in the way that its count says.
 abbrev pub HeldAsCounted : Type 0
 HeldAsCounted = (i : Inode) (p : List Event) (file : ℕ) → Legal i p
     → is_gone (stage i file p) ≡ false → IsHeldAsCounted file p
 
--- The file of the open collection is at a collecting stage, and for its close it is open for
--- writing.
+-- The file of the open collection is at a collecting stage. If the collection is for a close, the
+-- file is open for writing.
 abbrev pub CollectionStands : Type 0
 CollectionStands =
     (i : Inode) (p : List Event) (c : Collection) → Legal i p → collecting i p ≡ Some c
     → (stage i c.file p ≡ collecting_stage c.closing c.complete)
     × (c.closing ≡ true → is_writing c.file p ≡ true)
 
--- And a file at such a stage is that of the open collection.
+-- If a file is at a collecting stage, the open collection is of that file.
 abbrev pub StageCollects : Type 0
 StageCollects =
     (i : Inode) (p : List Event) (file : ℕ) → Legal i p → is_collecting (stage i file p) ≡ true
     → (c : Collection) × ((collecting i p ≡ Some c) × (c.file ≡ file))
 
--- ---- what digests and verdicts say
+-- ---- digests and verdicts
 
--- the digest in force is that of the content by the algorithm that the label names, and by SHA-1
+-- the digest in force is the content's, by the algorithm that the label names and by SHA-1
 abbrev pub IsDigestFresh : Inode → List Event → Type 0
 IsDigestFresh i p = (f : Digests) → in_force i p ≡ Some f → (f.digest ≡ fresh_digest i p)
     × (f.sha1 ≡ digest_of Sha1 (content p))
 
--- a verdict in force is the one over attributes, metadata and content
+-- each verdict in force is the one over the present attributes, metadata and content
 abbrev pub AreVerdictsFresh : Inode → List Event → Type 0
 AreVerdictsFresh i p =
     (k : Key) (v : Verdict) → verdict_in_force i k p ≡ Some v → v ≡ fresh_verdict i k.need k.algos p
 
--- Freshness: whenever no writer holds the inode, its digest and its verdicts in force are those
--- computed anew.
+-- Freshness: whenever no writer holds the inode, its digest and verdicts in force equal those
+-- computed afresh.
 abbrev pub Freshness : Type 0
 Freshness = (i : Inode) (p : List Event) → Legal i p → writers p ≡ 0 → IsDigestFresh i p
     × AreVerdictsFresh i p
 
--- a grant of mode enforce admits exactly on Pass; made of an unmodified file, it gives the verdict
--- over everything as it is, and admits exactly where the file fits
+-- a grant in mode enforce admits exactly on Pass; for an unmodified file it gives the verdict
+-- computed afresh, and admits exactly if the file fits
 abbrev pub IsAdmitted : Inode → List Event → Deed → Grant → ℕ → Type 0
 IsAdmitted i p d grant file =
     (grant.admitted ≡ is_passed grant.verdict)
@@ -85,7 +85,7 @@ IsAdmitted i p d grant file =
     (fresh_verdict i (last_check file p).action.need (last_check file p).action.algos p))
     × (granted_unmodified i d p ≡ true → grant.admitted ≡ fits i (last_check file p).action p)
 
--- Admission: enforcing appraisal admits an unmodified file exactly where digest and HMAC fit.
+-- Admission: enforcing appraisal admits an unmodified file exactly if digest and HMAC fit.
 abbrev pub Admission : Type 0
 Admission = (i : Inode) (p : List Event) (who : Who) (d : Deed) (grant : Grant) (file : ℕ)
     → Legal i (record { who = who; deed = d; told = told.Grant grant } ∷ p)
@@ -93,13 +93,13 @@ Admission = (i : Inode) (p : List Event) (who : Who) (d : Deed) (grant : Grant) 
     → i.settings.mode ≡ Enforce → (last_check file p).action.appraise ≡ true
     → IsAdmitted i p d grant file
 
--- a close's event, told that it wrote the label, is behind the journal
+-- the journal with the event of a close that wrote the label
 abbrev pub labelled_close : Who → ℕ → List Event → List Event
 labelled_close who file p =
     record { who = who; deed = deed.CloseFinish file; told = told.LabelledDropped } ∷ p
 
--- The label of a close: it is that of the digest, by the script's default algorithm, of the content
--- at that step; the HMAC is renewed, and no other attribute changes.
+-- The label of a close is that of the content's digest at that step, by the script's default
+-- algorithm; the HMAC is renewed, and no other attribute changes.
 abbrev pub CloseLabel : Type 0
 CloseLabel =
     (i : Inode) (p : List Event) (who : Who) (file : ℕ) → Legal i (labelled_close who file p)
@@ -108,15 +108,15 @@ CloseLabel =
     × (label i (labelled_close who file p) ≡ Some
     (label_of (digest_of i.settings.hash (content p))))
 
--- Few collections: the takes that began one are at most one more than the events that voided the
--- digest before the last of them.
+-- Few collections: takes begin at most one collection more than there are events that voided the
+-- digest before the last such take.
 abbrev pub FewCollections : Type 0
 FewCollections =
     (i : Inode) (p : List Event) → Legal i p → takes_begun p ≤ times_voided_before_last i p + 1
 
--- Coverage: each read of a read-only file is covered by every list in which the journal's events
--- are listed. The last two premises say what a cell keeps of its path, and the list of its entries
--- by their type.
+-- Coverage: each read of a read-only file is covered by every list that has the journal's entries.
+-- The last two premises are what a cell keeps of its path, and the type of entries keeps of the
+-- list.
 abbrev pub Coverage : Type 0
 Coverage =
     (i : Inode) (list : List Entry) (p : List Event) (who : Who) (file from len : ℕ) (t : Told)

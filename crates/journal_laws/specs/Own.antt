@@ -1,5 +1,5 @@
--- What a caller knows of a journal by its own entries. The journal and the entries are read from
--- the newest back.
+-- What a caller knows of a journal from its own entries. The journal and the entries are in order
+-- from the newest event to the oldest.
 use Rattle.std.specs.Prelude.{◌≡◌, ◌≢◌, ℕ, ◌==◌, Bool, true, false, List, [], ◌∷◌, length, Option, Some, None, option_map, reverse, if◌then◌else◌}
 use Rattle.inode_events.specs.policy.declared.rule.Func.TheVariants as func
 use Rattle.inode_events.specs.Callers.{caller_of}
@@ -16,53 +16,53 @@ use Rattle.journal_laws.specs.Standing.{event_at}
 
 -- ---- the entries of one caller
 
--- the events of the caller n, each with its place
+-- the events of caller n, each with its place
 abbrev pub own_past : ℕ → List Event → List (ℕ × Event)
 own_past n [] = []
 own_past n (e ∷ before) =
     if n == caller_of e then (length before, e) ∷ own_past n before else own_past n before
 
--- no event is the caller's
+-- no event is by this caller
 abbrev pub NoneOf : ℕ → List Event → Type 0
 NoneOf n [] = Unit {0}
 NoneOf n (e ∷ before) = (caller_of e ≢ n) × NoneOf n before
 
--- ---- whose a file is
+-- ---- the owner of a file
 
--- whose the event at the place is: the file that is named by it belongs to this caller
+-- the caller of the event at this place, who owns the file that the place names
 abbrev pub counter : ℕ → List Event → Option ℕ
 counter file before = option_map caller_of (event_at file before)
 
--- the deed names the file. A count names none: its file gets its name by the count's place
+-- whether the deed names the file. A count names none: its file is named by the count's place
 abbrev pub names_file : ℕ → Deed → Bool
 names_file file (deed.Count how) = false
 names_file file d = touches file file d
 
--- the files that the deed names are the caller's
+-- the caller owns the files that the deed names
 abbrev pub IsBy : ℕ → Deed → List Event → Type 0
 IsBy n d before = (file : ℕ) → names_file file d ≡ true → counter file before ≡ Some n
 
--- each event on a file is that of the caller who counted the file
+-- each event on a file is by the caller who counted the file
 abbrev pub IsOwned : List Event → Type 0
 IsOwned [] = Unit {0}
 IsOwned (e ∷ before) = IsBy (caller_of e) e.deed before × IsOwned before
 
--- ---- what entries with their places tell of a file
+-- ---- what entries with their places say of a file
 
--- its last check
+-- the last check of the file
 abbrev pub check_in : ℕ → List (ℕ × Event) → Check
 check_in file [] = record { func = func.FileCheck; action = no_action }
 check_in file (x ∷ xs) = check_after file x.1.deed (check_in file xs)
 
--- how it was opened
+-- how the file was opened
 abbrev pub how_in : ℕ → List (ℕ × Event) → Option How
 how_in file [] = None
 how_in file (x ∷ xs) = if x.0 == file then counted x.1.deed x.1.told else how_in file xs
 
--- what may be done, by the entries alone
+-- the deed may be done, according to the entries
 abbrev pub MayByOwn : Inode → List (ℕ × Event) → Deed → Type 0
 MayByOwn inode own d = MayAt (λ file. stage_in inode file own) (λ file. how_in file own) d
 
--- the same by the entries of a pass, which stand oldest first
+-- the deed may be done, according to the entries of a pass, which are oldest first
 abbrev pub MayByMine : Inode → List (ℕ × Event) → Deed → Type 0
 MayByMine inode mine d = MayByOwn inode (reverse mine) d

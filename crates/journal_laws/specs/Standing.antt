@@ -1,4 +1,4 @@
--- Where the files of a journal stand.
+-- The stages of the files of a journal.
 use Rattle.std.specs.Prelude.{◌≡◌, ℕ, ◌==◌, Bool, true, false, List, [], ◌∷◌, length, Option, Some, None, if◌then◌else◌}
 use Rattle.inode_events.specs.Files.{counted, held}
 use Rattle.inode_events.specs.Stage.{Stage}
@@ -6,19 +6,20 @@ use Rattle.inode_events.specs.Stage.{CloseCollected, CloseCollecting, Collected,
 use Rattle.inode_events.specs.declared.deed.How.{How}
 use Rattle.inode_events.specs.declared.told.Event.{Event}
 
--- the stage of the file of a collection: of a close or not, with its last piece taken or not
+-- the stage of a collection's file: whether the collection is for a close, and whether it has its
+-- last piece
 abbrev pub collecting_stage : Bool → Bool → Stage
 collecting_stage false false = Collecting
 collecting_stage false true = Collected
 collecting_stage true false = CloseCollecting
 collecting_stage true true = CloseCollected
 
--- the event at the place
+-- the event at this place
 abbrev pub event_at : ℕ → List Event → Option Event
 event_at place [] = None
 event_at place (e ∷ before) = if length before == place then Some e else event_at place before
 
--- the event at the place of the file counted it, and the file is held as that count said
+-- the event at the file's place counted it, and the file is held in the way that the count says
 pub record IsHeldAsCounted (file : ℕ) (events : List Event) : Type 0 where
   pub count : Event
   pub how : How

@@ -1,8 +1,8 @@
-//! The kit's hashes alone, for `bench/`: what a run's time is compared with.
+//! The kit's hashes alone, for `bench/`, as a baseline for the time of a run.
 //!
-//! Standard input has lines `ALGO BYTES TIMES`: so many messages of so many bytes are hashed, by
-//! `sha1` or `sha256`. The first bytes of all digests are added up modulo 256 and printed, so that
-//! no hash can be left out.
+//! Standard input has lines `ALGO BYTES TIMES`: each hashes a message of BYTES bytes TIMES times
+//! with `sha1` or `sha256`. The first bytes of all digests are added up modulo 256 and printed, so
+//! that no hash can be optimized away.
 #![tactic(auto)]
 
 use anyhow::{Context, Result, bail};
@@ -10,7 +10,7 @@ use sha1::Sha1;
 use sha2::{Digest, Sha256};
 use std::io;
 
-// The most bytes of a message.
+// The most bytes that a message may have.
 const MOST: usize = 262_144;
 
 fn main(rt: HostRuntime) -> Result<()> {
@@ -24,7 +24,7 @@ fn main(rt: HostRuntime) -> Result<()> {
     Ok(())
 }
 
-// Carries out one line.
+// Carries out one line, and returns the sum of the first bytes of its digests modulo 256.
 fn hash_all(line: &str, bytes: &[u8]) -> Result<u8> {
     let (algo, rest) = line.split_once(' ').context("no algorithm")?;
     let (length, times) = rest.split_once(' ').context("no number of times")?;

@@ -1,4 +1,4 @@
--- The lines of a file, as they are appended.
+-- The lines of a file are what `push_file` appends.
 use Rattle.std.proofs.Common.{◌≡◌, ℕ, Bool, true, cond, List, [], ◌++◌, Option, sym, ap, ◌∙◌, append_assoc}
 use Rattle.script_text.specs.evm.Setup.{Setup}
 use Rattle.xattr_store.specs.Attrs.{Pair, value}
@@ -8,7 +8,7 @@ use Rattle.script_text.specs.ScriptValue.{ScriptValue}
 use Rattle.script_text.specs.declared.blocks.FileBlock.{FileBlock}
 use Rattle.label_text.specs.Labels.{file_lines, hmac_line, line_under, lines_of}
 
--- the label's line, and behind it the HMAC's, of a file that is there
+-- for a present file, the label's line and then the HMAC's are the file's lines
 pub lines_are : (s : ScriptValue) (b : FileBlock) (evm : Setup) (attrs : List Pair)
     (path : List ℕ) (label hmac : Option (List ℕ)) (old mid new : List ℕ) → evm ≡ setup_of s
     → b.image.present ≡ true → attrs ≡ (sealed evm s.hash b).image.attrs → path ≡ b.path

@@ -1,5 +1,5 @@
-//! The text of the command `label`: for each file of a script the two values that a seal would
-//! write on it, as `evmctl` shows them in hexadecimal.
+//! The output of the command `label`: for each file of a script the two values that a seal would
+//! write on it, in hexadecimal, as `evmctl` shows them.
 #![tactic(auto)]
 
 mod seal;

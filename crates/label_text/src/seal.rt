@@ -1,4 +1,4 @@
-// What a seal would leave of a file.
+// The attributes that a seal would leave on a file.
 ghost use Rattle.std.specs.Prelude.{◌≡◌, IfOk};
 ghost use Rattle.script_text.specs.Files.{sealed};
 
@@ -10,7 +10,8 @@ use script_text::labels::{MAX_LABEL, write_label};
 use std::alloc::AllocError as OutOfMemory;
 use xattr_store::{Attrs, IMA_NAME, NewValue};
 
-/// The attributes of the file as a seal would leave them.
+/// The attributes of the file as a seal would leave them: with its label and, if there is a key,
+/// its HMAC renewed.
 pub fn sealed_attrs(evm: &Evm, hash: Algo, file: &FileBlock) -> Result<Attrs, OutOfMemory>
     ensures { IfOk result (λ attrs. attrs ≡ (sealed evm.now hash file.now).image.attrs) }
 {

@@ -1,4 +1,4 @@
-// The lines of the files.
+// The output lines of each file.
 ghost use Rattle.std.specs.Prelude.{◌≡◌, ◌++◌, flat_map, IfOk, OnOk};
 ghost use Rattle.std.specs.Option.{option_copied};
 ghost use Rattle.script_text.specs.Files.{setup_of};
@@ -9,9 +9,8 @@ use script_scene::evm_of;
 use script_text::evm::Evm;
 use script_text::{FileBlock, Script};
 use std::alloc::{AllocError as OutOfMemory, Global};
-use xattr_store::{EVM_NAME, IMA_NAME};
 
-/// A line for the label of each file that is there, and where the script has a key one for its
+/// A line with the label of each file that is present and, if the script has a key, one with its
 /// HMAC.
 pub fn label_text(alloc: Global, script: &Script) -> Result<Vec<u8>, OutOfMemory>
     ensures { IfOk result (λ text. text.items ≡ label_answer script.now) }
@@ -39,8 +38,8 @@ fn push_file(
     }
     let path = file.path.as_slice();
     let attrs = sealed_attrs(evm, script.hash, file)?;
-    push_under(alloc, text, path, "security.ima", attrs.get(IMA_NAME))?;
-    push_hmac(alloc, text, script, path, attrs.get(EVM_NAME))
+    push_under(alloc, text, path, "security.ima", attrs.label())?;
+    push_hmac(alloc, text, script, path, attrs.hmac())
 }
 
 fn push_hmac(

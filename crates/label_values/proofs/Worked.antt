@@ -1,4 +1,4 @@
--- The definitions at labels that are written out, each by computation.
+-- The definitions applied to concrete labels, each by computation.
 use Rattle.std.proofs.Common.{◌≡◌, ℕ, Bool, true, false, List, [], ◌∷◌, ◌++◌, replicate, refl}
 use Rattle.std.specs.Prelude.{Option, Some, None}
 use Rattle.hash_algos.specs.declared.algo.Algo.{Algo}
@@ -18,9 +18,9 @@ use Rattle.label_values.specs.declared.verdict.Mend.TheVariants as mend
 use Rattle.label_values.specs.declared.verdict.Verdict.{Verdict}
 use Rattle.label_values.specs.declared.verdict.Verdict.TheVariants.{Pass, Deny}
 
--- ---- the algorithm, under the default sha256
+-- ---- the algorithm, under the default SHA-256
 
--- a type 1 label of this many bytes, none of them zero
+-- a type 1 label with a digest of n bytes, none of which is zero
 abbrev pub plain : ℕ → Option (List ℕ)
 plain n = Some (1 ∷ replicate n 7)
 
@@ -54,7 +54,7 @@ header_alone = refl
 signed_by_version_1 : collect_algo (Some (3 ∷ 1 ∷ 6 ∷ replicate 7 0)) Sha256 ≡ Sha256
 signed_by_version_1 = refl
 
--- ---- reading and writing
+-- ---- parsing and writing
 
 empty_label : read_label (Some []) Sha256 ≡ label.Missing
 empty_label = refl
@@ -78,7 +78,7 @@ sha1_with_zeros = refl
 sha256_label : label_of (record { algo = Sha256; bytes = replicate 32 7 }) ≡ 4 ∷ 4 ∷ replicate 32 7
 sha256_label = refl
 
--- ---- the verdict on a file of one byte whose sha1 is 20 bytes 7
+-- ---- the verdict on a file of one byte whose SHA-1 is taken to be 20 bytes 7
 
 abbrev pub sha1_of_file : List ℕ
 sha1_of_file = replicate 20 7
@@ -115,21 +115,21 @@ new_and_empty : judge need.Signature None None status.Fail (record {
 }) Sha1 0 true ≡ Pass
 new_and_empty = refl
 
--- what mode fix writes on the verdict of this step
+-- the attributes that fix mode writes on the verdict of this step
 abbrev mended : Need → Option AlgoSet → Option (List ℕ) → EvmStatus → Digest → Algo → ℕ → Bool
     → Mend
 mended n algos bytes s file default size new =
     mend_for (judge n algos bytes s file default size new)
     (judge n algos bytes status.Pass file default size new) s (read_label bytes default)
 
--- a right label under an HMAC of the older form: the HMAC alone is written
+-- a right label under an HMAC in the older form: only the HMAC is written
 migrated : mended need.Any None (Some (1 ∷ sha1_of_file)) status.Old (record {
   algo = Sha1;
   bytes = sha1_of_file;
 }) Sha1 1 false ≡ mend.Hmac
 migrated = refl
 
--- a wrong label under it: nothing is
+-- a wrong label under an HMAC in the older form: nothing is written
 not_migrated : mended need.Any None (Some (1 ∷ replicate 20 8)) status.Old (record {
   algo = Sha1;
   bytes = sha1_of_file;

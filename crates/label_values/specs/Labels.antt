@@ -1,6 +1,6 @@
--- The value of `security.ima`: how it is read and how the kernel writes it. The first byte is the
--- label's type: 1 a digest, 4 an algorithm's number and a digest, 3 a signature, 5 a portable EVM
--- signature, 6 a verity signature (the kernel's `enum evm_ima_xattr_type`).
+-- The value of `security.ima`: how it is parsed, and how the kernel writes it. The first byte is
+-- the label's type: 1 for a digest, 4 for an algorithm's number and a digest, 3 for a signature, 5
+-- for a portable EVM signature, 6 for a verity signature (the kernel's `enum evm_ima_xattr_type`).
 use Rattle.std.specs.Prelude.{ℕ, ◌-◌, ◌==◌, nat_lt, not, Bool, true, false, ◌&&◌, ◌||◌, List, [], ◌∷◌, length, drop, Option, Some, None, unwrap_or, slice_index, if◌then◌else◌}
 use Rattle.std.specs.Str.{bytes_eq}
 use Rattle.hash_algos.specs.Algo.{algo_by_id, algo_id}
@@ -12,7 +12,7 @@ use Rattle.label_values.specs.declared.label.Label.TheVariants as label
 
 -- ---- reading
 
--- the first byte, or 0, which isn't a type, where there is none
+-- the first byte, or 0, which isn't a type, if there is none
 abbrev pub type_of : List ℕ → ℕ
 type_of bytes = slice_index bytes 0
 
@@ -20,20 +20,20 @@ type_of bytes = slice_index bytes 0
 abbrev pub ends_in_zeros : List ℕ → Bool
 ends_in_zeros bytes = bytes_eq (drop (length bytes - 4) bytes) (0 ∷ 0 ∷ 0 ∷ 0 ∷ [])
 
--- a digest without an algorithm's number shows its algorithm by its length alone. A label of 21
--- bytes that ends in four zero bytes is an MD5, which old tools padded to the length of a SHA-1
+-- the algorithm of a digest without an algorithm's number, by the length of the label. A label of
+-- 21 bytes that ends in four zero bytes is an MD5 that old tools padded to the length of a SHA-1.
 abbrev pub plain_algo : List ℕ → Algo → Algo
 plain_algo bytes default =
     if length bytes == 17 then algo.Md5
     else if length bytes == 21 then (if ends_in_zeros bytes then algo.Md5 else algo.Sha1)
     else default
 
--- the algorithm whose number stands at this place, else the default. Past the label's end 0 is
--- read, which isn't the number of an algorithm
+-- the algorithm whose number is at this index, or else the default. Past the end of the label the
+-- number is 0, which no algorithm has.
 abbrev pub numbered_algo : List ℕ → ℕ → Algo → Algo
 numbered_algo bytes place default = unwrap_or (algo_by_id (slice_index bytes place)) default
 
--- a signature of version 2, with its header of 9 bytes and something behind it
+-- a version 2 signature: its header of 9 bytes, and at least one more byte
 abbrev pub is_signature_v2 : List ℕ → Bool
 is_signature_v2 bytes = nat_lt 9 (length bytes) && slice_index bytes 1 == 2
 
@@ -46,11 +46,11 @@ collect_algo (Some bytes) default =
     else if type_of bytes == 3 && is_signature_v2 bytes then numbered_algo bytes 2 default
     else default
 
--- signatures, which are never verified here
+-- the types of signatures, which are never verified here
 abbrev pub is_signature_type : ℕ → Bool
 is_signature_type kind = kind == 3 || kind == 5 || kind == 6
 
--- what a value of `security.ima` is; an absent or empty one is not a label
+-- the meaning of a value of `security.ima`; an absent or empty value isn't a label
 abbrev pub read_label : Option (List ℕ) → Algo → Label
 read_label None default = label.Missing
 read_label (Some []) default = label.Missing
@@ -62,7 +62,7 @@ read_label (Some (kind ∷ rest)) default =
 
 -- ---- writing
 
--- an MD5 and a SHA-1 are written without a number, except a SHA-1 that would be read as a padded
+-- MD5 and SHA-1 digests are written without a number, except a SHA-1 that would be read as a padded
 -- MD5
 abbrev pub is_plain : Algo → List ℕ → Bool
 is_plain algo.Md5 bytes = true

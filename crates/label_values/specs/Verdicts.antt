@@ -1,4 +1,5 @@
--- Whether a file may be used: the verdict of appraisal, and what mode fix writes.
+-- The verdict of appraisal, which says whether a file may be used, and the attributes that fix mode
+-- writes.
 use Rattle.std.specs.Prelude.{ℕ, [], ◌==◌, Bool, true, false, ◌&&◌, ◌||◌, not, List, drop, codes, Option, Some, None, if◌then◌else◌, nat_eq, unwrap_or}
 use Rattle.std.specs.List.{starts_with}
 use Rattle.hash_algos.specs.AlgoSet.{holds_algo}
@@ -29,13 +30,13 @@ cause_word cause.UnsupportedSignature = codes "unsupported-signature"
 cause_word cause.UnknownData = codes "unknown-ima-data"
 cause_word cause.InvalidHash = codes "invalid-hash"
 
--- ---- the questions of the verdict's cases
+-- ---- the conditions of the verdict's cases
 
 abbrev pub wants_signature : Need → Bool
 wants_signature need.Any = false
 wants_signature need.Signature = true
 
--- `appraise_algos=` was given and doesn't hold the algorithm
+-- `appraise_algos=` doesn't list the algorithm
 abbrev pub is_denied : Option AlgoSet → Algo → Bool
 is_denied None algo = false
 is_denied (Some set) algo = not (holds_algo set algo)
@@ -57,13 +58,13 @@ lacks_hmac evm.NoXattrs = true
 lacks_hmac evm.NoLabel = true
 lacks_hmac _ = false
 
--- an HMAC of the older form doesn't fit either
+-- an HMAC in the older form is wrong too
 abbrev pub has_wrong_hmac : EvmStatus → Bool
 has_wrong_hmac evm.Fail = true
 has_wrong_hmac evm.Old = true
 has_wrong_hmac _ = false
 
--- the label's bytes from the digest's place on begin with the whole digest
+-- the bytes of the label from the digest's offset on begin with the whole digest
 abbrev pub has_digest : Label → Option (List ℕ) → Digest → Bool
 has_digest (label.Sum algo from) bytes file =
     starts_with nat_eq (drop from (unwrap_or bytes [])) file.bytes
@@ -71,25 +72,25 @@ has_digest _ bytes file = false
 
 -- ---- the verdict
 
--- where nothing is wrong, the algorithm may still be forbidden
+-- the verdict if nothing else is wrong: the algorithm may still be denied
 abbrev pub by_algorithm : Option AlgoSet → Algo → Verdict
 by_algorithm algos algo = if is_denied algos algo then Deny cause.DeniedHashAlgorithm else Pass
 
--- the first case that holds, for a file without a label
+-- the verdict on a file without a label, by the first case that applies
 abbrev pub judge_unlabelled : Need → Option AlgoSet → Algo → ℕ → Bool → Verdict
 judge_unlabelled need algos algo size new =
     if new && (not (wants_signature need) || size == 0) then by_algorithm algos algo
     else if wants_signature need then Deny cause.SignatureRequired
     else Deny cause.MissingHash
 
--- the first case that holds, for a file with a digest as its label that fits or doesn't
+-- the verdict on a file whose label is a digest, matching or not, by the first case that applies
 abbrev pub judge_summed : Need → Option AlgoSet → Bool → Algo → Verdict
 judge_summed need algos fits algo =
     if wants_signature need then Deny cause.SignatureRequired
     else if not fits then Deny cause.InvalidHash
     else by_algorithm algos algo
 
--- the first case that holds, for a file with a label
+-- the verdict on a file with a label, by the first case that applies
 abbrev pub judge_labelled : Need → Option AlgoSet → Label → Option (List ℕ) → EvmStatus → Digest
     → Verdict
 judge_labelled need algos label bytes status file =
@@ -99,16 +100,16 @@ judge_labelled need algos label bytes status file =
     else if is_unknown label then Deny cause.UnknownData
     else judge_summed need algos (has_digest label bytes file) file.algo
 
--- the verdict on a file: what the rule asks for (a signature, one of some algorithms), the value of
--- `security.ima`, the EVM status, the file's digest by the algorithm of `collect_algo`, the default
--- algorithm, the file's size, and whether the file is new
+-- the verdict on a file. It depends on what the rule requires (the kind of label, the algorithms),
+-- the value of `security.ima`, the EVM status, the file's digest by the algorithm of
+-- `collect_algo`, the default algorithm, the file's size, and whether the file is new.
 abbrev pub judge : Need → Option AlgoSet → Option (List ℕ) → EvmStatus → Digest → Algo → ℕ → Bool
     → Verdict
 judge need algos bytes status file default size new =
     if is_missing (read_label bytes default) then judge_unlabelled need algos file.algo size new
     else judge_labelled need algos (read_label bytes default) bytes status file
 
--- ---- mode fix
+-- ---- fix mode
 
 abbrev pub is_old : EvmStatus → Bool
 is_old evm.Old = true
@@ -118,19 +119,18 @@ abbrev pub is_pass : Verdict → Bool
 is_pass Pass = true
 is_pass (Deny _) = false
 
--- an HMAC of the older form is replaced where nothing but the HMAC was wrong; the label is never
--- touched
+-- an HMAC in the older form is replaced if nothing but the HMAC was wrong; the label never changes
 abbrev pub mend_old : Verdict → Mend
 mend_old Pass = mend.Hmac
 mend_old (Deny _) = mend.Nothing
 
--- a label is written anew, unless it is a signature
+-- a label is written again, unless it is a signature
 abbrev pub mend_label : Label → Mend
 mend_label label.Signature = mend.Nothing
 mend_label _ = mend.Label
 
--- what mode fix writes on a verdict; `sound` is the verdict with the status Pass in place of the
--- file's
+-- the attributes that fix mode writes on a verdict; `sound` is the verdict that the file would get
+-- if its EVM status were Pass
 abbrev pub mend_for : Verdict → Verdict → EvmStatus → Label → Mend
 mend_for Pass sound status label = mend.Nothing
 mend_for (Deny cause.DeniedHashAlgorithm) sound status label = mend.Nothing

@@ -7,11 +7,13 @@ ghost use Rattle.label_values.specs.Labels.{collect_algo, ends_in_zeros, is_plai
 
 use hash_algos::{Algo, Digest, by_id};
 
-/// The most bytes that a label written by [`write_label`] has: two, and a SHA-512.
+/// The length in bytes of the longest label that [`write_label`] writes: two bytes and a SHA-512.
 pub const MAX_LABEL: usize = 66;
 
+const _: () = prove!(MAX_LABEL == 66);
+
 // Types of labels: a digest, a signature, a digest with its algorithm's number, a portable EVM
-// signature, a verity signature.
+// signature, and a verity signature.
 const DIGEST: u8 = 1;
 
 const SIGNATURE: u8 = 3;
@@ -22,17 +24,17 @@ const PORTABLE_SIGNATURE: u8 = 5;
 
 const VERITY_SIGNATURE: u8 = 6;
 
-/// What a value of `security.ima` says.
+/// The meaning of a value of `security.ima`.
 #[derive(Clone, Copy, Debug, PartialEq, Eq)]
 pub enum Label {
     /// There is no value, or an empty one.
     Missing,
     /// A digest (types 1 and 4).
     Sum {
-        /// The digest's algorithm: by the label's length or number, else the default.
+        /// The digest's algorithm, by the label's length or number, or else the default.
         algo: Algo,
-        /// The place of the digest's first byte: 1 for type 1, 2 for type 4. It may lie behind the
-        /// label's end.
+        /// The offset of the digest's first byte: 1 for type 1, 2 for type 4. It may be past the
+        /// end of the label.
         from: usize,
     },
     /// A signature, a portable EVM signature or a verity signature (types 3, 5 and 6).
@@ -48,7 +50,8 @@ fn has_zeros_at_end(bytes: &[u8]) -> bool
     bytes[bytes.len().saturating_sub(4)..] == [0; 4]
 }
 
-// The algorithm of a type 1 label. One of 21 bytes that ends in four zero bytes is a padded MD5.
+// The algorithm of a type 1 label. A label of 21 bytes that ends in four zero bytes is a padded
+// MD5.
 fn algo_by_length(bytes: &[u8], default: Algo) -> Algo
     ensures { result ≡ plain_algo bytes.now default }
 {
@@ -60,7 +63,7 @@ fn algo_by_length(bytes: &[u8], default: Algo) -> Algo
     }
 }
 
-// The algorithm whose number stands at `place`, else the default.
+// The algorithm whose number is at the index `place`, or else the default.
 fn algo_by_number(bytes: &[u8], place: usize, default: Algo) -> Algo
     ensures { result ≡ numbered_algo bytes.now place default }
 {
@@ -70,7 +73,7 @@ fn algo_by_number(bytes: &[u8], place: usize, default: Algo) -> Algo
     }
 }
 
-/// What a value of `security.ima` says, under the script's default algorithm.
+/// Parses a value of `security.ima`, under the script's default algorithm.
 pub fn read_label(value: Option<&[u8]>, default: Algo) -> Label
     ensures { result ≡ read_label (option_copied value.entry) default }
 {
@@ -92,8 +95,8 @@ pub fn read_label(value: Option<&[u8]>, default: Algo) -> Label
     }
 }
 
-/// The algorithm by which a file with this value of `security.ima` is hashed: that of its digest,
-/// of its signature of version 2, or else the script's default.
+/// The algorithm by which a file with this value of `security.ima` is hashed: that of its digest or
+/// of its version 2 signature, or else the script's default.
 pub fn collect_algo(value: Option<&[u8]>, default: Algo) -> Algo
     ensures { result ≡ collect_algo (option_copied value.entry) default }
 {
@@ -109,7 +112,7 @@ pub fn collect_algo(value: Option<&[u8]>, default: Algo) -> Algo
 }
 
 // Whether the label of the digest is written without the algorithm's number. A SHA-1 that ends in
-// four zero bytes has the number, since it would be read as a padded MD5.
+// four zero bytes gets the number, since it would otherwise be read as a padded MD5.
 fn is_plain(d: &Digest) -> bool
     ensures { result ≡ is_plain d.now.algo d.now.bytes }
 {
@@ -120,7 +123,7 @@ fn is_plain(d: &Digest) -> bool
     }
 }
 
-// Writes the header and the bytes to the beginning of `out`, and answers how many these are.
+// Writes the header and then the bytes to the beginning of `out`, and returns their total length.
 fn write_front(out: &mut [u8], header: &[u8], bytes: &[u8]) -> usize
     requires { length header.now + length bytes.now ≤ length out.old }
     ensures written { out.new ≡ header.now ++ bytes.now ++ drop result out.old }
@@ -132,9 +135,9 @@ fn write_front(out: &mut [u8], header: &[u8], bytes: &[u8]) -> usize
     end
 }
 
-/// Writes the label of a digest to the beginning of `out`, as the kernel does, and answers its
-/// length: type 1 for md5 and sha1, type 4 with the algorithm's number for the others. A SHA-1 that
-/// ends in four zero bytes is written as type 4.
+/// Writes the label of a digest to the beginning of `out`, as the kernel does, and returns its
+/// length: type 1 for MD5 and SHA-1, type 4 with the algorithm's number for the others. A SHA-1
+/// that ends in four zero bytes is written as type 4.
 pub fn write_label(d: &Digest, out: &mut [u8; MAX_LABEL]) -> usize
     ensures written { out.new ≡ label_of d.now ++ drop result out.old }
     ensures length { result ≡ length (label_of d.now) }

@@ -1,5 +1,5 @@
 //! The value of `security.ima`, read and written as the kernel does, and the definition of the
-//! verdict of appraisal. No call takes memory.
+//! verdict of appraisal. No call allocates memory.
 #![tactic(auto)]
 
 mod label;

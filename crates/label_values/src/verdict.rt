@@ -1,23 +1,23 @@
 ghost use Rattle.std.specs.Prelude.{◌≡◌};
 ghost use Rattle.label_values.specs.Verdicts.{cause_word};
 
-/// Why a file is denied, in the order in which the verdict's cases first name the causes. The words
-/// are those of the kernel's audit records.
+/// Why a file is denied, in the order in which the cases of the verdict first name the causes. The
+/// words are those of the kernel's audit records.
 #[derive(Clone, Copy, Debug, PartialEq, Eq)]
 pub enum Cause {
-    /// `appraise_algos=` was given and doesn't hold the algorithm by which the file was hashed.
+    /// `appraise_algos=` doesn't list the algorithm by which the file was hashed.
     DeniedHashAlgorithm,
     /// A signature is required and there is none.
     SignatureRequired,
-    /// There is no label.
+    /// The file has no label.
     MissingHash,
     /// A protected attribute or its HMAC is missing.
     MissingHmac,
-    /// The HMAC doesn't fit.
+    /// The HMAC in `security.evm` doesn't match.
     InvalidHmac,
     /// The label is a signature, which is never verified here.
     UnsupportedSignature,
-    /// The label has a type that nobody knows.
+    /// The label has an unknown type.
     UnknownData,
     /// The label's digest isn't that of the file.
     InvalidHash,
@@ -41,22 +41,22 @@ impl Cause {
     }
 }
 
-/// Whether a file may be used.
+/// The result of appraisal: whether a file may be used.
 #[derive(Clone, Copy, Debug, PartialEq, Eq)]
 pub enum Verdict {
-    /// Label, HMAC and file agree, or nothing is asked of the file.
+    /// Label, HMAC and file agree, or the rule asks nothing of the file.
     Pass,
-    /// The first thing that is wrong.
+    /// The file is denied, for the first fault found.
     Deny(Cause),
 }
 
-/// What appraisal in mode fix writes.
+/// The attributes that appraisal in fix mode writes.
 #[derive(Clone, Copy, Debug, PartialEq, Eq)]
 pub enum Mend {
-    /// Nothing.
+    /// Nothing is written.
     Nothing,
-    /// The HMAC alone: the label stays as it is.
+    /// Only the HMAC is written: the label doesn't change.
     Hmac,
-    /// The label of the file's digest, and the HMAC.
+    /// The label of the file's digest is written, and the HMAC.
     Label,
 }

@@ -1,4 +1,4 @@
--- What appends one after another leave, and how long template data is.
+-- The results of several appends in a row, and the part of a record with the template data.
 use Rattle.std.proofs.Common.{◌≡◌, ◌≢◌, ℕ, List, ◌++◌, refl, ap, ◌∙◌, append_assoc}
 use Rattle.inode_meta.specs.declared.measurement.Template.{Template}
 use Rattle.inode_meta.specs.declared.measurement.Template.TheVariants.{Ima, ImaNg, ImaSig, ImaBuf}
@@ -6,24 +6,24 @@ use Rattle.ima_templates.specs.declared.entry.Entry.{Entry}
 use Rattle.ima_templates.specs.Data.{sized, template_data}
 use Rattle.list_format.specs.Record.{shown_data}
 
--- two appends
+-- the result of two appends
 pub appended-2 : (o o1 o2 x y : List ℕ) → o1 ≡ o ++ x → o2 ≡ o1 ++ y → o2 ≡ o ++ (x ++ y)
 appended-2 o o1 o2 x y first second = second ∙ ap (λ l. l ++ y) first ∙ append_assoc o x y
 
--- three appends
+-- the result of three appends
 pub appended-3 : (o o1 o2 o3 x y z : List ℕ) → o1 ≡ o ++ x → o2 ≡ o1 ++ y → o3 ≡ o2 ++ z
     → o3 ≡ o ++ ((x ++ y) ++ z)
 appended-3 o o1 o2 o3 x y z first second third =
     appended-2 o o2 o3 (x ++ y) z (appended-2 o o1 o2 x y first second) third
 
--- four appends
+-- the result of four appends
 pub appended-4 : (o o1 o2 o3 o4 x y z u : List ℕ) → o1 ≡ o ++ x → o2 ≡ o1 ++ y → o3 ≡ o2 ++ z
     → o4 ≡ o3 ++ u
     → o4 ≡ o ++ (((x ++ y) ++ z) ++ u)
 appended-4 o o1 o2 o3 o4 x y z u first second third fourth =
     appended-2 o o3 o4 ((x ++ y) ++ z) u (appended-3 o o1 o2 o3 x y z first second third) fourth
 
--- a record has the template data with its length, but for `ima`
+-- except for `ima`, a record has the template data after its length
 pub shown_data-sized : (e : Entry) (t : Template) → t ≢ Ima
     → sized (template_data e) ≡ shown_data t e
 shown_data-sized e Ima not_ima = absurd (not_ima refl)

@@ -1,11 +1,11 @@
-// Counts over a list.
+// Counts over a measurement list.
 
 ghost use Rattle.std.specs.Prelude.{◌≡◌};
 ghost use Rattle.std.specs.List.{count_by};
 
 use ima_templates::Entry;
 
-/// How many entries of the list are violations.
+/// The number of violations in the list.
 pub fn violations(list: &[Entry]) -> u64
     ensures { result ≡ count_by (λ e. e.violation) list.now }
 {

@@ -1,4 +1,4 @@
-// Pieces of a record.
+// The parts of a binary record.
 
 ghost use Rattle.std.specs.Prelude.{◌≡◌, ◌++◌, ◌^◌, ◌<◌, length, take, OnOk, OnErr};
 ghost use Rattle.std.specs.Vec.{vec_len};
@@ -8,7 +8,7 @@ ghost use Rattle.ima_templates.specs.Data.{sized};
 use byteorder::{ByteOrder, LittleEndian};
 use std::alloc::AllocError as OutOfMemory;
 
-// A length of bytes, and the bytes.
+// Appends the number of bytes, and then the bytes.
 pub(crate) fn append_sized(out: &mut Vec<u8>, bytes: &[u8]) -> Result<(), OutOfMemory>
     requires { length bytes.now < 2 ^ 32 }
     ensures ok { OnOk result (out.new.items ≡ out.old.items ++ sized bytes.now) }
@@ -19,7 +19,7 @@ pub(crate) fn append_sized(out: &mut Vec<u8>, bytes: &[u8]) -> Result<(), OutOfM
     Ok(())
 }
 
-// A number in 4 bytes, the low one first.
+// Appends a number in 4 bytes, little-endian.
 pub(crate) fn append_number(out: &mut Vec<u8>, n: usize) -> Result<(), OutOfMemory>
     requires { n < 2 ^ 32 }
     ensures ok { OnOk result (out.new.items ≡ out.old.items ++ little_bytes 4 n) }

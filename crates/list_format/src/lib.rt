@@ -11,3 +11,4 @@ mod record;
 pub use counts::violations;
 pub use line::{append_hex, append_named_digest, ascii};
 pub use record::binary;
+pub use std::alloc::AllocError as OutOfMemory;

@@ -1,4 +1,4 @@
-// The line of the ASCII form.
+// The line of an entry in the ASCII form.
 
 ghost use Rattle.std.specs.Prelude.{◌≡◌, ◌∷◌, ◌++◌, ◌<◌, ◌≤◌, codes, length, take, OnOk, OnErr};
 ghost use Rattle.std.specs.Vec.{vec_len};
@@ -11,9 +11,9 @@ use ima_templates::Entry;
 use inode_meta::{Bank, Field};
 use std::alloc::AllocError as OutOfMemory;
 
-/// Appends the line of an entry: its register, right in a width of 2, the template digest of SHA-1
-/// in hexadecimal, the template's name, and each field behind a space. An empty field leaves its
-/// space. After a refusal `out` is as before.
+/// Appends the line of an entry: its register, right-aligned in a width of 2, the SHA-1 template
+/// digest in hexadecimal, the template's name, and each field after a space. An empty field still
+/// has its space. On an error `out` doesn't change.
 pub fn ascii(e: &Entry, out: &mut Vec<u8>) -> Result<(), OutOfMemory>
     ensures ok { OnOk result (out.new.items ≡ out.old.items ++ ascii_line e.now) }
     ensures err { OnErr result (out.new.items ≡ out.old.items) }
@@ -36,7 +36,7 @@ fn append_line(e: &Entry, out: &mut Vec<u8>) -> Result<(), OutOfMemory>
     Ok(())
 }
 
-// The register, the template digest and the template's name.
+// Appends the register, the template digest and the template's name.
 fn append_head(e: &Entry, out: &mut Vec<u8>) -> Result<(), OutOfMemory>
     ensures ok { OnOk result (out.new.items ≡ out.old.items ++ line_head e.now) }
     ensures kept { take (vec_len out.old) out.new.items ≡ out.old.items }
@@ -48,7 +48,7 @@ fn append_head(e: &Entry, out: &mut Vec<u8>) -> Result<(), OutOfMemory>
     Ok(())
 }
 
-// The fields, each behind a space.
+// Appends the fields, each after a space.
 fn append_fields(e: &Entry, out: &mut Vec<u8>) -> Result<(), OutOfMemory>
     ensures ok { OnOk result (out.new.items ≡ out.old.items ++ fields_text e.now) }
     ensures kept { take (vec_len out.old) out.new.items ≡ out.old.items }
@@ -59,7 +59,7 @@ fn append_fields(e: &Entry, out: &mut Vec<u8>) -> Result<(), OutOfMemory>
     Ok(())
 }
 
-// A field behind its space.
+// Appends a space and the field.
 fn append_field(field: Field, e: &Entry, out: &mut Vec<u8>) -> Result<(), OutOfMemory>
     ensures ok { OnOk result (out.new.items ≡ out.old.items ++ 32 ∷ field_text field e.now) }
     ensures kept { take (vec_len out.old) out.new.items ≡ out.old.items }
@@ -72,7 +72,7 @@ fn append_field(field: Field, e: &Entry, out: &mut Vec<u8>) -> Result<(), OutOfM
     }
 }
 
-// A space and the name.
+// Appends a space and the name.
 fn append_name(name: &[u8], out: &mut Vec<u8>) -> Result<(), OutOfMemory>
     ensures ok { OnOk result (out.new.items ≡ out.old.items ++ 32 ∷ name.now) }
     ensures kept { take (vec_len out.old) out.new.items ≡ out.old.items }
@@ -92,8 +92,8 @@ pub fn append_named_digest(digest: &Digest, out: &mut Vec<u8>) -> Result<(), Out
     append_hex(out, b':', digest.as_slice())
 }
 
-/// Appends this byte and the bytes in hexadecimal, in lower case. After a refusal `out` is as
-/// before.
+/// Appends the byte `before`, and then the bytes in lower-case hexadecimal. On an error `out`
+/// doesn't change.
 pub fn append_hex(out: &mut Vec<u8>, before: u8, bytes: &[u8]) -> Result<(), OutOfMemory>
     ensures ok { OnOk result (out.new.items ≡ out.old.items ++ before ∷ encode_lower bytes.now) }
     ensures err { OnErr result (out.new.items ≡ out.old.items) }
@@ -107,7 +107,7 @@ pub fn append_hex(out: &mut Vec<u8>, before: u8, bytes: &[u8]) -> Result<(), Out
     Ok(())
 }
 
-// A register's number, right in a width of 2.
+// A register's number in decimal, right-aligned in a width of 2.
 fn pcr_digits(pcr: u8) -> [u8; 2]
     requires { pcr < 24 }
     ensures { result ≡ pcr_text pcr }

@@ -1,4 +1,4 @@
-// The record of the binary form.
+// The record of an entry in the binary form.
 
 ghost use Rattle.std.specs.Prelude.{◌≡◌, ◌++◌, take, OnOk, OnErr};
 ghost use Rattle.std.specs.Vec.{vec_len};
@@ -10,10 +10,11 @@ use ima_templates::{Absorb, Entry};
 use inode_meta::{Bank, Template};
 use std::alloc::AllocError as OutOfMemory;
 
-/// Appends the record of an entry, with numbers of 4 bytes, the low one first: its register, the 20
-/// bytes of the template digest of SHA-1, the length of the template's name and the name. Under
-/// `ima` follow the 20 bytes of the digest, the length of the name and the name; under the others
-/// the length of the template data and the template data. After a refusal `out` is as before.
+/// Appends the record of an entry, with numbers in 4 bytes, little-endian: its register, the 20
+/// bytes of the SHA-1 template digest, the length of the template's name and the name. Under `ima`
+/// the 20 bytes of the digest follow, the length of the file's name and that name; under the other
+/// templates the length of the template data and the template data. On an error `out` doesn't
+/// change.
 pub fn binary(e: &Entry, out: &mut Vec<u8>) -> Result<(), OutOfMemory>
     ensures ok { OnOk result (out.new.items ≡ out.old.items ++ binary_record e.now) }
     ensures err { OnErr result (out.new.items ≡ out.old.items) }
@@ -37,7 +38,7 @@ fn append_record(e: &Entry, out: &mut Vec<u8>) -> Result<(), OutOfMemory>
     Ok(())
 }
 
-// What the record shows of the fields.
+// Appends the part of the record that shows the fields.
 fn append_data(e: &Entry, out: &mut Vec<u8>) -> Result<(), OutOfMemory>
     ensures ok { OnOk result (out.new.items ≡ out.old.items ++ shown_data e.now.template e.now) }
     ensures kept { take (vec_len out.old) out.new.items ≡ out.old.items }
@@ -52,7 +53,7 @@ fn append_data(e: &Entry, out: &mut Vec<u8>) -> Result<(), OutOfMemory>
     }
 }
 
-// The digest, and the name with its length.
+// Appends the digest, and the name after its length.
 fn append_ima(e: &Entry, out: &mut Vec<u8>) -> Result<(), OutOfMemory>
     ensures ok { OnOk result
         (out.new.items ≡ out.old.items ++ e.now.digest.bytes ++ sized e.now.name) }

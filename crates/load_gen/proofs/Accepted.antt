@@ -1,4 +1,4 @@
--- The grammar of scripts accepts the text.
+-- The grammar of scripts accepts a generated text.
 use Rattle.std.proofs.Common.{◌≡◌, ℕ, true, false, List, [], ◌++◌, MatchResult, Ok, Result, refl, sym, subst, arith}
 use Rattle.std.specs.Prelude.{codes}
 use Rattle.call_steps.specs.declared.ending.Ending.TheVariants.{Rounds}
@@ -19,7 +19,7 @@ use Rattle.load_gen.proofs.Makes.{Makes, and_then, by_line, weaker}
 use Rattle.load_gen.proofs.SettingsRead.{IsSet, settings_read}
 use Rattle.load_gen.proofs.TasksRead.{HasRules, HasTasks, no_rules, no_tasks, rules_read, tasks_read}
 
--- the draft of a whole text
+-- the draft after a whole text
 pub record IsWhole (d : Draft) : Type 0 where
   pub over : is_over d ≡ true
   pub script : IsLoad d.script
@@ -72,7 +72,7 @@ module _ (number : ℕ) where
       and_then start (settings_text ++ of_files ++ rules_text ++ tasks 16 0 state)
       (codes "rounds\n") (HasTasks 16 3072) IsWhole tasks_made (end_read 3072)
 
-  -- the text is that of a script with all files, rules and tasks
+  -- the text is accepted as a script with all its files, rules and tasks
   pub accepted : IsAccepted (script_text number)
   accepted =
       let m = whole in

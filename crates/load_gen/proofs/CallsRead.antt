@@ -1,4 +1,5 @@
--- The lines of calls are read: groups of three, which open a file, read or write it, and close it.
+-- The lines of calls are read. They come in groups of three, which open a file, read or write it,
+-- and close it.
 use Rattle.std.proofs.Common.{◌≡◌, ℕ, zero, suc, ◌+◌, ◌*◌, ◌<◌, ◌≤◌, ◌==◌, true, false, not, nat_lt, List, [], ◌∷◌, ◌++◌, length, take, Option, Some, Ok, refl, ◌∙◌, inl, inr, arith}
 use Rattle.std.specs.Prelude.{codes, replicate}
 use Rattle.std.specs.Fmt.{decimal}
@@ -42,11 +43,11 @@ room n m h = grind (arith, nat_tests)
 not_above : (n most : ℕ) → n ≤ most → nat_lt most n ≡ false
 not_above n most h = grind (arith, nat_tests)
 
--- every file is found by its path
+-- the path of each file is found in the draft
 abbrev pub Finds : Draft → Type 0
 Finds d = (f : ℕ) → f < 64 → place_in d.paths (path_of f) ≡ Some f
 
--- the draft in the block of the last of some tasks, with at most so many calls
+-- the draft is in the block of the last of t tasks, and has at most n calls so far
 pub record InTask (t n : ℕ) (d : Draft) : Type 0 where
   pub at : (d.at == 12) ≡ true
   pub files : length d.script.files ≡ 64
@@ -71,13 +72,13 @@ more_calls tasks n m le d h = record {
 
 -- ---- one call
 
--- a call that appends no rule, has few bytes and never waits
+-- a call that appends no rule, has at most 100 bytes and never waits
 pub record IsLight (c : Call) : Type 0 where
   pub appends : appends c ≡ false
   pub bytes : call_bytes c ≤ 100
   pub free : waits c ≡ false
 
--- a task with such a call more never waits
+-- a task that gets a light call still never waits
 free_with : (c : Call) → IsLight c → (t : TaskBlock) → never_waits t ≡ true
     → never_waits (task_with c t) ≡ true
 free_with c light t h =
@@ -123,7 +124,7 @@ module _ (tasks n : ℕ) (d : Draft) (h : InTask tasks n d) (few : n < 3072) whe
       by_line w ws (head.Call k) d (behind c) (InTask tasks (n + 1)) begins plain others is h.at
       (line_made k c (text_behind ws) (take 9 ws) light read) (behind_is c light)
 
-  -- the file is opened
+  -- the line that opens a file is read
   open_line : (f : ℕ) (way : List ℕ) (how : How) → f < 64 → is_plain way ≡ true
       → call_of word.Open (text_behind (codes "0" ∷ path_of f ∷ way ∷ []))
       (codes "0" ∷ path_of f ∷ way ∷ []) d.paths ≡ Ok (call.Open 0 f how false)
@@ -163,7 +164,7 @@ module _ (tasks n : ℕ) (d : Draft) (h : InTask tasks n d) (few : n < 3072) whe
       one_call (codes "close") (codes "0" ∷ []) word.Close (call.Close 0)
       (record { appends = refl; bytes = omega arith; free = refl }) refl refl refl refl refl
 
-  -- bytes are written
+  -- the line that writes bytes is read
   write_line : (from len b : ℕ) → from < 1000 → 1 ≤ len → len ≤ 100 → b < 64
       → Makes d (line_text (codes "write" ∷ codes "0" ∷ decimal from ∷ fill_text len b ∷ []))
       (InTask tasks (n + 1))
@@ -208,7 +209,7 @@ module _ (tasks n : ℕ) (few : n + 3 ≤ 3072) (d : Draft) (h : InTask tasks n 
   abbrev Q : Draft → Type 0
   Q = InTask tasks (n + 3)
 
-  -- the last of three lines
+  -- the last of the three lines of a group
   last_line : (e : Draft) → InTask tasks (n + 1 + 1) e → Makes e closing Q
   last_line e k =
       weaker e closing (InTask tasks (n + 1 + 1 + 1)) Q
@@ -249,7 +250,7 @@ module _ (tasks n : ℕ) (few : n + 3 ≤ 3072) (d : Draft) (h : InTask tasks n 
   one_group t x byte =
       by_draws t (drawn 64 (next x)) (drawn 4 (next (next x))) (next (next x)) byte (omega arith)
 
--- one group after the other
+-- the groups of a task are read one after another
 pub groups_read : (n t x tasks m : ℕ) (d : Draft) → t < 64 → InTask tasks m d → m + 3 * n ≤ 3072
     → Makes d (groups n t x).text (InTask tasks (m + 3 * n))
 unfolding groups

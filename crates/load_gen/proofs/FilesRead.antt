@@ -31,7 +31,7 @@ room n m h = grind (arith, nat_tests)
 not_above : (n most : ℕ) → n ≤ most → nat_lt most n ≡ false
 not_above n most h = grind (arith, nat_tests)
 
--- the draft behind i files
+-- the draft after i files
 pub record HasFiles (i : ℕ) (d : Draft) : Type 0 where
   pub at : IsAt d.at 10
   pub supers : d.script.supers ≡ ext4 ∷ []
@@ -43,7 +43,7 @@ pub record HasFiles (i : ℕ) (d : Draft) : Type 0 where
   pub calls : d.calls ≡ 0
   pub appended : d.appended ≡ 0
 
--- no file has come yet
+-- the draft after the settings has no file
 pub no_files : (d : Draft) → IsSet d → HasFiles 0 d
 no_files d h = record {
   at = record { some = omega (arith, h.at); few = omega (arith, h.at) };
@@ -84,7 +84,7 @@ block i n = block_of (front i) 0 ext4 true (replicate n i)
 abbrev with_it : ℕ → ℕ → Draft → Draft
 with_it i n d = filed (block i n) (record d { at = 10 })
 
--- the file is sealed
+-- the draft with its last file sealed
 abbrev seal_it : Draft → Draft
 seal_it e = record e {
   script = record e.script {
@@ -126,7 +126,7 @@ module _ (i n : ℕ) (lt : i < 64) (few : n < 20000) where
         fill_value_back 0 most_content n i (omega arith) (omega arith) (omega arith) lt,
       ) (block_back d h)
 
-  -- the draft behind the two lines of the file
+  -- after the two lines of a file the draft has one more file
   sealed_is : (d : Draft) → HasFiles i d → HasFiles (i + 1) (seal_it (with_it i n d))
   sealed_is d h =
       let evm = setup_of d.script in
@@ -147,7 +147,7 @@ module _ (i n : ℕ) (lt : i < 64) (few : n < 20000) where
         appended = h.appended;
       }
 
-  -- the lines of a file are its text
+  -- the two lines of a file spell its text
   file_spelled : line_text (codes "file" ∷ file_words i n) ++ line_text (codes "seal" ∷ [])
       ≡ file_text i n
   file_spelled =
@@ -172,7 +172,7 @@ module _ (i n : ℕ) (lt : i < 64) (few : n < 20000) where
       (λ x k. (let R : Draft → Type 0 = λ y. Makes y (line_text (codes "seal" ∷ [])) Q in
       subst R (sym k) seal)))
 
--- ---- one file after the other
+-- ---- all files
 
 pub files_read : (n i x : ℕ) (d : Draft) → HasFiles i d → i + n ≤ 64
     → Makes d (files n i x).text (HasFiles (i + n))

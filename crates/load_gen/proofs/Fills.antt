@@ -1,4 +1,4 @@
--- A value of one byte so many times is plain, and is read.
+-- A value `fill:N:BB`, one byte repeated, is a plain word, and can be read back.
 use Rattle.std.proofs.Common.{◌≡◌, ℕ, ◌+◌, ◌-◌, ◌^◌, ◌<◌, ◌≤◌, true, nat_le, List, [], ◌∷◌, ◌++◌, length, Option, Some, refl, ap, ◌∙◌, arith, length-append}
 use Rattle.std.specs.Prelude.{codes, replicate}
 use Rattle.std.specs.Fmt.{decimal}
@@ -20,7 +20,7 @@ use Rattle.load_gen.proofs.Numbered.{end_back, fill_end}
 at_most : (n most : ℕ) → n ≤ most → nat_le n most ≡ true
 at_most n most h = grind (arith, nat_tests)
 
--- how often, and which byte
+-- the count of a `fill` and its byte, as text
 abbrev pub fill_digits : ℕ → ℕ → List ℕ
 fill_digits n b = decimal n ++ fill_end b
 
@@ -57,7 +57,7 @@ fill_back most n b le fits lt =
       short_number_of-decimal most n fits le,
     ) refl
 
--- the value of the text
+-- a `fill` is read as its bytes
 pub fill_value_back : (least most n b : ℕ) → least ≤ n → n ≤ most → n < 2 ^ 64 → b < 64
     → value_of least most (fill_text n b) ≡ Some (replicate n b)
 fill_value_back least most n b low high fits lt =

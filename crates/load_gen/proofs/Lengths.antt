@@ -1,4 +1,4 @@
--- How long the text of a script is at most.
+-- An upper bound on the length of a generated script.
 use Rattle.std.proofs.Common.{◌≡◌, ℕ, zero, suc, ◌+◌, ◌*◌, ◌<◌, ◌≤◌, nat_lt, List, [], ◌∷◌, ◌++◌, length, inl, inr, arith, length-append}
 use Rattle.std.specs.Prelude.{codes}
 use Rattle.std.specs.Fmt.{decimal}
@@ -9,11 +9,11 @@ use Rattle.hex.proofs.HexLemmas.{length-encode_with}
 use Rattle.load_gen.specs.Draws.{drawn, next}
 use Rattle.load_gen.specs.Script.{file_text, files, group, group_by, groups, read_text, rules_text, script_text, settings_text, tasks, write_text}
 
--- a byte has two digits
+-- the hexadecimal form of a byte has two digits
 two_digits : (b : ℕ) → length (encode_lower (b ∷ [])) ≡ 2
 two_digits b = omega (arith, length-encode_with lower_digits (b ∷ []))
 
--- the lengths of three, and of nine texts
+-- the length of three texts in a row
 three : (a b c : List ℕ) → length (a ++ b ++ c) ≡ length a + length b + length c
 three a b c = omega (arith, length-append (a ++ b) c, length-append a b)
 

@@ -1,4 +1,4 @@
--- A text that is lines of words, which make a draft.
+-- Texts of whole lines, and the drafts that reading them makes.
 use Rattle.std.proofs.Common.{◌≡◌, ℕ, true, List, [], ◌∷◌, ◌++◌, take, Some, Ok, refl, ◌∙◌}
 use Rattle.std.specs.List.{list_all}
 use Rattle.std.proofs.lemmas.List.{append-nil}
@@ -11,7 +11,7 @@ use Rattle.script_print.proofs.Lines.{text_behind}
 use Rattle.script_print.proofs.Pieces.{lines_more}
 use Rattle.script_print.proofs.Steps.{Reads, followed, nothing, one_line}
 
--- the lines of the text make a draft of the draft d, of which Q holds
+-- reading the text's lines after the draft d makes a draft of which Q holds
 pub record Makes (d : Draft) (text : List ℕ) (Q : Draft → Type 0) : Type 0 where
   pub lines : List Line
   pub spelled : lines_text lines ≡ text
@@ -19,11 +19,11 @@ pub record Makes (d : Draft) (text : List ℕ) (Q : Draft → Type 0) : Type 0 w
   pub reads : Reads d lines to
   pub is : Q to
 
--- no text leaves the draft as it is
+-- the empty text leaves the draft as it is
 pub no_text : (d : Draft) (Q : Draft → Type 0) → Q d → Makes d [] Q
 no_text d Q h = record { lines = []; spelled = refl; to = d; reads = nothing d; is = h }
 
--- one text behind another
+-- reading a text and then another one
 pub and_then : (d : Draft) (t u : List ℕ) (P Q : Draft → Type 0) → Makes d t P
     → ((e : Draft) → P e → Makes e u Q) → Makes d (t ++ u) Q
 and_then d t u P Q first more =
@@ -36,7 +36,7 @@ and_then d t u P Q first more =
       is = others.is;
     }
 
--- the same text, written otherwise
+-- equal texts make the same drafts
 pub as_text : (d : Draft) (t u : List ℕ) (Q : Draft → Type 0) → t ≡ u → Makes d t Q → Makes d u Q
 as_text d t u Q e m = record {
   lines = m.lines;
@@ -46,7 +46,7 @@ as_text d t u Q e m = record {
   is = m.is;
 }
 
--- what holds of the draft besides
+-- what holds of a draft may be weakened
 pub weaker : (d : Draft) (t : List ℕ) (P Q : Draft → Type 0) → ((e : Draft) → P e → Q e)
     → Makes d t P → Makes d t Q
 weaker d t P Q f m = record {
@@ -57,7 +57,7 @@ weaker d t P Q f m = record {
   is = f m.to m.is;
 }
 
--- the text of one line, by its first word
+-- reading a text of one line, by the line's first word
 pub by_line : (w : List ℕ) (ws : Line) (h : Head) (d e : Draft) (Q : Draft → Type 0)
     → begins_line w ≡ true → is_plain w ≡ true → list_all is_plain ws ≡ true
     → head_of w ≡ Some h → stands h d ≡ true

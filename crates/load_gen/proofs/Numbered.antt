@@ -1,4 +1,4 @@
--- Paths and bytes by their numbers, of which there are few.
+-- Paths and bytes by their numbers, which are few enough to test each.
 use Rattle.std.proofs.Common.{◌≡◌, ℕ, zero, suc, ◌+◌, ◌<◌, ◌≤◌, ◌==◌, Bool, true, false, ◌&&◌, List, [], ◌∷◌, ◌++◌, length, Option, Some, None, is_some, refl, sym, ap, ◌∙◌, inl, inr, arith, add-one, length-append}
 use Rattle.std.specs.Prelude.{codes}
 use Rattle.std.specs.Cmp.Lexicographic.{bytes_decides}
@@ -14,14 +14,14 @@ use Rattle.script_text.proofs.Holding.{left_true, right_true}
 use Rattle.script_print.proofs.PathsAgain.{place_first}
 use Rattle.script_print.proofs.Words.{small_back}
 
--- ---- tests of each number
+-- ---- tests of all numbers below a bound
 
--- the test holds of each number below n
+-- whether the test holds of each number below n
 abbrev pub all_below : (ℕ → Bool) → ℕ → Bool
 all_below p zero = true
 all_below p (suc n) = p n && all_below p n
 
--- such a test holds of one of them
+-- a test that holds of all numbers below n holds of one of them
 pub below_at : (p : ℕ → Bool) (n k : ℕ) → all_below p n ≡ true → k < n → p k ≡ true
 below_at p zero k h lt = absurd (omega (arith, lt))
 below_at p (suc n) k h lt = elim (cases_lt k n) [
@@ -35,14 +35,14 @@ abbrev is_it : Option ℕ → ℕ → Bool
 is_it None n = false
 is_it (Some m) n = m == n
 
--- what that test means
+-- an option that passes `is_it` has the number in it
 it_is : (o : Option ℕ) (n : ℕ) → is_it o n ≡ true → o ≡ Some n
 it_is None n h = absurd (false≢true h)
 it_is (Some m) n h = ap (λ (k : ℕ). Some k) (eqb-true m n h)
 
 -- ---- bytes
 
--- a colon and the two digits of a byte
+-- the end of a `fill`: a colon and the two digits of the byte
 abbrev pub fill_end : ℕ → List ℕ
 fill_end b = 58 ∷ encode_lower (b ∷ [])
 
@@ -58,7 +58,7 @@ end_back b lt =
 
 -- ---- paths
 
--- the path of a file
+-- the path of the file with this number
 abbrev pub path_of : ℕ → List ℕ
 path_of i = codes "/f" ++ decimal i
 
@@ -69,7 +69,7 @@ paths_tested = refl
 pub path_is : (i : ℕ) → i < 64 → is_path (path_of i) ≡ true
 path_is i lt = below_at (λ k. is_path (path_of k)) 64 i paths_tested lt
 
--- two files with one path are one file
+-- files with equal paths have equal numbers
 same_file : (i j : ℕ) → i < 64 → j < 64 → path_of i ≡ path_of j → i ≡ j
 same_file i j li lj h =
     let digits : decimal i ≡ decimal j = cc h in
@@ -77,7 +77,7 @@ same_file i j li lj h =
     sym (small_back i li) ∙ ap (λ (t : List ℕ). small_of t) digits ∙ small_back j lj in
     cc read
 
--- the paths of the first files
+-- the paths of the first n files
 abbrev pub paths_to : ℕ → List (List ℕ)
 paths_to zero = []
 paths_to (suc n) = paths_to n ++ path_of n ∷ []
@@ -95,7 +95,7 @@ on_none : (o : Option ℕ) → one_on o ≡ None → o ≡ None
 on_none None h = refl
 on_none (Some n) h = absurd (cc h)
 
--- a path that isn't among the others, and isn't the last
+-- a path that is neither among the paths nor the one after them isn't found
 place_none : (ps : List (List ℕ)) (p w : List ℕ) → place_in ps w ≡ None → bytes_eq w p ≡ false
     → place_in (ps ++ p ∷ []) w ≡ None
 place_none [] p w h e = rw e refl
@@ -106,7 +106,7 @@ place_none (q ∷ qs) p w h e = elim (cases_Bool (bytes_eq w q)) [
       rw (other, place_none qs p w (on_none (place_in qs w) rest) e) refl
 ]
 
--- the place of a path among more
+-- a path that is found among some paths is found at the same place among more
 on_found : (o r : Option ℕ) (k : ℕ) → one_on o ≡ Some k → ((j : ℕ) → o ≡ Some j → r ≡ Some j)
     → one_on r ≡ Some k
 on_found None r k h more = absurd (cc h)
@@ -132,14 +132,14 @@ apart k n lt fits = elim (cases_Bool (bytes_eq (path_of k) (path_of n))) [
   | inr e ↦ e
 ]
 
--- the path of a later file is new
+-- the path of a later file is not among those of the earlier ones
 pub new_path : (n k : ℕ) → n ≤ k → k < 64 → place_in (paths_to n) (path_of k) ≡ None
 new_path zero k le lt = refl
 new_path (suc n) k le lt =
     place_none (paths_to n) (path_of n) (path_of k) (new_path n k (omega (arith, le)) lt)
     (apart k n (omega (arith, le)) lt)
 
--- the path of a file is found at its number
+-- the path of a file is found at the file's number
 pub found_path : (n k : ℕ) → k < n → n ≤ 64 → place_in (paths_to n) (path_of k) ≡ Some k
 found_path zero k lt few = absurd (omega (arith, lt))
 found_path (suc n) k lt few = elim (cases_lt k n) [

@@ -17,7 +17,7 @@ use Rattle.script_print.proofs.Steps.{Reads, followed, one_line}
 use Rattle.load_gen.specs.Script.{settings_text}
 use Rattle.load_gen.proofs.Makes.{Makes}
 
--- the one file system
+-- the file system of a generated script
 abbrev pub ext4 : Super
 ext4 = record { magic = 0xef53; uuid = 1; name = codes "ext4"; versions = true }
 
@@ -47,7 +47,7 @@ super_line d h none =
     (record d { script = record d.script { supers = ext4 ∷ [] }; at = 9 }) refl refl refl refl
     (rw h refl) (rw none refl)
 
--- the draft behind the settings
+-- the draft after the settings
 pub record IsSet (d : Draft) : Type 0 where
   pub at : d.at ≡ 9
   pub supers : d.script.supers ≡ ext4 ∷ []

@@ -30,7 +30,7 @@ room n m h = grind (arith, nat_tests)
 
 -- ---- rules
 
--- the draft behind so many rules
+-- the draft after the files and n rules
 pub record HasRules (n : ℕ) (d : Draft) : Type 0 where
   pub at : IsAt d.at 11
   pub files : length d.script.files ≡ 64
@@ -41,7 +41,7 @@ pub record HasRules (n : ℕ) (d : Draft) : Type 0 where
   pub calls : d.calls ≡ 0
   pub sum : d.sum ≤ 1280000
 
--- all files have come, and each is found
+-- the draft after all 64 files has no rule, and finds each file by its path
 pub no_rules : (i : ℕ) → i ≡ 64 → (d : Draft) → HasFiles i d → HasRules 0 d
 no_rules i all d h = record {
   at = record { some = h.at.some; few = omega (arith, h.at.few) };
@@ -55,7 +55,7 @@ no_rules i all d h = record {
   sum = omega (arith, h.sum, all);
 }
 
--- a value that is there
+-- a result that is `Ok` has a value
 ok_is : {A E : Type 0} (r : Result A E) → is_ok r ≡ true → (x : A) × (r ≡ Ok x)
 ok_is (Ok x) h = (x, refl)
 ok_is (Err e) h = absurd (false≢true h)
@@ -121,7 +121,7 @@ rules_read d h =
 
 -- ---- tasks
 
--- the draft behind so many tasks with at most so many calls
+-- the draft after t tasks, with at most n calls
 pub record HasTasks (t n : ℕ) (d : Draft) : Type 0 where
   pub at : IsAt d.at 12
   pub files : length d.script.files ≡ 64
@@ -147,7 +147,7 @@ no_tasks d h = record {
 is_12 : (n : ℕ) → (n == 12) ≡ true → n ≡ 12
 is_12 n h = grind (arith, nat_tests)
 
--- the block of a task ends
+-- the draft leaves the block of its last task
 left : (t n m : ℕ) → n ≡ m → (d : Draft) → InTask t n d → HasTasks t m d
 left t n m same d h =
     let at = is_12 d.at h.at in
@@ -172,7 +172,7 @@ task_words =
 abbrev task_text : List ℕ
 task_text = line_text (codes "task" ∷ task_words)
 
--- a task without calls
+-- the block of a task that has no calls yet
 abbrev new_task : TaskBlock
 new_task = record { cred = root; calls = [] }
 
@@ -208,7 +208,7 @@ module _ (t n : ℕ) (few : t < 16) (d : Draft) (h : HasTasks t n d) where
       by_line (codes "task") task_words head.Task d (begun d) (InTask (t + 1) n) refl refl refl refl
       (again_at 12 d.at h.at) cred_made begun_is
 
--- one task after the other
+-- the tasks are read one after another
 pub tasks_read : (n t x m : ℕ) (d : Draft) → HasTasks t m d → t + n ≤ 16 → m + 192 * n ≤ 3072
     → Makes d (tasks n t x) (HasTasks (t + n) (m + 192 * n))
 unfolding tasks

@@ -1,16 +1,16 @@
-// The generator of numbers.
+// The pseudorandom numbers that choose the lines of a script.
 
 ghost use Rattle.std.specs.Prelude.{◌≡◌, ◌<◌};
 ghost use Rattle.load_gen.specs.Draws.{drawn, next};
 
-// A linear congruential generator, whose numbers are the upper 31 bits of its state.
+// A linear congruential generator. Its numbers are the upper 31 bits of its state.
 #[derive(Drop)]
 pub struct Draws {
     pub state: u64,
 }
 
 impl Draws {
-    // A number below k.
+    // Steps the generator and returns a number below `k`.
     pub fn draw(&mut self, k: u64) -> u64
         requires { 0 < k }
         ensures state { self.new.state ≡ next self.old.state }

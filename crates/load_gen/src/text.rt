@@ -1,25 +1,22 @@
-// The text of a script.
+// The text of a generated script.
 
 ghost use Rattle.std.specs.Prelude.{◌≡◌, ◌<◌, ◌≤◌, ◌++◌, IfOk, OnOk, codes, length};
 ghost use Rattle.load_gen.specs.Accepted.{IsAccepted};
-ghost use Rattle.load_gen.specs.declared.text.TheConstants.{MOST_BYTES};
-ghost use Rattle.load_gen.specs.Script.{file_text, files, group, groups, read_text, rules_text, script_text, settings_text, tasks, write_text};
+ghost use Rattle.load_gen.specs.Script.{file_text, files, group, groups, most_text, read_text, rules_text, script_text, settings_text, tasks, write_text};
 
 use crate::draws::Draws;
 use script_print::list_lines::append_hex;
 use std::alloc::{AllocError as OutOfMemory, Global};
 use std::io::Write;
 
-/// The most bytes of a script of a number.
-pub const MOST_BYTES: usize = 80_000;
-
-/// The script of a number from 1 to 1,000,000: 3,225 lines with 3,072 calls, which end in `rounds`.
-/// The grammar accepts the text, as a script of 64 files, 2 rules and 16 tasks of which none waits.
+/// The generated script of a number from 1 to 1,000,000: 3,225 lines with 3,072 calls, and `rounds`
+/// as its ending. The grammar accepts the text as a script of 64 files, 2 rules and 16 tasks, none
+/// of which waits.
 pub fn script(alloc: Global, number: u32) -> Result<Vec<u8>, OutOfMemory>
     ensures text { IfOk result (λ text. text.items ≡ script_text number) }
-    // The grammar of scripts accepts it.
+    // The grammar of scripts accepts the text.
     ensures accepted { IfOk result (λ text. IsAccepted text.items) }
-    ensures short { IfOk result (λ text. length text.items ≤ MOST_BYTES) }
+    ensures short { IfOk result (λ text. length text.items ≤ most_text) }
 {
     let mut out = Vec::new(alloc);
     let mut draws = Draws {
@@ -87,7 +84,7 @@ fn push_groups(out: &mut Vec<u8>, draws: &mut Draws, task: u8) -> Result<(), Out
     Ok(())
 }
 
-// A file is opened, read or written, and closed.
+// A group of three calls: it opens a file, reads or writes it, and closes it.
 fn push_group(out: &mut Vec<u8>, draws: &mut Draws, task: u8) -> Result<(), OutOfMemory>
     ensures text { OnOk result
         (out.new.items ≡ out.old.items ++ (group task draws.old.state).text) }

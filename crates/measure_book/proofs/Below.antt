@@ -1,9 +1,9 @@
--- The last place below an end that passes a test.
+-- The last index below an end that passes a test.
 use Rattle.std.proofs.Common.{◌≡◌, ℕ, zero, suc, ◌<◌, Bool, true, false, cond, Option, None, Some, refl, ap, subst, sym, ◌∙◌, inl, inr, arith}
 use Rattle.std.proofs.lemmas.Bool.{cases_order}
 use Rattle.measure_book.specs.Places.{last_below}
 
--- two tests that agree below the end
+-- two tests that agree below the end give the same last index
 pub last_below-same : (s t : ℕ → Bool) (end : ℕ) → ((i : ℕ) → i < end → s i ≡ t i)
     → last_below s end ≡ last_below t end
 last_below-same s t zero same = refl
@@ -12,12 +12,12 @@ last_below-same s t (suc end) same =
     ∙ ap (λ (o : Option ℕ). cond (t end) (Some end) o)
     (last_below-same s t end (λ i below. same i (omega arith)))
 
--- what it finds lies below the end and passes the test
+-- the index is below the end and passes the test
 pub record Found (test : ℕ → Bool) (end place : ℕ) : Type 0 where
   pub below : place < end
   pub passes : test place ≡ true
 
--- the place that it answers
+-- an index that is returned is below the end and passes the test
 pub last_below-found : (test : ℕ → Bool) (end place : ℕ) → last_below test end ≡ Some place
     → Found test end place
 last_below-found test zero place is = absurd (cc)
@@ -40,7 +40,7 @@ last_below-found test (suc end) place is =
           ∙ is) in
           record { below = omega (arith, rest.below); passes = rest.passes }
 
--- where it finds none, none passes
+-- if no index is returned, no index below the end passes
 pub last_below-none : (test : ℕ → Bool) (end i : ℕ) → last_below test end ≡ None → i < end
     → test i ≡ false
 last_below-none test zero i is below = absurd (omega arith)

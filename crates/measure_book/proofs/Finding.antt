@@ -17,14 +17,14 @@ use Rattle.measure_book.specs.Key.{key_of, stands_at}
 use Rattle.measure_book.specs.Places.{PlacesValue, falls_into, last_below, meets}
 use Rattle.measure_book.proofs.Below.{last_below-found, last_below-none}
 
--- ---- the first place that passes a test
+-- ---- the first index that passes a test
 
 module _ {X : Type 0} (test : X → Bool) where
-  -- the element at the place passes
+  -- the element at the index passes
   abbrev passes : List X → ℕ → Bool
   passes xs place = option_map_or test (slice_get xs place) false
 
-  -- the first place that passes, where the places before it fail
+  -- an index that passes is the first, if all smaller ones fail
   position_or_len-first : (xs : List X) (place : ℕ) → place < length xs → passes xs place ≡ true
       → ((k : ℕ) → k < place → passes xs k ≡ false) → position_or_len test xs ≡ place
   position_or_len-first [] place within is before = absurd (omega arith)
@@ -36,7 +36,7 @@ module _ {X : Type 0} (test : X → Bool) where
       ap (λ (b : Bool). cond (not b) (1 + position_or_len test xs) 0) (before 0 (omega arith))
       ∙ omega (arith, rest)
 
-  -- the length, where all places fail
+  -- the result is the length, if all indices fail
   position_or_len-none : (xs : List X) → ((k : ℕ) → k < length xs → passes xs k ≡ false)
       → position_or_len test xs ≡ length xs
   position_or_len-none [] each = refl
@@ -45,7 +45,7 @@ module _ {X : Type 0} (test : X → Bool) where
       ap (λ (b : Bool). cond (not b) (1 + position_or_len test xs) 0) (each 0 (omega arith))
       ∙ omega (arith, rest)
 
-  -- the same as an option
+  -- an index that passes is the first, as an option, if all smaller ones fail
   pub position-first : (xs : List X) (place : ℕ) → place < length xs → passes xs place ≡ true
       → ((k : ℕ) → k < place → passes xs k ≡ false) → position test xs ≡ Some place
   position-first xs place within is before =
@@ -54,16 +54,16 @@ module _ {X : Type 0} (test : X → Bool) where
       (lt-ltb (position_or_len test xs) (length xs) (omega (arith, at, within)))
       ∙ ap Some at
 
-  -- and none where all places fail
+  -- the result is `None`, if all indices fail
   pub position-none : (xs : List X) → ((k : ℕ) → k < length xs → passes xs k ≡ false)
       → position test xs ≡ None
   position-none xs each =
       ap (λ (b : Bool). cond b (Some (position_or_len test xs)) None)
       (le-ltb (position_or_len test xs) (length xs) (omega (arith, position_or_len-none xs each)))
 
--- ---- of entries of which no two are the same, at most one is the same as another entry
+-- ---- among entries that are distinct, at most one is the same as a given entry
 
--- the entry at the place, which is the same
+-- the entry at the index, which is the same as e
 stands-get : (list : List Entry) (e : Entry) (place : ℕ) → stands_at list e place ≡ true
     → (x : Entry) × (slice_get list place ≡ Some x) × (same x e ≡ true)
 stands-get list e place is = at (slice_get list place) refl is where
@@ -72,7 +72,7 @@ stands-get list e place is = at (slice_get list place) refl is where
   at None none is = absurd (cc)
   at (Some x) some is = (x, some, is)
 
--- before a place at which the entry stands it stands nowhere
+-- no entry before one that is the same as e is the same as e
 only-one : (list : List Entry) (e : Entry) (k place : ℕ) → IsDistinct list → k < place
     → stands_at list e place ≡ true
     → stands_at list e k ≡ false
@@ -87,7 +87,7 @@ only-one list e k place distinct before is = at (cases_Bool (stands_at list e k)
       absurd (cc)
   at (inr none) = none
 
--- the last place at which the entry stands is the first
+-- the last index with an entry that is the same as e is also the first
 pub place_of_same-last : (list : List Entry) (e : Entry) → IsDistinct list
     → last_below (stands_at list e) (length list) ≡ place_of_same list e
 place_of_same-last list e distinct = at (last_below (stands_at list e) (length list)) refl where
@@ -100,7 +100,7 @@ place_of_same-last list e distinct = at (last_below (stands_at list e) (length l
       sym (position-first (λ x. same x e) list place found.below found.passes
       (λ k below. only-one list e k place distinct below found.passes))
 
--- a violation stands nowhere
+-- no entry is the same as a violation
 pub place_of_same-keyless : (list : List Entry) (e : Entry) → key_of e ≡ None
     → place_of_same list e ≡ None
 unfolding key_of
@@ -119,13 +119,13 @@ place_of_same-keyless list e none =
 
 -- ---- the walk
 
--- where a walk ends that has come to this candidate
+-- the result of a walk that has come to this candidate
 abbrev pub last_through : (ℕ → Bool) → Option ℕ → Option ℕ
 last_through test None = None
 last_through test (Some place) = last_below test (suc place)
 
--- a walk through the places of a bucket leaves out none that passes, where those that pass lie in
--- the bucket
+-- a walk through the indices of a bucket misses none that passes, if all those that pass are in the
+-- bucket
 pub last_through-bucket : (test bucket : ℕ → Bool) (end : ℕ)
     → ((i : ℕ) → test i ≡ true → bucket i ≡ true)
     → last_through test (last_below bucket end) ≡ last_below test end
@@ -141,7 +141,7 @@ last_through-bucket test bucket (suc end) within =
     at rest false is (inr fails) = rest
         ∙ ap (λ (b : Bool). cond b (Some end) (last_below test end)) (sym fails)
 
--- entries that are the same have one key
+-- entries that are the same have the same key
 key_of-same : (x e : Entry) → same x e ≡ true → key_of x ≡ key_of e
 unfolding key_of
 key_of-same x e is =
@@ -151,12 +151,12 @@ key_of-same x e is =
     ∙ (λ i. cond (sym shares.no_violation_either i) None
     (Some (big_number 8 (hash Sha256 (template_data e)))))
 
--- the candidate stands in the list, in the bucket
+-- the index of the candidate is in the list and in the bucket
 abbrev pub IsCandidate : PlacesValue → ℕ → Option ℕ → Type 0
 IsCandidate places key None = Unit {0}
 IsCandidate places key (Some place) = (place < length places.keys) × (meets places key place ≡ true)
 
--- what a walk goes to is a candidate
+-- each index that a walk goes to is a candidate
 pub IsCandidate-last_below : (places : PlacesValue) (key end : ℕ) → end ≤ length places.keys
     → IsCandidate places key (last_below (meets places key) end)
 IsCandidate-last_below places key end within = at (last_below (meets places key) end) refl where
@@ -166,7 +166,7 @@ IsCandidate-last_below places key end within = at (last_below (meets places key)
       let found = last_below-found (meets places key) end place is in
       (omega (arith, found.below), found.passes)
 
--- where the table has the keys of the list, the entry stands in the bucket of its key alone
+-- if the table has the keys of the list, an entry that is the same as e is in the bucket of e's key
 pub stands-meets : (places : PlacesValue) (list : List Entry) (e : Entry) (key : ℕ)
     → places.keys ≡ map key_of list → key_of e ≡ Some key
     → (i : ℕ) → stands_at list e i ≡ true → meets places key i ≡ true
@@ -181,7 +181,7 @@ stands-meets places list e key keys is i stands =
     ap (falls_into places.buckets (key % places.buckets)) there
     ∙ eq-eqb (key % places.buckets) (key % places.buckets) refl
 
--- one step of the walk
+-- one step of the walk doesn't change its result
 pub last_through-step : (places : PlacesValue) (list : List Entry) (e : Entry) (key place : ℕ)
     → places.keys ≡ map key_of list
     → key_of e ≡ Some key → stands_at list e place ≡ false
@@ -192,21 +192,21 @@ last_through-step places list e key place keys is fails =
     (stands-meets places list e key keys is)
     ∙ ap (λ (b : Bool). cond b (Some place) (last_below (stands_at list e) place)) (sym fails)
 
--- the place above which the walk has nothing left
+-- a bound on the indices that the walk has still to visit
 abbrev pub steps_left : Option ℕ → ℕ
 steps_left None = 0
 steps_left (Some place) = suc place
 
--- a walk goes down
+-- each step of a walk goes to a smaller index
 pub steps_left-last_below : (test : ℕ → Bool) (end : ℕ) → steps_left (last_below test end) < suc end
 steps_left-last_below test end = at (last_below test end) refl where
   at : (o : Option ℕ) → last_below test end ≡ o → steps_left o < suc end
   at None is = omega arith
   at (Some place) is = let found = last_below-found test end place is in omega (arith, found.below)
 
--- ---- what the walk answers
+-- ---- the result of the walk
 
--- a candidate that is the same is the first
+-- a candidate that is the same as e is the first such entry
 pub walk_found : (list : List Entry) (e : Entry) (place : ℕ) → IsDistinct list
     → last_through (stands_at list e) (Some place) ≡ last_below (stands_at list e) (length list)
     → stands_at list e place ≡ true
@@ -215,9 +215,9 @@ walk_found list e place distinct walk is =
     ap (λ (b : Bool). cond b (Some place) (last_below (stands_at list e) place)) (sym is) ∙ walk
     ∙ place_of_same-last list e distinct
 
--- ---- the list with one entry more
+-- ---- the list with one more entry
 
--- an entry that isn't the same as any is appended
+-- the list stays distinct when an entry is appended that isn't the same as any other
 pub IsDistinct-push : (list : List Entry) (e : Entry) → IsDistinct list
     → place_of_same list e ≡ None → IsDistinct (list ++ e ∷ [])
 IsDistinct-push list e distinct none a b x y before at_a at_b = at (cases_lt b (length list)) where

@@ -1,4 +1,4 @@
--- What a book keeps, with one entry more and at its start.
+-- The invariant of a book, at its start and after one more entry.
 use Rattle.std.proofs.Common.{◌≡◌, ℕ, List, [], ◌∷◌, ◌++◌, All, map, Option, None, refl, ap, subst, sym, ◌∙◌}
 use Rattle.std.proofs.lemmas.List.{map-append}
 use Rattle.std.proofs.lemmas.List.Elements.{All-cons, All-nil, All-push}
@@ -18,7 +18,7 @@ use Rattle.measure_book.specs.Key.{key_of}
 use Rattle.measure_book.specs.declared.book.Book.TheInside.{Inside}
 use Rattle.measure_book.proofs.Finding.{IsDistinct-push}
 
--- the own pass keeps what it has, as the list grows
+-- the book's own pass keeps its entry when the list grows
 HasBooted-push : (list grown : Grown Entry) (own : Passed Entry) (e : Entry) → HasBooted list own
     → grown.name ≡ list.name → grown.list ≡ list.list ++ e ∷ [] → HasBooted grown own
 HasBooted-push list grown own e booted name pushed = record {
@@ -31,7 +31,7 @@ HasBooted-push list grown own e booted name pushed = record {
   mine = booted.mine;
 }
 
--- an entry that isn't the same as any was appended
+-- the invariant holds after an entry is appended that isn't the same as any other
 pub IsBook-push : (b c : Inside) (e : Entry) → IsBook b → place_of_same b.list.list e ≡ None
     → IsEntry e
     → c.banks ≡ extended_by b.banks e → c.places.keys ≡ b.places.keys ++ key_of e ∷ []
@@ -47,7 +47,7 @@ IsBook-push b c e kept none valid banks keys list name own = record {
   distinct = subst IsDistinct (sym list) (IsDistinct-push b.list.list e kept.distinct none);
 }
 
--- at the start
+-- the invariant holds at the start
 pub IsBook-start : (b : Inside) (boot : Entry) → IsEntry boot → b.banks ≡ extended_by new_banks boot
     → b.places.keys ≡ key_of boot ∷ []
     → b.list.list ≡ boot ∷ [] → b.own.name ≡ b.list.name → b.own.number ≡ 0

@@ -1,4 +1,4 @@
--- The book's own pass, which has added the first entry, beside the others.
+-- The book's own pass, which has added the first entry, and the other passes.
 use Rattle.std.proofs.Common.{◌≡◌, ℕ, ◌+◌, ◌==◌, ◌||◌, true, false, List, [], ◌∷◌, refl, ap, sym, ◌∙◌, arith}
 use Rattle.std.specs.Prelude.{count_by}
 use Rattle.grow_list.specs.Entries.{has_place}
@@ -8,11 +8,11 @@ use Rattle.grow_list.proofs.Others.{beside, bit, count_by-cons}
 use Rattle.ima_templates.specs.declared.entry.Entry.{Entry}
 use Rattle.measure_book.specs.BookFields.{HasBooted}
 
--- the first place is the only one of an entry there
+-- the pass with the entry at index 0 has that index and no other
 one_place : (k : ℕ) (boot : Entry) → has_place k ((0, boot) ∷ []) ≡ (0 == k)
 one_place k boot = elim (0 == k) as (λ b. (b || false) ≡ b) [ true ↦ refl | false ↦ refl ]
 
--- where each place is one pass's, the others have all places but the own one's
+-- if each index belongs to one pass, every index except the own pass's belongs to one of the others
 pub places-others : (list : Grown Entry) (own : Passed Entry) (passes : List (Passed Entry)) (k : ℕ)
     → HasBooted list own
     → count_by (λ p. has_place k p.mine) (own ∷ passes) ≡ 1
@@ -25,7 +25,7 @@ places-others list own passes k booted all =
     ∙ sym (count_by-cons (λ p. has_place k p.mine) own passes) ∙ all in
     omega (arith, parts, beside k)
 
--- a pass that has added the first entry alone makes one of each place with the others
+-- if the own pass has added only the first entry, it and the others have each index once
 pub places-all : (own : Passed Entry) (boot : Entry) (passes : List (Passed Entry)) (k : ℕ)
     → own.mine ≡ (0, boot) ∷ []
     → count_by (λ p. has_place k p.mine) passes ≡ beside_own k

@@ -1,4 +1,4 @@
--- A table of places with one key more.
+-- The table with one more key.
 use Rattle.std.proofs.Common.{◌≡◌, ℕ, suc, ◌+◌, ◌*◌, ◌/◌, ◌%◌, ◌<◌, ◌≤◌, ◌==◌, Bool, true, false, cond, List, [], ◌∷◌, ◌++◌, length, get_or, Option, None, Some, refl, ap, subst, sym, ◌∙◌, arith, ◌⊎◌, inl, inr, add-one, length-set, get_or-set_same, get_or-set_other, eqb-true}
 use Rattle.std.proofs.lemmas.Bool.{cases_lt, eqb-false}
 use Rattle.std.proofs.lemmas.List.{get_or_append_left, get_or_push, length_push}
@@ -10,20 +10,20 @@ use Rattle.measure_book.specs.PlacesFields.{IsTable}
 use Rattle.measure_book.specs.declared.places.Places.TheInside.{Inside}
 use Rattle.measure_book.proofs.Below.{last_below-same}
 
--- the earlier keys stand where they stood
+-- appending a key doesn't change the buckets of the earlier keys
 in_bucket-push : (buckets : ℕ) (keys : List (Option ℕ)) (key : Option ℕ) (bucket place : ℕ)
     → place < length keys
     → in_bucket buckets (keys ++ key ∷ []) bucket place ≡ in_bucket buckets keys bucket place
 in_bucket-push buckets keys key bucket place below =
     ap (falls_into buckets bucket) (get_or_append_left keys (key ∷ []) None place below)
 
--- the new key falls where it falls
+-- the bucket of the appended key is the one that it falls into
 in_bucket-last : (buckets : ℕ) (keys : List (Option ℕ)) (key : Option ℕ) (bucket : ℕ)
     → in_bucket buckets (keys ++ key ∷ []) bucket (length keys) ≡ falls_into buckets bucket key
 in_bucket-last buckets keys key bucket =
     ap (falls_into buckets bucket) (get_or_push keys key None (length keys) refl)
 
--- so what is found below it stays
+-- appending a key doesn't change the last index found below it
 last_below-push : (buckets : ℕ) (keys : List (Option ℕ)) (key : Option ℕ) (bucket end : ℕ)
     → end ≤ length keys
     → last_below (in_bucket buckets (keys ++ key ∷ []) bucket) end
@@ -33,7 +33,7 @@ last_below-push buckets keys key bucket end within =
     end
     (λ i below. in_bucket-push buckets keys key bucket i (omega arith))
 
--- a link changes the bucket of its key and no other
+-- a link changes only the bucket of its key
 linked-at : (newest : List (Option ℕ)) (key : Option ℕ) (place bucket : ℕ) → bucket < length newest
     → get_or (linked newest key place) bucket None
     ≡ cond (falls_into (length newest) bucket key) (Some place) (get_or newest bucket None)
@@ -51,13 +51,13 @@ linked-at newest (Some key) place bucket below = at ((key % length newest) == bu
       get_or-set_other newest (key % length newest) bucket (Some place) None
       (λ e. eqb-false (key % length newest) bucket is (sym e))
 
--- a link leaves the number of buckets
+-- a link doesn't change the number of buckets
 pub length-linked : (newest : List (Option ℕ)) (key : Option ℕ) (place : ℕ)
     → length (linked newest key place) ≡ length newest
 length-linked newest None place = refl
 length-linked newest (Some key) place = length-set newest (key % length newest) (Some place)
 
--- beside each bucket stands the last place in it, with the new one
+-- `newest` has the last index in each bucket, after one more key
 newest-push : (newest keys : List (Option ℕ)) (key : Option ℕ) → IsNewest newest keys
     → IsNewest (linked newest key (length keys)) (keys ++ key ∷ [])
 newest-push newest keys key kept bucket below =
@@ -75,7 +75,8 @@ newest-push newest keys key kept bucket below =
     (sym (in_bucket-last (length newest) keys key bucket))
     ∙ λ i. last_below (in_bucket (sym buckets i) (keys ++ key ∷ []) bucket) (sym count i)
 
--- beside each entry that has a key stands the last place before it in its bucket, with the new one
+-- `earlier` has, for each entry with a key, the last index before it in its bucket, after one more
+-- key
 earlier-push : (newest keys earlier : List (Option ℕ)) (key : Option ℕ) → 0 < length newest
     → length earlier ≡ length keys
     → IsNewest newest keys → IsEarlier (length newest) keys earlier
@@ -99,7 +100,7 @@ earlier-push newest keys earlier key some even last kept place k within is =
           ∙ sym (last_below-push (length newest) keys key (k % length newest) place
           (omega (arith, end)))
 
--- what a table keeps
+-- the invariant of the table, after one more key
 pub IsTable-push : (t u : Inside) (key : Option ℕ) → IsTable t
     → 2 * length t.keys.items + 2 ≤ length t.newest.items
     → u.newest.items ≡ linked t.newest.items key (length t.keys.items)
@@ -134,7 +135,7 @@ IsTable-push t u key kept room newest keys earlier capacity capacity_earlier = r
     count : length u.keys.items ≡ length t.keys.items + 1
     count = ap length keys ∙ length_push t.keys.items key
 
--- the link beside a place is that of each key in its bucket
+-- the link at an index leads to the previous index in the bucket, for each key that falls into it
 pub IsTable-before : (t : Inside) (key place : ℕ) → IsTable t → place < length t.keys.items
     → in_bucket (length t.newest.items) t.keys.items (key % length t.newest.items) place ≡ true
     → get_or t.earlier.items place None

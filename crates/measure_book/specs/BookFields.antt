@@ -1,4 +1,4 @@
--- What the fields of a book keep.
+-- The invariants of the fields of a book.
 use Rattle.std.specs.Prelude.{◌≡◌, ℕ, ◌-◌, ◌/◌, min, length, map, All, [], ◌∷◌, Some, slice_get}
 use Rattle.grow_list.specs.Shown.{Grown, Passed}
 use Rattle.ima_templates.specs.IsEntry.{IsEntry}
@@ -9,7 +9,7 @@ use Rattle.measure_book.specs.Key.{key_of}
 use Rattle.measure_book.specs.Places.{PlacesValue}
 use Rattle.measure_book.specs.declared.book.Book.TheInside.{Inside}
 
--- for how many entries more the table has room
+-- the number of further entries that the table has room for
 abbrev pub places_spare : PlacesValue → ℕ
 places_spare t = t.buckets / 2 - length t.keys
 

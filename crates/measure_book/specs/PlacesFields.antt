@@ -1,4 +1,4 @@
--- What the fields of a table of places keep.
+-- The invariant of the fields of the table.
 use Rattle.std.specs.Prelude.{◌≡◌, ◌*◌, ◌/◌, ◌≤◌, length}
 use Rattle.std.specs.Int.{IsPowerOfTwo}
 use Rattle.std.specs.Vec.{vec_capacity}
@@ -12,7 +12,7 @@ pub record IsTable (t : Inside) : Type 0 where
   pub power : IsPowerOfTwo (length t.newest.items)
   pub not_one : 2 ≤ length t.newest.items
   -- there are at least twice as many buckets as entries, and memory for half as many entries as
-  -- buckets
+  -- there are buckets
   pub half : 2 * length t.keys.items ≤ length t.newest.items
   pub room : length t.newest.items / 2 ≤ vec_capacity t.keys
   pub room_earlier : length t.newest.items / 2 ≤ vec_capacity t.earlier

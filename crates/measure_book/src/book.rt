@@ -19,10 +19,10 @@ use ima_templates::{Entry, Placed};
 use std::alloc::{AllocError as OutOfMemory, Global};
 use std::marker::Model;
 
-/// The measurement list of the kernel, with its registers. Contracts see it as a growing list of
-/// entries: its name, its number of callers, its entries, beside each entry the number of the pass
-/// that added it, and for how many entries more there is room. Its registers are at all times those
-/// that its entries give, each entry is one that [`Entry`] keeps, and no two are the same.
+/// The kernel's measurement list with its registers. Contracts see it as a growing list: its name,
+/// its number of callers, its entries, for each entry the number of the pass that added it, and its
+/// room for further entries. Its registers always have the values that its entries give, each entry
+/// keeps the invariant of [`Entry`], and no two entries are the same.
 #[derive(Drop)]
 pub struct Book {
     list: Grow<Entry>,
@@ -45,9 +45,8 @@ impl Model for Book {
 }
 
 impl Book {
-    /// A book whose first entry is `boot`, the aggregate of the registers at boot. Its own pass has
-    /// the number 0 and has added that entry; the others are answered in the order of their
-    /// numbers.
+    /// Creates a book whose first entry is `boot`, the boot aggregate. The book's own pass has the
+    /// number 0 and has added that entry; the others are returned in the order of their numbers.
     pub fn start(
         alloc: Global,
         callers: u32,
@@ -79,7 +78,7 @@ impl Book {
         Ok((book, passes))
     }
 
-    /// Makes room for the next entry. The book stays, also where there is no memory.
+    /// Makes room for the next entry. The book doesn't change, even if memory runs out.
     pub fn reserve(&mut self) -> Result<(), OutOfMemory>
         ensures room { OnOk result (1 ≤ self.new.spare) }
         ensures kept { self.old.spare ≤ self.new.spare }
@@ -90,7 +89,7 @@ impl Book {
     }
 
     /// Adds the entry by a pass of this book, in room that was reserved, or finds the first entry
-    /// that is the same. The pass has then seen the list.
+    /// that is the same. After that the pass has seen the whole list.
     pub fn add(&mut self, pass: &mut Pass<Entry>, e: Entry) -> Placed
         requires room { 1 ≤ self.old.spare }
         requires name { pass.old.name ≡ self.old.name }
@@ -124,7 +123,7 @@ impl Book {
         }
     }
 
-    /// What a register holds: the replay of the list.
+    /// The value of a register, which is the replay of the list.
     pub fn value(&self, bank: Bank, pcr: u8) -> &[u8]
         requires { pcr < 24 }
         ensures { result.now ≡ replay self.now.list bank pcr }
@@ -132,7 +131,7 @@ impl Book {
         self.banks.value(bank, pcr)
     }
 
-    /// A pass of this book sees the list.
+    /// Shows the list to a pass of this book.
     pub fn look(&mut self, pass: &mut Pass<Entry>)
         requires { pass.old.name ≡ self.old.name }
 
@@ -153,9 +152,10 @@ impl Book {
         self.list.look(pass);
     }
 
-    /// Hands out the list and its registers, and takes back the passes that `start` answered. What
-    /// each pass saw begins the list, the list's entries of its number are its own, and each place
-    /// of the list is one pass's: the place 0 is the book's own, and no other is.
+    /// Hands over the list and its registers, and takes back the passes that `start` returned. The
+    /// list begins with what each pass saw, the list's entries with a pass's number are that pass's
+    /// own, and each index of the list belongs to one pass: index 0, and no other, belongs to the
+    /// book's own pass.
     pub fn close(self, passes: Vec<Pass<Entry>>) -> (Vec<Entry>, Banks)
         requires { HasOthers self passes.items }
         ensures list { result.0.items ≡ self.list }
@@ -177,7 +177,7 @@ impl Book {
         (list.close_with(own, passes), banks)
     }
 
-    // The place of the first entry that is the same.
+    // The index of the first entry that is the same as `e`.
     fn place_of_same(&self, e: &Entry) -> Option<u64>
         ensures { result ≡ place_of_same self.now.list e.now }
     {
@@ -192,7 +192,7 @@ impl Book {
         None
     }
 
-    // Whether the entry at the place is the same.
+    // Whether the entry at this index is the same as `e`.
     fn stands_at(&self, place: u64, e: &Entry) -> bool
         ensures { result ≡ stands_at self.now.list e.now place }
     {
@@ -200,7 +200,8 @@ impl Book {
     }
 }
 
-// The key by which the table finds the entry: the first eight bytes of its template digest.
+// The key by which the table finds the entry: the first eight bytes of its SHA-256 template digest.
+// A violation has no key.
 #[tactic(auto, unfolding(crate::specs::Key::key_of))]
 fn key_of(e: &Entry) -> Option<u64>
     ensures { result ≡ key_of e.now }

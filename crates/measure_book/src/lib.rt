@@ -1,5 +1,5 @@
-//! The measurement list that all callers share: an entry that is the same as an earlier one isn't
-//! added again, and the registers are extended by each entry that is added.
+//! The measurement list that all callers share: an entry isn't added again if the list already has
+//! the same one, and each entry that is added extends the registers.
 #![tactic(auto)]
 
 mod book;

@@ -1,4 +1,4 @@
-// The table of places, which finds the entries of a list by their keys.
+// The table that finds the entries of a list by their keys.
 
 ghost use Rattle.std.specs.Prelude.{◌≡◌, ℕ, true, ◌+◌, ◌*◌, ◌%◌, ◌<◌, ◌≤◌, [], ◌∷◌, ◌++◌, length, IfOk, OnOk, IsTrue, slice_index_or};
 ghost use Rattle.std.specs.Int.{IsPowerOfTwo};
@@ -8,8 +8,8 @@ use std::alloc::{AllocError as OutOfMemory, Global};
 use std::marker::Model;
 use std::mem;
 
-/// The table of places. Entries whose keys fall into one bucket are linked from the last to the
-/// first.
+/// A hash table of list indices. Entries whose keys fall into the same bucket are linked from the
+/// last to the first.
 #[derive(Drop)]
 pub(crate) struct Places {
     newest: Vec<Option<u64>>,
@@ -30,8 +30,7 @@ impl Model for Places {
 }
 
 impl Places {
-    /// The table of a list without entries, with so many buckets and memory for half as many
-    /// entries.
+    /// The table of an empty list, with this number of buckets and memory for half as many entries.
     pub(crate) fn with_buckets(alloc: Global, buckets: usize) -> Result<Places, OutOfMemory>
         requires power { IsPowerOfTwo buckets }
         requires not_one { 2 ≤ buckets }
@@ -44,8 +43,7 @@ impl Places {
         })
     }
 
-    /// Makes room for one entry more: where the table is full, one with twice as many buckets is
-    /// made.
+    /// Makes room for one more entry: a full table is replaced by one with twice as many buckets.
     pub(crate) fn reserve(&mut self) -> Result<(), OutOfMemory>
         ensures room { OnOk result (2 * length self.new.keys + 2 ≤ self.new.buckets) }
         ensures keys { self.new.keys ≡ self.old.keys }
@@ -62,7 +60,7 @@ impl Places {
         Ok(())
     }
 
-    /// The key of the list's next entry.
+    /// Records the key of the list's next entry.
     pub(crate) fn push(&mut self, key: Option<u64>)
         requires { 2 * length self.old.keys + 2 ≤ self.old.buckets }
         ensures keys { self.new.keys ≡ self.old.keys ++ key ∷ [] }
@@ -74,14 +72,14 @@ impl Places {
         self.keys.push_reserved(key);
     }
 
-    /// The last place in the bucket of this key.
+    /// The last index in the bucket of this key.
     pub(crate) fn newest(&self, key: u64) -> Option<u64>
         ensures { result ≡ last_below (meets self.now key) (length self.now.keys) }
     {
         self.newest[bucket_of(key, self.newest.len())]
     }
 
-    /// The last place in the same bucket before this place, at which an entry with a key stands.
+    /// The last index before this one in the same bucket. The entry at `place` has a key.
     pub(crate) fn before(&self, place: u64) -> Option<u64>
         requires { place < length self.now.keys }
         ensures { (key : ℕ) → meets self.now key place ≡ true
@@ -91,7 +89,7 @@ impl Places {
     }
 }
 
-// Makes the place the last in the bucket of its key, and answers the one that was.
+// Makes the index `place` the last in the bucket of its key, and returns the previous last one.
 fn link(newest: &mut [Option<u64>], key: Option<u64>, place: u64) -> Option<u64>
     requires { 0 < length newest.old }
     ensures newest { newest.new ≡ linked newest.old key place }
@@ -101,7 +99,7 @@ fn link(newest: &mut [Option<u64>], key: Option<u64>, place: u64) -> Option<u64>
     mem::replace(&mut newest[bucket], Some(place))
 }
 
-// The bucket of the key.
+// The number of the key's bucket.
 fn bucket_of(key: u64, buckets: usize) -> usize
     requires { 0 < buckets }
     ensures bucket { result ≡ key % buckets }

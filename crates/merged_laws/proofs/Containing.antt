@@ -1,4 +1,4 @@
--- What a list contains.
+-- Membership in lists.
 use Rattle.std.proofs.Common.{◌≡◌, ℕ, zero, suc, ◌<◌, List, [], ◌∷◌, ◌++◌, length, get_or, refl, sym, subst, arith, inl, inr}
 use Rattle.std.specs.Prelude.{◌⊎◌, Contains, Some, reverse, slice_get}
 use Rattle.std.proofs.lemmas.List.{reverse-append, reverse-reverse}
@@ -6,11 +6,11 @@ use Rattle.std.proofs.lemmas.List.Elements.{Contains-append_left, Contains-appen
 use Rattle.std.proofs.lemmas.Option.{slice_get_read}
 
 module _ {A : Type 0} where
-  -- its first
+  -- a list contains its first element
   pub has_first : (x : A) (xs : List A) → Contains (x ∷ xs) x
   has_first x xs = (0, omega arith, refl)
 
-  -- and what the rest contains
+  -- a list contains the elements of its rest
   pub has_later : (y x : A) (xs : List A) → Contains xs x → Contains (y ∷ xs) x
   has_later y x xs h = Contains-append_right (y ∷ []) xs x h
 
@@ -18,21 +18,21 @@ module _ {A : Type 0} where
   pub has_none : (x : A) → Contains [] x → ⊥
   has_none x h = let l : h.0 < 0 = h.1 in absurd (omega arith)
 
-  -- a list of one contains that one
+  -- a list of one contains only that element
   one_has : (y x : A) → Contains (y ∷ []) x → y ≡ x
   one_has y x h = at h.0 h.1 h.2 where
     at : (k : ℕ) → k < 1 → get_or (y ∷ []) k x ≡ x → y ≡ x
     at zero l e = e
     at (suc k) l e = absurd (omega arith)
 
-  -- the first, or in the rest
+  -- an element of a list is the first or is in the rest
   pub has_cases : (y x : A) (xs : List A) → Contains (y ∷ xs) x → (y ≡ x) ⊎ Contains xs x
   has_cases y x xs h = at (Contains-append_cases (y ∷ []) xs x h) where
     at : Contains (y ∷ []) x ⊎ Contains xs x → (y ≡ x) ⊎ Contains xs x
     at (inl a) = inl (one_has y x a)
     at (inr b) = inr b
 
-  -- the other order contains the same
+  -- a reversed list contains the elements of the list
   pub has_reverse : (xs : List A) (x : A) → Contains xs x → Contains (reverse xs) x
   has_reverse [] x h = absurd (has_none x h)
   has_reverse (y ∷ xs) x h = subst (λ (l : List A). Contains l x) (sym (reverse-append (y ∷ []) xs))
@@ -43,11 +43,11 @@ module _ {A : Type 0} where
             (Contains-append_right (reverse xs) (y ∷ []) y (has_first y []))
         at ih (inr r) = Contains-append_left (reverse xs) (y ∷ []) x (ih r)
 
-  -- and back
+  -- a list contains the elements of its reverse
   pub has_reversed : (xs : List A) (x : A) → Contains (reverse xs) x → Contains xs x
   has_reversed xs x h =
       subst (λ (l : List A). Contains l x) (reverse-reverse xs) (has_reverse (reverse xs) x h)
 
-  -- what is contained stands at a place
+  -- an element of a list is at some place in it
   pub has_at : (xs : List A) (x : A) → Contains xs x → (k : ℕ) × (slice_get xs k ≡ Some x)
   has_at xs x h = (h.0, slice_get_read xs (length xs) h.0 x refl h.1 (sym h.2))

@@ -15,12 +15,12 @@ use Rattle.inode_events.specs.Merged.{Journal, Named, PlacesRise, named, places_
 use Rattle.inode_events.specs.declared.told.Event.{Event}
 use Rattle.merged_laws.specs.Laws.{InodeClosed}
 
--- what holds of each that a list contains
+-- a property of each element holds of all of a list
 pub all_from : {A : Type 0} (P : A → Type 0) (xs : List A) → ((x : A) → Contains xs x → P x)
     → All P xs
 all_from P xs f = All-weaker (Contains xs) P f xs (All-contains_itself xs)
 
--- what holds of all holds of the first ones
+-- a property of all elements of two joined lists holds of the first list
 pub all_left : {A : Type 0} (P : A → Type 0) (xs ys : List A) → All P (xs ++ ys) → All P xs
 all_left P xs ys h =
     all_from P xs (λ x c. All-contains P (xs ++ ys) x h (Contains-append_left xs ys x c))
@@ -44,7 +44,7 @@ added_is_named i (e ∷ p) n h = at (added_is_named i p n)
           (named e.who (adds i e.deed e.told p) ++ named e.who (finds i e.deed e.told p))
           (places_named i p) n (ih b)
 
--- a place above all is not added
+-- a place above all named ones isn't added
 times_none : (k : ℕ) (ns : List Named) → All (λ n. n.1 < k) ns → times_added k ns ≡ 0
 times_none k [] h = refl
 times_none k (n ∷ ns) h =
@@ -58,7 +58,7 @@ or_more : (a b c : Bool) → (a || (b || c)) ≡ ((a || b) || c)
 or_more true b c = refl
 or_more false b c = refl
 
--- whether a place is there, with an entry more
+-- whether a place is among the entries, after one more entry
 has_more : (k : ℕ) (xs : List Listed) (x : Listed)
     → has_place k (xs ++ x ∷ []) ≡ (has_place k xs || (x.0 == k))
 has_more k [] x = or_false (x.0 == k) where
@@ -73,12 +73,12 @@ or_true : (a b : Bool) → b ≡ true → (a || b) ≡ true
 or_true true b e = refl
 or_true false b e = e
 
--- "or" with a test that doesn't
+-- "or" with a test that doesn't hold
 or_no : (a b : Bool) → b ≡ false → (a || b) ≡ a
 or_no true b e = refl
 or_no false b e = e
 
--- where places rise, each is added at most once
+-- if places rise, each is added at most once
 pub times_of : (i : Inode) (k : ℕ) (p : List Event) → PlacesRise i p
     → times_added k (places_added i p) ≡ cond (has_place k (entries_added i p)) 1 0
 times_of i k [] r = refl
@@ -112,7 +112,7 @@ times_of i k (e ∷ p) r = at (times_of i k p r.1) (adds i e.deed e.told p) r.0 
       with_place ih x above (x.0 == k) refl
       ∙ ap (λ (b : Bool). cond b 1 0) (sym (has_more k (entries_added i p) x))
 
--- 1 where the test holds
+-- 1 if the test holds, else 0
 abbrev pub bit : Bool → ℕ
 bit b = cond b 1 0
 
@@ -120,16 +120,16 @@ bit b = cond b 1 0
 abbrev pub times_in : ℕ → Journal → ℕ
 times_in k j = times_added k (places_added j.inode j.events)
 
--- whether the pass has the place
+-- whether the pass has an entry at the place
 abbrev pub has_in : ℕ → Passed Entry → Bool
 has_in k q = has_place k q.mine
 
--- counting over one pass more
+-- the count over the passes, with one more pass
 pub count_cons : (k : ℕ) (q : Passed Entry) (qs : List (Passed Entry))
     → count_by (has_in k) (q ∷ qs) ≡ cond (has_in k q) 1 0 + count_by (has_in k) qs
 count_cons k q qs = sum_by-cons (λ (x : Passed Entry). cond (has_in k x) 1 0) q qs
 
--- the journals add at a place as often as passes have it
+-- the journals add entries at a place as often as passes have one there
 pub sum_times : (k : ℕ) (js : List Journal) (qs : List (Passed Entry)) → AllZip InodeClosed js qs
     → sum_by (times_in k) js ≡ count_by (has_in k) qs
 sum_times k [] [] h = refl
@@ -142,7 +142,7 @@ sum_times k (j ∷ js) (q ∷ qs) h =
     ∙ ap (λ (n : ℕ). cond (has_in k q) 1 0 + n) (sum_times k js qs h.1)
     ∙ sym (count_cons k q qs)
 
--- passes without entries have no place
+-- passes without entries have none at any place
 pub count_none : (k : ℕ) (qs : List (Passed Entry)) → All (λ q. q.mine ≡ []) qs
     → count_by (has_in k) qs ≡ 0
 count_none k [] h = refl

@@ -20,23 +20,23 @@ use Rattle.merged_laws.specs.Laws.{MergedFromServed}
 use Rattle.merged_laws.specs.Logs.{RiseServed, log}
 use Rattle.merged_laws.proofs.Logging.{log_ordered, log_own}
 
--- below its length a list has an element
+-- a list has an element at each place below its length
 get_within : {A : Type 0} (xs : List A) (k : ℕ) → k < length xs → (x : A)
     × (slice_get xs k ≡ Some x)
 get_within [] k l = absurd (omega arith)
 get_within (x ∷ xs) zero l = (x, refl)
 get_within (x ∷ xs) (suc k) l = get_within xs k (omega arith)
 
--- what stands at a place of a list is contained
+-- a list contains the element at each of its places
 has_get : {A : Type 0} (xs : List A) (k : ℕ) (x : A) → slice_get xs k ≡ Some x → Contains xs x
 has_get xs k x h = (k, slice_get_within xs k x h, get_or_from_slice_get xs k x x h)
 
--- the two orders of a journal contain the same
+-- a journal and its reverse contain the same events
 has_past : (list : List Event) (e : Event) → Contains (past list) e → Contains list e
 unfolding past
 has_past list e h = has_reversed list e h
 
--- the journal of an inode is one of the run
+-- the journal of an inode is among those of the run
 journal_of : (scene : Scene) (ss : List Station) (lists : List (List Event)) (i : ℕ) (j : Journal)
     → slice_get (journals_of scene ss lists) i ≡ Some j
     → (list : List Event) × (slice_get lists i ≡ Some list) × (j.events ≡ past list)
@@ -46,7 +46,7 @@ journal_of scene (s ∷ ss) (l ∷ lists) zero j h =
     (l, refl, sym (ap (λ (x : Journal). x.events) (same_Some _ j h)))
 journal_of scene (s ∷ ss) (l ∷ lists) (suc i) j h = journal_of scene ss lists i j h
 
--- a served task has the steps of its history
+-- a served task has made the steps of its history
 stepped_by : (scene : Scene) (run : Run) (s : Served scene run) → RiseServed scene run s → (k : ℕ)
     → k < length scene.programs → Stepped k (journals_of scene scene.stations run.journals)
 stepped_by scene run s rise k l =
@@ -69,7 +69,7 @@ stepped_by scene run s rise k l =
           served.events i x.0 x.1 ∙ sym (log_own (mode_of scene) k p i served.history) in
           ap (own_past (k + 1)) x.2 ∙ own_is_past k i (log (mode_of scene) k p served.history) x.0 e
 
--- so all tasks have
+-- all served tasks have made their steps
 all_stepped : (scene : Scene) (run : Run) (s : Served scene run) → RiseServed scene run s
     → AreStepped (length scene.programs) (journals_of scene scene.stations run.journals)
 all_stepped scene run s rise =
@@ -90,7 +90,7 @@ all_stepped scene run s rise =
           All-contains (λ (y : Event). caller_of y ≤ length scene.programs) x.0 e all inside in
           omega arith
 
--- the law, from the closes
+-- the law for a served run
 pub joined : MergedFromServed
 joined scene run inodes tasks b z none even s rise =
     merged scene.boot run.list (journals_of scene scene.stations run.journals) inodes tasks b z none

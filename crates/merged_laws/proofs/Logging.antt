@@ -21,7 +21,7 @@ use Rattle.merged_laws.proofs.Rising.{earlier_from, ordered_event, ordered_plain
 use Rattle.merged_laws.specs.Laws.{LogIsOrdered, LogIsOwn}
 use Rattle.merged_laws.specs.Logs.{log, logged}
 
--- one entry more, in one of two forms
+-- adding an entry or not is the same as adding a list of one or none
 own_more : (i j : ℕ) (xs : List (ℕ × Event)) (x : ℕ × Event)
     → cond (j == i) (xs ++ x ∷ []) xs ≡ xs ++ cond (j == i) (x ∷ []) []
 own_more i j xs x = at (j == i) where
@@ -41,7 +41,7 @@ logged_own i who (Some (Checks j file func mask)) a rest =
 logged_own i who (Some (Signals d)) a rest = sym (append-nil (own_in i rest))
 logged_own i who (Some (Appends rule)) a rest = sym (append-nil (own_in i rest))
 
--- step by step
+-- own entries along a history
 pub log_own : LogIsOwn
 log_own mode n p i [] = refl
 log_own mode n p i (a ∷ h) =
@@ -52,7 +52,7 @@ log_own mode n p i (a ∷ h) =
 
 -- ---- the order
 
--- a step joins those before it in order
+-- a step after earlier ones keeps the order
 logged_ordered : (due next : Who) (o : Option Step) (a : Answer) (xs : List Made)
     → OrderedBefore xs due → is_earlier due next ≡ true → OrderedBefore (logged due o a ++ xs) next
 logged_ordered due next None a xs w e = ordered_plain xs due next w e
@@ -64,13 +64,13 @@ logged_ordered due next (Some (Checks j file func mask)) a xs w e =
 logged_ordered due next (Some (Signals d)) a xs w e = ordered_plain xs due next w e
 logged_ordered due next (Some (Appends rule)) a xs w e = ordered_plain xs due next w e
 
--- task and call of a Who
+-- the task and the call of a Who
 who_parts : (n : ℕ) (p : Program) (o : Option Call) (m : Mind) → ((who_in n p o m).task ≡ n)
     × ((who_in n p o m).call ≡ m.at)
 who_parts n p None m = (refl, refl)
 who_parts n p (Some c) m = (refl, refl)
 
--- the next step comes after the one that was made
+-- the next step comes after the one just made
 advances : (n : ℕ) (p : Program) (t : Thought) (c : Call) (place : ℕ) (x : Next)
     → call_at p t.mind ≡ Some c
     → is_earlier (who_in n p (Some c) t.mind)
@@ -96,7 +96,7 @@ advances n p t c place (Over r) at =
     (sym parts.0)
     (inl (subst (λ (k : ℕ). t.mind.at < k) (sym call) (omega arith)))
 
--- whether or not the program is over
+-- a step keeps the order, whether or not the program is over
 step_ordered : (mode : Mode) (n : ℕ) (p : Program) (t : Thought) (a : Answer) (xs : List Made)
     (o : Option Call) → call_at p t.mind ≡ o → OrderedBefore xs (who_in n p o t.mind)
     → OrderedBefore (logged (who_in n p o t.mind) (step_in p o t.mind) a ++ xs)
@@ -109,7 +109,7 @@ step_ordered mode n p t a xs (Some c) at w =
     (advances n p t c a.place (next mode c (progress_of p.cred.admin c t.mind).due a.told a.action)
     at)
 
--- step by step
+-- the order along a history
 pub log_ordered : LogIsOrdered
 log_ordered mode n p [] =
     record {

@@ -15,15 +15,15 @@ use Rattle.journal_laws.proofs.Prefixed.{listed_prefix}
 use Rattle.merged_laws.proofs.Counting.{all_left, count_none, has_in, sum_times, times_in}
 use Rattle.merged_laws.proofs.Ordering.{steps_rise}
 
--- what the pass saw begins the list
+-- what the pass saw is a prefix of the list
 abbrev SeenOf : List Entry → Passed Entry → Type 0
 SeenOf list q = IsPrefix q.seen list
 
--- the list has what the journal says
+-- the list has the journal's entries
 abbrev IsListedIn : List Entry → Journal → Type 0
 IsListedIn list j = IsListed j.inode list j.events
 
--- what holds of what passes saw holds of the whole list
+-- if the passes have seen each journal's entries, the whole list has them
 all_listed : (list : List Entry) (js : List Journal) (qs : List (Passed Entry))
     → AllZip InodeClosed js qs → All (SeenOf list) qs → All (IsListedIn list) js
 all_listed list [] qs h s = All-nil (IsListedIn list)
@@ -33,18 +33,18 @@ all_listed list (j ∷ js) (q ∷ qs) h s =
     (listed_prefix j.inode q.seen list j.events (All-head (SeenOf list) q qs s) h.0.listed)
     (all_listed list js qs h.1 (All-tail (SeenOf list) q qs s))
 
--- along the journal the places rise
+-- the places rise along the journal
 abbrev RisesAlong : Journal → Type 0
 RisesAlong j = PlacesRise j.inode j.events
 
--- along each journal
+-- the places rise along each journal
 all_rise : (js : List Journal) (qs : List (Passed Entry)) → AllZip InodeClosed js qs
     → All RisesAlong js
 all_rise [] qs h = All-nil RisesAlong
 all_rise (j ∷ js) [] h = absurd h
 all_rise (j ∷ js) (q ∷ qs) h = All-cons RisesAlong j js h.0.rise (all_rise js qs h.1)
 
--- each place is added by as many events as passes have it
+-- each place is added by as many events as there are passes that have it
 total : (boot : Entry) (list : List Entry) (journals : List Journal)
     (inodes tasks : List (Passed Entry)) → BookClosed boot list (inodes ++ tasks)
     → AllZip InodeClosed journals inodes → All (λ q. q.mine ≡ []) tasks → (k : ℕ) → k < length list
@@ -58,7 +58,7 @@ total boot list journals inodes tasks b z none k l =
     omega arith in
     sum_times k journals inodes z ∙ more ∙ sym parts ∙ b.places k l
 
--- the law
+-- the law for the closes
 pub merged : MergedFromCloses
 merged boot list journals inodes tasks b z none stepped = record {
   first = b.first;
@@ -69,9 +69,9 @@ merged boot list journals inodes tasks b z none stepped = record {
   distinct = b.distinct;
 }
 
--- ---- in the other order
+-- ---- reversing
 
--- pair by pair, with one pair more at the end
+-- appending a pair keeps two lists related pair by pair
 zip_push : {A B : Type 0} (R : A → B → Type 0) (xs : List A) (ys : List B) (x : A) (y : B)
     → AllZip R xs ys → R x y → AllZip R (xs ++ x ∷ []) (ys ++ y ∷ [])
 zip_push R [] [] x y z r = (r, tt)
@@ -79,7 +79,7 @@ zip_push R [] (b ∷ ys) x y z r = absurd z
 zip_push R (a ∷ xs) [] x y z r = absurd z
 zip_push R (a ∷ xs) (b ∷ ys) x y z r = (z.0, zip_push R xs ys x y z.1 r)
 
--- pair by pair, in the other order
+-- reversing both lists keeps them related pair by pair
 zip_reverse : {A B : Type 0} (R : A → B → Type 0) (xs : List A) (ys : List B) → AllZip R xs ys
     → AllZip R (reverse xs) (reverse ys)
 zip_reverse R [] [] z = tt
@@ -92,6 +92,6 @@ zip_reverse R (a ∷ xs) (b ∷ ys) z =
     subst (λ l. AllZip R l (reverse ys ++ b ∷ [])) (sym (reverse-append (a ∷ []) xs)) turned in
     subst (λ l. AllZip R (reverse (a ∷ xs)) l) (sym (reverse-append (b ∷ []) ys)) left
 
--- of journals and passes
+-- the law for journals and passes
 pub turned : ClosedTurned
 turned journals passes z = zip_reverse InodeClosed journals passes z

@@ -1,4 +1,4 @@
--- Each place that a journal names is told by one of its events.
+-- Each place that a journal names is in the outcome of one of its events.
 use Rattle.std.proofs.Common.{◌≡◌, ℕ, ◌+◌, List, [], ◌∷◌, ◌++◌, Option, Some, None, refl, ◌∙◌, ap, subst, inl, inr}
 use Rattle.std.specs.Prelude.{◌⊎◌, Contains}
 use Rattle.std.proofs.lemmas.List.Elements.{Contains-append_cases}
@@ -19,11 +19,11 @@ use Rattle.inode_events.specs.Callers.{caller_in, caller_of}
 use Rattle.merged_laws.specs.Steps.{place_added, place_named, placed_added, placed_named, told_added, told_named}
 use Rattle.merged_laws.proofs.Containing.{has_cases, has_first, has_later, has_none}
 
--- the deed is a task's, and no birth
+-- the deed is a task's step, not a birth
 abbrev IsStep : ℕ → Deed → Type 0
 IsStep task d = caller_in task d ≡ task + 1
 
--- a grant tells the place that it adds
+-- the outcome of a grant has the place at which it adds
 added_grant : (o : Option Placed) (f : Option Digests) (i : Inode) (file : ℕ) (p : List Event)
     (x : Listed) → added_at o f i file p ≡ Some x
     → (placed_added o ≡ Some x.0) × Contains (placed_named o) x.0
@@ -34,7 +34,7 @@ added_grant (Some (Added k)) None i file p x h = absurd (cc)
 added_grant (Some (Already k)) f i file p x h = absurd (cc)
 added_grant None f i file p x h = absurd (cc)
 
--- and the place that it finds
+-- the outcome of a grant has the place that it finds
 found_grant : (o : Option Placed) (f : Option Digests) (i : Inode) (file : ℕ) (p : List Event)
     (x : Listed) → found_at o f i file p ≡ Some x
     → Contains (placed_named o) x.0
@@ -45,7 +45,7 @@ found_grant (Some (Already k)) None i file p x h = absurd (cc)
 found_grant (Some (Added k)) f i file p x h = absurd (cc)
 found_grant None f i file p x h = absurd (cc)
 
--- what an event adds, it was told
+-- the outcome of an event has the place at which it adds
 pub adds_told : (i : Inode) (task : ℕ) (d : Deed) (t : Told) (p : List Event) (x : Listed)
     → adds i d t p ≡ Some x
     → (told_added d t ≡ Some x.0) × Contains (told_named d t) x.0 × IsStep task d
@@ -63,7 +63,7 @@ adds_told i task (deed.Finish file) (told.Grant grant) p x h =
     (a.0, a.1, refl)
 adds_told i task d t p x h = absurd (cc)
 
--- what an event finds, it was told
+-- the outcome of an event has the place that it finds
 finds_told : (i : Inode) (task : ℕ) (d : Deed) (t : Told) (p : List Event) (x : Listed)
     → finds i d t p ≡ Some x
     → Contains (told_named d t) x.0 × IsStep task d
@@ -73,20 +73,20 @@ finds_told i task (deed.Finish file) (told.Grant grant) p x h =
     (found_grant grant.placed (granting i (deed.Finish file) p) i file p x h, refl)
 finds_told i task d t p x h = absurd (cc)
 
--- the event that was told the place
+-- an event of the journal whose outcome has this place
 pub record Telling (p : List Event) (n : Named) (e : Event) : Type 0 where
   pub stands : Contains p e
   pub who : e.who ≡ n.0
   pub told : Contains (place_named e) n.1
   pub step : caller_of e ≡ e.who.task + 1
 
--- with an event more the one that told stays
+-- the event still has the place after one more event
 telling_later : (x : Event) (p : List Event) (n : Named) (e : Event) → Telling p n e
     → Telling (x ∷ p) n e
 telling_later x p n e t =
     record { stands = has_later x e p t.stands; who = t.who; told = t.told; step = t.step }
 
--- a name comes from an entry
+-- each name comes from an entry
 named_is : (who : Who) (o : Option Listed) (n : Named) → Contains (named who o) n → (x : Listed)
     × (o ≡ Some x) × ((who, x.0) ≡ n)
 named_is who None n h = absurd (has_none n h)
@@ -95,7 +95,7 @@ named_is who (Some x) n h = at (has_cases (who, x.0) n [] h) where
   at (inl e) = (x, refl, e)
   at (inr f) = absurd (has_none n f)
 
--- the newest event adds
+-- the place at which the newest event adds is in its outcome
 added_here : (i : Inode) (e : Event) (p : List Event) (n : Named)
     → Contains (named e.who (adds i e.deed e.told p)) n → Telling (e ∷ p) n e
     × (place_added e ≡ Some n.1)
@@ -113,7 +113,7 @@ added_here i e p n h =
       t.0 ∙ ap (λ (j : ℕ). Some j) k,
     )
 
--- the newest event finds
+-- the place that the newest event finds is in its outcome
 found_here : (i : Inode) (e : Event) (p : List Event) (n : Named)
     → Contains (named e.who (finds i e.deed e.told p)) n → Telling (e ∷ p) n e
 found_here i e p n h =
@@ -128,7 +128,7 @@ found_here i e p n h =
       step = t.1;
     }
 
--- each added place was told by an event that adds it
+-- each added place is in the outcome of an event that adds it
 pub added_by_event : (i : Inode) (p : List Event) (n : Named) → Contains (places_added i p) n
     → (e : Event) × Telling p n e × (place_added e ≡ Some n.1)
 added_by_event i [] n h = absurd (has_none n h)
@@ -141,7 +141,7 @@ added_by_event i (e ∷ p) n h = at (added_by_event i p n)
       at ih (inl a) = let t = added_here i e p n a in (e, t.0, t.1)
       at ih (inr b) = let t = ih b in (t.0, telling_later e p n t.0 t.1, t.2)
 
--- each named place was told by an event
+-- each named place is in the outcome of an event
 pub named_by_event : (i : Inode) (p : List Event) (n : Named) → Contains (places_named i p) n
     → (e : Event) × Telling p n e
 named_by_event i [] n h = absurd (has_none n h)

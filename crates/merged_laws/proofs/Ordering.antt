@@ -1,4 +1,4 @@
--- Along the steps of a task the places rise.
+-- The places rise along the steps of a task.
 use Rattle.std.proofs.Common.{◌≡◌, ℕ, ◌+◌, ◌<◌, Bool, true, false, ◌&&◌, ◌||◌, cond, List, [], ◌∷◌, ◌++◌, length, Option, Some, refl, sym, ◌∙◌, ap, subst, arith, inl, inr}
 use Rattle.std.specs.Prelude.{◌⊎◌, ◌==◌, nat_lt, All, Contains, reverse}
 use Rattle.std.proofs.lemmas.Bool.{and_parts, or_cases, ltb-true, eqb-true, eq-eqb}
@@ -12,7 +12,7 @@ use Rattle.merged_laws.specs.Steps.{Above, AreStepped, NamesBelow, Rises, Made, 
 use Rattle.merged_laws.proofs.Containing.{has_at, has_cases, has_first, has_later, has_none, has_reversed}
 use Rattle.merged_laws.proofs.Naming.{added_by_event, named_by_event}
 
--- an earlier step is of the same task, and of an earlier call or earlier in the same
+-- an earlier step is of the same task, in an earlier call or earlier in the same call
 pub before_or_at : (a b : Who) → is_earlier a b ≡ true → (a.task ≡ b.task)
     × ((a.call < b.call) ⊎ ((a.call ≡ b.call) × (a.step < b.step)))
 before_or_at a b h =
@@ -26,7 +26,7 @@ before_or_at a b h =
       at (inr m) = let q : ((a.call == b.call) ≡ true) × (nat_lt a.step b.step ≡ true) =
           and_parts _ _ m in inr (eqb-true a.call b.call q.0, ltb-true a.step b.step q.1)
 
--- of two steps one is earlier
+-- two steps aren't each earlier than the other
 not_both : (a b : Who) → is_earlier a b ≡ true → is_earlier b a ≡ true → ⊥
 not_both a b h k = at (before_or_at a b h).1 (before_or_at b a k).1 where
   at : (a.call < b.call) ⊎ ((a.call ≡ b.call) × (a.step < b.step)) → (b.call < a.call)
@@ -37,12 +37,12 @@ not_both a b h k = at (before_or_at a b h).1 (before_or_at b a k).1 where
   at (inr x) (inr y) =
       let z : a.step < b.step = x.1 in let w : b.step < a.step = y.1 in absurd (omega arith)
 
--- an added place lies above all before it
+-- an added place is above all that earlier steps named
 above_at : (o : Option ℕ) (k : ℕ) (steps : List Made) → o ≡ Some k → Above o steps
     → All (NamesBelow k) steps
 above_at o k steps e a = subst (λ (x : Option ℕ). Above x steps) e a
 
--- of two steps in order, the later adds above what the earlier named
+-- of two steps in order, the later adds above every place that the earlier named
 ordered : (steps : List Made) → Rises steps → AreOrdered steps → (a b : Made) (m k : ℕ)
     → Contains steps a → Contains steps b → is_earlier a.event.who b.event.who ≡ true
     → Contains (place_named a.event) m → place_added b.event ≡ Some k → m < k
@@ -71,7 +71,7 @@ ordered (s ∷ steps) r w a b m k ha hb e n t = at (λ x y. ordered steps r.1 w.
 
 -- ---- the step of an event
 
--- an own event comes from a step
+-- each own event comes from a step
 step_in : (i : ℕ) (steps : List Made) (x : ℕ × Event) → Contains (own_in i steps) x → (s : Made)
     × Contains steps s × (s.event ≡ x.1)
 step_in i [] x h = absurd (has_none x h)
@@ -114,7 +114,7 @@ own_has n (y ∷ p) e h c =
           (sym (ap caller_of s ∙ c)) in absurd (cc)
       at ih false q (inr r) = ih r
 
--- so a task's event in a journal is one of its steps
+-- each event of a task in a journal is one of its steps
 step_for : (k : ℕ) (journals : List Journal) (j : Journal) (e : Event) (s : Stepped k journals)
     → Contains journals j → Contains j.events e → caller_of e ≡ k + 1
     → (t : Made) × Contains s.steps t × (t.event ≡ e)
@@ -126,7 +126,7 @@ step_for k journals j e s hj he c =
     let t = step_in i.0 s.steps x.0 (has_reversed (own_in i.0 s.steps) x.0 y) in
     (t.0, t.1, t.2 ∙ x.2)
 
--- the places of any two events of a task
+-- the places rise between any two events of a task
 pub steps_rise : (tasks : ℕ) (journals : List Journal) → AreStepped tasks journals
     → StepsRise journals
 steps_rise tasks journals a j k earlier later hj hk he hl e =

@@ -1,4 +1,4 @@
--- The places of a task's steps rise, and its steps stand in order.
+-- The places of a task's steps rise, and the steps are in order.
 use Rattle.std.proofs.Common.{◌≡◌, ℕ, ◌+◌, ◌<◌, ◌≤◌, Bool, true, false, ◌&&◌, cond, List, [], ◌∷◌, ◌++◌, length, map, Option, Some, None, refl, sym, ◌∙◌, ap, subst, arith, inl, inr, length-append}
 use Rattle.std.specs.Prelude.{◌⊎◌, ◌==◌, nat_lt, All, option_map, is_some, reverse}
 use Rattle.std.proofs.lemmas.Bool.{and_from, eq-eqb, lt-ltb, or_left, or_right}
@@ -34,22 +34,22 @@ use Rattle.merged_laws.specs.Laws.{RisesByEvent, RisesByLook}
 use Rattle.journal_laws.proofs.Asking.{IsNew, asked_new, checked, measured_none, measures, none_new}
 use Rattle.merged_laws.proofs.Ordering.{before_or_at}
 
--- the places that the answer to an entry names
+-- the place at which the list's answer adds the entry
 abbrev answer_added : Placed → Option Entry → Option ℕ
 answer_added placed None = None
 answer_added placed (Some e) = placed_added (Some placed)
 
--- and those that it finds
+-- the places that the list's answer names
 abbrev answer_named : Placed → Option Entry → List ℕ
 answer_named placed None = []
 answer_named placed (Some e) = placed_named (Some placed)
 
--- the event tells the places that the answer names
+-- the event's outcome has the places of the list's answer
 abbrev Tells : Placed → Option Entry → Deed → Told → Type 0
 Tells placed o d t =
     (told_added d t ≡ answer_added placed o) × (told_named d t ≡ answer_named placed o)
 
--- a check
+-- the outcome of a check has the places of the list's answer
 check_tells : (i : Inode) (file rules : ℕ) (func : Func) (action : Action) (placed : Placed)
     (w a b : Bool) → Added (place_of placed) ≡ placed
     → Tells placed (violation_in i (checked w a b 0)) (deed.Check file func action rules)
@@ -60,7 +60,7 @@ check_tells i file rules func action (Added k) true false b n = (refl, refl)
 check_tells i file rules func action (Added k) false a true n = (refl, refl)
 check_tells i file rules func action (Added k) false a false n = (refl, refl)
 
--- a grant, by whether its check measures
+-- the outcome of a grant has those places, whether or not its check measures
 placed_tells : (i : Inode) (p : List Event) (file : ℕ) (placed : Placed) (x : Digests) (m : Bool)
     → (placed_added (cond m (Some placed) None) ≡ answer_added placed
     (measured_if m i file (Some x) p))
@@ -69,7 +69,7 @@ placed_tells : (i : Inode) (p : List Event) (file : ℕ) (placed : Placed) (x : 
 placed_tells i p file placed x true = (refl, refl)
 placed_tells i p file placed x false = (refl, refl)
 
--- a take
+-- the outcome of a take has the places of the list's answer
 take_tells : (i : Inode) (p : List Event) (file : ℕ) (placed : Placed) (t : Told)
     (c : Option Collection) (o : Option Digests)
     → unless_collecting c (take_told i file placed o p) ≡ Some t
@@ -85,7 +85,7 @@ take_tells i p file placed t None (Some x) h =
     subst (Tells placed (measured_if (measures file p) i file (Some x) p) (deed.Take file))
     (same_Some _ t h) (placed_tells i p file placed x (measures file p))
 
--- a finish
+-- the outcome of a finish has the places of the list's answer
 finish_tells : (i : Inode) (p : List Event) (file : ℕ) (placed : Placed) (t : Told)
     (c : Option Collection)
     → finish_told i file placed c p ≡ Some t
@@ -97,7 +97,7 @@ finish_tells i p file placed t (Some c) h =
     (deed.Finish file)) (same_Some _ t h)
     (placed_tells i p file placed (digests_of c) (measures file p))
 
--- the event is told of the list what was asked for
+-- the outcome of each event has the places of the list's answer
 tells_asked : (i : Inode) (p : List Event) (placed : Placed) (d : Deed) (t : Told) → IsNew d placed
     → says i p placed d ≡ Some t → Tells placed (asked i d p) d t
 tells_asked i p placed (deed.Check file func action rules) t n h =
@@ -110,24 +110,24 @@ tells_asked i p placed (deed.Take file) t n h =
 tells_asked i p placed (deed.Finish file) t n h = finish_tells i p file placed t (collecting i p) h
 tells_asked i p placed d t n h = (refl, refl)
 
--- what the list answers to a violation is that it is added
+-- the list's answer to a violation is that it is added
 answer_new : (i : Inode) (p : List Event) (d : Deed) (list : List Entry) (o : Option Entry)
     → asked i d p ≡ o → IsNew d (placed_for list o)
 answer_new i p d list None h = none_new d 0
 answer_new i p d list (Some e) h = asked_new i p d list e h
 
--- places below a limit lie below a greater one
+-- places below a limit are below a greater one
 names_more : (a b : ℕ) (s : Made) → a ≤ b → NamesBelow a s → NamesBelow b s
 names_more a b s le h = All-weaker (λ (n : ℕ). n < a) (λ (n : ℕ). n < b) (λ n x. omega arith)
     (told_named s.event.deed s.event.told) h
 
--- of all steps
+-- the places of all steps are below a greater limit too
 below_more : (a b : ℕ) (steps : List Made) → a ≤ b → All (NamesBelow a) steps
     → All (NamesBelow b) steps
 below_more a b steps le h =
     All-weaker (NamesBelow a) (NamesBelow b) (λ s x. names_more a b s le x) steps h
 
--- a look only adds to what the pass has seen
+-- the law for a look, which only adds to what the pass has seen
 pub rises_look : RisesByLook
 rises_look steps seen seen2 a r =
     record {
@@ -136,11 +136,11 @@ rises_look steps seen seen2 a r =
           (prefix_length seen seen2 a) r.below;
     }
 
--- one place below a limit
+-- a list of one place below a limit is below it
 one_below : (k limit : ℕ) → k < limit → All (λ n. n < limit) (k ∷ [])
 one_below k limit l = All-cons (λ (n : ℕ). n < limit) k [] l (All-nil (λ (n : ℕ). n < limit))
 
--- by the place of the first entry that is the same
+-- the answer's place rises, given the place of the first entry that is the same
 answer_rises : (list : List Entry) (e : Entry) (o : Option ℕ) → place_of_same list e ≡ o
     → (steps : List Made) (limit : ℕ) → limit ≤ length list → All (NamesBelow limit) steps
     → Above (answer_added (placed_by o (length list)) (Some e)) steps
@@ -158,7 +158,7 @@ answer_rises list e None h steps limit le b =
 answer_rises list e (Some k) h steps limit le b =
     (tt, one_below k (length list) (first_shows list e k h).2, omega arith)
 
--- by whether an entry is asked for
+-- the answer's place rises, whether or not an entry is asked for
 asked_rises : (list : List Entry) (o : Option Entry) (t : Told) (steps : List Made) (limit : ℕ)
     → limit ≤ length list → All (NamesBelow limit) steps
     → Above (answer_added (placed_for list o) o) steps
@@ -168,7 +168,7 @@ asked_rises list None t steps limit le b = (tt, All-nil (λ (n : ℕ). n < lengt
 asked_rises list (Some e) t steps limit le b =
     answer_rises list e (place_of_same list e) refl steps limit le b
 
--- by the answer of the list
+-- the law for an event whose outcome the list determines
 pub rises_event : RisesByEvent
 rises_event steps seen list i p journal place who d t a r h =
     let le : length seen ≤ length list = prefix_length seen list a in
@@ -189,7 +189,7 @@ rises_event steps seen list i p journal place who d t a r h =
 
 -- ---- the order of steps
 
--- a step of an earlier call, or earlier in the same, is earlier
+-- a step of an earlier call, or earlier in the same call, is earlier
 pub earlier_from : (a b : Who) → a.task ≡ b.task → (a.call < b.call)
     ⊎ ((a.call ≡ b.call) × (a.step < b.step)) → is_earlier a b ≡ true
 earlier_from a b t (inl l) = and_from (a.task == b.task) _ (eq-eqb a.task b.task t)
@@ -201,7 +201,7 @@ earlier_from a b t (inr m) =
     (and_from (a.call == b.call) (nat_lt a.step b.step) (eq-eqb a.call b.call m.0)
     (lt-ltb a.step b.step m.1)))
 
--- earlier than an earlier one is earlier
+-- being earlier is transitive
 pub earlier_trans : (a b c : Who) → is_earlier a b ≡ true → is_earlier b c ≡ true
     → is_earlier a c ≡ true
 earlier_trans a b c h k =
@@ -222,7 +222,7 @@ earlier_trans a b c h k =
 abbrev EarlierThan : Who → Made → Type 0
 EarlierThan due b = is_earlier b.event.who due ≡ true
 
--- a step that isn't an event changes what is due alone
+-- a step that makes no event changes only which step is due
 pub ordered_plain : (steps : List Made) (due next : Who) → OrderedBefore steps due
     → is_earlier due next ≡ true → OrderedBefore steps next
 ordered_plain steps due next w e = record {
@@ -231,7 +231,7 @@ ordered_plain steps due next w e = record {
       (λ s x. earlier_trans s.event.who due next x e) steps w.before;
 }
 
--- the step that was due joins, and a later one is due
+-- the due step joins the others, and a later one becomes due
 pub ordered_event : (steps : List Made) (journal place : ℕ) (due next : Who) (d : Deed) (t : Told)
     → OrderedBefore steps due → is_earlier due next ≡ true
     → OrderedBefore (made_of journal place due d t ∷ steps) next
@@ -240,8 +240,8 @@ ordered_event steps journal place due next d t w e = record {
   before = All-cons (EarlierThan next) _ steps e (ordered_plain steps due next w e).before;
 }
 
--- what a pass of the task has of a journal in the order of its events, its steps have of it in the
--- other
+-- a pass of the task has its events in a journal oldest first, and the task's steps have the same
+-- events newest first
 pub own_is_past : (k i : ℕ) (steps : List Made) (list : List Event)
     → entries_of (k + 1) (map caller_of list) list ≡ own_in i steps
     → own_past (k + 1) (past list) ≡ reverse (own_in i steps)

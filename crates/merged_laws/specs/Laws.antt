@@ -1,4 +1,4 @@
--- The laws of merged runs: what tasks keep of the places of the measurement list, and how a run's
+-- The laws of merged runs: what tasks know of the places of the measurement list, and how a run's
 -- journals and the list come together at its end.
 use Rattle.std.specs.Prelude.{◌≡◌, ℕ, ◌<◌, ◌==◌, All, List, [], ◌∷◌, ◌++◌, length, reverse, Some, slice_get, count_by, if◌then◌else◌}
 use Rattle.std.specs.List.{AllZip}
@@ -23,14 +23,14 @@ use Rattle.journal_laws.specs.Booked.{IsBooked}
 use Rattle.merged_laws.specs.Logs.{RiseServed, log}
 use Rattle.merged_laws.specs.Steps.{AreStepped, Made, OrderedBefore, RisesWithin, made_of, own_in}
 
--- ---- what a task keeps
+-- ---- what a task knows
 
--- a look of the task's pass of the list keeps that the places of its steps rise
+-- after a look of the task's pass of the list, the places of its steps still rise
 abbrev pub RisesByLook : Type 0
 RisesByLook = (steps : List Made) (seen seen2 : List Entry) → IsPrefix seen seen2
     → RisesWithin steps seen → RisesWithin steps seen2
 
--- and so does an event that is told by the list
+-- after an event whose outcome the list determines, the places of the task's steps still rise
 abbrev pub RisesByEvent : Type 0
 RisesByEvent = (steps : List Made) (seen list : List Entry) (inode : Inode) (p : List Event)
     (journal place : ℕ) (who : Who) (d : Deed) (t : Told)
@@ -43,17 +43,17 @@ abbrev pub LogIsOwn : Type 0
 LogIsOwn = (mode : Mode) (n : ℕ) (p : Program) (i : ℕ) (h : List Answer)
     → own_in i (log mode n p h) ≡ own mode n p i h
 
--- whatever the history, its steps stand in the order of their calls and numbers, before the one
--- that is due
+-- the steps of any history are in the order of their calls and step numbers, before the step that
+-- is due
 abbrev pub LogIsOrdered : Type 0
 LogIsOrdered = (mode : Mode) (n : ℕ) (p : Program) (h : List Answer)
     → OrderedBefore (log mode n p h) (who_at n p (thought mode p h).mind)
 
 -- ---- the end
 
--- What the list's close gives of all passes but its own: the boot aggregate stands first and is
--- none of theirs, each other place is one pass's, what each saw begins the list, and no entry is
--- the same as an earlier one.
+-- What closing the list gives, for all passes except its own: the boot aggregate is first and
+-- belongs to none of them, each other place belongs to exactly one, what each pass saw is a prefix
+-- of the list, and no entry is the same as an earlier one.
 pub record BookClosed (boot : Entry) (list : List Entry) (passes : List (Passed Entry)) : Type
     0 where
   pub first : slice_get list 0 ≡ Some boot
@@ -62,18 +62,18 @@ pub record BookClosed (boot : Entry) (list : List Entry) (passes : List (Passed 
       (if k == 0 then 0 else 1)
   pub distinct : IsDistinct list
 
--- what an inode's close gives of its journal and its pass of the list
+-- what closing an inode gives, for its journal and its pass of the list
 abbrev pub InodeClosed : Journal → Passed Entry → Type 0
 InodeClosed j q = IsBooked j.inode j.events q.seen q.mine
 
--- a loop that closes inode after inode, from the last, has at its end what they give in order
+-- closing the inodes from the last to the first gives the same results in reverse order
 abbrev pub ClosedTurned : Type 0
 ClosedTurned =
     (journals : List Journal) (passes : List (Passed Entry)) → AllZip InodeClosed journals passes
     → AllZip InodeClosed (reverse journals) (reverse passes)
 
--- The closes make the merged run: the passes are those of the inodes and those of the tasks, which
--- add nothing.
+-- Closing the list and all inodes gives a merged run. The passes are those of the inodes and those
+-- of the tasks, and the tasks' have no entries.
 abbrev pub MergedFromCloses : Type 0
 MergedFromCloses = (boot : Entry) (list : List Entry) (journals : List Journal)
     (inodes tasks : List (Passed Entry))
@@ -81,7 +81,7 @@ MergedFromCloses = (boot : Entry) (list : List Entry) (journals : List Journal)
     → All (λ q. q.mine ≡ []) tasks
     → AreStepped (length tasks) journals → IsMerged boot list journals
 
--- The same for a run that is served, where the places rise along each task's steps.
+-- A served run is merged if the places rise along the steps of each task.
 abbrev pub MergedFromServed : Type 0
 MergedFromServed = (scene : Scene) (run : Run) (inodes tasks : List (Passed Entry))
     → BookClosed scene.boot run.list (inodes ++ tasks)

@@ -1,4 +1,4 @@
--- The steps of one task on inodes, and the places of the measurement list that they were told.
+-- The steps of one task on inodes, and the places of the measurement list in their outcomes.
 use Rattle.std.specs.Prelude.{◌≡◌, ℕ, ◌+◌, ◌<◌, ◌==◌, true, All, Contains, List, [], ◌∷◌, ◌++◌, reverse, length, Option, Some, None, slice_get, if◌then◌else◌}
 use Rattle.ima_templates.specs.declared.entry.Entry.{Entry}
 use Rattle.ima_templates.specs.declared.entry.Placed.{Placed}
@@ -13,18 +13,18 @@ use Rattle.inode_events.specs.declared.told.Told.{Told}
 use Rattle.inode_events.specs.declared.told.Told.TheVariants as told
 use Rattle.journal_laws.specs.Own.{own_past}
 
--- one step that is an event: the number of its journal, its place there, and the event
+-- a step that makes an event: the number of its journal, its place there, and the event
 pub record Made : Type 0 where
   pub journal : ℕ
   pub place : ℕ
   pub event : Event
 
--- a step of its parts
+-- a step from its parts
 abbrev pub made_of : ℕ → ℕ → Who → Deed → Told → Made
 made_of journal place who d t =
     record { journal = journal; place = place; event = record { who = who; deed = d; told = t } }
 
--- ---- the places of the list that an event was told
+-- ---- the places of the list in an event's outcome
 
 -- the place at which a grant adds its entry
 abbrev pub placed_added : Option Placed → Option ℕ
@@ -62,45 +62,45 @@ place_named e = told_named e.deed e.told
 
 -- ---- along the steps of a task, newest first
 
--- the step named places below this alone
+-- the step named only places below this one
 abbrev pub NamesBelow : ℕ → Made → Type 0
 NamesBelow limit s = All (λ n. n < limit) (place_named s.event)
 
--- an added place lies above all places named before
+-- an added place is above all places that earlier steps named
 abbrev pub Above : Option ℕ → List Made → Type 0
 Above None before = Unit {0}
 Above (Some place) before = All (NamesBelow place) before
 
--- each added place is above all places named before
+-- each added place is above all places that earlier steps named
 abbrev pub Rises : List Made → Type 0
 Rises [] = Unit {0}
 Rises (s ∷ before) = Above (place_added s.event) before × Rises before
 
--- the same, and all lie in what the task's pass of the list has seen
+-- the places rise, and the task's pass of the list has seen them all
 pub record RisesWithin (steps : List Made) (seen : List Entry) : Type 0 where
   pub rises : Rises steps
   pub below : All (NamesBelow (length seen)) steps
 
--- the steps stand in the order of their calls and numbers
+-- the steps are in the order of their calls and step numbers
 abbrev pub AreOrdered : List Made → Type 0
 AreOrdered [] = Unit {0}
 AreOrdered (s ∷ before) =
     All (λ b. is_earlier b.event.who s.event.who ≡ true) before × AreOrdered before
 
--- the same, and all stand before the step that is due
+-- the steps are in order, and all of them come before the step that is due
 pub record OrderedBefore (steps : List Made) (due : Who) : Type 0 where
   pub ordered : AreOrdered steps
   pub before : All (λ b. is_earlier b.event.who due ≡ true) steps
 
 -- ---- the steps and the journals
 
--- the events in one journal, the oldest first
+-- the events in one journal, oldest first
 abbrev pub own_in : ℕ → List Made → List (ℕ × Event)
 own_in i [] = []
 own_in i (s ∷ before) =
     if s.journal == i then own_in i before ++ (s.place, s.event) ∷ [] else own_in i before
 
--- the task has such steps: in each journal its events are theirs
+-- the task has made steps: in each journal, its events are those of the steps, and the places rise
 pub record Stepped (task : ℕ) (journals : List Journal) : Type 0 where
   pub steps : List Made
   pub own_is : (i : ℕ) (j : Journal) → slice_get journals i ≡ Some j
@@ -108,7 +108,8 @@ pub record Stepped (task : ℕ) (journals : List Journal) : Type 0 where
   pub rises : Rises steps
   pub ordered : AreOrdered steps
 
--- each event is the inode's own or of one of so many tasks, and each task has its steps
+-- each event is by the inode itself or by one of this number of tasks, and each task has made its
+-- steps
 pub record AreStepped (tasks : ℕ) (journals : List Journal) : Type 0 where
   pub signed : (j : Journal) (e : Event) → Contains journals j → Contains j.events e
       → caller_of e < tasks + 1

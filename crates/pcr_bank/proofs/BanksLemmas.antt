@@ -1,4 +1,4 @@
--- What a register holds after an extend of any of them.
+-- The values of the registers after one of them is extended.
 use Rattle.std.proofs.Common.{◌≡◌, ℕ, ◌<◌, ◌==◌, if◌then◌else◌, true, false, List, [], length, get_or, refl, ap, subst, sym, ◌∙◌, get_or-set_same, get_or-set_other, length-set, eqb-true}
 use Rattle.std.proofs.lemmas.Bool.{eqb-false}
 use Rattle.std.proofs.lemmas.List.{get_or-replicate}
@@ -12,16 +12,16 @@ use Rattle.pcr_bank.specs.Banks.{extend_bank, extend_banks, new_banks, register,
 pub record IsWhole (banks : Banks) : Type 0 where
   pub count : (bank : Bank) → length (registers banks bank) ≡ 24
 
--- there are 24 registers at first
+-- each bank initially has 24 registers
 length-registers-new_banks : (bank : Bank) → length (registers new_banks bank) ≡ 24
 length-registers-new_banks Sha1 = refl
 length-registers-new_banks Sha256 = refl
 
--- so the first banks are whole
+-- the initial banks have all their registers
 pub IsWhole-new_banks : IsWhole new_banks
 IsWhole-new_banks = record { count = length-registers-new_banks }
 
--- and hold zeros
+-- the initial registers are all zeros
 pub register-new_banks : (bank : Bank) (pcr : ℕ) → pcr < 24
     → register new_banks bank pcr ≡ zero_register bank
 register-new_banks Sha1 pcr below = get_or-replicate 24 pcr (zero_register Sha1) [] below
@@ -33,7 +33,7 @@ registers-extend_banks : (banks : Banks) (pcr : ℕ) (digests : Bank → List �
 registers-extend_banks banks pcr digests Sha1 = refl
 registers-extend_banks banks pcr digests Sha256 = refl
 
--- an extend leaves their number
+-- an extend doesn't change the number of registers
 pub IsWhole-extend_banks : (banks : Banks) (pcr : ℕ) (digests : Bank → List ℕ)
     → IsWhole banks → IsWhole (extend_banks banks pcr digests)
 IsWhole-extend_banks banks pcr digests whole = record {
@@ -43,7 +43,7 @@ IsWhole-extend_banks banks pcr digests whole = record {
       ∙ whole.count bank;
 }
 
--- an extend changes its register and no other
+-- an extend changes only the register that it is for
 pub register-extend_banks : (banks : Banks) (pcr : ℕ) (digests : Bank
     → List ℕ) (bank : Bank) (q : ℕ)
     → IsWhole banks → q < 24 → register (extend_banks banks pcr digests) bank q

@@ -10,7 +10,7 @@ abbrev pub registers : Banks → Bank → List (List ℕ)
 registers banks Sha1 = banks.sha1
 registers banks Sha256 = banks.sha256
 
--- what a register holds
+-- the value of a register
 abbrev pub register : Banks → Bank → ℕ → List ℕ
 register banks bank pcr = slice_index_or (registers banks bank) pcr []
 
@@ -20,17 +20,17 @@ new_banks = record {
   sha256 = replicate 24 (zero_register Sha256);
 }
 
--- a digest for each bank
+-- the digest for each bank
 abbrev pub by_bank : List ℕ → List ℕ → Bank → List ℕ
 by_bank sha1 sha256 Sha1 = sha1
 by_bank sha1 sha256 Sha256 = sha256
 
--- the registers of a bank after an extend of one of them by the bank's digest
+-- the registers of a bank after one of them is extended by the bank's digest
 abbrev pub extend_bank : Banks → ℕ → (Bank → List ℕ) → Bank → List (List ℕ)
 extend_bank banks pcr digests bank =
     slice_set (registers banks bank) pcr (extended bank (register banks bank pcr) (digests bank))
 
--- both banks after an extend of a register
+-- both banks after a register is extended
 abbrev pub extend_banks : Banks → ℕ → (Bank → List ℕ) → Banks
 extend_banks banks pcr digests = record {
   sha1 = extend_bank banks pcr digests Sha1;

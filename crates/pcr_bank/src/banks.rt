@@ -8,7 +8,7 @@ ghost use Rattle.pcr_bank.specs.Banks.{by_bank, extend_banks, new_banks, registe
 use hash_algos::{Algo, Running};
 use inode_meta::Bank;
 
-/// The registers of both banks.
+/// The 24 registers of each of the two banks.
 #[derive(Debug, Drop)]
 pub struct Banks {
     sha1: [[u8; 20]; 24],
@@ -16,7 +16,7 @@ pub struct Banks {
 }
 
 impl Banks {
-    /// Registers of zeros.
+    /// The registers at reset: all zeros.
     pub fn new() -> Banks
         ensures { result ≡ new_banks }
     {
@@ -26,8 +26,8 @@ impl Banks {
         }
     }
 
-    /// Extends the register in each bank, by that bank's digest: it becomes the hash of what it
-    /// held and the digest.
+    /// Extends the register in each bank by that bank's digest: its new value is the hash of its
+    /// old value followed by the digest.
     pub fn extend(&mut self, pcr: u8, sha1: &[u8; 20], sha256: &[u8; 32])
         requires { pcr < 24 }
         ensures { self.new ≡ extend_banks self.old pcr (by_bank sha1.now sha256.now) }
@@ -36,7 +36,7 @@ impl Banks {
         extend_register(Algo::Sha256, &mut self.sha256[pcr as usize], sha256);
     }
 
-    /// What a register holds: 20 bytes in the bank of SHA-1, 32 in that of SHA-256.
+    /// The value of a register: 20 bytes in the SHA-1 bank, 32 in the SHA-256 bank.
     pub fn value(&self, bank: Bank, pcr: u8) -> &[u8]
         requires { pcr < 24 }
         ensures { result.now ≡ register self.now bank pcr }
@@ -48,7 +48,7 @@ impl Banks {
     }
 }
 
-// Extends one register of a bank with this hash.
+// Extends one register of a bank with this hash algorithm.
 fn extend_register(algo: Algo, register: &mut [u8], digest: &[u8])
     requires { length register.old ≡ algo_size algo }
     ensures { register.new ≡ hash algo (register.old ++ digest.now) }

@@ -1,5 +1,5 @@
-//! The platform configuration registers that a measurement list extends: 24 registers in a bank of
-//! SHA-1 and in a bank of SHA-256, all zeros at first (TPM 2.0 Library, part 1, "PCR operations").
+//! The platform configuration registers that a measurement list extends: 24 registers each in a
+//! SHA-1 bank and a SHA-256 bank, initially all zeros (TPM 2.0 Library, part 1, "PCR operations").
 #![tactic(auto)]
 
 mod banks;

@@ -1,4 +1,4 @@
--- What the fields of a policy cell keep.
+-- The invariant of the fields of a policy cell.
 use Rattle.std.specs.Prelude.{◌≡◌, ◌≤◌, take, drop, length}
 use Rattle.policy_cell.specs.Policy.{PolicyValue, rules_in}
 use Rattle.policy_cell.specs.declared.cell.PolicyCell.TheInside.{Inside}
@@ -6,7 +6,7 @@ use Rattle.policy_cell.specs.declared.cell.PolicyCell.TheInside.{Inside}
 abbrev pub policy_of : Inside → PolicyValue
 policy_of p = record { base = take p.base p.index; appended = p.appended }
 
--- the index has the rules of the start and then the appended ones
+-- the index has the initial rules, followed by the appended ones
 pub record IsPolicy (p : Inside) : Type 0 where
   pub base : p.base ≤ length p.index
   pub appended : drop p.base p.index ≡ rules_in p.appended.list

@@ -11,18 +11,18 @@ use rule_match::policy::{Policy, Rule};
 use std::alloc::{AllocError as OutOfMemory, Global};
 use std::marker::Model;
 
-/// A rule that was appended.
+/// A rule that a step appended to the policy.
 #[derive(Drop)]
 pub struct RuleEntry {
-    /// The step that appended it.
+    /// The step that appended the rule.
     pub who: Who,
-    /// The rule.
+    /// The appended rule.
     pub rule: Rule,
 }
 
-/// The rules in force: those that it was started with, and behind them those that its callers have
-/// appended. Contracts see the former, and the growing list of the latter. It has no limit of its
-/// own.
+/// The rules in force: the initial ones, followed by those that the callers have appended.
+/// Contracts see the initial rules, and the growing list of the appended ones. It has no length
+/// limit of its own.
 #[derive(Drop)]
 pub struct PolicyCell {
     index: Index,
@@ -43,8 +43,8 @@ impl Model for PolicyCell {
 }
 
 impl PolicyCell {
-    /// The policy with no rule appended, and a pass for each of its callers, in the order of their
-    /// numbers.
+    /// The initial policy, without appended rules, and a pass for each of its callers, in the order
+    /// of their numbers.
     pub fn start(
         alloc: Global,
         rules: Policy,
@@ -70,8 +70,8 @@ impl PolicyCell {
         Ok((cell, passes))
     }
 
-    /// Appends a copy of the rule by a pass of this policy, and answers its place among all rules
-    /// in force, from 0 on. Out of memory, policy and pass are as before.
+    /// Appends a copy of the rule by a pass of this policy, and returns its index among all rules
+    /// in force, counted from 0. If memory runs out, neither the policy nor the pass changes.
     pub fn append(
         &mut self,
         alloc: Global,
@@ -114,7 +114,7 @@ impl PolicyCell {
         Ok(place)
     }
 
-    /// A pass of this policy sees the appended rules.
+    /// Shows the appended rules to a pass of this policy.
     pub fn look(&mut self, pass: &mut Pass<RuleEntry>)
         requires { pass.old.name ≡ self.old.appended.name }
 
@@ -133,22 +133,22 @@ impl PolicyCell {
         self.appended.look(pass);
     }
 
-    /// How many rules were appended.
+    /// The number of appended rules.
     pub fn appended(&self) -> u64
         ensures { result ≡ length self.now.appended.list }
     {
         self.appended.len()
     }
 
-    /// The rules in force.
+    /// The rules in force, initial and appended.
     pub fn rules(&self) -> &Index
         ensures { result.now ≡ in_force self.now }
     {
         &self.index
     }
 
-    /// Hands out the appended rules, and takes back the passes, of which the same holds as at
-    /// [`Grow::close`].
+    /// Hands over the appended rules and takes back the passes. The contract for the passes is that
+    /// of [`Grow::close`].
     pub fn close(self, passes: Vec<Pass<RuleEntry>>) -> Vec<RuleEntry>
         requires { HasEach self.appended passes.items }
         ensures list { result.items ≡ self.appended.list }

@@ -1,4 +1,4 @@
-//! The rules in force while tasks run: a policy that grows by rules which tasks append.
+//! The rules in force during a run: a policy to which tasks append rules.
 #![tactic(auto)]
 
 mod cell;

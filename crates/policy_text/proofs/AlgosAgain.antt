@@ -1,4 +1,4 @@
--- What is printed of a set of algorithms is read as that set: each set, one by one.
+-- The printed text of a set of algorithms is read back as that set, by cases over all sets.
 use Rattle.std.proofs.Common.{◌≡◌, Bool, true, false, refl}
 use Rattle.std.proofs.lemmas.Bool.{false≢true}
 use Rattle.hash_algos.specs.declared.algo_set.AlgoSet.{AlgoSet}

@@ -1,4 +1,4 @@
--- Names parted by commas, printed one by one.
+-- Names separated by commas, printed one by one.
 use Rattle.std.proofs.Common.{◌≡◌, ℕ, ◌+◌, ◌<◌, true, false, List, [], ◌∷◌, ◌++◌, take, map, get_or, length, refl, sym, ap, ◌∙◌, append_assoc}
 use Rattle.std.specs.List.{filter, join_with_byte}
 use Rattle.hash_algos.specs.declared.algo.Algo.{Algo}
@@ -13,7 +13,7 @@ use Rattle.hash_algos.specs.AlgoSet.{holds_algo}
 abbrev pub names_to : AlgoSet → ℕ → List (List ℕ)
 names_to s i = map algo_name (filter (holds_algo s) (take i algos))
 
--- what stands between names
+-- the comma before the next name, or nothing before the first
 abbrev pub comma_after : List (List ℕ) → List ℕ
 comma_after [] = []
 comma_after (n ∷ ns) = 44 ∷ []
@@ -33,14 +33,14 @@ module _ (s : AlgoSet) (xs : List Algo) (i : ℕ) (lt : i < length xs) where
       ∙ ap (λ (ys : List Algo). map algo_name ys)
       (filter-append (holds_algo s) (take i xs) (get_or xs i algo.Md5 ∷ []))
 
-  -- one algorithm more, where the set holds it
+  -- the names after one more algorithm, if the set holds it
   pub names_more_in : holds_algo s (get_or xs i algo.Md5) ≡ true
       → map algo_name (filter (holds_algo s) (take (i + 1) xs))
       ≡ map algo_name (filter (holds_algo s) (take i xs)) ++ algo_name (get_or xs i algo.Md5) ∷ []
   names_more_in h = names_more
       ∙ rw h (map_push algo_name (filter (holds_algo s) (take i xs)) (get_or xs i algo.Md5))
 
-  -- where it doesn't
+  -- the names after one more algorithm, if the set doesn't hold it
   pub names_more_out : holds_algo s (get_or xs i algo.Md5) ≡ false
       → map algo_name (filter (holds_algo s) (take (i + 1) xs))
       ≡ map algo_name (filter (holds_algo s) (take i xs))
@@ -52,7 +52,7 @@ comma_next : (ns : List (List ℕ)) (n : List ℕ) → comma_after (ns ++ n ∷ 
 comma_next [] n = refl
 comma_next (m ∷ ns) n = refl
 
--- a name is printed behind its comma
+-- the text after one more name is printed after its comma
 pub printed : (front out comma new : List ℕ) (ns more : List (List ℕ)) (name : List ℕ) → out ≡ front
     ++ join_with_byte 44 ns → comma ≡ comma_after ns
     → more ≡ ns ++ name ∷ [] → new ≡ out ++ (comma ++ name)

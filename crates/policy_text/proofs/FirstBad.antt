@@ -1,5 +1,5 @@
--- A refused policy has a first bad line: the lines before it are rules, blank or comments, and it
--- is bad with the fault's cause.
+-- A refused policy has a first bad line: the lines before it are rules, blank lines or comments,
+-- and it is refused with the fault's cause.
 use Rattle.std.proofs.Common.{◌≡◌, ℕ, List, [], Err}
 use Rattle.text_forms.specs.Lines.{lines, IsFirstBad}
 use Rattle.text_forms.proofs.Steps.{first_bad}

@@ -1,4 +1,4 @@
--- Words joined by one byte: what the text is parted into, and what holds of its bytes.
+-- Words joined by a byte: the parts into which the text is split, and facts about its bytes.
 use Rattle.std.proofs.Common.{◌≡◌, ℕ, Bool, true, false, not, ◌&&◌, List, [], ◌∷◌, filter, refl, sym, ap, ◌∙◌}
 use Rattle.std.specs.List.{slice_split, list_all, join_with_byte}
 use Rattle.std.proofs.lemmas.Bool.{false≢true}
@@ -16,7 +16,7 @@ right true b h = h
 right false b h = absurd (false≢true h)
 
 module _ (p : ℕ → Bool) (c : ℕ) where
-  -- words without a separator, joined by one
+  -- splitting words that were joined by a separator gives the words back, if none has a separator
   pub parts_joined : p c ≡ true → (w : List ℕ) (ws : List (List ℕ))
       → list_all (λ v. list_all (λ b. not (p b)) v) (w ∷ ws) ≡ true
       → slice_split p (join_with_byte c (w ∷ ws)) ≡ w ∷ ws
@@ -26,7 +26,8 @@ module _ (p : ℕ → Bool) (c : ℕ) where
       part p w (c ∷ join_with_byte c (v ∷ ws)) (left _ _ h) parts
       ∙ ap (λ (ts : List (List ℕ)). w ∷ ts) (rw parts (parts_joined parts v ws (right _ _ h)))
 
-  -- what holds of the bytes of each word and of the byte between them
+  -- if the bytes of each word pass a test and the byte between words does, all bytes of the text
+  -- pass
   pub all_joined : p c ≡ true → (ws : List (List ℕ)) → list_all (λ v. list_all p v) ws ≡ true
       → list_all p (join_with_byte c ws) ≡ true
   all_joined byte [] h = refl
@@ -36,7 +37,7 @@ module _ (p : ℕ → Bool) (c : ℕ) where
       rw (list_all-append p w (c ∷ join_with_byte c (v ∷ ws)), here, byte)
       (all_joined byte (v ∷ ws) (right _ _ h))
 
--- words that are filled are kept
+-- filtering out empty words keeps a list of nonempty words
 pub filled_kept : (ws : List (List ℕ)) → list_all is_filled ws ≡ true → filter is_filled ws ≡ ws
 filled_kept [] h = refl
 filled_kept (w ∷ ws) h = let here : is_filled w ≡ true =

@@ -1,4 +1,4 @@
--- Going over the keys one by one.
+-- Iterating over the keys.
 use Rattle.std.proofs.Common.{◌≡◌, ℕ, zero, suc, ◌+◌, ◌<◌, ◌≤◌, List, [], ◌∷◌, ◌++◌, flat_map, length, get_or, drop, take, Option, Some, None, sym, ap, ◌∙◌, add-one, append_assoc, arith}
 use Rattle.std.proofs.Math.ListN.{drop_of_length-le}
 use Rattle.std.proofs.Math.Seq.{drop-cons}
@@ -12,12 +12,12 @@ module _ (token : List ℕ) (whole : Option (Key × List ℕ)) (ks : List Key) (
       let e : drop n ks ≡ get_or ks n d ∷ drop (suc n) ks = drop-cons ks n d lt in
       rw add-one e
 
-  -- a key that the token has is the first, where no earlier key was
+  -- a key with which the token begins is the first such key, if no earlier one is
   pub key_here : (value : List ℕ) → n < length ks → value_in (get_or ks n d) token ≡ Some value
       → key_among (drop n ks) token ≡ whole → Some (get_or ks n d, value) ≡ whole
   key_here value lt found so_far = rw (at_key lt, found) at so_far
 
-  -- a key that the token hasn't leaves the question to the keys behind it
+  -- if the token doesn't begin with this key, the keys after it decide
   pub key_later : (m : ℕ) → n < length ks → value_in (get_or ks n d) token ≡ None → m ≡ n + 1
       → key_among (drop n ks) token ≡ whole → key_among (drop m ks) token ≡ whole
   key_later m lt missed is so_far = rw is (rw (at_key lt, missed) at so_far)
@@ -33,7 +33,7 @@ texts_suc f (x ∷ xs) (suc n) d lt =
     ap (λ (bs : List ℕ). f x ++ bs) (texts_suc f xs n d (omega (arith, lt)))
     ∙ sym (append_assoc (f x) (flat_map f (take n xs)) (f (get_or xs n d)))
 
--- the texts of one key more
+-- the concatenated texts of one more key
 pub texts_more : {X : Type 0} (f : X → List ℕ) (xs : List X) (n : ℕ) (d : X) → n < length xs
     → flat_map f (take (n + 1) xs) ≡ flat_map f (take n xs) ++ f (get_or xs n d)
 texts_more f xs n d lt = rw add-one (texts_suc f xs n d lt)

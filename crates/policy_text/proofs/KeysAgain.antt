@@ -1,4 +1,4 @@
--- What is printed of a rule's keys is read as those keys: a lemma for each key, and one induction
+-- The printed keys of a rule are read back as the same keys: a lemma for each key, and an induction
 -- over the table.
 use Rattle.std.proofs.Common.{◌≡◌, ℕ, ◌^◌, Bool, true, false, not, ◌||◌, ◌&&◌, List, [], ◌∷◌, ◌++◌, codes, Option, Some, None, is_none, is_some, Ok, nat_le, nat_lt, refl, sym, ap, ◌∙◌, inl, inr, arith}
 use Rattle.std.specs.Fmt.{decimal}
@@ -27,7 +27,7 @@ use Rattle.policy_text.proofs.AlgosAgain.{algos_again}
 use Rattle.policy_text.proofs.Joined.{left, right}
 use Rattle.policy_text.proofs.ValuesAgain.{func_again, id_again, mask_again, number_again, sign_again}
 
--- the rule s, with what the rule r has by the key
+-- the rule s, with the key's part of the rule r
 abbrev pub put : Key → RuleValue → RuleValue → RuleValue
 put key.Func r s = record s { func = r.func }
 put key.Mask r s = record s { mask = r.mask }
@@ -47,11 +47,11 @@ put key.Directio r s = record s { directio = r.directio }
 put key.Pcr r s = record s { pcr = r.pcr }
 put key.Template r s = record s { template = r.template }
 
--- the word is visible, and the rule s reads it and is then t
+-- the word is visible, and parsing it turns the rule s into t
 abbrev Reads : List ℕ → RuleValue → RuleValue → Type 0
 Reads word s t = (is_visible_word word ≡ true) × (with_token s word ≡ Ok t)
 
--- a key that stands in the rule belongs to its action
+-- a key that the rule has belongs to its action
 none_or : {A : Type 0} (o : Option A) (b : Bool) → is_some o ≡ true → (is_none o || b) ≡ true → b
     ≡ true
 none_or None b h k = absurd (false≢true h)
@@ -164,7 +164,7 @@ module _ (s : RuleValue) where
   template_read (Some template.ImaSig) e h a k = (refl, rw (a, e) refl)
   template_read (Some template.ImaBuf) e h a k = absurd (false≢true k)
 
--- a key that the rule r has is read
+-- the printed word of a key that the rule r has is parsed
 word_read : (k : Key) (r s : RuleValue) → IsRule r → s.act ≡ r.act → (row k).is_in s ≡ false
     → (row k).is_in r ≡ true → Reads (key_word k r) s (put k r s)
 word_read key.Func r s ok act e h = func_read s r.func e h
@@ -195,7 +195,7 @@ word_read key.Template r s ok act e h =
     template_read s r.template e h (ap is_measure act
     ∙ none_or r.template (is_measure r.act) h ok.measure_template) ok.template
 
--- a field that is none in both rules
+-- two fields that are both absent are equal
 none_is : {A : Type 0} (o p : Option A) → is_some o ≡ false → is_some p ≡ false → o ≡ p
 none_is None None e h = refl
 none_is None (Some y) e h = absurd (false≢true (sym h))
@@ -206,7 +206,7 @@ any_is need.Any need.Any e h = refl
 any_is need.Any need.Signature e h = absurd (false≢true (sym h))
 any_is need.Signature n e h = absurd (false≢true (sym e))
 
--- a key that neither rule has leaves the rule as it is
+-- putting a key that neither rule has changes nothing
 put_none : (k : Key) (r s : RuleValue) → (row k).is_in s ≡ false → (row k).is_in r ≡ false
     → put k r s ≡ s
 put_none key.Func r s e h =
@@ -262,12 +262,12 @@ put_act key.Template r s = refl
 
 -- ---- the induction over the table
 
--- the rule s with what the rule r has by the keys, one after the other
+-- the rule s, with the parts of the rule r for these keys
 abbrev fill : List Key → RuleValue → RuleValue → RuleValue
 fill [] r s = s
 fill (k ∷ ks) r s = fill ks r (put k r s)
 
--- each key is missing when its turn comes
+-- the rule doesn't have a key yet when that key's turn comes
 abbrev is_fresh : List Key → RuleValue → RuleValue → Bool
 is_fresh [] r s = true
 is_fresh (k ∷ ks) r s = not ((row k).is_in s) && is_fresh ks r (put k r s)
@@ -296,7 +296,7 @@ keys_read (k ∷ ks) r s ok act fresh =
       )
     ]
 
--- the keys of a rule, from its action on
+-- the printed keys of a rule, parsed onto its action, give the rule
 pub keys_again : (r : RuleValue) → IsRule r → (list_all is_visible_word (key_words keys r) ≡ true)
     × (with_tokens (plain_rule r.act) (key_words keys r) ≡ Ok r)
 keys_again r ok = keys_read keys r (plain_rule r.act) ok refl refl

@@ -1,4 +1,4 @@
--- What is printed of a policy is read as that policy.
+-- The printed text of a policy is read back as that policy.
 use Rattle.std.proofs.Common.{◌≡◌, ℕ, ◌+◌, ◌≤◌, ◌<◌, true, List, [], ◌∷◌, ◌++◌, Ok, length, nat_lt, refl, sym, ap, ◌∙◌, append_assoc, arith, length-append}
 use Rattle.std.specs.List.{AllByRecursion}
 use Rattle.std.proofs.lemmas.Bool.Decides.{nat_tests}
@@ -6,18 +6,19 @@ use Rattle.std.proofs.lemmas.List.{append-nil}
 use Rattle.text_forms.specs.Lines.{lines, from_lines}
 use Rattle.text_forms.proofs.Tells.{line_split}
 use Rattle.policy_text.specs.Grammar.{fault_at, with_line, policy_of}
+use Rattle.policy_text.specs.Limits.{most_rules}
 use Rattle.policy_text.specs.RuleValue.{RuleValue, IsRule}
 use Rattle.policy_text.specs.Spelling.{rule_text, policy_text}
 use Rattle.policy_text.proofs.RulesAgain.{rule_again, rule_on_one_line, rule_stands}
 
-with_rule : (done : List RuleValue) (r : RuleValue) → IsRule r → length done < 1024
+with_rule : (done : List RuleValue) (r : RuleValue) → IsRule r → length done < most_rules
     → with_line done (rule_text r) ≡ Ok (done ++ r ∷ [])
 with_rule done r ok room =
-    let fits : nat_lt (length done) 1024 ≡ true = grind (arith, nat_tests) in
+    let fits : nat_lt (length done) most_rules ≡ true = grind (arith, nat_tests) in
     rw (rule_stands r ok, rule_again r ok, fits) refl
 
 rules_again : (rs done : List RuleValue) (n : ℕ) → AllByRecursion IsRule rs
-    → length done + length rs ≤ 1024
+    → length done + length rs ≤ most_rules
     → from_lines fault_at with_line n done (lines (policy_text rs)) ≡ Ok (done ++ rs)
 rules_again [] done n ok room = ap (λ (rs : List RuleValue). Ok rs) (sym (append-nil done))
 rules_again (r ∷ rs) done n ok room =
@@ -30,6 +31,6 @@ rules_again (r ∷ rs) done n ok room =
     (line_split (rule_text r) (policy_text rs) (rule_on_one_line r ok.0))
     ∙ rw here (others ∙ ap (λ (qs : List RuleValue). Ok qs) (append_assoc done (r ∷ []) rs))
 
-pub policy_again : (rs : List RuleValue) → AllByRecursion IsRule rs → length rs ≤ 1024
+pub policy_again : (rs : List RuleValue) → AllByRecursion IsRule rs → length rs ≤ most_rules
     → policy_of (policy_text rs) ≡ Ok rs
 policy_again rs ok room = rules_again rs [] 1 ok (omega arith)

@@ -1,4 +1,4 @@
--- Reading values.
+-- Parsing the values of keys.
 use Rattle.std.proofs.Common.{◌≡◌, ℕ, ◌+◌, ◌≤◌, Bool, true, false, ◌||◌, List, ◌∷◌, length, drop, Option, Some, None, Result, refl}
 use Rattle.std.proofs.Math.ListN.{drop_of_length-le}
 use Rattle.hash_algos.specs.declared.algo.Algo.{Algo}
@@ -20,7 +20,7 @@ after : {b : Bool} (a : Bool) → b ≡ true → (a || b) ≡ true
 after true e = refl
 after false e = e
 
--- one name more
+-- one more algorithm name
 pub one_more : (s : AlgoSet) (name : List ℕ) (a : Algo) (ls : List (List ℕ)) (n m : ℕ)
     (whole : Option AlgoSet)
     → drop n ls ≡ name ∷ drop (n + 1) ls → algo_by_name name ≡ Some a → m ≡ n + 1
@@ -36,7 +36,7 @@ pub all_names : (s : AlgoSet) (ls : List (List ℕ)) (n : ℕ) (whole : Option A
     → algos_from s (drop n ls) ≡ whole → Some s ≡ whole
 all_names s ls n whole le so_far = rw (drop_of_length-le ls le) at so_far
 
--- a set with one algorithm more holds one
+-- a set to which an algorithm was added isn't empty
 pub holds_one : (s : AlgoSet) (a : Algo) → has_algos (with_algo s a) ≡ true
 holds_one s algo.Md5 = refl
 holds_one s algo.Sha1 = after (holds_algo s algo.Md5) refl
@@ -54,7 +54,7 @@ holds_one s algo.Sha224 =
     (after (holds_algo s algo.Sha256)
     (after (holds_algo s algo.Sha384) (after (holds_algo s algo.Sha512) refl))))
 
--- a line that gave no rule stops the reading
+-- a line that gives no rule ends the parsing
 pub stops_at : (ls : List (List ℕ)) (whole : Result (List RuleValue) Fault) (n : ℕ)
     (rules : List RuleValue) (line : List ℕ) (e : LineErr)
     → drop n ls ≡ line ∷ drop (n + 1) ls → LineFails e (with_line rules line)

@@ -1,4 +1,4 @@
--- What is printed of a rule is words, and is read as that rule.
+-- The printed text of a rule consists of words, and is read back as that rule.
 use Rattle.std.proofs.Common.{◌≡◌, ℕ, true, false, not, ◌==◌, List, [], ◌∷◌, ◌++◌, flat_map, filter, Ok, refl, sym, ap, ◌∙◌, append_assoc, inl, inr, arith}
 use Rattle.std.specs.List.{list_all, join_with_byte}
 use Rattle.std.proofs.lemmas.Bool.{cases_Bool}
@@ -19,7 +19,7 @@ use Rattle.policy_text.proofs.Joined.{all_joined, filled_kept, left, parts_joine
 use Rattle.policy_text.proofs.KeysAgain.{keys_again}
 use Rattle.policy_text.proofs.ValuesAgain.{act_again}
 
--- words with one space between are the first, and the others behind a space each
+-- joining words by single spaces gives the first word, and then each other word after a space
 pub spaced : (w : List ℕ) (ks : List Key) (r : RuleValue) → join_with_byte 32 (w ∷ key_words ks r)
     ≡ w ++ flat_map (key_text r) ks
 spaced w [] r = sym (append-nil w)
@@ -28,7 +28,7 @@ spaced w (k ∷ ks) r = elim (cases_Bool ((row k).is_in r)) [
   | inr e ↦ rw e (spaced w ks r)
 ]
 
--- what is put behind `out` is the rule's text
+-- the text appended to `out` is the rule's text
 pub rule_put : (r : RuleValue) (start first last : List ℕ) → first ≡ start ++ act_word r.act → last
     ≡ first ++ flat_map (key_text r) keys → last ≡ start ++ rule_text r
 unfolding rule_text
@@ -72,11 +72,11 @@ visible_flat : (w : List ℕ) → is_visible_word w ≡ true → list_all (λ b.
 visible_flat w h = flat_from_visible w (right _ _ h)
 
 module _ (r : RuleValue) (ok : IsRule r) where
-  -- each word of a rule has one visible byte or more
+  -- each word of a rule is at least one visible byte
   pub words_visible : list_all is_visible_word (rule_words r) ≡ true
   words_visible = rw (act_visible r.act) (keys_again r ok).0
 
-  -- its words are what the text is parted into
+  -- splitting the text of a rule gives its words
   pub words_again : words (rule_text r) ≡ rule_words r
   unfolding rule_text
   words_again =

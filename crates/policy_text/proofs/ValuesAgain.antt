@@ -1,4 +1,4 @@
--- What is printed of a value is read as that value.
+-- The printed text of a value is read back as that value.
 use Rattle.std.proofs.Common.{◌≡◌, ℕ, ◌^◌, ◌<◌, ◌≤◌, Bool, true, false, ◌==◌, List, Option, Some, refl, subst, inl, inr, arith}
 use Rattle.std.specs.Fmt.{decimal}
 use Rattle.std.specs.List.{list_all}
@@ -22,7 +22,7 @@ use Rattle.policy_text.specs.Spelling.{act_word}
 use Rattle.policy_text.specs.ValueTexts.{func_word, id_text, mask_text}
 use Rattle.policy_text.specs.Values.{act_of, func_of, id_of, is_sign, mask_of, template_of}
 
--- a text that is visible, and what it is read as
+-- the text is visible, and is read back as x
 abbrev pub Again : {A : Type 0} → (List ℕ → Option A) → List ℕ → A → Type 0
 Again read text x = (list_all is_visible text ≡ true) × (read text ≡ Some x)
 
@@ -108,7 +108,7 @@ number_again most n le small =
       number_of-digits 10 n (omega arith) (omega arith) fits most le,
     )
 
--- a user or a group: what is printed begins with its sign
+-- the printed test of a user or group ID begins with its sign
 pub sign_again : (t : IdTest) → is_sign (id_text t) ≡ true
 sign_again (id.Is n) = refl
 sign_again (id.Above n) = refl

@@ -1,4 +1,4 @@
--- An action's fields as contracts see them, and back.
+-- Conversion between the fields of an action and the record that contracts see.
 use Rattle.policy_text.specs.declared.access.Action.TheInside.{Inside}
 use Rattle.policy_text.specs.ActionValue.{ActionValue}
 

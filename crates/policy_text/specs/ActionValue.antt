@@ -1,9 +1,9 @@
--- What contracts see of an action, and which actions a policy can have.
+-- An action as contracts see it, and its invariant.
 use Rattle.std.specs.Prelude.{ℕ, Bool, false, ◌==◌, ◌||◌, ◌<◌, Option, None, is_none, IsTrue}
 use Rattle.hash_algos.specs.declared.algo_set.AlgoSet.{AlgoSet}
 use Rattle.inode_meta.specs.declared.appraisal.Need.{Need}
 use Rattle.inode_meta.specs.declared.appraisal.Need.TheVariants as need
-use Rattle.inode_meta.specs.declared.measurement.TheConstants.{DEFAULT_PCR}
+use Rattle.inode_meta.specs.Registers.{default_pcr}
 use Rattle.inode_meta.specs.declared.measurement.Template.{Template}
 use Rattle.policy_text.specs.RuleValue.{is_any, if_there, is_named_template}
 
@@ -17,11 +17,11 @@ pub record ActionValue : Type 0 where
   pub audit : Bool
   pub hash : Bool
 
--- no family of rules acts on the access
+-- no family of rules requires anything for the access
 abbrev pub no_action : ActionValue
 no_action = record {
   measure = false;
-  pcr = DEFAULT_PCR;
+  pcr = default_pcr;
   template = None;
   appraise = false;
   need = need.Any;
@@ -30,10 +30,10 @@ no_action = record {
   hash = false;
 }
 
--- the register exists, and what isn't done has no options
+-- the register exists, and a family that requires nothing has no options
 pub record IsAction (a : ActionValue) : Type 0 where
   pub pcr : a.pcr < 24
-  pub no_pcr : IsTrue (a.measure || (a.pcr == DEFAULT_PCR))
+  pub no_pcr : IsTrue (a.measure || (a.pcr == default_pcr))
   pub no_template : IsTrue (a.measure || is_none a.template)
   pub template : IsTrue (if_there is_named_template a.template)
   pub no_need : IsTrue (a.appraise || is_any a.need)

@@ -1,4 +1,4 @@
--- A function gives what a definition says, unless memory runs out.
+-- Contracts of functions that return what a definition says, unless memory runs out.
 use Rattle.std.specs.Prelude.{◌≡◌, ℕ, Result, Ok, Err}
 use Rattle.policy_text.specs.declared.fault.Fault.{Fault}
 use Rattle.policy_text.specs.declared.fault.RuleCause.{RuleCause}
@@ -15,7 +15,7 @@ abbrev pub LineFails : {X : Type 0} → LineErr → Result X RuleCause → Type 
 LineFails line.OutOfMemory said = Unit {0}
 LineFails (line.Refused c) said = said ≡ Err c
 
--- what a line makes
+-- the result of parsing a line is `said`, or memory ran out
 abbrev pub LineGives : {X : Type 0} → Result X LineErr → Result X RuleCause → Type 0
 LineGives (Ok x) said = said ≡ Ok x
 LineGives (Err e) said = LineFails e said
@@ -24,7 +24,7 @@ abbrev pub Fails : {X : Type 0} → PolicyErr → Result X Fault → Type 0
 Fails policy.OutOfMemory said = Unit {0}
 Fails (policy.Refused f) said = said ≡ Err f
 
--- what a text makes
+-- the result of parsing a text is `said`, or memory ran out
 abbrev pub Gives : {X : Type 0} → Result X PolicyErr → Result X Fault → Type 0
 Gives (Ok x) said = said ≡ Ok x
 Gives (Err e) said = Fails e said

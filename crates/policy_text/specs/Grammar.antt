@@ -1,5 +1,5 @@
--- The grammar of policies: the rules of a text, or its first bad line and the cause of that line's
--- first bad token.
+-- The grammar of policies: the rules of a text, or its first bad line, with the cause of the first
+-- bad token in that line.
 use Rattle.std.specs.Prelude.{ℕ, Bool, true, false, not, ◌==◌, List, [], ◌∷◌, ◌++◌, length, None, Result, Ok, Err, ok_or, nat_lt, if◌then◌else◌}
 use Rattle.inode_meta.specs.declared.appraisal.Need.TheVariants as need
 use Rattle.text_forms.specs.Lines.{◌>>=◌, lines, from_lines}
@@ -10,10 +10,11 @@ use Rattle.policy_text.specs.declared.fault.RuleCause.TheVariants as cause
 use Rattle.policy_text.specs.declared.key.Key.{Key}
 use Rattle.policy_text.specs.declared.rule.Act.{Act}
 use Rattle.policy_text.specs.Key.{is_unsupported_key, key_of, row}
+use Rattle.policy_text.specs.Limits.{most_rules}
 use Rattle.policy_text.specs.RuleValue.{RuleValue}
 use Rattle.policy_text.specs.Values.{act_of}
 
--- an action without conditions and options
+-- the rule that has this action, and neither conditions nor options
 abbrev pub plain_rule : Act → RuleValue
 plain_rule a = record {
   act = a;
@@ -36,7 +37,7 @@ plain_rule a = record {
   template = None;
 }
 
--- the tests of a key and its value, in their order
+-- the rule with this key and value added, or the cause of the first check that fails
 abbrev pub with_key : Key → List ℕ → RuleValue → Result RuleValue RuleCause
 with_key k value r =
     if not ((row k).belongs r.act) then Err cause.NotForAction
@@ -44,7 +45,7 @@ with_key k value r =
     else if (row k).left_out value then Err cause.Unsupported
     else ok_or ((row k).read value r) cause.BadValue
 
--- the rule with one token more
+-- the rule with one more token
 abbrev pub with_token : RuleValue → List ℕ → Result RuleValue RuleCause
 with_token r token =
     if is_unsupported_key token then Err cause.Unsupported
@@ -54,7 +55,7 @@ abbrev pub with_tokens : RuleValue → List (List ℕ) → Result RuleValue Rule
 with_tokens r [] = Ok r
 with_tokens r (token ∷ ts) = with_token r token >>= λ s. with_tokens s ts
 
--- the rule of a line's tokens: the first is its action
+-- the rule of a line's tokens, of which the first is the action
 abbrev pub rule_of_tokens : List (List ℕ) → Result RuleValue RuleCause
 rule_of_tokens [] = Err cause.BadAction
 rule_of_tokens (token ∷ ts) = ok_or (act_of token) cause.BadAction >>= λ a. with_tokens
@@ -63,17 +64,17 @@ rule_of_tokens (token ∷ ts) = ok_or (act_of token) cause.BadAction >>= λ a. w
 abbrev pub rule_of : List ℕ → Result RuleValue RuleCause
 rule_of line = rule_of_tokens (tokens line)
 
--- a line without tokens, and a comment
+-- a line without tokens, or a comment
 abbrev pub is_skipped : List (List ℕ) → Bool
 is_skipped [] = true
 is_skipped ([] ∷ ts) = false
 is_skipped ((c ∷ cs) ∷ ts) = c == 35
 
--- the rules with those of one line more
+-- the rules with that of one more line
 abbrev pub with_line : List RuleValue → List ℕ → Result (List RuleValue) RuleCause
 with_line rules line =
     if is_skipped (tokens line) then Ok rules
-    else rule_of line >>= λ r. if nat_lt (length rules) 1024 then Ok (rules ++ r ∷ [])
+    else rule_of line >>= λ r. if nat_lt (length rules) most_rules then Ok (rules ++ r ∷ [])
     else Err cause.TooMany
 
 abbrev pub fault_at : ℕ → RuleCause → Fault

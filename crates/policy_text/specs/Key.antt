@@ -1,5 +1,5 @@
--- The keys of a rule: a row a key, with its name, the actions that it belongs to, how its value is
--- read and printed, and its condition.
+-- The keys of a rule: a row for each key, with its name, the actions that can have it, how its
+-- value is parsed and printed, and its condition.
 use Rattle.std.specs.Prelude.{ℕ, Bool, true, false, not, ◌==◌, ◌&&◌, ◌||◌, List, [], ◌∷◌, length, take, drop, codes, Option, Some, None, is_some, if◌then◌else◌}
 use Rattle.std.specs.Fmt.{decimal}
 use Rattle.std.specs.Option.{option_map}
@@ -22,30 +22,30 @@ use Rattle.policy_text.specs.Values.{algos_of, func_of, id_of, is_sign, is_unsup
 use Rattle.policy_text.specs.ValueTexts.{algos_text, func_word, id_text, mask_text}
 
 pub record Row : Type 0 where
-  -- with what its token begins
+  -- the beginning of its token
   pub name : List ℕ
   pub shape : Shape
   -- the actions whose rules can have it
   pub belongs : Act → Bool
   pub is_in : RuleValue → Bool
-  -- the values of the kernel's that are left out here
+  -- the values that the kernel knows but that aren't supported here
   pub left_out : List ℕ → Bool
-  -- the rule with this value, where it is of the key's form
+  -- the rule with this value, if the value has the form that the key requires
   pub read : List ℕ → RuleValue → Option RuleValue
-  -- the value that is printed of a rule that has it
+  -- the printed value, for a rule that has the key
   pub spelled : RuleValue → List ℕ
-  -- what the rule says by it of an access
+  -- whether the access satisfies the rule's condition with this key
   pub holds : RuleValue → Access → Bool
 
 abbrev pub any_act : Act → Bool
 any_act act = true
 
--- the text of what is there
+-- the text of an optional value, empty if there is none
 abbrev pub told : {A : Type 0} → (A → List ℕ) → Option A → List ℕ
 told text_of None = []
 told text_of (Some x) = text_of x
 
--- a key whose value fills a field
+-- a key whose value is a field of the rule
 abbrev pub field : {A : Type 0} → List ℕ → Shape → (RuleValue → Option A)
     → (A → RuleValue → RuleValue) → (List ℕ → Option A) → (A → List ℕ) → Row
 field name shape get set value_of text_of = record {
@@ -59,20 +59,20 @@ field name shape get set value_of text_of = record {
   holds = λ r a. true;
 }
 
--- a field that is a condition
+-- a key whose value is a field of the rule and a condition on accesses
 abbrev pub condition : {A : Type 0} → List ℕ → Shape → (RuleValue → Option A)
     → (A → RuleValue → RuleValue) → (List ℕ → Option A) → (A → List ℕ) → (A → Access → Bool) → Row
 condition name shape get set value_of text_of test =
     record (field name shape get set value_of text_of)
     { holds = λ r a. if_there (λ x. test x a) (get r) }
 
--- the number of a user or a group, behind its sign
+-- a condition on a user or group ID, written as a sign and a number
 abbrev pub id_condition : List ℕ → (RuleValue → Option IdTest) → (IdTest → RuleValue → RuleValue)
     → (Access → ℕ) → Row
 id_condition name get set number = condition name shape.Signed get set id_of id_text
     (λ t a. id_holds t (number a))
 
--- a key that has one value
+-- a key with only one possible value
 abbrev pub flag : List ℕ → Shape → List ℕ → (RuleValue → Bool) → (RuleValue → RuleValue) → Row
 flag name shape only is_in set = record {
   name = name;
@@ -85,7 +85,7 @@ flag name shape only is_in set = record {
   holds = λ r a. true;
 }
 
--- the table
+-- the table of the keys
 abbrev pub row : Key → Row
 row key.Func = condition (codes "func=") shape.Valued (λ r. r.func)
     (λ f r. record r { func = Some f }) func_of func_word (λ f a. same_func f a.func)
@@ -162,13 +162,13 @@ keys =
 abbrev pub starts : List ℕ → List ℕ → Bool
 starts token name = bytes_eq (take (length name) token) name
 
--- whether what stands behind the name is of the shape
+-- whether the text after the name has this shape
 abbrev pub fits : Shape → List ℕ → Bool
 fits shape.Valued value = true
 fits shape.Signed value = is_sign value
 fits shape.Bare value = not (is_filled value)
 
--- the value of the key in its token, the sign of an id key being a part of it
+-- the value of the key in its token; the sign of an id key belongs to the value
 abbrev pub value_in : Key → List ℕ → Option (List ℕ)
 value_in k token =
     if starts token (row k).name && fits (row k).shape (drop (length (row k).name) token)
@@ -178,7 +178,7 @@ abbrev pub or_else : Key → Option (List ℕ) → Option (Key × List ℕ) → 
 or_else k (Some value) other = Some (k, value)
 or_else k None other = other
 
--- the first of the keys that the token has, and its value
+-- the first of these keys with which the token begins, and its value
 abbrev pub key_among : List Key → List ℕ → Option (Key × List ℕ)
 key_among [] token = None
 key_among (k ∷ ks) token = or_else k (value_in k token) (key_among ks token)
@@ -186,7 +186,7 @@ key_among (k ∷ ks) token = or_else k (value_in k token) (key_among ks token)
 abbrev pub key_of : List ℕ → Option (Key × List ℕ)
 key_of token = key_among keys token
 
--- the keys that ask a security module about the task, and about the inode
+-- keys that ask a security module: `subj_` keys about the task, `obj_` keys about the inode
 abbrev pub is_subject_key : List ℕ → Bool
 is_subject_key token = starts token (codes "subj_user=") || starts token (codes "subj_role=")
     || starts token (codes "subj_type=")
@@ -201,6 +201,6 @@ is_other_key token =
     || starts token (codes "digest_type=")
     || starts token (codes "fs_subtype=")
 
--- the keys of the kernel's that are left out here
+-- the keys that the kernel knows but that aren't supported here
 abbrev pub is_unsupported_key : List ℕ → Bool
 is_unsupported_key token = is_subject_key token || is_object_key token || is_other_key token

@@ -4,6 +4,8 @@ pub mod ActionValue
 pub mod Gives
 pub mod Grammar
 pub mod Key
+pub mod Limits
+pub mod Masks
 pub mod RuleInside
 pub mod RuleValue
 pub mod Spelling

@@ -1,4 +1,4 @@
--- A rule's fields as contracts see them, and back.
+-- Conversion between the fields of a rule and the record that contracts see.
 use Rattle.policy_text.specs.declared.rule.Rule.TheInside.{Inside}
 use Rattle.policy_text.specs.RuleValue.{RuleValue}
 

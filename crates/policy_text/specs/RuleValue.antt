@@ -1,4 +1,4 @@
--- What contracts see of a rule, and which rules a line can say.
+-- A rule as contracts see it, and its invariant: the rules that a line can express.
 use Rattle.std.specs.Prelude.{ℕ, Bool, true, false, ◌==◌, ◌||◌, List, Option, Some, None, is_none, nat_lt, not, IsTrue, nat_le, ◌^◌}
 use Rattle.std.specs.List.{list_any}
 use Rattle.hash_algos.specs.declared.algo_set.AlgoSet.{AlgoSet}
@@ -15,6 +15,7 @@ use Rattle.policy_text.specs.declared.rule.Func.{Func}
 use Rattle.policy_text.specs.declared.rule.IdTest.{IdTest}
 use Rattle.policy_text.specs.declared.rule.IdTest.TheVariants as id
 use Rattle.policy_text.specs.declared.rule.MaskTest.{MaskTest}
+use Rattle.policy_text.specs.Masks.{may_append, may_exec, may_read, may_write}
 
 pub record RuleValue : Type 0 where
   pub act : Act
@@ -48,9 +49,10 @@ abbrev pub is_any : Need → Bool
 is_any need.Any = true
 is_any need.Signature = false
 
--- MAY_EXEC, MAY_WRITE, MAY_READ or MAY_APPEND
+-- the mask is a single bit
 abbrev pub is_mask_bit : ℕ → Bool
-is_mask_bit bits = (bits == 1) || (bits == 2) || (bits == 4) || (bits == 8)
+is_mask_bit bits =
+    (bits == may_exec) || (bits == may_write) || (bits == may_read) || (bits == may_append)
 
 abbrev pub has_algos : AlgoSet → Bool
 has_algos s = list_any (holds_algo s) algos
@@ -60,12 +62,12 @@ abbrev pub is_named_template : Template → Bool
 is_named_template template.ImaBuf = false
 is_named_template _ = true
 
--- the test of what is there, where something is
+-- an optional value is absent or passes the test
 abbrev pub if_there : {A : Type 0} → (A → Bool) → Option A → Bool
 if_there test None = true
 if_there test (Some x) = test x
 
--- the number of a user or a group
+-- the number in the test of a user or group ID
 abbrev pub id_number : IdTest → ℕ
 id_number (id.Is n) = n
 id_number (id.Above n) = n
@@ -74,7 +76,7 @@ id_number (id.Below n) = n
 abbrev pub is_id : IdTest → Bool
 is_id t = nat_le (id_number t) 0xffff_ffff
 
--- what a line can say; its numbers fit their types
+-- a line can express the rule; its numbers fit their types
 pub record IsRule (r : RuleValue) : Type 0 where
   pub mask : IsTrue (if_there (λ m. is_mask_bit m.bits) r.mask)
   pub fsmagic : IsTrue (if_there (λ n. nat_le n 0xffff_ffff_ffff_ffff) r.fsmagic)

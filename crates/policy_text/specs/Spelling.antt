@@ -1,4 +1,4 @@
--- The canonical text of rules, and the words of the causes.
+-- The canonical text of rules, and the words for the causes.
 use Rattle.std.specs.Prelude.{ℕ, Bool, ◌&&◌, List, [], ◌∷◌, ◌++◌, codes, if◌then◌else◌}
 use Rattle.std.specs.List.{flat_map, join_with_byte, list_all}
 use Rattle.text_forms.specs.Tokens.{is_filled}
@@ -30,28 +30,28 @@ act_word act.DontAudit = codes "dont_audit"
 act_word act.Hash = codes "hash"
 act_word act.DontHash = codes "dont_hash"
 
--- the key's word in a rule that has it
+-- the word for the key in a rule that has it
 abbrev pub key_word : Key → RuleValue → List ℕ
 key_word k r = (row k).name ++ (row k).spelled r
 
--- the words of those of the keys that the rule has
+-- the words for those of these keys that the rule has
 abbrev pub key_words : List Key → RuleValue → List (List ℕ)
 key_words [] r = []
 key_words (k ∷ ks) r = if (row k).is_in r then key_word k r ∷ key_words ks r else key_words ks r
 
--- the same behind a space each
+-- a space and the key's word, or nothing if the rule doesn't have the key
 abbrev pub key_text : RuleValue → Key → List ℕ
 key_text r k = if (row k).is_in r then 32 ∷ key_word k r else []
 
--- the action, then the keys in the order of the table
+-- the word for the action, and then those for the keys in the order of the table
 abbrev pub rule_words : RuleValue → List (List ℕ)
 rule_words r = act_word r.act ∷ key_words keys r
 
--- one visible byte or more
+-- the word is at least one visible byte
 abbrev pub is_visible_word : List ℕ → Bool
 is_visible_word word = is_filled word && list_all is_visible word
 
--- the words of a rule, with one space between
+-- the words of a rule, separated by single spaces
 unfoldable pub rule_text : RuleValue → List ℕ
 rule_text r = join_with_byte 32 (rule_words r)
 

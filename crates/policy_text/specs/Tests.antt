@@ -1,4 +1,4 @@
--- The tests that a rule makes of an access mask and of the number of a user or a group.
+-- The tests of an access mask and of a user or group ID by a rule.
 use Rattle.std.specs.Prelude.{ℕ, Bool, ◌==◌, nat_lt, if◌then◌else◌, bit_and}
 use Rattle.policy_text.specs.contracts.rule.FuncPartialEq.TheImpl as func_eq
 use Rattle.policy_text.specs.declared.rule.Func.{Func}
@@ -9,7 +9,7 @@ use Rattle.policy_text.specs.declared.rule.MaskTest.{MaskTest}
 abbrev pub same_func : Func → Func → Bool
 same_func = (func_eq.ghosts).eq
 
--- the access mask is exactly these bits, or contains them
+-- the access mask equals these bits, or only contains them if the test isn't exact
 abbrev pub mask_holds : MaskTest → ℕ → Bool
 mask_holds test mask = if test.exact then mask == test.bits else bit_and mask test.bits == test.bits
 

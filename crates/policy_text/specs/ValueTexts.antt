@@ -10,6 +10,7 @@ use Rattle.policy_text.specs.declared.rule.Func.TheVariants as func
 use Rattle.policy_text.specs.declared.rule.IdTest.{IdTest}
 use Rattle.policy_text.specs.declared.rule.IdTest.TheVariants as id
 use Rattle.policy_text.specs.declared.rule.MaskTest.{MaskTest}
+use Rattle.policy_text.specs.Masks.{may_exec, may_read, may_write}
 
 abbrev pub func_word : Func → List ℕ
 func_word func.BprmCheck = codes "BPRM_CHECK"
@@ -29,8 +30,10 @@ func_word func.MmapCheckReqprot = codes "MMAP_CHECK_REQPROT"
 
 abbrev pub mask_bits_word : ℕ → List ℕ
 mask_bits_word bits =
-    if bits == 1 then codes "MAY_EXEC" else if bits == 2 then codes "MAY_WRITE" else if bits == 4
-    then codes "MAY_READ" else codes "MAY_APPEND"
+    if bits == may_exec then codes "MAY_EXEC"
+    else if bits == may_write then codes "MAY_WRITE"
+    else if bits == may_read then codes "MAY_READ"
+    else codes "MAY_APPEND"
 
 abbrev pub mask_text : MaskTest → List ℕ
 mask_text m = (if m.exact then [] else codes "^") ++ mask_bits_word m.bits
@@ -40,6 +43,6 @@ id_text (id.Is n) = codes "=" ++ decimal n
 id_text (id.Above n) = codes ">" ++ decimal n
 id_text (id.Below n) = codes "<" ++ decimal n
 
--- the names of a set's algorithms, in the order of their numbers
+-- the names of a set's algorithms, in the order of their numbers, separated by commas
 abbrev pub algos_text : AlgoSet → List ℕ
 algos_text s = join_with_byte 44 (map algo_name (filter (holds_algo s) algos))

@@ -1,4 +1,4 @@
--- The values of the keys.
+-- Parsing the values of the keys.
 use Rattle.std.specs.Prelude.{ℕ, Bool, true, false, ◌==◌, ◌||◌, List, [], ◌∷◌, codes, Option, Some, None, if◌then◌else◌}
 use Rattle.std.specs.List.{slice_split}
 use Rattle.std.specs.Option.{option_map}
@@ -10,6 +10,7 @@ use Rattle.inode_meta.specs.declared.measurement.Template.{Template}
 use Rattle.inode_meta.specs.declared.measurement.Template.TheVariants as template
 use Rattle.text_forms.specs.Numbers.{number_of}
 use Rattle.text_forms.specs.Options.{◌>>=◌}
+use Rattle.text_forms.specs.Tables.{look_up}
 use Rattle.text_forms.specs.Words.{is_word}
 use Rattle.policy_text.specs.declared.rule.Act.{Act}
 use Rattle.policy_text.specs.declared.rule.Act.TheVariants as act
@@ -18,11 +19,7 @@ use Rattle.policy_text.specs.declared.rule.Func.TheVariants as func
 use Rattle.policy_text.specs.declared.rule.IdTest.{IdTest}
 use Rattle.policy_text.specs.declared.rule.IdTest.TheVariants as id
 use Rattle.policy_text.specs.declared.rule.MaskTest.{MaskTest}
-
--- what a table has for a word
-abbrev pub look_up : {A : Type 0} → List (List ℕ × A) → List ℕ → Option A
-look_up [] word = None
-look_up (e ∷ es) word = if bytes_eq word e.0 then Some e.1 else look_up es word
+use Rattle.policy_text.specs.Masks.{may_append, may_exec, may_read, may_write}
 
 abbrev pub act_of : List ℕ → Option Act
 act_of word =
@@ -33,7 +30,7 @@ act_of word =
     ∷ (codes "dont_audit", act.DontAudit)
     ∷ (codes "hash", act.Hash) ∷ (codes "dont_hash", act.DontHash) ∷ []) word
 
--- the hooks by their main names, and two by their other names
+-- the hook with this name; two hooks also have an alias
 abbrev pub func_of : List ℕ → Option Func
 func_of word =
     look_up
@@ -51,10 +48,11 @@ func_of word =
 
 abbrev pub mask_bits_of : List ℕ → Option ℕ
 mask_bits_of word =
-    look_up ((codes "MAY_EXEC", 1) ∷ (codes "MAY_WRITE", 2) ∷ (codes "MAY_READ", 4)
-    ∷ (codes "MAY_APPEND", 8) ∷ []) word
+    look_up
+    ((codes "MAY_EXEC", may_exec) ∷ (codes "MAY_WRITE", may_write)
+    ∷ (codes "MAY_READ", may_read) ∷ (codes "MAY_APPEND", may_append) ∷ []) word
 
--- the name of a bit, behind `^` where the mask has to contain it alone
+-- the name of a bit, after `^` if the mask only has to contain it
 abbrev pub mask_of : List ℕ → Option MaskTest
 mask_of [] = None
 mask_of (c ∷ cs) =
@@ -73,7 +71,7 @@ is_sign (c ∷ digits) = (c == 61) || (c == 62) || (c == 60)
 abbrev pub id_number_of : List ℕ → Option ℕ
 id_number_of digits = number_of 10 0xffff_ffff digits
 
--- a sign, and the number of a user or a group
+-- a sign, and then a user or group ID
 abbrev pub id_of : List ℕ → Option IdTest
 id_of [] = None
 id_of (c ∷ digits) =
@@ -82,12 +80,12 @@ id_of (c ∷ digits) =
     else if c == 60 then option_map id.Below (id_number_of digits)
     else None
 
--- the set of the names' algorithms and those of s
+-- the algorithms with these names, added to the set s
 abbrev pub algos_from : AlgoSet → List (List ℕ) → Option AlgoSet
 algos_from s [] = Some s
 algos_from s (name ∷ names) = algo_by_name name >>= λ a. algos_from (with_algo s a) names
 
--- names parted by commas, at least one
+-- the algorithms whose names the text lists, separated by commas, at least one
 abbrev pub algos_of : List ℕ → Option AlgoSet
 algos_of text = algos_from no_algos (slice_split (λ b. b == 44) text)
 
@@ -95,7 +93,7 @@ abbrev pub template_of : List ℕ → Option Template
 template_of word = look_up ((codes "ima", template.Ima) ∷ (codes "ima-ng", template.ImaNg)
     ∷ (codes "ima-sig", template.ImaSig) ∷ []) word
 
--- the values of the kernel's that are left out here
+-- the values that the kernel knows but that aren't supported here
 abbrev pub is_unsupported_type : List ℕ → Bool
 is_unsupported_type word = bytes_eq word (codes "imasig|modsig") || bytes_eq word (codes "sigv3")
 

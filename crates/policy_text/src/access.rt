@@ -8,53 +8,55 @@ use inode_meta::{Cred, DEFAULT_PCR, Need, Template};
 use std::marker::Model;
 use xattr_store::Bytes;
 
-/// A file system, as far as a rule can ask of it.
+/// A file system, by the properties that a rule can test.
 #[derive(Debug, Drop)]
 pub struct Super {
     /// Its magic number (`s_magic`).
     pub magic: u64,
-    /// Its UUID, whose first byte is the most significant.
+    /// Its UUID, most significant byte first.
     pub uuid: u128,
-    /// The name of its type, as `ext4`.
+    /// The name of its type, for example `ext4`.
     pub name: Bytes,
-    /// Whether it counts the changes of an inode (`i_version`).
+    /// Whether it keeps a change counter for each inode (`i_version`).
     pub versions: bool,
 }
 
-/// To execute: a bit of an access mask, as the kernel has it.
+/// The execute bit of an access mask, as the kernel numbers it.
 pub const MAY_EXEC: u8 = 1;
 
-/// To write.
+/// The write bit of an access mask.
 pub const MAY_WRITE: u8 = 2;
 
-/// To read.
+/// The read bit of an access mask.
 pub const MAY_READ: u8 = 4;
 
-/// To append.
+/// The append bit of an access mask.
 pub const MAY_APPEND: u8 = 8;
 
-/// What a task wants of a file, where the policy is asked. The table of the hook that asks and of
-/// the access mask stands here; [`Func::slot`] has the place of the verdict.
+const _: () = prove!(MAY_APPEND == 8);
+
+/// What a task wants to do with a file when the policy is consulted. It determines the hook and the
+/// access mask; [`Func::slot`] gives the slot of the verdict.
 #[derive(Clone, Copy, Debug, PartialEq, Eq)]
 pub enum Purpose {
-    /// It is opened for reading.
+    /// The file is opened for reading only.
     Read,
-    /// It is opened for writing.
+    /// The file is opened for writing only.
     Write,
-    /// It is opened for both.
+    /// The file is opened for reading and writing.
     ReadWrite,
-    /// It is mapped for execution.
+    /// The file is mapped for execution.
     Map,
-    /// It is executed.
+    /// The file is executed.
     Exec,
-    /// The kernel reads it as a module.
+    /// The kernel reads the file as a module.
     Module,
-    /// The kernel reads it as a firmware.
+    /// The kernel reads the file as firmware.
     Firmware,
 }
 
 impl Purpose {
-    /// The hook that asks.
+    /// The hook that consults the policy for this purpose.
     pub fn func(self) -> Func
         ensures { result ≡ func_of_purpose self }
     {
@@ -67,7 +69,7 @@ impl Purpose {
         }
     }
 
-    /// The access mask.
+    /// The access mask for this purpose.
     pub fn mask(self) -> u8
         ensures { result ≡ mask_of_purpose self }
     {
@@ -80,31 +82,31 @@ impl Purpose {
     }
 }
 
-/// An access, as rules are matched against it.
+/// An access to a file, against which rules are matched.
 #[derive(Debug, Drop)]
 pub struct Access<'a> {
-    /// The hook that asks.
+    /// The hook that consults the policy.
     pub func: Func,
-    /// What is to be done with the file: [`MAY_EXEC`], [`MAY_WRITE`], [`MAY_READ`], [`MAY_APPEND`].
+    /// The requested access, as bits: [`MAY_EXEC`], [`MAY_WRITE`], [`MAY_READ`], [`MAY_APPEND`].
     pub mask: u8,
-    /// The credentials of the task.
+    /// The credentials of the accessing task.
     pub cred: &'a Cred,
-    /// The inode's user, at the check.
+    /// The inode's owner at the time of the check.
     pub owner: u32,
-    /// The inode's group, at the check.
+    /// The inode's group at the time of the check.
     pub group: u32,
-    /// The inode's file system.
+    /// The file system that the inode is on.
     pub place: &'a Super,
 }
 
-/// What a policy has done with an access, family by family.
+/// What a policy requires for an access, in each family of rules.
 ///
-/// The register is below 24. Where the access isn't measured it is 10, the default, and there is no
-/// template. Where it isn't appraised, any label serves and no algorithms are given. Contracts see
-/// a record of these fields, and the invariant is `IsAction`.
+/// The register is below 24. If the access isn't measured, the register is 10, the default, and
+/// there is no template. If it isn't appraised, any kind of label will do and no algorithms are
+/// given. Contracts see a record of these fields, and the invariant is `IsAction`.
 #[derive(Clone, Copy, Debug, PartialEq, Eq)]
 pub struct Action {
-    /// Whether an entry is added to the measurement list.
+    /// Whether the file is measured: an entry is added to the measurement list.
     pub measure: bool,
     /// The register that the entry extends.
     pub pcr: u8,
@@ -112,13 +114,13 @@ pub struct Action {
     pub appraise: bool,
     /// Whether the access is audited.
     pub audit: bool,
-    /// Whether the file's hash is collected for other users.
+    /// Whether the file's digest is collected for use outside of IMA.
     pub hash: bool,
-    /// The template of the entry, where the rule names one.
+    /// The template of the entry, if the rule names one.
     pub template: Option<Template>,
-    /// The label that appraisal asks for.
+    /// The kind of label that appraisal requires.
     pub need: Need,
-    /// The algorithms that the file's digest may have, where the rule names them.
+    /// The algorithms that the file's digest may have, if the rule lists them.
     pub algos: Option<AlgoSet>,
 }
 
@@ -137,7 +139,7 @@ impl Model for Action {
 }
 
 impl Action {
-    /// The action where no rule has anything done.
+    /// The action if no rule requires anything.
     pub fn none() -> Action
         ensures { result ≡ no_action }
     {

@@ -1,4 +1,4 @@
-//! What a rule says of an access, key by key.
+//! The test of an access by each key of a rule.
 
 ghost use Rattle.std.specs.Prelude.{◌≡◌, ◌==◌};
 ghost use Rattle.std.specs.Str.{bytes_eq};
@@ -12,8 +12,8 @@ use crate::rule::{Func, IdTest, MaskTest, Rule};
 use xattr_store::Bytes;
 
 impl Key {
-    /// Whether what the rule says by this key holds of the access. A key that the rule doesn't have
-    /// holds of every access, and so does an option.
+    /// Whether the access satisfies the rule's condition with this key. It does if the rule doesn't
+    /// have the key or the key is that of an option.
     pub fn holds(self, rule: &Rule, access: &Access) -> bool
         ensures { result ≡ (row self).holds rule.now access.now }
     {

@@ -5,39 +5,39 @@ ghost use Rattle.policy_text.specs.Gives.{err_at};
 
 use std::alloc::{AllocError as OutOfMemory, AllocFailed};
 
-/// Why a line isn't a rule. A line's tokens are tested from left to right, and the first bad token
-/// decides.
+/// Why a line isn't a rule. The tokens of a line are checked from left to right, and the first bad
+/// token gives the cause.
 #[derive(Clone, Copy, Debug, PartialEq, Eq)]
 pub enum RuleCause {
     /// The first token is none of the eight actions.
     BadAction,
-    /// The token begins with no key, an id key being read with its sign.
+    /// The token doesn't begin with a key; for an id key, its sign is a part of that beginning.
     BadKey,
-    /// The key stood before in this line. An id key is one key whichever sign follows it.
+    /// The line already has this key. An id key counts as one key, whatever sign follows it.
     Twice,
-    /// The value isn't of its key's form.
+    /// The value doesn't have the form that its key requires.
     BadValue,
-    /// The key doesn't belong to the line's action.
+    /// Rules with the line's action can't have the key.
     NotForAction,
-    /// A key or a value of the kernel's that is left out here.
+    /// The kernel knows the key or the value, but it isn't supported here.
     Unsupported,
-    /// The line is a rule, and the 1,025th.
+    /// The line is a rule, but the policy already has 1,024.
     TooMany,
 }
 
-/// The first bad line of a text.
+/// The first bad line of a text, and its cause.
 #[derive(Clone, Copy, Debug, PartialEq, Eq)]
 pub struct Fault {
-    /// Its number, counted from 1, blank lines and comments among them.
+    /// The number of the line, counted from 1, including blank lines and comments.
     pub line: u32,
-    /// Its cause.
+    /// Why the line isn't a rule.
     pub cause: RuleCause,
 }
 
-/// Why a text gave no rules.
+/// Why a text gave no policy.
 #[derive(Clone, Copy, Debug, PartialEq, Eq)]
 pub enum PolicyErr {
-    /// The text isn't in the grammar.
+    /// The text doesn't conform to the grammar.
     Refused(Fault),
     /// Memory ran out.
     OutOfMemory,
@@ -59,17 +59,17 @@ impl<T: Drop> From<AllocFailed<T>> for PolicyErr {
     }
 }
 
-/// Why a line gave no rule, before its number is known.
+/// Why a line gave no rule, before the line's number is known.
 #[derive(Clone, Copy, Debug, PartialEq, Eq)]
 pub enum LineErr {
-    /// The line isn't in the grammar.
+    /// The line doesn't conform to the grammar.
     Refused(RuleCause),
     /// Memory ran out.
     OutOfMemory,
 }
 
 impl LineErr {
-    /// The same of the line with this number.
+    /// The error of the text whose line number `line` has this error.
     pub fn at(self, line: u32) -> PolicyErr
         ensures { result ≡ err_at line self }
     {

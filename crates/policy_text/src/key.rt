@@ -1,4 +1,4 @@
-//! The keys of a rule: for each its name, the actions that it belongs to, and its place in the
+//! The keys of a rule: for each its name, the actions that can have it, and its position in the
 //! table.
 
 ghost use Rattle.std.specs.Prelude.{◌≡◌, ◌&&◌, length, take, drop, if◌then◌else◌, None, Some};
@@ -8,7 +8,7 @@ ghost use Rattle.policy_text.specs.Values.{is_sign};
 
 use crate::rule::Act;
 
-/// What a condition or an option of a rule is about.
+/// The subject of a condition or an option of a rule.
 #[derive(Clone, Copy, Debug, PartialEq, Eq)]
 pub enum Key {
     Func,
@@ -30,14 +30,14 @@ pub enum Key {
     Template,
 }
 
-/// What stands behind the name of a key.
+/// The form of a token after the name of its key.
 #[derive(Clone, Copy, Debug, PartialEq, Eq)]
 pub enum Shape {
-    /// Any value.
+    /// An arbitrary value.
     Valued,
-    /// A sign, `=`, `>` or `<`, and then a number.
+    /// A sign, which is `=`, `>` or `<`, and then a number.
     Signed,
-    /// Nothing.
+    /// Nothing follows the name.
     Bare,
 }
 
@@ -63,7 +63,7 @@ impl Key {
         Key::Template,
     ];
 
-    /// With what a token of the key begins.
+    /// The text with which a token of the key begins.
     pub fn name(self) -> &'static str
         ensures { result.now ≡ (row self).name }
     {
@@ -100,7 +100,7 @@ impl Key {
         }
     }
 
-    /// Whether a rule of this action can have the key.
+    /// Whether a rule with this action can have the key.
     pub fn belongs(self, act: Act) -> bool
         ensures { result ≡ (row self).belongs act }
     {
@@ -144,7 +144,7 @@ fn is_sign(value: &[u8]) -> bool
     }
 }
 
-/// The key of a token and its value: the sign of an id key belongs to its value, and a key that
+/// The key of a token and its value: the sign of an id key belongs to the value, and a key that
 /// takes no value has an empty one.
 pub fn key_of(token: &[u8]) -> Option<(Key, &[u8])>
     ensures { option_map (λ k. (k.0, k.1.now)) result ≡ key_of token.now }
@@ -157,21 +157,21 @@ pub fn key_of(token: &[u8]) -> Option<(Key, &[u8])>
     None
 }
 
-/// Whether the token has a key of the kernel's that is left out here.
+/// Whether the token has a key that the kernel knows but that isn't supported here.
 pub fn is_unsupported_key(token: &[u8]) -> bool
     ensures { result ≡ is_unsupported_key token.now }
 {
     is_subject_key(token) || is_object_key(token) || is_other_key(token)
 }
 
-// The keys that ask a security module about the task.
+// Whether the token has a key that asks a security module about the task.
 fn is_subject_key(token: &[u8]) -> bool
     ensures { result ≡ is_subject_key token.now }
 {
     starts(token, b"subj_user=") || starts(token, b"subj_role=") || starts(token, b"subj_type=")
 }
 
-// The keys that ask a security module about the inode.
+// Whether the token has a key that asks a security module about the inode.
 fn is_object_key(token: &[u8]) -> bool
     ensures { result ≡ is_object_key token.now }
 {
@@ -187,7 +187,7 @@ fn is_other_key(token: &[u8]) -> bool
         || starts(token, b"fs_subtype=")
 }
 
-// As `starts_with`, whose clause says it case by case.
+// `starts_with`, under a contract that spells out the cases.
 fn starts(token: &[u8], name: &[u8]) -> bool
     ensures { result ≡ starts token.now name.now }
 {

@@ -1,8 +1,8 @@
-//! IMA policy rules as text: read, printed canonically, and read again as the same rules
-//! (Documentation/ABI/testing/ima_policy).
+//! IMA policy rules as text: they are parsed, printed canonically, and parsed again as the same
+//! rules (Documentation/ABI/testing/ima_policy).
 //!
-//! A policy is lines, and a rule is one line: an action, then conditions and options in any order.
-//! The grammar stands in `specs/Grammar.antt`, apart from the reader and the printer.
+//! A policy consists of lines, and a rule is one line: an action, then conditions and options in
+//! any order. The grammar is in `specs/Grammar.antt`, independent of the parser and the printer.
 #![tactic(auto)]
 
 mod access;

@@ -1,4 +1,4 @@
-//! A rule, token by token.
+//! Parsing a rule, token by token.
 
 ghost use Rattle.std.specs.Prelude.{◌≡◌, ◌<◌, Some, IsTrue, ok_or, true};
 ghost use Rattle.text_forms.specs.Tokens.{tokens};
@@ -22,7 +22,7 @@ use std::alloc::Global;
 use text_forms::{Tokens, is_word, magic_of, number_of, uuid_of};
 use xattr_store::Bytes;
 
-/// The rule of a line; a blank line and a comment aren't rules.
+/// Parses the rule of a line; a blank line or a comment isn't a rule.
 pub fn rule_of(alloc: Global, line: &[u8]) -> Result<Rule, LineErr>
     ensures { LineGives result (rule_of line.now) }
 {
@@ -47,7 +47,7 @@ pub fn is_skipped(line: &[u8]) -> bool
     }
 }
 
-// A value of the kernel's that is left out here.
+// Whether the kernel knows the key's value but it isn't supported here.
 fn is_left_out(key: Key, value: &[u8]) -> bool
     ensures { result ≡ (row key).left_out value.now }
 {
@@ -59,7 +59,7 @@ fn is_left_out(key: Key, value: &[u8]) -> bool
 }
 
 impl Rule {
-    // The action without conditions and options.
+    // The rule that has this action, and neither conditions nor options.
     fn plain(act: Act) -> Rule
         ensures { result ≡ plain_rule act }
     {
@@ -110,7 +110,7 @@ impl Rule {
         self.with_value(alloc, key, value)
     }
 
-    /// Whether the rule has the key. An id key is one key whichever its sign.
+    /// Whether the rule has the key. An id key counts as one key, whatever its sign.
     pub fn has(&self, key: Key) -> bool
         ensures { result ≡ (row key).is_in self.now }
     {
@@ -219,7 +219,7 @@ impl Rule {
         Ok(rule)
     }
 
-    // The other keys aren't id keys.
+    // Sets the test of an id key; `key` is never one of the others.
     fn with_id(self, key: Key, test: IdTest) -> Rule
         requires { IsTrue (is_id test) }
         ensures { result ≡ with_id key test self }

@@ -1,10 +1,11 @@
 ghost use Rattle.std.specs.Prelude.{◌≡◌, ◌<◌, ◌≤◌, [], ◌∷◌, ◌++◌, length, IfOk, OnOk, OnErr};
+ghost use Rattle.policy_text.specs.Limits.{most_rules};
 
 use crate::rule::Rule;
 use std::alloc::{AllocError as OutOfMemory, Global};
 use std::marker::Model;
 
-/// How many rules a policy may have.
+/// The most rules that a policy may have.
 pub const RULES: usize = 1024;
 
 /// A policy: at most 1,024 rules, in order. Contracts see the list of its rules.
@@ -15,17 +16,18 @@ pub struct Policy {
 
 impl Model for Policy {
     ghost use Rattle.std.specs.Prelude.{List, ◌≤◌, length};
+    ghost use Rattle.policy_text.specs.Limits.{most_rules};
     ghost use Rattle.policy_text.specs.RuleValue.{RuleValue};
 
     ghost Value = { List RuleValue };
 
     ghost view = { λ p. p.rules.items };
 
-    ghost invariant = { λ p. length p.rules.items ≤ 1024 };
+    ghost invariant = { λ p. length p.rules.items ≤ most_rules };
 }
 
 impl Policy {
-    /// The policy with no rule.
+    /// The empty policy, without any rule.
     pub fn new(alloc: Global) -> Policy
         ensures { result ≡ [] }
     {
@@ -34,17 +36,17 @@ impl Policy {
         }
     }
 
-    /// The rules, in order.
+    /// The rules, in the order of their lines.
     pub fn rules(&self) -> &[Rule]
         ensures rules { result.now ≡ self.now }
-        ensures limit { length self.now ≤ 1024 }
+        ensures limit { length self.now ≤ most_rules }
     {
         self.rules.as_slice()
     }
 
-    /// Puts a rule behind the others.
+    /// Appends a rule to the policy, which has fewer than 1,024.
     pub fn push(&mut self, rule: Rule) -> Result<(), OutOfMemory>
-        requires { length self.old < 1024 }
+        requires { length self.old < most_rules }
         ensures ok { OnOk result (self.new ≡ self.old ++ rule ∷ []) }
         ensures err { OnErr result (self.new ≡ self.old) }
     {
@@ -52,15 +54,15 @@ impl Policy {
         Ok(())
     }
 
-    /// The rules, taken over.
+    /// The vector of the rules, without a copy.
     pub fn into_rules(self) -> Vec<Rule>
         ensures rules { result.items ≡ self }
-        ensures limit { length self ≤ 1024 }
+        ensures limit { length self ≤ most_rules }
     {
         self.rules
     }
 
-    /// An equal policy.
+    /// A copy with equal rules, in its own memory.
     pub fn copy(&self) -> Result<Policy, OutOfMemory>
         ensures { IfOk result (λ copy. copy ≡ self.now) }
     {

@@ -1,4 +1,4 @@
-//! Reading rules.
+//! Parsing policies and single rules.
 
 ghost use Rattle.std.specs.Prelude.{◌≡◌, ◌-◌, ◌<◌, ◌^◌, length};
 ghost use Rattle.text_forms.specs.Lines.{at_line};
@@ -11,11 +11,11 @@ use crate::policy::{Policy, RULES};
 use crate::rule::Rule;
 use std::alloc::Global;
 
-/// The rules of a text. Blank lines and comments are skipped, and the last line may lack its
+/// Parses the rules of a text. Blank lines and comments are skipped, and the last line may lack its
 /// newline.
 ///
-/// `Refused` comes exactly where the text isn't in the grammar, with the first bad line and its
-/// cause.
+/// `Refused` is returned exactly if the text doesn't conform to the grammar, with the first bad
+/// line and its cause.
 pub fn parse(alloc: Global, text: &[u8]) -> Result<Policy, PolicyErr>
     requires { length text.now < 2 ^ 32 - 1 }
     ensures { Gives result (policy_of text.now) }
@@ -30,10 +30,10 @@ pub fn parse(alloc: Global, text: &[u8]) -> Result<Policy, PolicyErr>
     Ok(policy)
 }
 
-/// The one rule of a line. A newline in it is a byte like any other.
+/// Parses the only rule of a line, in which a newline is an ordinary byte.
 ///
-/// `Refused`, with line 1, comes exactly where the line isn't a rule, with the cause of its first
-/// bad token; a blank line and a comment are `BadAction`.
+/// `Refused`, with line 1, is returned exactly if the line isn't a rule, with the cause of its
+/// first bad token; a blank line or a comment is a `BadAction`.
 pub fn parse_rule(alloc: Global, line: &[u8]) -> Result<Rule, PolicyErr>
     ensures { Gives result (at_line fault_at 1 (rule_of line.now)) }
 {
@@ -43,7 +43,7 @@ pub fn parse_rule(alloc: Global, line: &[u8]) -> Result<Rule, PolicyErr>
     }
 }
 
-// The policy with the rule of one line more.
+// The policy with the rule of one more line.
 fn with_line(alloc: Global, policy: Policy, line: &[u8]) -> Result<Policy, LineErr>
     ensures { LineGives result (with_line policy line.now) }
 {

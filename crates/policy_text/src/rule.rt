@@ -8,29 +8,29 @@ use std::alloc::{AllocError as OutOfMemory, Global};
 use std::marker::Model;
 use xattr_store::Bytes;
 
-/// What a rule has done with the accesses that it matches. The eight form four families of two:
-/// to do it, and not to.
+/// What a rule does with the accesses that it matches. The eight actions form four families of two:
+/// to do a thing, and not to do it.
 #[derive(Clone, Copy, Debug, PartialEq, Eq)]
 pub enum Act {
-    /// `measure`
+    /// `measure`: add an entry to the measurement list.
     Measure,
-    /// `dont_measure`
+    /// `dont_measure`: don't measure, whatever later rules say.
     DontMeasure,
-    /// `appraise`
+    /// `appraise`: require a label that fits the file.
     Appraise,
-    /// `dont_appraise`
+    /// `dont_appraise`: don't appraise, whatever later rules say.
     DontAppraise,
-    /// `audit`
+    /// `audit`: audit the access.
     Audit,
-    /// `dont_audit`
+    /// `dont_audit`: don't audit, whatever later rules say.
     DontAudit,
-    /// `hash`
+    /// `hash`: collect the file's digest only.
     Hash,
-    /// `dont_hash`
+    /// `dont_hash`: don't collect the digest for `hash`, whatever later rules say.
     DontHash,
 }
 
-/// The hook that asks (the kernel's `enum ima_hooks`), by its main name.
+/// The hook that consults the policy (the kernel's `enum ima_hooks`), by its main name.
 #[derive(Clone, Copy, Debug, PartialEq, Eq)]
 pub enum Func {
     /// `BPRM_CHECK`: a file is executed.
@@ -39,33 +39,33 @@ pub enum Func {
     MmapCheck,
     /// `FILE_CHECK`, also named `PATH_CHECK`: a file is opened.
     FileCheck,
-    /// `CREDS_CHECK`
+    /// `CREDS_CHECK`: a file is executed, matched against the new credentials.
     CredsCheck,
-    /// `MODULE_CHECK`
+    /// `MODULE_CHECK`: a kernel module is loaded.
     ModuleCheck,
-    /// `FIRMWARE_CHECK`
+    /// `FIRMWARE_CHECK`: firmware is loaded.
     FirmwareCheck,
-    /// `KEXEC_KERNEL_CHECK`
+    /// `KEXEC_KERNEL_CHECK`: a kernel image is loaded for kexec.
     KexecKernelCheck,
-    /// `KEXEC_INITRAMFS_CHECK`
+    /// `KEXEC_INITRAMFS_CHECK`: an initramfs is loaded for kexec.
     KexecInitramfsCheck,
-    /// `KEXEC_CMDLINE`
+    /// `KEXEC_CMDLINE`: the command line of a kernel loaded for kexec.
     KexecCmdline,
-    /// `KEY_CHECK`
+    /// `KEY_CHECK`: a key is loaded onto a keyring.
     KeyCheck,
-    /// `CRITICAL_DATA`
+    /// `CRITICAL_DATA`: a buffer of kernel data that is critical for integrity.
     CriticalData,
-    /// `SETXATTR_CHECK`
+    /// `SETXATTR_CHECK`: a digest is written to `security.ima`.
     SetxattrCheck,
-    /// `POLICY_CHECK`
+    /// `POLICY_CHECK`: a policy file is loaded.
     PolicyCheck,
-    /// `MMAP_CHECK_REQPROT`
+    /// `MMAP_CHECK_REQPROT`: a file is mapped and execution is requested.
     MmapCheckReqprot,
 }
 
 impl Func {
-    /// The place of the hook's verdict in the kernel's inode cache: a function that has none of its
-    /// own shares that of opened files.
+    /// The slot of the kernel's inode cache that has the hook's verdict: a function without a slot
+    /// of its own shares the one of opened files.
     pub fn slot(self) -> Slot
         ensures { result ≡ slot_of self }
     {
@@ -77,18 +77,17 @@ impl Func {
     }
 }
 
-/// The test that a rule makes of an access mask.
+/// The test of an access mask by a rule.
 #[derive(Clone, Copy, Debug, PartialEq, Eq)]
 pub struct MaskTest {
-    /// Whether the mask has to be these bits and no others (`mask=M`), or to contain them
-    /// (`mask=^M`).
+    /// Whether the mask must equal these bits (`mask=M`) or only contain them (`mask=^M`).
     pub exact: bool,
     /// One of `MAY_EXEC` 1, `MAY_WRITE` 2, `MAY_READ` 4 and `MAY_APPEND` 8.
     pub bits: u8,
 }
 
 impl MaskTest {
-    /// Whether the test holds of an access mask.
+    /// Whether an access mask passes the test.
     pub fn holds(self, mask: u8) -> bool
         ensures { result ≡ mask_holds self mask }
     {
@@ -100,19 +99,19 @@ impl MaskTest {
     }
 }
 
-/// The test that a rule makes of the number of a user or a group.
+/// The test of a user or group ID by a rule.
 #[derive(Clone, Copy, Debug, PartialEq, Eq)]
 pub enum IdTest {
-    /// `=`: the number is this one.
+    /// `=`: the ID equals this number.
     Is(u32),
-    /// `>`: the number is above this one.
+    /// `>`: the ID is above this number.
     Above(u32),
-    /// `<`: the number is below this one.
+    /// `<`: the ID is below this number.
     Below(u32),
 }
 
 impl IdTest {
-    /// Whether the test holds of a number.
+    /// Whether an ID passes the test.
     pub fn holds(self, id: u32) -> bool
         ensures { result ≡ id_holds self id }
     {
@@ -124,50 +123,50 @@ impl IdTest {
     }
 }
 
-/// A rule: one action, the conditions under which it is taken, and its options. A condition that
-/// is None holds of every access.
+/// A rule: one action, the conditions under which it applies, and its options. A condition that is
+/// `None` holds for every access.
 ///
-/// A rule is one that a line can say, which its invariant `IsRule` keeps. Contracts see it as a
+/// Every rule can be written as a line, which is its invariant `IsRule`. Contracts see it as a
 /// record of these fields.
 #[derive(Debug, Drop)]
 pub struct Rule {
-    /// What is to be done.
+    /// What the rule does with the accesses that it matches.
     pub act: Act,
-    /// `func=`: the hook.
+    /// `func=`: the hook that consults the policy.
     pub func: Option<Func>,
-    /// `mask=`: the access mask.
+    /// `mask=`: the test of the access mask.
     pub mask: Option<MaskTest>,
     /// `fsmagic=`: the magic number of the inode's file system.
     pub fsmagic: Option<u64>,
-    /// `fsuuid=`: its UUID, whose first byte is the most significant.
+    /// `fsuuid=`: the UUID of the inode's file system, most significant byte first.
     pub fsuuid: Option<u128>,
-    /// `fsname=`: its name, of 1 to 255 bytes from 0x21 to 0x7e.
+    /// `fsname=`: the name of the file system's type, of 1 to 255 bytes from 0x21 to 0x7e.
     pub fsname: Option<Bytes>,
-    /// `uid`: the task's real user.
+    /// `uid`: the test of the task's real user ID.
     pub uid: Option<IdTest>,
-    /// `euid`: its effective user.
+    /// `euid`: the test of the task's effective user ID.
     pub euid: Option<IdTest>,
-    /// `gid`: its real group.
+    /// `gid`: the test of the task's real group ID.
     pub gid: Option<IdTest>,
-    /// `egid`: its effective group.
+    /// `egid`: the test of the task's effective group ID.
     pub egid: Option<IdTest>,
-    /// `fowner`: the inode's owner.
+    /// `fowner`: the test of the inode's owner.
     pub fowner: Option<IdTest>,
-    /// `fgroup`: the inode's group.
+    /// `fgroup`: the test of the inode's group.
     pub fgroup: Option<IdTest>,
-    /// `appraise_type=imasig`: the label has to be a signature. Any unless the action is
+    /// `appraise_type=imasig`: the label must be a signature. `Any` unless the action is
     /// `appraise`.
     pub need: Need,
     /// `appraise_flag=check_blacklist`, which has no effect. False unless the action is `appraise`.
     pub blacklist: bool,
-    /// `appraise_algos=`: the algorithms that the file's digest may have, at least one. None unless
-    /// the action is `appraise`.
+    /// `appraise_algos=`: the algorithms that the file's digest may have, at least one. `None`
+    /// unless the action is `appraise`.
     pub algos: Option<AlgoSet>,
     /// `permit_directio`, which has no effect.
     pub directio: bool,
-    /// `pcr=`: the register to extend, below 24. None unless the action is `measure`.
+    /// `pcr=`: the register to extend, below 24. `None` unless the action is `measure`.
     pub pcr: Option<u8>,
-    /// `template=`: the template of the entry, which isn't `ImaBuf`. None unless the action is
+    /// `template=`: the template of the entry, which is never `ImaBuf`. `None` unless the action is
     /// `measure`.
     pub template: Option<Template>,
 }
@@ -187,7 +186,7 @@ impl Model for Rule {
 }
 
 impl Rule {
-    /// An equal rule.
+    /// A copy with equal fields, in its own memory.
     pub fn copy(&self, alloc: Global) -> Result<Rule, OutOfMemory>
         ensures { IfOk result (λ copy. copy ≡ self.now) }
     {

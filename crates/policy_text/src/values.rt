@@ -8,7 +8,7 @@ use hash_algos::{AlgoSet, by_name};
 use inode_meta::Template;
 use text_forms::number_of;
 
-/// The action that the word names.
+/// The action with this name, such as `dont_measure`.
 pub fn act_of(word: &[u8]) -> Option<Act>
     ensures { result ≡ act_of word.now }
 {
@@ -33,7 +33,7 @@ pub fn act_of(word: &[u8]) -> Option<Act>
     }
 }
 
-/// The hook that the word names, by its main name or another.
+/// The hook with this name, which may be its main name or an alias.
 pub fn func_of(word: &[u8]) -> Option<Func>
     ensures { result ≡ func_of word.now }
 {
@@ -91,7 +91,7 @@ fn mask_bits_of(word: &[u8]) -> Option<u8>
     }
 }
 
-/// The test of an access mask: the name of a bit, with `^` before it or not.
+/// Parses the test of an access mask: the name of a bit, optionally after `^`.
 pub fn mask_of(text: &[u8]) -> Option<MaskTest>
     ensures value { result ≡ mask_of text.now }
     ensures bit { IfSome result (λ mask. IsTrue (is_mask_bit mask.bits)) }
@@ -108,8 +108,8 @@ pub fn mask_of(text: &[u8]) -> Option<MaskTest>
     }
 }
 
-/// The test of a user or a group: a sign and a number below 2^32, in digits with any zeros in
-/// front.
+/// Parses the test of a user or group ID: a sign and a number below 2^32 in decimal, with any
+/// leading zeros.
 pub fn id_of(text: &[u8]) -> Option<IdTest>
     ensures value { result ≡ id_of text.now }
     ensures id { IfSome result (λ test. IsTrue (is_id test)) }
@@ -129,7 +129,7 @@ fn id_number_of(digits: &[u8]) -> Option<u32>
     Some(number as u32)
 }
 
-/// The algorithms that the text names, parted by commas, at least one.
+/// Parses a list of algorithm names separated by commas, at least one.
 pub fn algos_of(text: &[u8]) -> Option<AlgoSet>
     ensures value { result ≡ algos_of text.now }
     ensures filled { IfSome result (λ s. IsTrue (has_algos s)) }
@@ -141,7 +141,7 @@ pub fn algos_of(text: &[u8]) -> Option<AlgoSet>
     Some(algos)
 }
 
-/// The template that the word names, of those that a rule can name.
+/// The template with this name, among those that a rule can name.
 pub fn template_of(word: &[u8]) -> Option<Template>
     ensures value { result ≡ template_of word.now }
     ensures named { IfSome result (λ t. IsTrue (is_named_template t)) }
@@ -157,14 +157,14 @@ pub fn template_of(word: &[u8]) -> Option<Template>
     }
 }
 
-/// Whether the word is a kind of label that is left out here.
+/// Whether the word is a kind of label that the kernel knows but that isn't supported here.
 pub fn is_unsupported_type(word: &[u8]) -> bool
     ensures { result ≡ is_unsupported_type word.now }
 {
     word == b"imasig|modsig".as_slice() || word == b"sigv3".as_slice()
 }
 
-/// Whether the word is a template that is left out here.
+/// Whether the word is a template that the kernel knows but that isn't supported here.
 pub fn is_unsupported_template(word: &[u8]) -> bool
     ensures { result ≡ is_unsupported_template word.now }
 {

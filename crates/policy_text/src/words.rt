@@ -6,7 +6,7 @@ use crate::fault::RuleCause;
 use crate::rule::{Act, Func};
 
 impl RuleCause {
-    /// The word of the cause, as `twice`.
+    /// The word of the cause in messages, for example `twice`.
     pub fn word(self) -> &'static str
         ensures { result.now ≡ cause_word self }
     {
@@ -23,7 +23,7 @@ impl RuleCause {
 }
 
 impl Act {
-    /// The word of the action.
+    /// The word with which a line of the action begins.
     pub fn word(self) -> &'static str
         ensures { result.now ≡ act_word self }
     {
@@ -41,7 +41,7 @@ impl Act {
 }
 
 impl Func {
-    /// The main name of the hook.
+    /// The main name of the hook, such as `FILE_CHECK`.
     pub fn word(self) -> &'static str
         ensures { result.now ≡ func_word self }
     {
@@ -64,7 +64,7 @@ impl Func {
     }
 }
 
-/// The name of a bit of an access mask.
+/// The name of one bit of an access mask, such as `MAY_READ`.
 pub fn mask_bits_word(bits: u8) -> &'static str
     ensures { result.now ≡ mask_bits_word bits }
 {

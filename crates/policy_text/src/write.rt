@@ -1,4 +1,4 @@
-//! Printing rules.
+//! Printing policies and single rules.
 
 ghost use Rattle.std.specs.Prelude.{◌≡◌, [], ◌∷◌, ◌++◌, true, flat_map, Ok, IfOk, OnOk, OnErr};
 ghost use Rattle.std.specs.Fmt.{decimal};
@@ -24,7 +24,7 @@ use std::io::{self, Write};
 use text_forms::{FsUuid, Magic};
 use xattr_store::Bytes;
 
-/// The canonical text of a policy, one line a rule, which is read as the same policy.
+/// The canonical text of a policy, one line for each rule. Parsing it gives the same policy.
 pub fn print(alloc: Global, policy: &Policy) -> Result<Vec<u8>, OutOfMemory>
     ensures text { IfOk result (λ v. v.items ≡ policy_text policy.now) }
     ensures again { IfOk result (λ v. policy_of v.items ≡ Ok policy.now) }
@@ -50,12 +50,12 @@ fn push_line(text: &mut Vec<u8>, rule: &Rule) -> Result<(), OutOfMemory>
     }
 }
 
-/// Puts the canonical text of a rule behind `out`, without a newline; it is read as the same rule.
-/// After a refusal `out` is as before.
+/// Appends the canonical text of a rule to `out`, without a newline. Parsing it gives the same
+/// rule. On an error `out` doesn't change.
 pub fn print_rule(alloc: Global, rule: &Rule, out: &mut Vec<u8>) -> Result<(), OutOfMemory>
     ensures text { OnOk result (out.new.items ≡ out.old.items ++ rule_text rule.now) }
     ensures again { rule_of (rule_text rule.now) ≡ Ok rule.now }
-    // The text is words, parted by one space each, and no newline is in it.
+    // The text consists of words separated by single spaces, and has no newline.
     ensures words { words (rule_text rule.now) ≡ rule_words rule.now }
     ensures visible { list_all is_visible_word (rule_words rule.now) ≡ true }
     ensures one_line { is_one_line (rule_text rule.now) ≡ true }
@@ -97,7 +97,7 @@ fn push_key(out: &mut Vec<u8>, rule: &Rule, key: Key) -> io::Result<()>
     push_value(out, rule, key)
 }
 
-// The value of a key that the rule has.
+// Appends the value of a key that the rule has.
 fn push_value(out: &mut Vec<u8>, rule: &Rule, key: Key) -> io::Result<()>
     ensures { OnOk result (out.new.items ≡ out.old.items ++ (row key).spelled rule.now) }
 {

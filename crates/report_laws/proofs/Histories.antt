@@ -1,4 +1,4 @@
--- The steps of one task in two runs.
+-- Two histories of one task whose events print alike make the same steps.
 use Rattle.std.proofs.Common.{◌≡◌, ℕ, ◌+◌, ◌-◌, ◌<◌, ◌≤◌, ◌==◌, Bool, true, false, ◌&&◌, nat_le, List, [], ◌∷◌, ◌++◌, length, map, take, drop, Some, refl, sym, ap, ◌∙◌, subst, append_assoc, inl, inr, arith, length-append, length-drop}
 use Rattle.std.specs.Prelude.{slice_get}
 use Rattle.std.specs.List.{list_all}
@@ -19,12 +19,12 @@ use Rattle.run_model.specs.EndedValue.{grows}
 use Rattle.report_laws.proofs.Minds.{place_in, next_mind, mind_after, step_plain, who_plain}
 use Rattle.report_laws.proofs.Own.{Alike, Meet, al, pr, no_birth, is_no_birth, empty, event_length, length_alike, length_map, map_append, middle, own_behind, rules_least, step_alike, suited_behind, left}
 
--- the second of two that hold
+-- the second of two tests that both hold
 right : (a b : Bool) → (a && b) ≡ true → b ≡ true
 right true b h = h
 right false b h = absurd (false≢true h)
 
--- what all of a list pass, a part of it passes
+-- a test that a whole list passes, each part of the list passes
 all_middle : {X : Type 0} (q : X → Bool) (u v w : List X) → list_all q ((u ++ v) ++ w) ≡ true
     → list_all q v ≡ true
 all_middle q u v w h =
@@ -41,7 +41,7 @@ module _ (scene : Scene) (a b : Run) (n : ℕ) (p : Program) (meet : Meet scene 
     ≡ map (pr scene) (own (mode_of scene) n p i hb))
     (nb : (i : ℕ) → i < length scene.stations → list_all no_birth (own (mode_of scene) n p i ha)
     ≡ true) where
-  -- histories of one length
+  -- histories of one length lead to the same mind and to alike events
   alike_from : (ga gb fa fb : List Answer) → ha ≡ fa ++ ga → hb ≡ fb ++ gb → length ga ≡ length gb
       → Alike scene n p ga gb
   alike_from [] [] fa fb ea eb len = record { minds = refl; events = λ i. refl }
@@ -103,7 +103,7 @@ module _ (scene : Scene) (a b : Run) (n : ℕ) (p : Program) (meet : Meet scene 
   same_length i below = sym (length_map (pr scene) (own (mode_of scene) n p i ha))
       ∙ ap length (same i below) ∙ length_map (pr scene) (own (mode_of scene) n p i hb)
 
-  -- whichever history is longer: its further steps made no event
+  -- whichever history is longer, its further steps made no event
   pub whole_alike : (i : ℕ) → i < length scene.stations → map al (own (mode_of scene) n p i ha)
       ≡ map al (own (mode_of scene) n p i hb)
   whole_alike i below = elim (cases_Bool (nat_le (length ha) (length hb))) [
@@ -153,9 +153,9 @@ module _ (scene : Scene) (a b : Run) (n : ℕ) (p : Program) (meet : Meet scene 
         ∙ append-nil (own (mode_of scene) n p i ga)) ∙ alike.events i
   ]
 
--- ---- the entries of a task in a journal
+-- ---- a task's entries in a journal
 
--- the entries of a caller as the report shows them are those of the shown journal
+-- the entries of a caller, as printed, are those of the printed journal
 pr_entries : (scene : Scene) (n k : ℕ) (ms : List ℕ) (xs : List Event)
     → map (pr scene) (entries_from n k ms xs)
     ≡ entries_from n k ms (map (printed scene.settings.template (grows scene)) xs)
@@ -196,7 +196,7 @@ no_births n k (x ∷ xs) = elim (cases_Bool (n + 1 == caller_of x)) [
   | inr e ↦ rw e (no_births n (k + 1) xs)
 ]
 
--- what is shown of an event keeps its caller, deed by deed
+-- a printed event has the caller of the event, deed by deed
 caller_printed_by : (scene : Scene) (e : Event) (d : Deed)
     → caller_of (printed_by scene.settings.template (grows scene) e d) ≡ caller_in e.who.task d
 caller_printed_by scene e deed.Birth = refl
@@ -217,13 +217,13 @@ caller_printed_by scene e (deed.CloseFinish f) = refl
 caller_printed_by scene e (deed.Post s) = refl
 caller_printed_by scene e (deed.Wait s) = refl
 
--- what is shown of a journal keeps its callers
+-- a printed journal has the callers of the journal
 pub callers_printed : (scene : Scene) (xs : List Event)
     → map caller_of (map (printed scene.settings.template (grows scene)) xs) ≡ map caller_of xs
 callers_printed scene [] = refl
 callers_printed scene (x ∷ xs) = cc (caller_printed_by scene x x.deed, callers_printed scene xs)
 
--- journals that show the same have the same callers
+-- journals that print alike have the same callers
 pub same_callers : (scene : Scene) (xs ys : List Event)
     → map (printed scene.settings.template (grows scene)) xs
     ≡ map (printed scene.settings.template (grows scene)) ys
@@ -231,7 +231,7 @@ pub same_callers : (scene : Scene) (xs ys : List Event)
 same_callers scene xs ys e = sym (callers_printed scene xs) ∙ ap (map caller_of) e
     ∙ callers_printed scene ys
 
--- journals that show the same have the same entries of each task, as shown
+-- journals that print alike have the same printed entries of each task
 same_entries : (scene : Scene) (n : ℕ) (xs ys : List Event)
     → map (printed scene.settings.template (grows scene)) xs
     ≡ map (printed scene.settings.template (grows scene)) ys
@@ -241,14 +241,14 @@ same_entries scene n xs ys e =
     ∙ (λ i. entries_from (n + 1) 0 (same_callers scene xs ys e i) (e i))
     ∙ sym (pr_entries scene (n + 1) 0 (map caller_of ys) ys)
 
--- two journals that show the same, of each inode
+-- the two journals of each inode print alike
 abbrev pub Shows : Scene → Run → Run → Type 0
 Shows scene a b = (i : ℕ) → i < length scene.stations → (x : List Event) × (y : List Event)
     × (slice_get a.journals i ≡ Some x) × (slice_get b.journals i ≡ Some y)
     × (map (printed scene.settings.template (grows scene)) x
     ≡ map (printed scene.settings.template (grows scene)) y)
 
--- two runs that show the same have the same events of a task in each journal
+-- two runs whose journals print alike have alike events of each task in each journal
 pub task_alike : (scene : Scene) (a b : Run) (n : ℕ) (p : Program) (ta tb : Thought)
     → Meet scene a b → Shows scene a b
     → IsServed scene a n p ta → IsServed scene b n p tb

@@ -1,4 +1,4 @@
--- Journals of one inode that show the same, and whose tasks made the same steps, are one journal.
+-- Journals of one inode that print alike, and whose tasks made the same steps, are equal.
 use Rattle.std.proofs.Common.{◌≡◌, ℕ, zero, suc, ◌+◌, ◌-◌, ◌<◌, ◌≤◌, ◌==◌, true, false, List, [], ◌∷◌, ◌++◌, length, map, take, drop, reverse, ◌≢◌, Some, refl, sym, ap, ◌∙◌, subst, inl, inr, arith}
 use Rattle.std.specs.Prelude.{All}
 use Rattle.std.specs.List.{AllByRecursion}
@@ -27,9 +27,9 @@ use Rattle.report_text.specs.Printed.{birth_event, printed, printed_told}
 use Rattle.run_model.specs.EndedValue.{grows}
 use Rattle.report_laws.proofs.Own.{al, alike, alike_by, map_append, some_same}
 
--- ---- the events of all tasks are the journal's
+-- ---- the events of all tasks make up the journal
 
--- an event of no task is a birth
+-- an event of no task is the birth
 born : (e : Event) (t : ℕ) (d : Deed) → (caller_in t d == 0) ≡ true → alike_by e d ≡ birth_event
 born e t deed.Birth h = refl
 born e t (deed.Count q) h =
@@ -65,7 +65,7 @@ born e t (deed.Post s) h =
 born e t (deed.Wait s) h =
     absurd (let no : (t + 1 == 0) ≡ false = grind (arith, nat_tests) in false≢true (sym no ∙ h))
 
--- the entries of the number n, behind the first
+-- if the entries of caller n are alike, so are those after the first event
 rest_from : (n k m : ℕ) (x y : Event) (ms : List ℕ) (xs ys : List Event)
     → map al (entries_from n k (m ∷ ms) (x ∷ xs)) ≡ map al (entries_from n k (m ∷ ms) (y ∷ ys))
     → map al (entries_from n (k + 1) ms xs) ≡ map al (entries_from n (k + 1) ms ys)
@@ -79,7 +79,7 @@ abbrev head_in : List (ℕ × Event) → Event
 head_in [] = birth_event
 head_in (x ∷ xs) = x.1
 
--- the first events are alike where the first entries are, and both are this caller's
+-- if the entries of caller n are alike and both first events are its own, those are alike
 first_from : (n k m : ℕ) (x y : Event) (ms : List ℕ) (xs ys : List Event) → (n == m) ≡ true
     → map al (entries_from n k (m ∷ ms) (x ∷ xs)) ≡ map al (entries_from n k (m ∷ ms) (y ∷ ys))
     → alike x ≡ alike y
@@ -96,7 +96,7 @@ abbrev tail_numbers : List ℕ → List ℕ
 tail_numbers [] = []
 tail_numbers (m ∷ ms) = ms
 
--- by the numbers ms of both
+-- journals whose callers are `ms` are alike if the entries of each caller are
 merged_by : (count k : ℕ) (ms : List ℕ) (xs ys : List Event) → ms ≡ map caller_of xs → ms
     ≡ map caller_of ys → All (λ (e : Event). caller_of e ≤ count) xs
     → ((n : ℕ) → n < count → map al (entries_from (n + 1) k ms xs)
@@ -125,7 +125,7 @@ merged_by count k (m ∷ ms) (x ∷ xs) (y ∷ ys) p q all h =
     (λ n below. rest_from (n + 1) k m x y ms xs ys (h n below)) in
     λ i. here i ∷ others i
 
--- journals with the same callers are alike where the entries of each caller are
+-- journals with the same callers are alike if the entries of each caller are
 pub merged_events : (count : ℕ) (xs ys : List Event) → map caller_of xs ≡ map caller_of ys
     → All (λ (e : Event). caller_of e ≤ count) xs
     → ((n : ℕ) → n < count → map al (entries_from (n + 1) 0 (map caller_of xs) xs)
@@ -134,7 +134,7 @@ merged_events count xs ys e all h =
     merged_by count 0 (map caller_of xs) xs ys refl e all (λ n below. h n below
     ∙ ap (λ ms. map al (entries_from (n + 1) 0 ms ys)) (sym e))
 
--- ---- the metadata are shown
+-- ---- the metadata are determined by the printed events
 
 abbrev BornBy : Image → Deed → Told → Type 0
 BornBy image deed.Birth t = t ≡ told.Image image
@@ -152,7 +152,7 @@ abbrev meta_from : Image → List Event → Meta
 meta_from image [] = metadata []
 meta_from image (e ∷ es) = meta_by image e.deed e.told (meta_from image es)
 
--- what an event makes of the metadata is told by what is shown of it
+-- the printed event determines the metadata after the event
 meta_after : (scene : Scene) (image : Image) (w : Who) (d : Deed) (t : Told) (old : Meta)
     → BornBy image d t
     → metadata_after d t old
@@ -198,7 +198,7 @@ meta_after scene image w (deed.SetMeta c) told.Dropped old h = refl
 meta_after scene image w (deed.SetMeta c) told.LabelledDropped old h = refl
 meta_after scene image w (deed.SetMeta c) told.Nothing old h = refl
 
--- the metadata are told by what is shown of the events
+-- the printed events determine the metadata
 meta_is : (scene : Scene) (image : Image) (es : List Event) → AllByRecursion (IsBorn image) es
     → metadata es ≡ meta_from image (map (printed scene.settings.template (grows scene)) es)
 meta_is scene image [] h = refl
@@ -206,7 +206,7 @@ meta_is scene image (e ∷ es) h = meta_after scene image e.who e.deed e.told (m
     ∙ ap (λ m. meta_by image (printed scene.settings.template (grows scene) e).deed
     (printed scene.settings.template (grows scene) e).told m) (meta_is scene image es h.1)
 
--- a birth has the inode's image
+-- a birth that may follow has the inode's image
 born_here : (inode : Inode) (before : List Event) (w : Who) (d : Deed) (t : Told)
     → Follows inode before w d t → BornBy inode.birth d t
 born_here inode before w deed.Birth t h = h.2
@@ -233,37 +233,37 @@ born_all : (inode : Inode) (es : List Event) → EachFollows inode es
 born_all inode [] h = tt
 born_all inode (e ∷ es) h = (born_here inode es e.who e.deed e.told h.0, born_all inode es h.1)
 
--- what all of a list have, those behind a front have
+-- what holds of all elements of a list holds of those after a front
 all_behind : {X : Type 0} (P : X → Type 0) (u v : List X) → AllByRecursion P (u ++ v)
     → AllByRecursion P v
 all_behind P [] v h = h
 all_behind P (x ∷ u) v h = all_behind P u v h.1
 
--- the events so far, newest first, are the later ones and then the earlier ones
+-- the events so far, newest first, are those from place k on and then those before it
 past_parts : (k : ℕ) (x : List Event) → past x ≡ past (drop k x) ++ past (take k x)
 unfolding past
 past_parts k x = ap reverse (sym (take-append-drop k x)) ∙ reverse-append (take k x) (drop k x)
 
--- a list turned round has the same images, turned round
+-- reversing commutes with mapping
 map_reverse : {X Y : Type 0} (f : X → Y) (xs : List X) → map f (reverse xs) ≡ reverse (map f xs)
 map_reverse f [] = refl
 map_reverse f (x ∷ xs) =
     ap (map f) (reverse-append (x ∷ []) xs) ∙ map_append f (reverse xs) (x ∷ [])
     ∙ ap (λ l. l ++ f x ∷ []) (map_reverse f xs) ∙ sym (reverse-append (f x ∷ []) (map f xs))
 
--- the same of the events so far
+-- mapping commutes with putting the newest event first
 pub map_past : (f : Event → Event) (xs : List Event) → map f (past xs) ≡ past (map f xs)
 unfolding past
 map_past f xs = map_reverse f xs
 
--- the images of the first elements are the first images
+-- taking the first elements commutes with mapping
 map_take : {X Y : Type 0} (f : X → Y) (k : ℕ) (xs : List X) → map f (take k xs) ≡ take k (map f xs)
 map_take f zero [] = refl
 map_take f zero (x ∷ xs) = refl
 map_take f (suc k) [] = refl
 map_take f (suc k) (x ∷ xs) = ap (λ l. f x ∷ l) (map_take f k xs)
 
--- journals that show the same have the same metadata at each place
+-- journals that print alike have the same metadata at each place
 pub same_meta : (scene : Scene) (inode : Inode) (k : ℕ) (x y : List Event)
     → EachFollows inode (past x) → EachFollows inode (past y)
     → map (printed scene.settings.template (grows scene)) x
@@ -283,9 +283,9 @@ same_meta scene inode k x y hx hy e =
     meta_is scene inode.birth (past (take k x)) bx ∙ ap (meta_from inode.birth) shown
     ∙ sym (meta_is scene inode.birth (past (take k y)) by)
 
--- ---- what is told is the journal's to say
+-- ---- outcomes are determined by the journal
 
--- what is shown of an outcome has its place in the list
+-- the printed outcome has the same place in the list
 spot_printed : (t : Told) → placed_in t ≡ placed_in (printed_told t)
 spot_printed (told.Image q) = refl
 spot_printed told.Held = refl
@@ -311,7 +311,7 @@ spot_printed told.Dropped = refl
 spot_printed told.LabelledDropped = refl
 spot_printed told.Nothing = refl
 
--- two outcomes that the journal gives one deed are one, where they show the same
+-- two outcomes that the journal gives one deed are equal if they print alike
 told_once : (inode : Inode) (before : List Event) (d : Deed) (t u : Told)
     → says inode before (placed_in t) d ≡ Some t → says inode before (placed_in u) d ≡ Some u
     → printed_told t ≡ printed_told u → t ≡ u
@@ -320,12 +320,12 @@ told_once inode before d t u p q e =
     in
     some_same t u (sym p ∙ ap (λ s. says inode before s d) placed ∙ q)
 
--- events of one deed with the same Who and outcome are one
+-- events with the same deed, step and outcome are equal
 made_once : (inode : Inode) (before : List Event) (d : Deed) (v w : Who) (t u : Told) → v ≡ w → t
     ≡ u → event v d t ≡ event w d u
 made_once inode before d v w t u who tolds = λ i. record { who = who i; deed = d; told = tolds i }
 
--- two events that may follow one journal are one, where they are alike
+-- two events that may both come next in a journal are equal if they are alike
 event_once : (inode : Inode) (before : List Event) (d : Deed) (v w : Who) (t u : Told)
     → Follows inode before v d t → Follows inode before w d u
     → alike (event v d t) ≡ alike (event w d u) → event v d t ≡ event w d u
@@ -382,7 +382,7 @@ event_once inode before (deed.Wait s) v w t u p q e =
     made_once inode before (deed.Wait s) v w t u (ap (λ x. x.who) e)
     (told_once inode before (deed.Wait s) t u p.2 q.2 (ap (λ x. x.told) e))
 
--- what is alike of an event has its deed
+-- an event without its digest or image still has its deed
 deed_alike : (e : Event) (d : Deed) → (alike_by e d).deed ≡ d
 deed_alike e deed.Birth = refl
 deed_alike e (deed.Count q) = refl
@@ -406,7 +406,7 @@ abbrev head_event : List Event → Event
 head_event [] = birth_event
 head_event (x ∷ xs) = x
 
--- legal journals that are alike are one, newest event first
+-- legal journals that are alike are equal, with the newest event first
 pub same_past : (inode : Inode) (xs ys : List Event) → EachFollows inode xs → EachFollows inode ys
     → map alike xs ≡ map alike ys → xs ≡ ys
 same_past inode [] [] p q e = refl
@@ -425,7 +425,7 @@ same_past inode (x ∷ xs) (y ∷ ys) p q e =
     let two : event y.who x.deed y.told ≡ y = ap (λ z. event y.who z y.told) d in
     λ i. (one ∙ two) i ∷ before i
 
--- journals with the same events so far are one
+-- journals with the same events so far are equal
 pub past_once : (xs ys : List Event) → past xs ≡ past ys → xs ≡ ys
 unfolding past
 past_once xs ys e = sym (reverse-reverse xs) ∙ ap reverse e ∙ reverse-reverse ys

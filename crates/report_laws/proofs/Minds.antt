@@ -1,4 +1,4 @@
--- Where a task stands doesn't depend on what a report's lines leave out.
+-- A task's mind doesn't depend on what a report's lines leave out.
 use Rattle.std.proofs.Common.{◌≡◌, ℕ, Bool, true, false, List, Option, Some, None, unwrap_or, option_map, if◌then◌else◌, refl, sym, ap, ◌∙◌}
 use Rattle.inode_meta.specs.declared.appraisal.Mode.{Mode}
 use Rattle.inode_events.specs.policy.declared.access.Action.{Action}
@@ -25,7 +25,7 @@ use Rattle.run_model.specs.History.{Answer, Thought, call_at, hear, hear_in, ste
 use Rattle.run_model.specs.Scene.{Program}
 use Rattle.report_text.specs.Printed.{no_digest, printed_told}
 
--- ---- without the digest of a read
+-- ---- replies and minds without the digest of a read
 
 abbrev pub plain_reply : Reply → Reply
 plain_reply (reply.Bytes n digest) = reply.Bytes n no_digest
@@ -55,7 +55,7 @@ plain_mind m = record {
       m.handles;
 }
 
--- a reply whose digest was erased has none to erase
+-- erasing a reply's digest twice is the same as erasing it once
 plain_twice : (r : Reply) → plain_reply (plain_reply r) ≡ plain_reply r
 plain_twice reply.Done = refl
 plain_twice (reply.Bytes n d) = refl
@@ -71,7 +71,7 @@ plain_twice reply.NotAdmin = refl
 plain_twice (reply.Status s) = refl
 plain_twice (reply.Denied c) = refl
 
--- erasing the digest of a reply leaves whether it is done
+-- erasing a reply's digest doesn't change whether the reply is `Done`
 done_plain : (r : Reply) → is_done (plain_reply r) ≡ is_done r
 done_plain reply.Done = refl
 done_plain (reply.Bytes n d) = refl
@@ -89,7 +89,7 @@ done_plain (reply.Denied c) = refl
 
 -- ---- the next step
 
--- the reply of an outcome, but for its digest, is told by what is shown of it
+-- the printed outcome determines the reply, up to its digest
 reply_plain : (t : Told) → plain_reply (reply_of t) ≡ plain_reply (reply_of (printed_told t))
 reply_plain (told.Image i) = refl
 reply_plain told.Held = refl
@@ -115,7 +115,7 @@ reply_plain told.Dropped = refl
 reply_plain told.LabelledDropped = refl
 reply_plain told.Nothing = refl
 
--- what follows a read keeps nothing of the digest but the reply
+-- the step after a read depends on the digest only through the reply
 read_plain : (c : Course) (r s : Reply) → plain_reply r ≡ plain_reply s
     → plain_next (has_read c r) ≡ plain_next (has_read c s)
 read_plain (course.Open h trunc) r s e = ap (λ x. Over x) e
@@ -125,28 +125,28 @@ read_plain course.Module r s e = ap (λ x. On (due ask.Close x)) e
 read_plain course.Firmware r s e = ap (λ x. On (due ask.Close x)) e
 read_plain course.Other r s e = ap (λ x. Over x) e
 
--- a check's next step keeps nothing of the digest but the reply
+-- the step after a check depends on the digest only through the reply
 check_plain : (c : Course) (r : Reply) (b : Bool) (x : Next)
     → plain_next (if b then On (due (take c) r) else x)
     ≡ plain_next (if b then On (due (take c) (plain_reply r)) else x)
 check_plain c r true x = ap (λ y. On (due (take c) y)) (sym (plain_twice r))
 check_plain c r false x = refl
 
--- the same of a step that is planned
+-- a step that is due depends on the digest only through the reply
 goes_plain : (a : Ask) (r : Reply) → plain_next (On (due a r))
     ≡ plain_next (On (due a (plain_reply r)))
 goes_plain a r = ap (λ y. On (due a y)) (sym (plain_twice r))
 
--- the same of a call that is over
+-- the end of a call depends on the digest only through the reply
 over_plain : (r : Reply) → plain_next (Over r) ≡ plain_next (Over (plain_reply r))
 over_plain r = ap (λ y. Over y) (sym (plain_twice r))
 
--- the same of a reply that the outcome gives
+-- the printed outcome determines a call's end with the outcome's reply, up to a digest
 told_plain : (t : Told) → plain_next (Over (reply_of t))
     ≡ plain_next (Over (reply_of (printed_told t)))
 told_plain t = ap (λ y. Over y) (reply_plain t)
 
--- what comes next, but for a digest, is told by what is shown of the outcome
+-- the printed outcome determines what comes next, up to a digest
 next_plain : (mode : Mode) (c : Course) (r : Reply) (a : Ask) (t : Told) (action : Action)
     → plain_next (next_by mode c a r t action)
     ≡ plain_next (next_by mode c a (plain_reply r) (printed_told t) action)
@@ -299,21 +299,21 @@ next_plain mode c r ask.CloseChunk told.Nothing action = goes_plain _ r
 next_plain mode c r ask.CloseFinish t action = over_plain r
 next_plain mode c r ask.Plain t action = over_plain r
 
--- ---- what it makes of the task
+-- ---- the effect of a step on the mind
 
--- the handle that a call makes says nothing of the digest
+-- the handle that a call makes doesn't depend on the digest
 made_plain : (o : Option Name) (g : Progress) → handle_made o (plain_progress g) ≡ handle_made o g
 made_plain None g = refl
 made_plain (Some n) g = refl
 
--- where the task stands, but for a digest, is told by what comes next but for one
+-- what comes next, up to a digest, determines the mind, up to a digest
 moved_plain : (c : Call) (m : Mind) (g : Progress) (place : ℕ) (x : Next)
     → plain_mind (moved c m g place x).0
     ≡ plain_mind (moved c (plain_mind m) (plain_progress g) place (plain_next x)).0
 moved_plain c m g place (On p) = rw (plain_twice p.reply) refl
 moved_plain c m g place (Over r) = rw (done_plain r, made_plain (name_made c) g) refl
 
--- the place of a step without an event on an inode says nothing
+-- the place of a step's event, or 0 if the step makes no event on an inode
 abbrev pub place_in : Option Step → ℕ → ℕ
 place_in (Some (Does inode d)) place = place
 place_in (Some (Checks inode file f mask)) place = place
@@ -323,7 +323,7 @@ abbrev number_in : Ask → ℕ → ℕ
 number_in ask.Plain place = 0
 number_in _ place = place
 
--- the place of a step without an event says nothing of where the task stands
+-- the mind after a step that makes no event doesn't depend on a place
 moved_place : (mode : Mode) (c : Call) (m : Mind) (g : Progress) (a : Ask) (r : Reply) (place : ℕ)
     (t : Told) (action : Action)
     → moved c m g place (next_by mode (course_of c) a r t action)
@@ -344,7 +344,7 @@ moved_place mode c m g ask.CloseChunk r place t action = refl
 moved_place mode c m g ask.CloseFinish r place t action = refl
 moved_place mode c m g ask.Plain r place t action = refl
 
--- a step without an event on an inode has no place
+-- a step that makes no event on an inode has the place 0
 plain_step_place : (admin : Bool) (c : Call) (place : ℕ)
     → place_in (Some (plain_step admin c)) place ≡ 0
 plain_step_place admin (call.Open vf vi vh vt) place = refl
@@ -366,7 +366,7 @@ plain_step_place admin (call.Firmware vi) place = refl
 plain_step_place true (call.AddRule vr) place = refl
 plain_step_place false (call.AddRule vr) place = refl
 
--- the place that counts is that of the step
+-- the place that is due is that of the step
 step_place : (admin : Bool) (c : Call) (g : Progress) (a : Ask) (place : ℕ) → number_in a place
     ≡ place_in (Some (step_by admin c g a)) place
 step_place admin c g ask.Count place = refl
@@ -385,24 +385,24 @@ step_place admin c g ask.CloseChunk place = refl
 step_place admin c g ask.CloseFinish place = refl
 step_place admin c g ask.Plain place = sym (plain_step_place admin c place)
 
--- how far the call is
+-- the progress of the call, from a mind without digests
 abbrev pub far : Bool → Call → Mind → Progress
 far admin c x = unwrap_or x.progress (plain_progress (begun admin x.handles c))
 
--- how far the call is, but for a digest, is told by the mind but for one
+-- the mind without digests determines the call's progress, up to a digest
 far_is : (admin : Bool) (c : Call) (at : ℕ) (p : Option Progress) (hs : List Handle)
     → plain_progress (progress_of admin c (record { at = at; progress = p; handles = hs }))
     ≡ far admin c (plain_mind (record { at = at; progress = p; handles = hs }))
 far_is admin c at None hs = refl
 far_is admin c at (Some g) hs = refl
 
--- the mind after a step, by what the report tells
+-- the mind after a step, computed from what the report shows
 abbrev pub after_step : Mode → Bool → Call → Mind → Progress → ℕ → Told → Action → Mind
 after_step mode admin c x g place t action =
     plain_mind (moved c x g place
     (plain_next (next_by mode (course_of c) g.due.ask g.due.reply t action))).0
 
--- the mind after a step, but for a digest, is told by what is shown
+-- what the report shows determines the mind after a step, up to a digest
 after_plain : (mode : Mode) (admin : Bool) (c : Call) (m : Mind) (place : ℕ) (t : Told)
     (action : Action)
     → plain_mind (after_of mode admin c m place t action).0
@@ -431,7 +431,7 @@ next_mind mode p None x place t action = x
 next_mind mode p (Some c) x place t action = after_step mode p.cred.admin c x (far p.cred.admin c x)
     place t action
 
--- the same of a call that may be missing
+-- what the report shows determines the mind after the step of a call that may be missing
 heard : (mode : Mode) (p : Program) (c : Option Call) (t : Thought) (a : Answer)
     → plain_mind (hear_in mode p c t a).mind
     ≡ next_mind mode p c (plain_mind t.mind) (place_in (step_in p c t.mind) a.place)
@@ -439,16 +439,16 @@ heard : (mode : Mode) (p : Program) (c : Option Call) (t : Thought) (a : Answer)
 heard mode p None t a = refl
 heard mode p (Some c) t a = after_plain mode p.cred.admin c t.mind a.place a.told a.action
 
--- where the task stands after a step
+-- what the report shows determines a task's mind after a step, up to a digest
 pub mind_after : (mode : Mode) (p : Program) (t : Thought) (a : Answer)
     → plain_mind (hear mode p t a).mind
     ≡ next_mind mode p (call_at p (plain_mind t.mind)) (plain_mind t.mind)
     (place_in (step_at p t.mind) a.place) (printed_told a.told) a.action
 mind_after mode p t a = heard mode p (call_at p t.mind) t a
 
--- ---- its next step, and its Who
+-- ---- a task's next step and its `Who`
 
--- the step that is due says nothing of the digest
+-- the step that is due doesn't depend on the digest
 step_by_plain : (admin : Bool) (c : Call) (g : Progress) (a : Ask) → step_by admin c g a
     ≡ step_by admin c (plain_progress g) a
 step_by_plain admin c g ask.Count = refl
@@ -467,28 +467,28 @@ step_by_plain admin c g ask.CloseChunk = refl
 step_by_plain admin c g ask.CloseFinish = refl
 step_by_plain admin c g ask.Plain = refl
 
--- the same by the mind
+-- the step that a mind asks for doesn't depend on the digest
 ask_plain : (admin : Bool) (c : Call) (at : ℕ) (p : Option Progress) (hs : List Handle)
     → ask_of admin c (record { at = at; progress = p; handles = hs })
     ≡ ask_of admin c (plain_mind (record { at = at; progress = p; handles = hs }))
 ask_plain admin c at None hs = refl
 ask_plain admin c at (Some g) hs = step_by_plain admin c g g.due.ask
 
--- the number of the step says nothing of the digest
+-- the number of the next step doesn't depend on the digest
 number_plain : (admin : Bool) (c : Call) (at : ℕ) (p : Option Progress) (hs : List Handle)
     → number_of admin c (record { at = at; progress = p; handles = hs })
     ≡ number_of admin c (plain_mind (record { at = at; progress = p; handles = hs }))
 number_plain admin c at None hs = refl
 number_plain admin c at (Some g) hs = refl
 
--- the next step of a call that may be missing says nothing of the digest
+-- the next step of a call that may be missing doesn't depend on the digest
 step_in_plain : (p : Program) (c : Option Call) (m : Mind) → step_in p c m
     ≡ step_in p c (plain_mind m)
 step_in_plain p None m = refl
 step_in_plain p (Some c) m =
     ap (λ (x : Step). Some x) (ask_plain p.cred.admin c m.at m.progress m.handles)
 
--- and its Who says nothing of it
+-- the `Who` of the next step of a call that may be missing doesn't depend on the digest
 who_in_plain : (n : ℕ) (p : Program) (c : Option Call) (m : Mind) → who_in n p c m
     ≡ who_in n p c (plain_mind m)
 who_in_plain n p None m = refl
@@ -500,10 +500,10 @@ who_in_plain n p (Some c) m =
           i;
     }
 
--- a task's next step says nothing of the digest
+-- a task's next step doesn't depend on the digest
 pub step_plain : (p : Program) (m : Mind) → step_at p m ≡ step_at p (plain_mind m)
 step_plain p m = step_in_plain p (call_at p m) m
 
--- its Who says nothing of the digest
+-- the `Who` of a task's next step doesn't depend on the digest
 pub who_plain : (n : ℕ) (p : Program) (m : Mind) → who_at n p m ≡ who_at n p (plain_mind m)
 who_plain n p m = who_in_plain n p (call_at p m) m

@@ -1,4 +1,4 @@
--- Where no program has an `addrule`, no rule is appended.
+-- A run appends no rule if no program has an `addrule`.
 use Rattle.std.proofs.Common.{◌≡◌, ℕ, zero, suc, ◌<◌, ◌||◌, Bool, true, false, List, [], ◌∷◌, ◌++◌, length, Option, Some, None, refl, sym, ap, ◌∙◌, subst, arith}
 use Rattle.std.specs.Prelude.{slice_get, All}
 use Rattle.std.specs.List.{list_any}
@@ -18,12 +18,12 @@ use Rattle.run_model.specs.rules.declared.cell.RuleEntry.{RuleEntry}
 use Rattle.run_model.specs.EndedValue.{appends, grows}
 use Rattle.report_laws.proofs.Own.{is_there, some_same, same_number}
 
--- where not one of two holds, neither does
+-- if it is false that one of two tests holds, both are false
 neither : (a b : Bool) → (a || b) ≡ false → (a ≡ false) × (b ≡ false)
 neither true b h = absurd (false≢true (sym h))
 neither false b h = (refl, h)
 
--- what no element passes, the one at a place does not
+-- if no element passes a test, the one at a place doesn't
 none_at : {X : Type 0} (test : X → Bool) (xs : List X) (i : ℕ) (x : X) → list_any test xs ≡ false
     → slice_get xs i ≡ Some x → test x ≡ false
 none_at test [] i x h e = absurd (false≢true (ap is_there e))
@@ -67,7 +67,7 @@ none_by admin (call.Module i) g ask.Plain w x h = refl
 none_by admin (call.Firmware i) g ask.Plain w x h = refl
 none_by admin (call.AddRule r) g ask.Plain w x h = absurd (false≢true (sym h))
 
--- the same of a call that may be missing
+-- a step of a call that may be missing appends nothing, unless the call is an `addrule`
 none_in : (p : Program) (c : Option Call) (m : Mind) (w : Who) (x : Answer)
     → ((d : Call) → c ≡ Some d → appends d ≡ false) → rule_in w (step_in p c m) x ≡ []
 none_in p None m w x h = refl
@@ -88,13 +88,13 @@ abbrev is_empty : {X : Type 0} → List X → Bool
 is_empty [] = true
 is_empty (x ∷ xs) = false
 
--- below its length a list has an element
-some_at : {X : Type 0} (xs : List X) (i : ℕ) → i < length xs → (x : X) × (slice_get xs i ≡ Some x)
+-- a list has an element at each place below its length
+pub some_at : {X : Type 0} (xs : List X) (i : ℕ) → i < length xs → (x : X) × (slice_get xs i ≡ Some x)
 some_at [] i h = absurd (omega (arith, h))
 some_at (x ∷ xs) zero h = (x, refl)
 some_at (x ∷ xs) (suc i) h = some_at xs i (omega (arith, h))
 
--- where no program has an `addrule` there is no first appended rule
+-- if no program has an `addrule`, the list of appended rules has no first one
 none_added : (scene : Scene) (a : Run) (added : List RuleEntry) → Served scene a → a.added ≡ added
     → grows scene ≡ false → added ≡ []
 none_added scene a [] s e g = refl
@@ -113,6 +113,6 @@ none_added scene a (r ∷ rs) s e g =
     let one : is_empty (rules_of r.who.task (r ∷ rs)) ≡ false = rw (same_number r.who.task) refl in
     absurd (false≢true (sym one ∙ ap is_empty none))
 
--- where no program has an `addrule`, no rule is appended
+-- if no program has an `addrule`, no rule is appended
 pub no_rules : (scene : Scene) (a : Run) → Served scene a → grows scene ≡ false → a.added ≡ []
 no_rules scene a s g = none_added scene a a.added s refl g

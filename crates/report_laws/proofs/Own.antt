@@ -1,4 +1,4 @@
--- Two histories of one program that show the same events make the same steps.
+-- Two histories of one program whose events print alike make the same steps.
 use Rattle.std.proofs.Common.{◌≡◌, ℕ, zero, suc, ◌<◌, ◌≤◌, ◌==◌, Bool, true, false, ◌&&◌, List, [], ◌∷◌, ◌++◌, length, map, take, Option, Some, None, if◌then◌else◌, refl, sym, ap, ◌∙◌, append_assoc, inl, inr, arith}
 use Rattle.std.specs.Prelude.{slice_get}
 use Rattle.std.specs.List.{list_all}
@@ -23,7 +23,7 @@ use Rattle.report_laws.proofs.Minds.{place_in, plain_mind}
 
 -- ---- parts of lists
 
--- equal lists with fronts of one length have equal fronts and equal rests
+-- equal lists whose fronts have one length have equal fronts and equal rests
 pub parts_by_length : {X : Type 0} (a b x y : List X) → length a ≡ length b → a ++ x ≡ b ++ y
     → (a ≡ b) × (x ≡ y)
 parts_by_length [] [] x y n e = (refl, e)
@@ -33,18 +33,18 @@ parts_by_length (a ∷ xs) (b ∷ bs) x y n e =
     let others = parts_by_length xs bs x y (omega (arith, n)) (cc) in
     (cc (others.0), others.1)
 
--- the images of a list are as many as its elements
+-- mapping keeps the length of a list
 pub length_map : {X Y : Type 0} (f : X → Y) (xs : List X) → length (map f xs) ≡ length xs
 length_map f [] = refl
 length_map f (x ∷ xs) = omega (arith, length_map f xs)
 
--- the images of two lists in a row
+-- mapping commutes with joining two lists
 pub map_append : {X Y : Type 0} (f : X → Y) (xs ys : List X) → map f (xs ++ ys) ≡ map f xs
     ++ map f ys
 map_append f [] ys = refl
 map_append f (x ∷ xs) ys = ap (λ l. f x ∷ l) (map_append f xs ys)
 
--- what stands behind fronts of one length and has one length is the same in view
+-- the middles of two lists that map alike do so too, if fronts and middles have the same lengths
 pub middle : {X Y : Type 0} (f : X → Y) (xs ys u v r s : List X) → length xs ≡ length ys → length u
     ≡ length v
     → map f ((xs ++ u) ++ r) ≡ map f ((ys ++ v) ++ s) → map f u ≡ map f v
@@ -58,7 +58,7 @@ middle f xs ys u v r s n m e =
     (sym (map_append f u r) ∙ first.1 ∙ map_append f v s) in
     second.0
 
--- a list without length has no element
+-- a list of length 0 is empty
 pub empty : {X : Type 0} (xs : List X) → length xs ≡ 0 → xs ≡ []
 empty [] e = refl
 empty (x ∷ xs) e = absurd (omega (arith, e))
@@ -67,27 +67,27 @@ abbrev pub is_there : {X : Type 0} → Option X → Bool
 is_there None = false
 is_there (Some x) = true
 
--- what is there is the same where the two options are
+-- equal options have equal contents
 pub some_same : {X : Type 0} (x y : X) → Some x ≡ Some y → x ≡ y
 some_same x y e = cc
 
--- the first of two that hold
+-- the first of two tests that both hold
 pub left : (a b : Bool) → (a && b) ≡ true → a ≡ true
 left true b h = refl
 left false b h = absurd (false≢true h)
 
--- a place where an element stands is below the length
+-- a place that has an element is below the length
 pub get_below : {X : Type 0} (xs : List X) (i : ℕ) (x : X) → slice_get xs i ≡ Some x → i < length xs
 get_below [] i x e = absurd (false≢true (ap is_there e))
 get_below (y ∷ xs) zero x e = omega arith
 get_below (y ∷ xs) (suc i) x e = omega (arith, get_below xs i x e)
 
--- ---- events in view
+-- ---- printed events
 
 abbrev pub pr : Scene → ℕ × Event → ℕ × Event
 pr scene x = (x.0, printed scene.settings.template (grows scene) x.1)
 
--- all of an event but the image of a birth and the digest of a read
+-- an event without the image of a birth and the digest of a read
 abbrev pub alike_by : Event → Deed → Event
 alike_by e deed.Birth = birth_event
 alike_by e d = record { who = e.who; deed = d; told = printed_told e.told }
@@ -105,7 +105,7 @@ is_no_birth _ = true
 abbrev pub no_birth : ℕ × Event → Bool
 no_birth x = is_no_birth x.1.deed
 
--- what is shown of an event has what is shown of its outcome
+-- the outcome of a printed event is the printed outcome
 pub told_of : (scene : Scene) (who : Who) (d : Deed) (t : Told) → is_no_birth d ≡ true
     → (printed scene.settings.template (grows scene) (event who d t)).told ≡ printed_told t
 told_of scene who deed.Birth t h = absurd (false≢true h)
@@ -126,7 +126,7 @@ told_of scene who (deed.CloseFinish f) t hh = refl
 told_of scene who (deed.Post s) t hh = refl
 told_of scene who (deed.Wait s) t hh = refl
 
--- events of one step are alike where their outcomes show the same
+-- events of one step are alike if their outcomes print alike
 pub alike_same : (who : Who) (d : Deed) (t u : Told) → printed_told t ≡ printed_told u
     → alike (event who d t) ≡ alike (event who d u)
 alike_same who deed.Birth t u e = refl
@@ -180,17 +180,17 @@ pub record StepAlike (who : Who) (s : Option Step) (x y : Answer) : Type 0 where
   pub action : x.action ≡ y.action
   pub events : (i : ℕ) → map al (event_in i who s x) ≡ map al (event_in i who s y)
 
--- an event that stands or not, by one test, is alike where it is
+-- an event that is there or not, by one test, is alike in both lists
 pub one_event : (b : Bool) (x y : ℕ × Event) → al x ≡ al y → map al (if b then x ∷ [] else [])
     ≡ map al (if b then y ∷ [] else [])
 one_event true x y e = ap (λ z. z ∷ []) e
 one_event false x y e = refl
 
--- a number is itself
+-- the test of equality holds of a number and itself
 pub same_number : (i : ℕ) → (i == i) ≡ true
 same_number i = grind (arith, nat_tests)
 
--- without appended rules all are the script's
+-- if no rules are appended, all rules are the script's
 pub all_rules : (scene : Scene) (a : Run) (known n : ℕ) → a.added ≡ [] → length scene.rules ≤ known
     → known ≤ n → n ≤ length (final_rules scene a) → n ≡ length scene.rules
 all_rules scene a known n none low le high =
@@ -198,7 +198,7 @@ all_rules scene a known n none low le high =
     rw none (ap length (append-nil scene.rules)) in
     omega (arith, low, le, high, whole)
 
--- two answers to one step, each of which suits its run, are alike where they show the same
+-- two answers to one step, each of which suits its run, are alike if their events print alike
 pub step_alike : (scene : Scene) (a b : Run) (p : Program) (meet : Meet scene a b) (ka kb : ℕ)
     (who : Who) (s : Option Step) (x y : Answer)
     → Suits scene a p ka s x → Suits scene b p kb s y → length scene.rules ≤ ka
@@ -295,7 +295,7 @@ step_alike scene a b p meet ka kb who (Some (Checks inode file f mask)) x y hx h
 
 -- ---- histories
 
--- one step leaves as many events in a journal, whatever it is told
+-- a step makes the same number of events in a journal for any two answers
 pub event_length : (i : ℕ) (who : Who) (s : Option Step) (x y : Answer)
     → length (event_in i who s x) ≡ length (event_in i who s y)
 event_length i who None x y = refl
@@ -311,7 +311,7 @@ event_length i who (Some (Checks inode file f mask)) x y = elim (cases_Bool (ino
   | inr e ↦ rw e refl
 ]
 
--- what a step leaves known is at least the script's rules
+-- after a step, a task knows at least the script's rules
 pub known_least : (scene : Scene) (a : Run) (p : Program) (known : ℕ) (s : Option Step) (x : Answer)
     → Suits scene a p known s x → length scene.rules ≤ known
     → length scene.rules ≤ known_after (length scene.rules) s x known
@@ -332,13 +332,13 @@ rules_least scene a p (x ∷ h) s =
     s.0
     (rules_least scene a p h s.1)
 
--- the older part of a history that suits a run suits it
+-- the older part of a history that suits a run suits the run
 pub suited_behind : (scene : Scene) (a : Run) (p : Program) (front h : List Answer)
     → AreSuited scene a p (front ++ h) → AreSuited scene a p h
 suited_behind scene a p [] h s = s
 suited_behind scene a p (x ∷ front) h s = suited_behind scene a p front h s.1
 
--- the events of later steps stand behind those of earlier ones
+-- the events of later steps come after those of earlier ones
 pub own_behind : (scene : Scene) (n : ℕ) (p : Program) (i : ℕ) (front h : List Answer)
     → (rest : List (ℕ × Event))
     × (own (mode_of scene) n p i (front ++ h) ≡ own (mode_of scene) n p i h ++ rest)
@@ -354,6 +354,6 @@ pub record Alike (scene : Scene) (n : ℕ) (p : Program) (g h : List Answer) : T
       ≡ plain_mind (thought (mode_of scene) p h).mind
   pub events : (i : ℕ) → map al (own (mode_of scene) n p i g) ≡ map al (own (mode_of scene) n p i h)
 
--- entries that are alike are as many
+-- lists of alike entries have the same length
 pub length_alike : (xs ys : List (ℕ × Event)) → map al xs ≡ map al ys → length xs ≡ length ys
 length_alike xs ys e = sym (length_map al xs) ∙ ap length e ∙ length_map al ys

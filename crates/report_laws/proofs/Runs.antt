@@ -1,4 +1,4 @@
--- Two runs shown by one script with equal reports.
+-- Two runs shown by one script with equal reports are the same run.
 use Rattle.std.proofs.Common.{◌≡◌, ℕ, zero, suc, ◌<◌, ◌≤◌, ◌==◌, true, List, [], ◌∷◌, ◌++◌, length, map, Option, Some, None, refl, sym, ap, ◌∙◌, subst, inl, inr, arith}
 use Rattle.std.specs.Prelude.{slice_get, All, sum_by}
 use Rattle.std.proofs.lemmas.Bool.{cases_Bool, false≢true}
@@ -19,27 +19,27 @@ use Rattle.run_model.specs.Served.{Run}
 use Rattle.run_model.specs.Scene.{Program, Scene, Station, inode_of}
 use Rattle.run_model.specs.Shown.{IsShown, journals_of}
 use Rattle.call_steps.specs.declared.ending.Ending.{Ending}
-use Rattle.report_text.specs.Printed.{IsOneScript, IsTold, printed, printed_entry}
-use Rattle.report_text.specs.Ranges.{Fits}
-use Rattle.report_text.specs.Report.{report_of}
+use Rattle.report_text.specs.Printed.{IsOneScript, IsTold, printed}
 use Rattle.inode_events.specs.EndedInode.{EndedInodeValue as EndedInode, ended_inode}
 use Rattle.report_text.proofs.Whole.{report_tells}
-use Rattle.report_laws.specs.Law.{IsSameRun}
+use Rattle.shown_laws.proofs.Sound.{journal_has}
+use Rattle.report_laws.specs.Law.{IsSameRun, ReportDetermines}
+use Rattle.report_laws.proofs.Fitting.{shown_fits}
 use Rattle.run_model.specs.EndedValue.{EndedTaskValue as EndedTask, ended_of, grows, inodes_ended, tasks_ended}
-use Rattle.report_laws.proofs.Own.{Meet, alike, get_below, is_there, length_map, some_same}
+use Rattle.report_laws.proofs.Own.{Meet, alike, get_below, is_there, some_same}
 use Rattle.report_laws.proofs.NoRules.{no_rules}
 use Rattle.report_laws.proofs.Histories.{Shows, same_callers, task_alike}
 use Rattle.report_laws.proofs.Journals.{map_past, merged_events, past_once, same_meta, same_past}
 
--- ---- lists by their places
+-- ---- lists, place by place
 
--- below its length a list has an element
+-- a list has an element at each place below its length
 get_some : {X : Type 0} (xs : List X) (i : ℕ) → i < length xs → (x : X) × (slice_get xs i ≡ Some x)
 get_some [] i h = absurd (omega (arith, h))
 get_some (x ∷ xs) zero h = (x, refl)
 get_some (x ∷ xs) (suc i) h = get_some xs i (omega (arith, h))
 
--- lists with the same images have an element each at a place, with the same image
+-- two lists that map alike have elements at a place that map alike
 get_both : {X Y : Type 0} (f : X → Y) (xs ys : List X) (i : ℕ) → map f xs ≡ map f ys → i < length xs
     → (x : X) × (y : X) × (slice_get xs i ≡ Some x) × (slice_get ys i ≡ Some y) × (f x ≡ f y)
 get_both f [] ys i e h = absurd (omega (arith, h))
@@ -47,14 +47,14 @@ get_both f (x ∷ xs) [] i e h = absurd (let n = ap length e in omega (arith, n)
 get_both f (x ∷ xs) (y ∷ ys) zero e h = (x, y, refl, refl, cc e)
 get_both f (x ∷ xs) (y ∷ ys) (suc i) e h = get_both f xs ys i (cc e) (omega (arith, h))
 
--- what all elements have, the one at a place has
+-- what holds of all elements holds of the one at a place
 All-at : {X : Type 0} (P : X → Type 0) (xs : List X) (i : ℕ) (x : X) → All P xs → slice_get xs i
     ≡ Some x → P x
 All-at P [] i x h e = absurd (false≢true (ap is_there e))
 All-at P (y ∷ xs) zero x h e = subst P (some_same y x e) (All-head P y xs h)
 All-at P (y ∷ xs) (suc i) x h e = All-at P xs i x (All-tail P y xs h) e
 
--- lists of one length with the same element at each place are one
+-- lists of one length with the same element at each place are equal
 same_by_place : {X : Type 0} (xs ys : List X) → length xs ≡ length ys
     → ((i : ℕ) → i < length xs → slice_get xs i ≡ slice_get ys i) → xs ≡ ys
 same_by_place [] [] n h = refl
@@ -66,9 +66,9 @@ same_by_place (x ∷ xs) (y ∷ ys) n h =
     same_by_place xs ys (omega (arith, n)) (λ i below. h (suc i) (omega (arith, below))) in
     λ i. here i ∷ others i
 
--- ---- what the report's record has of a run
+-- ---- the ended run, from which a report is made
 
--- the events that the report's record has are those of the journals
+-- the journals of the ended run are those of the run, as printed
 shown_journals : (scene : Scene) (ss : List Station) (js : List (List Event)) → length js
     ≡ length ss
     → map (λ (i : EndedInode). map (printed scene.settings.template (grows scene)) i.journal)
@@ -80,7 +80,7 @@ shown_journals scene (s ∷ ss) (j ∷ js) n =
     ap (λ l. map (printed scene.settings.template (grows scene)) j ∷ l)
     (shown_journals scene ss js (omega (arith, n)))
 
--- the report's record has an inode for each station
+-- the ended run has an inode for each station
 length_inodes : (scene : Scene) (ss : List Station) (js : List (List Event)) → length js ≡ length ss
     → length (inodes_ended scene ss js) ≡ length ss
 length_inodes scene [] js n = refl
@@ -88,14 +88,14 @@ length_inodes scene (s ∷ ss) [] n = absurd (omega (arith, n))
 length_inodes scene (s ∷ ss) (j ∷ js) n =
     omega (arith, length_inodes scene ss js (omega (arith, n)))
 
--- and a task for each program
+-- the ended run has a task for each program
 length_tasks : (ps : List Program) (ts : List Thought) → length ts ≡ length ps
     → length (tasks_ended ps ts) ≡ length ps
 length_tasks [] ts n = refl
 length_tasks (p ∷ ps) [] n = absurd (omega (arith, n))
 length_tasks (p ∷ ps) (t ∷ ts) n = omega (arith, length_tasks ps ts (omega (arith, n)))
 
--- the replies that the report's record has are those of the tasks
+-- the replies in the ended run are those of the tasks
 shown_replies : (ps : List Program) (ts : List Thought) → length ts ≡ length ps
     → map (λ (t : EndedTask). t.replies) (tasks_ended ps ts) ≡ map (λ (t : Thought). t.replies) ts
 shown_replies [] [] n = refl
@@ -103,34 +103,16 @@ shown_replies [] (t ∷ ts) n = absurd (omega (arith, n))
 shown_replies (p ∷ ps) [] n = refl
 shown_replies (p ∷ ps) (t ∷ ts) n = ap (λ l. t.replies ∷ l) (shown_replies ps ts (omega (arith, n)))
 
--- the journal at a place is legal for the inode there
-legal_at : (scene : Scene) (ss : List Station) (js : List (List Event)) (i : ℕ) (s : Station)
-    (j : List Event)
-    → All (λ (k : Journal). Legal k.inode k.events) (journals_of scene ss js) → slice_get ss i
-    ≡ Some s → slice_get js i ≡ Some j
-    → Legal (inode_of scene s) (past j)
-legal_at scene [] js i s j h es ej = absurd (false≢true (ap is_there es))
-legal_at scene (t ∷ ss) [] i s j h es ej = absurd (false≢true (ap is_there ej))
-legal_at scene (t ∷ ss) (k ∷ js) zero s j h es ej =
-    let first = All-head (λ (k : Journal). Legal k.inode k.events)
-    (record { inode = inode_of scene t; events = past k }) (journals_of scene ss js) h in
-    subst (λ z. Legal (inode_of scene s) (past z)) (some_same k j ej)
-    (subst (λ z. Legal (inode_of scene z) (past k)) (some_same t s es) first)
-legal_at scene (t ∷ ss) (k ∷ js) (suc i) s j h es ej =
-    legal_at scene ss js i s j
-    (All-tail (λ (k : Journal). Legal k.inode k.events)
-    (record { inode = inode_of scene t; events = past k }) (journals_of scene ss js) h) es ej
-
 -- ---- the measurement list
 
--- two lists in which the entry that an event names stands have it at that place
+-- two lists that both have the entry that an event names are equal at its place
 stands_same : (xs ys : List Entry) (l : Listed) (place : ℕ) → (l.0 == place) ≡ true
     → StandsIn xs (Some l) → StandsIn ys (Some l) → slice_get xs place ≡ slice_get ys place
 stands_same xs ys l place eq p q =
     let at : l.0 ≡ place = grind (arith, nat_tests) in
     ap (slice_get xs) (sym at) ∙ p ∙ sym q ∙ ap (slice_get ys) at
 
--- the event names the place, or an earlier one does
+-- if the event or an earlier one names the place, the lists are equal there
 added_same : (xs ys : List Entry) (place : ℕ) (w : Who) (o : Option Listed) (rest : List Named)
     → StandsIn xs o → StandsIn ys o
     → (0 < times_added place rest → slice_get xs place ≡ slice_get ys place)
@@ -141,7 +123,7 @@ added_same xs ys place w (Some l) rest p q h lt = elim (cases_Bool (l.0 == place
   | inr ne ↦ h (rw ne at lt)
 ]
 
--- a place that a journal adds has the same entry in both lists
+-- at a place that a journal adds, the lists are equal
 journal_same : (xs ys : List Entry) (place : ℕ) (inode : Inode) (es : List Event)
     → IsListed inode xs es → IsListed inode ys es
     → 0 < times_added place (places_added inode es) → slice_get xs place ≡ slice_get ys place
@@ -150,7 +132,7 @@ journal_same xs ys place inode (e ∷ es) p q lt =
     added_same xs ys place e.who (adds inode e.deed e.told es) (places_added inode es) p.0 q.0
     (journal_same xs ys place inode es p.2 q.2) lt
 
--- the same of a place that one of the journals adds
+-- at a place that one of the journals adds, the lists are equal
 journals_same : (xs ys : List Entry) (place : ℕ) (js : List Journal)
     → All (λ (j : Journal). IsListed j.inode xs j.events) js
     → All (λ (j : Journal). IsListed j.inode ys j.events) js
@@ -176,7 +158,7 @@ journals_same xs ys place (j ∷ js) p q lt =
           (All-head (λ (j : Journal). IsListed j.inode ys j.events) j js q) some
     ]
 
--- the journals and the length say the list
+-- the journals and the length determine the list
 pub list_same : (boot : Entry) (js : List Journal) (xs ys : List Entry) → IsMerged boot xs js
     → IsMerged boot ys js → length xs ≡ length ys → xs ≡ ys
 list_same boot js xs ys p q n =
@@ -207,8 +189,10 @@ module _ (scene : Scene) (ending : Ending) (a b : Run) (sa : IsShown scene endin
       → slice_get a.journals i ≡ Some x → slice_get b.journals i ≡ Some y
       → EachFollows (inode_of scene s) (past x) × EachFollows (inode_of scene s) (past y)
   each_at i s x y es ex ey = (
-    (legal_at scene scene.stations a.journals i s x sa.legal es ex).1,
-    (legal_at scene scene.stations b.journals i s y sb.legal es ey).1,
+    (journal_has (λ (j : Journal). Legal j.inode j.events) scene scene.stations a.journals i s x
+        sa.legal es ex).1,
+    (journal_has (λ (j : Journal). Legal j.inode j.events) scene scene.stations b.journals i s y
+        sb.legal es ey).1,
   )
 
   same_shown : (i : ℕ) (x y : List Event) → slice_get a.journals i ≡ Some x → slice_get b.journals i
@@ -270,19 +254,15 @@ module _ (scene : Scene) (ending : Ending) (a b : Run) (sa : IsShown scene endin
         sa.merged
         (subst (λ js. IsMerged scene.boot b.list (journals_of scene scene.stations js))
         (sym journals_once) sb.merged)
-        (sym (length_map printed_entry a.list) ∙ ap length told.entries
-        ∙ length_map printed_entry b.list);
+        told.count;
     added = told.rules;
     replies = sym (shown_replies scene.programs a.thoughts sa.served.thoughts) ∙ told.replies
         ∙ shown_replies scene.programs b.thoughts sb.served.thoughts;
   }
 
--- two runs shown by one script with equal reports are one run
-pub report_determines : (scene : Scene) (ending : Ending) (a b : Run) → IsShown scene ending a
-    → IsShown scene ending b
-    → Fits (ended_of scene a) → Fits (ended_of scene b) → report_of (ended_of scene a)
-    ≡ report_of (ended_of scene b) → IsSameRun a b
-report_determines scene ending a b sa sb fa fb e =
+-- two runs shown by one script with equal reports are the same run
+pub report_determines : ReportDetermines
+report_determines scene ending a b names sa sb e =
     let one : IsOneScript (ended_of scene a) (ended_of scene b) = record {
       template = refl;
       grows = refl;
@@ -294,4 +274,5 @@ report_determines scene ending a b sa sb fa fb e =
       none_of_a = no_rules scene a sa.served;
       none_of_b = no_rules scene b sb.served;
     } in
-    run_once scene ending a b sa sb (report_tells (ended_of scene a) (ended_of scene b) fa fb one e)
+    run_once scene ending a b sa sb (report_tells (ended_of scene a) (ended_of scene b)
+    (shown_fits scene ending a names sa) (shown_fits scene ending b names sb) one e)

@@ -1,26 +1,45 @@
--- The report determines the run.
+-- The law that a report determines the run that it shows.
 use Rattle.std.specs.Prelude.{◌≡◌, map}
-use Rattle.run_model.specs.Served.{Run}
-use Rattle.run_model.specs.Scene.{Scene}
-use Rattle.run_model.specs.Shown.{IsShown}
+use Rattle.std.specs.List.{AllByRecursion}
+use Rattle.call_steps.specs.declared.call.Call.{Call}
+use Rattle.call_steps.specs.declared.call.Call.TheVariants as call
 use Rattle.call_steps.specs.declared.ending.Ending.{Ending}
-use Rattle.report_text.specs.Ranges.{Fits}
-use Rattle.report_text.specs.Report.{report_of}
+use Rattle.policy_text.specs.RuleValue.{IsRule}
 use Rattle.run_model.specs.EndedValue.{ended_of}
+use Rattle.run_model.specs.Scene.{Program, Scene, Station}
+use Rattle.run_model.specs.Served.{Run}
+use Rattle.run_model.specs.Shown.{IsShown}
+use Rattle.shown_laws.specs.Places.{HasForms}
+use Rattle.report_text.specs.Ranges.{IsChange, IsClean}
+use Rattle.report_text.specs.Report.{report_of}
+use Rattle.xattr_store.specs.Attrs.{Pair}
 
--- the two have one journal for each inode, one list, one list of appended rules, and the same
--- replies of each task
+-- the two runs have the same journal for each inode, the same list, the same appended rules, and
+-- the same replies for each task
 pub record IsSameRun (a b : Run) : Type 0 where
   pub journals : a.journals ≡ b.journals
   pub list : a.list ≡ b.list
   pub added : a.added ≡ b.added
   pub replies : map (λ t. t.replies) a.thoughts ≡ map (λ t. t.replies) b.thoughts
 
--- two runs shown by one script with equal reports
+-- the names, modes and rules of a call are some that a line can show
+abbrev pub IsNamedCall : Call → Type 0
+IsNamedCall (call.SetAttr inode name value) = IsClean name
+IsNamedCall (call.SetMeta inode change) = IsChange change
+IsNamedCall (call.AddRule rule) = IsRule rule
+IsNamedCall _ = Unit {0}
+
+-- the names and rules of a scene are some that a line can show, as those of each script are
+pub record HasNames (scene : Scene) : Type 0 where
+  pub forms : HasForms scene
+  pub attrs : AllByRecursion (λ (s : Station). AllByRecursion (λ (p : Pair). IsClean p.0)
+      s.birth.attrs) scene.stations
+  pub calls : AllByRecursion (λ (p : Program). AllByRecursion IsNamedCall p.calls) scene.programs
+
+-- two runs shown by one script with equal reports are the same run
 abbrev pub ReportDetermines : Type 0
 ReportDetermines =
-    (scene : Scene) (ending : Ending) (a b : Run)
+    (scene : Scene) (ending : Ending) (a b : Run) → HasNames scene
     → IsShown scene ending a → IsShown scene ending b
-    → Fits (ended_of scene a) → Fits (ended_of scene b)
     → report_of (ended_of scene a) ≡ report_of (ended_of scene b)
     → IsSameRun a b

@@ -1,7 +1,7 @@
--- The text of a check.
+-- The text of a check's deed.
 use Rattle.std.proofs.lemmas.List.{append-nil}
 use Rattle.std.proofs.Common.{◌≡◌, ℕ, Bool, true, false, ◌||◌, List, [], ◌∷◌, ◌++◌, codes, unwrap_or, if◌then◌else◌, refl, sym, ap, ◌∙◌, append_assoc}
-use Rattle.std.specs.Prelude.{decimal}
+use Rattle.report_text.specs.Numerals.{numeral}
 use Rattle.std.specs.List.{join_with_byte}
 use Rattle.inode_meta.specs.Words.{template_word}
 use Rattle.inode_meta.specs.declared.measurement.Template.{Template}
@@ -57,7 +57,7 @@ acts_join : (m a y u h : Bool) (pcr : ℕ) (t : Template)
     ≡ (if m || a || u || h then measure_text m pcr t ++ appraise_text a y
     ++ flag_text (codes " audit") u ++ flag_text (codes " hash") h else codes " -")
 acts_join true a y u h pcr t =
-    measured_join (codes "measure") (decimal pcr) (template_word t) (appraise_words a y
+    measured_join (codes "measure") (numeral pcr) (template_word t) (appraise_words a y
     ++ flag_words (codes "audit") u ++ flag_words (codes "hash") h)
     ∙ ap (λ l. measure_text true pcr t ++ l) (tail_join a y u h)
     ∙ groups (measure_text true pcr t) (appraise_text a y) (flag_text (codes " audit") u)
@@ -98,13 +98,13 @@ regroup a b c d = simp append_assoc
 
 pub check_text : (t : Template) (g : Bool) (file : ℕ) (f : Func) (a : Action) (n : ℕ)
     → join_with_byte 32 (deed_words t g (deed.Check file f a n)) ≡ codes "check "
-    ++ (decimal file ++ 32 ∷ (func_word f ++ (rules_text g n ++ acts_text t a)))
+    ++ (numeral file ++ 32 ∷ (func_word f ++ (rules_text g n ++ acts_text t a)))
 check_text t true file f a n =
-    ap (λ l. codes "check " ++ (decimal file ++ 32 ∷ (func_word f ++ (codes " rules " ++ l))))
-    (acts_behind (decimal n) t a)
-    ∙ ap (λ l. codes "check " ++ (decimal file ++ 32 ∷ l))
-    (regroup (func_word f) (codes " rules ") (decimal n) (acts_text t a))
-check_text t false file f a n = ap (λ l. codes "check " ++ (decimal file ++ 32 ∷ l))
+    ap (λ l. codes "check " ++ (numeral file ++ 32 ∷ (func_word f ++ (codes " rules " ++ l))))
+    (acts_behind (numeral n) t a)
+    ∙ ap (λ l. codes "check " ++ (numeral file ++ 32 ∷ l))
+    (regroup (func_word f) (codes " rules ") (numeral n) (acts_text t a))
+check_text t false file f a n = ap (λ l. codes "check " ++ (numeral file ++ 32 ∷ l))
     (acts_behind (func_word f) t a)
 
 gather : (o k b d s f r a : List ℕ) → ((((o ++ (k ++ (b ++ d))) ++ s) ++ f) ++ r) ++ a
@@ -113,11 +113,11 @@ gather o k b d s f r a = simp append_assoc
 
 pub check_pushed : (o fw : List ℕ) (t : Template) (g : Bool) (file : ℕ) (f : Func) (a : Action)
     (n : ℕ) → fw ≡ func_word f
-    → ((((o ++ (codes "check" ++ 32 ∷ decimal file)) ++ codes " ") ++ fw) ++ rules_text g n)
+    → ((((o ++ (codes "check" ++ 32 ∷ numeral file)) ++ codes " ") ++ fw) ++ rules_text g n)
     ++ acts_text t a ≡ o ++ join_with_byte 32 (deed_words t g (deed.Check file f a n))
 check_pushed o fw t g file f a n e =
-    gather o (codes "check") (codes " ") (decimal file) (codes " ") fw (rules_text g n)
+    gather o (codes "check") (codes " ") (numeral file) (codes " ") fw (rules_text g n)
     (acts_text t a)
     ∙ ap (λ w. o
-    ++ (codes "check " ++ (decimal file ++ 32 ∷ (w ++ (rules_text g n ++ acts_text t a))))) e
+    ++ (codes "check " ++ (numeral file ++ 32 ∷ (w ++ (rules_text g n ++ acts_text t a))))) e
     ∙ ap (λ l. o ++ l) (sym (check_text t g file f a n))

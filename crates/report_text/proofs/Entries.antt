@@ -1,4 +1,4 @@
--- What a line of the list tells of its entry.
+-- A line of the list determines its entry, up to the flag of a violation.
 use Rattle.std.proofs.Common.{◌≡◌, ℕ, zero, suc, ◌<◌, ◌/◌, ◌%◌, not, ◌==◌, true, false, List, [], ◌∷◌, ◌++◌, map, codes, Result, Ok, Err, if◌then◌else◌, refl, sym, ap, ◌∙◌, append_assoc, arith}
 use Rattle.std.specs.List.{AllByRecursion, list_all, slice_split}
 use Rattle.std.specs.Str.{bytes_eq}
@@ -34,7 +34,7 @@ digest_text ImaNg digest = algo_name digest.algo ++ codes ":" ++ encode_lower di
 digest_text ImaSig digest = algo_name digest.algo ++ codes ":" ++ encode_lower digest.bytes
 digest_text ImaBuf digest = algo_name digest.algo ++ codes ":" ++ encode_lower digest.bytes
 
--- the word of the third field, where the template has one
+-- the word of the third field, if the template has one
 abbrev pub sig_words : Template → List ℕ → Line
 sig_words Ima sig = []
 sig_words ImaNg sig = []

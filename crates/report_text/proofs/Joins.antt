@@ -1,6 +1,6 @@
--- Words joined by spaces, and lines put one behind another.
+-- Words joined by spaces, and lines appended one after another.
 use Rattle.std.proofs.Common.{◌≡◌, ◌≢◌, ℕ, suc, ◌+◌, ◌<◌, ◌≤◌, Bool, true, List, [], ◌∷◌, ◌++◌, take, drop, map, get_or, length, codes, Option, Some, None, refl, sym, ap, ◌∙◌, append_assoc, drop-cons, arith}
-use Rattle.std.specs.Prelude.{decimal}
+use Rattle.report_text.specs.Numerals.{numeral}
 use Rattle.std.specs.List.{join_with_byte}
 use Rattle.std.proofs.lemmas.Bool.{false≢true}
 use Rattle.std.proofs.lemmas.List.{append-nil, drop_all, map_push, take_more}
@@ -20,13 +20,13 @@ use Rattle.text_forms.specs.Words.{text_of}
 use Rattle.report_text.specs.Texts.{line_text}
 use Rattle.report_text.specs.Words.{Line, admitted_words, deed_words, placed_words, step_words, told_words, verdict_words, who_word}
 
--- one word more
+-- one more word at the end of a line
 join_more : (w : List ℕ) (ws : Line) (v : List ℕ)
     → join_with_byte 32 (w ∷ (ws ++ v ∷ [])) ≡ join_with_byte 32 (w ∷ ws) ++ 32 ∷ v
 join_more w [] v = refl
 join_more w (u ∷ ws) v = rw (join_more u ws v) (simp append_assoc)
 
--- two lists of words, one word each or more
+-- two lines, neither of them empty, in a row
 pub join_append : (a b : Line) → is_filled a ≡ true → is_filled b ≡ true
     → join_with_byte 32 (a ++ b) ≡ join_with_byte 32 a ++ 32 ∷ join_with_byte 32 b
 join_append [] b h k = absurd (false≢true h)
@@ -34,19 +34,19 @@ join_append (w ∷ []) [] h k = absurd (false≢true k)
 join_append (w ∷ []) (v ∷ b) h k = refl
 join_append (w ∷ u ∷ a) b h k = rw (join_append (u ∷ a) b refl k) (simp append_assoc)
 
--- one number more behind the words
+-- one more number after the words
 pub numbers_on : (o out new w : List ℕ) (ns : List ℕ) (i : ℕ) → i < length ns
-    → out ≡ o ++ join_with_byte 32 (w ∷ map decimal (take i ns))
-    → new ≡ (out ++ 32 ∷ []) ++ decimal (get_or ns i 0)
-    → new ≡ o ++ join_with_byte 32 (w ∷ map decimal (take (i + 1) ns))
+    → out ≡ o ++ join_with_byte 32 (w ∷ map numeral (take i ns))
+    → new ≡ (out ++ 32 ∷ []) ++ numeral (get_or ns i 0)
+    → new ≡ o ++ join_with_byte 32 (w ∷ map numeral (take (i + 1) ns))
 numbers_on o out new w ns i lt h k =
-    let d = decimal (get_or ns i 0) in
-    let front = join_with_byte 32 (w ∷ map decimal (take i ns)) in
-    let more : map decimal (take (i + 1) ns) ≡ map decimal (take i ns) ++ d ∷ [] =
-    ap (map decimal) (take_more ns i 0 lt) ∙ map_push decimal (take i ns) (get_or ns i 0) in
+    let d = numeral (get_or ns i 0) in
+    let front = join_with_byte 32 (w ∷ map numeral (take i ns)) in
+    let more : map numeral (take (i + 1) ns) ≡ map numeral (take i ns) ++ d ∷ [] =
+    ap (map numeral) (take_more ns i 0 lt) ∙ map_push numeral (take i ns) (get_or ns i 0) in
     k ∙ ap (λ l. (l ++ 32 ∷ []) ++ d) h ∙ append_assoc (o ++ front) (32 ∷ []) d
     ∙ append_assoc o front (32 ∷ d)
-    ∙ ap (λ l. o ++ l) (sym (join_more w (map decimal (take i ns)) d))
+    ∙ ap (λ l. o ++ l) (sym (join_more w (map numeral (take i ns)) d))
     ∙ ap (λ l. o ++ join_with_byte 32 (w ∷ l)) (sym more)
 
 -- ---- an event
@@ -109,7 +109,7 @@ told_filled (told.Status s) = refl
 told_filled (told.Read n d) = refl
 told_filled (told.Grant g) = grant_filled g.placed g.verdict g.admitted g.labelled
 
--- an event that isn't a birth has a step, a deed and what was told
+-- the words of an event that isn't a birth are a step, a deed and an outcome
 made_words : (t : Template) (g : Bool) (who : Who) (d : Deed) (s : Told) → d ≢ deed.Birth
     → step_words t g who d s ≡ who_word who ∷ (deed_words t g d ++ codes "=" ∷ told_words s)
 made_words t g who deed.Birth s not_birth = absurd (not_birth refl)
@@ -146,31 +146,31 @@ regroup o p w d t =
     (sym (append_assoc d (codes " = " ++ t) (codes "\n")))
     ∙ ap (λ l. o ++ l) (spread p w (d ++ 32 ∷ (codes "=" ++ 32 ∷ t)) (10 ∷ []))
 
--- the pieces of its line, as the code puts them
+-- the pieces of an event's line, as the code appends them, are the line
 pub event_pushed : (o : List ℕ) (t : Template) (g : Bool) (place : ℕ) (who : Who) (d : Deed)
     (s : Told)
     → d ≢ deed.Birth
-    → (((((((o ++ decimal place) ++ codes " ") ++ who_word who) ++ codes " ")
+    → (((((((o ++ numeral place) ++ codes " ") ++ who_word who) ++ codes " ")
     ++ join_with_byte 32 (deed_words t g d)) ++ codes " = ") ++ join_with_byte 32 (told_words s))
     ++ codes "\n"
-    ≡ o ++ line_text (decimal place ∷ step_words t g who d s)
+    ≡ o ++ line_text (numeral place ∷ step_words t g who d s)
 event_pushed o t g place who d s not_birth =
     let ds = deed_words t g d in
     let ts = told_words s in
-    regroup o (decimal place) (who_word who) (join_with_byte 32 ds) (join_with_byte 32 ts)
-    ∙ ap (λ l. o ++ (((decimal place ++ 32 ∷ who_word who) ++ 32 ∷ (join_with_byte 32 ds ++ 32 ∷ l))
+    regroup o (numeral place) (who_word who) (join_with_byte 32 ds) (join_with_byte 32 ts)
+    ∙ ap (λ l. o ++ (((numeral place ++ 32 ∷ who_word who) ++ 32 ∷ (join_with_byte 32 ds ++ 32 ∷ l))
     ++ 10 ∷ []))
     (sym (join_append (codes "=" ∷ []) ts refl (told_filled s)))
-    ∙ ap (λ l. o ++ (((decimal place ++ 32 ∷ who_word who) ++ 32 ∷ l) ++ 10 ∷ []))
+    ∙ ap (λ l. o ++ (((numeral place ++ 32 ∷ who_word who) ++ 32 ∷ l) ++ 10 ∷ []))
     (sym (join_append ds (codes "=" ∷ ts) (deed_filled t g d) refl))
     ∙ ap (λ l. o ++ (l ++ 10 ∷ []))
-    (sym (join_append (decimal place ∷ who_word who ∷ []) (ds ++ codes "=" ∷ ts) refl
+    (sym (join_append (numeral place ∷ who_word who ∷ []) (ds ++ codes "=" ∷ ts) refl
     (filled_append ds (codes "=" ∷ ts) (deed_filled t g d))))
-    ∙ ap (λ (l : Line). o ++ line_text (decimal place ∷ l)) (sym (made_words t g who d s not_birth))
+    ∙ ap (λ (l : Line). o ++ line_text (numeral place ∷ l)) (sym (made_words t g who d s not_birth))
 
 -- ---- numbered lines
 
--- one element's lines more, where what is left is still to come
+-- the lines of one more element are appended, while those of the other elements are still to come
 pub lines_on : {X : Type 0} (lines : ℕ → List X → List Line) (f : ℕ → X → List Line)
     → ((k : ℕ) (x : X) (xs : List X) → lines k (x ∷ xs) ≡ f k x ++ lines (k + 1) xs)
     → (o out new : List ℕ) (xs : List X) (i : ℕ) (x : X) → i < length xs → x ≡ get_or xs i x
@@ -188,7 +188,7 @@ lines_on lines f step o out new xs i x lt is h k =
     ∙ append_assoc out (text_of (f i x)) (text_of (lines (i + 1) rest))
     ∙ ap (λ l. out ++ l) (sym parts) ∙ h
 
--- at the end nothing is to come
+-- after the last element, no lines are still to come
 pub lines_end : {X : Type 0} (lines : ℕ → List X → List Line) → ((k : ℕ) → lines k [] ≡ [])
     → (o out : List ℕ) (xs : List X) (i : ℕ) → length xs ≤ i
     → out ++ text_of (lines i (drop i xs)) ≡ o → out ≡ o

@@ -1,6 +1,7 @@
--- No word of a report holds a space or a newline.
-use Rattle.std.proofs.Common.{◌≡◌, ℕ, ◌+◌, ◌/◌, ◌%◌, zero, suc, Bool, true, false, ◌&&◌, List, [], ◌∷◌, ◌++◌, length, codes, Option, Some, None, unwrap_or, refl, arith}
-use Rattle.std.specs.Prelude.{decimal, slice_index, IfSome}
+-- No word of a report has a space or a newline in it.
+use Rattle.std.proofs.Common.{◌≡◌, ℕ, ◌<◌, ◌^◌, ◌+◌, ◌/◌, ◌%◌, zero, suc, Bool, true, false, ◌&&◌, List, [], ◌∷◌, ◌++◌, length, codes, Option, Some, None, unwrap_or, refl, arith}
+use Rattle.std.specs.Prelude.{slice_index}
+use Rattle.report_text.specs.Numerals.{numeral}
 use Rattle.std.specs.Fmt.{digits}
 use Rattle.std.specs.List.{AllByRecursion, list_all}
 use Rattle.std.proofs.lemmas.Bool.{false≢true}
@@ -39,7 +40,8 @@ use Rattle.inode_events.specs.declared.told.Event.{Event}
 use Rattle.inode_events.specs.declared.told.Told.{Told}
 use Rattle.inode_events.specs.declared.told.Told.TheVariants as told
 use Rattle.report_text.specs.Words.{Line, who_word, how_words, measure_words, appraise_words, flag_words, or_dash, acts_words, rules_words, length_word, change_words, deed_words, placed_words, verdict_words, admitted_words, told_words, step_words, event_lines}
-use Rattle.report_text.specs.Ranges.{Is64, IsChange, IsDeed, IsPlaced, IsTold, IsWho, IsEvent}
+use Rattle.report_text.specs.Ranges.{IsChange, IsDeed}
+use Rattle.report_text.proofs.Numerals.{numeral_clean}
 
 left : (a b : Bool) → (a && b) ≡ true → a ≡ true
 left true b h = refl
@@ -57,11 +59,10 @@ visible_kept b h = grind (arith, nat_tests)
 pub visible : (w : List ℕ) → list_all is_visible w ≡ true → is_clean w ≡ true
 visible w h = all_weaker is_visible is_clean_byte visible_kept w h
 
-pub number_kept : (n : ℕ) → Is64 n → is_clean (decimal n) ≡ true
-number_kept n h =
-    visible (decimal n) (visible-digits 10 n (omega arith) (omega arith) (omega (arith, h)))
+pub number_kept : (n : ℕ) → is_clean (numeral n) ≡ true
+number_kept n = numeral_clean n
 
-pub octal_kept : (n : ℕ) → Is64 n → is_clean (digits 8 false n) ≡ true
+pub octal_kept : (n : ℕ) → n < 2 ^ 64 → is_clean (digits 8 false n) ≡ true
 octal_kept n h =
     visible (digits 8 false n) (visible-digits 8 n (omega arith) (omega arith) (omega (arith, h)))
 
@@ -71,7 +72,7 @@ picked p [] i h z = z
 picked p (x ∷ xs) zero h z = left _ _ h
 picked p (x ∷ xs) (suc i) h z = picked p xs i (right _ _ h) z
 
--- whatever the list is: a number that isn't a byte has a zero for its digits
+-- hexadecimal digits are clean, for any list: a number that isn't a byte has zeros as its digits
 pub hex_kept : (bs : List ℕ) → is_clean (encode_lower bs) ≡ true
 unfolding encode_with
 hex_kept [] = refl
@@ -119,12 +120,11 @@ status_kept evm.Unknown = refl
 func_kept : (f : Func) → is_clean (func_word f) ≡ true
 func_kept f = visible (func_word f) (func_again f).0
 
-pub who_kept : (w : Who) → IsWho w → is_clean (who_word w) ≡ true
-who_kept w h =
-    append_kept (decimal w.task) (46 ∷ (decimal w.call ++ 46 ∷ decimal w.step))
-    (number_kept w.task h.task)
-    (append_kept (decimal w.call) (46 ∷ decimal w.step) (number_kept w.call h.call)
-    (number_kept w.step h.step))
+pub who_kept : (w : Who) → is_clean (who_word w) ≡ true
+who_kept w =
+    append_kept (numeral w.task) (46 ∷ (numeral w.call ++ 46 ∷ numeral w.step))
+    (number_kept w.task)
+    (append_kept (numeral w.call) (46 ∷ numeral w.step) (number_kept w.call) (number_kept w.step))
 
 -- ---- lists of words
 
@@ -141,10 +141,10 @@ how_kept (how.Write false true) = refl
 how_kept (how.Write false false) = refl
 how_kept how.Exec = refl
 
-measure_kept : (m : Bool) (pcr : ℕ) (t : Template) → Is64 pcr
+measure_kept : (m : Bool) (pcr : ℕ) (t : Template)
     → list_all is_clean (measure_words m pcr t) ≡ true
-measure_kept true pcr t h = rw (number_kept pcr h, template_kept t) refl
-measure_kept false pcr t h = refl
+measure_kept true pcr t = rw (number_kept pcr, template_kept t) refl
+measure_kept false pcr t = refl
 
 appraise_kept : (a any : Bool) → list_all is_clean (appraise_words a any) ≡ true
 appraise_kept true true = refl
@@ -159,18 +159,17 @@ dash_kept : (ws : Line) → list_all is_clean ws ≡ true → list_all is_clean 
 dash_kept [] h = refl
 dash_kept (w ∷ ws) h = h
 
-rules_kept : (g : Bool) (n : ℕ) → Is64 n → list_all is_clean (rules_words g n) ≡ true
-rules_kept true n h = rw (number_kept n h) refl
-rules_kept false n h = refl
+rules_kept : (g : Bool) (n : ℕ) → list_all is_clean (rules_words g n) ≡ true
+rules_kept true n = rw (number_kept n) refl
+rules_kept false n = refl
 
-length_kept : (o : Option (List ℕ)) → IfSome o (λ b. Is64 (length b)) → is_clean (length_word o)
-    ≡ true
-length_kept None h = refl
-length_kept (Some b) h = number_kept (length b) h
+length_kept : (o : Option (List ℕ)) → is_clean (length_word o) ≡ true
+length_kept None = refl
+length_kept (Some b) = number_kept (length b)
 
 change_kept : (c : Change) → IsChange c → list_all is_clean (change_words c) ≡ true
 change_kept (change.Mode m) h = rw (octal_kept m h) refl
-change_kept (change.Owner u g) h = rw (number_kept u h.0, number_kept g h.1) refl
+change_kept (change.Owner u g) h = rw (number_kept u, number_kept g) refl
 
 deed_kept : (t : Template) (g : Bool) (d : Deed) → IsDeed d → list_all is_clean (deed_words t g d)
     ≡ true
@@ -187,32 +186,32 @@ deed_kept t g (deed.Check file f a n) h =
     ++ appraise_words a.appraise (is_any a.need)) (flag_words (codes "audit") a.audit)
     (row_append (measure_words a.measure a.pcr (unwrap_or a.template t))
     (appraise_words a.appraise (is_any a.need))
-    (measure_kept a.measure a.pcr (unwrap_or a.template t) (omega (arith, h.2.pcr)))
+    (measure_kept a.measure a.pcr (unwrap_or a.template t))
     (appraise_kept a.appraise (is_any a.need)))
     (flag_kept (codes "audit") a.audit refl)) (flag_kept (codes "hash") a.hash refl)) in
-    rw (number_kept file h.0, func_kept f)
-    (row_append (rules_words g n) (acts_words t a) (rules_kept g n h.1) acts)
+    rw (number_kept file, func_kept f)
+    (row_append (rules_words g n) (acts_words t a) (rules_kept g n) acts)
 deed_kept t g (deed.Read file from len) h =
-    rw (number_kept file h.0, number_kept from h.1, number_kept len h.2) refl
+    rw (number_kept file, number_kept from, number_kept len) refl
 deed_kept t g (deed.Write file from bytes) h =
-    rw (number_kept file h.0, number_kept from h.1, number_kept (length bytes) h.2) refl
-deed_kept t g (deed.Trunc file len) h = rw (number_kept file h.0, number_kept len h.1) refl
-deed_kept t g (deed.SetAttr name bytes admin) h = rw (h.0, length_kept bytes h.1) refl
+    rw (number_kept file, number_kept from, number_kept (length bytes)) refl
+deed_kept t g (deed.Trunc file len) h = rw (number_kept file, number_kept len) refl
+deed_kept t g (deed.SetAttr name bytes admin) h = rw (h, length_kept bytes) refl
 deed_kept t g (deed.SetMeta c) h = change_kept c h
-deed_kept t g (deed.Take n) h = rw (number_kept n h) refl
-deed_kept t g (deed.Chunk n) h = rw (number_kept n h) refl
-deed_kept t g (deed.Finish n) h = rw (number_kept n h) refl
-deed_kept t g (deed.Close n) h = rw (number_kept n h) refl
-deed_kept t g (deed.CloseTake n) h = rw (number_kept n h) refl
-deed_kept t g (deed.CloseChunk n) h = rw (number_kept n h) refl
-deed_kept t g (deed.CloseFinish n) h = rw (number_kept n h) refl
-deed_kept t g (deed.Post n) h = rw (number_kept n h) refl
-deed_kept t g (deed.Wait n) h = rw (number_kept n h) refl
+deed_kept t g (deed.Take n) h = rw (number_kept n) refl
+deed_kept t g (deed.Chunk n) h = rw (number_kept n) refl
+deed_kept t g (deed.Finish n) h = rw (number_kept n) refl
+deed_kept t g (deed.Close n) h = rw (number_kept n) refl
+deed_kept t g (deed.CloseTake n) h = rw (number_kept n) refl
+deed_kept t g (deed.CloseChunk n) h = rw (number_kept n) refl
+deed_kept t g (deed.CloseFinish n) h = rw (number_kept n) refl
+deed_kept t g (deed.Post n) h = rw (number_kept n) refl
+deed_kept t g (deed.Wait n) h = rw (number_kept n) refl
 
-placed_kept : (p : Option Placed) → IfSome p IsPlaced → list_all is_clean (placed_words p) ≡ true
-placed_kept None h = refl
-placed_kept (Some (Added n)) h = rw (number_kept n h) refl
-placed_kept (Some (Already n)) h = rw (number_kept n h) refl
+placed_kept : (p : Option Placed) → list_all is_clean (placed_words p) ≡ true
+placed_kept None = refl
+placed_kept (Some (Added n)) = rw (number_kept n) refl
+placed_kept (Some (Already n)) = rw (number_kept n) refl
 
 verdict_kept : (v : Option Verdict) → list_all is_clean (verdict_words v) ≡ true
 verdict_kept None = refl
@@ -225,71 +224,67 @@ admitted_kept true false = refl
 admitted_kept false true = refl
 admitted_kept false false = refl
 
-told_kept : (t : Told) → IsTold t → list_all is_clean (told_words t) ≡ true
-told_kept (told.Image image) h = refl
-told_kept told.Held h = refl
-told_kept told.NotFound h = refl
-told_kept told.TextBusy h = refl
-told_kept told.Quiet h = refl
-told_kept told.Begun h = refl
-told_kept told.More h = refl
-told_kept told.Last h = refl
-told_kept told.Done h = refl
-told_kept told.TooBig h = refl
-told_kept told.EvmName h = refl
-told_kept told.NotAdmin h = refl
-told_kept told.TooLong h = refl
-told_kept told.Invalid h = refl
-told_kept told.NoData h = refl
-told_kept told.Dropped h = refl
-told_kept told.LabelledDropped h = refl
-told_kept told.Nothing h = refl
-told_kept (told.OpenWriters n) h = rw (number_kept n h) refl
-told_kept (told.ToMToU n) h = rw (number_kept n h) refl
-told_kept (told.Status s) h = rw (status_kept s) refl
-told_kept (told.Read n d) h = rw (number_kept n h) refl
-told_kept (told.Grant g) h =
+told_kept : (t : Told) → list_all is_clean (told_words t) ≡ true
+told_kept (told.Image image) = refl
+told_kept told.Held = refl
+told_kept told.NotFound = refl
+told_kept told.TextBusy = refl
+told_kept told.Quiet = refl
+told_kept told.Begun = refl
+told_kept told.More = refl
+told_kept told.Last = refl
+told_kept told.Done = refl
+told_kept told.TooBig = refl
+told_kept told.EvmName = refl
+told_kept told.NotAdmin = refl
+told_kept told.TooLong = refl
+told_kept told.Invalid = refl
+told_kept told.NoData = refl
+told_kept told.Dropped = refl
+told_kept told.LabelledDropped = refl
+told_kept told.Nothing = refl
+told_kept (told.OpenWriters n) = rw (number_kept n) refl
+told_kept (told.ToMToU n) = rw (number_kept n) refl
+told_kept (told.Status s) = rw (status_kept s) refl
+told_kept (told.Read n d) = rw (number_kept n) refl
+told_kept (told.Grant g) =
     row_append (placed_words g.placed ++ verdict_words g.verdict)
     (admitted_words g.admitted g.labelled)
-    (row_append (placed_words g.placed) (verdict_words g.verdict) (placed_kept g.placed h)
+    (row_append (placed_words g.placed) (verdict_words g.verdict) (placed_kept g.placed)
     (verdict_kept g.verdict)) (admitted_kept g.admitted g.labelled)
 
-made_kept : (t : Template) (g : Bool) (who : Who) (d : Deed) (o : Told) → IsWho who → IsDeed d
-    → IsTold o
+made_kept : (t : Template) (g : Bool) (who : Who) (d : Deed) (o : Told) → IsDeed d
     → list_all is_clean (who_word who ∷ deed_words t g d ++ codes "=" ∷ told_words o) ≡ true
-made_kept t g who d o hw hd ho =
-    rw (who_kept who hw)
-    (row_append (deed_words t g d) (codes "=" ∷ told_words o) (deed_kept t g d hd) (told_kept o ho))
+made_kept t g who d o hd =
+    rw (who_kept who)
+    (row_append (deed_words t g d) (codes "=" ∷ told_words o) (deed_kept t g d hd) (told_kept o))
 
-step_kept : (t : Template) (g : Bool) (who : Who) (d : Deed) (o : Told) → IsWho who → IsDeed d
-    → IsTold o → list_all is_clean (step_words t g who d o) ≡ true
-step_kept t g who deed.Birth o hw hd ho = refl
-step_kept t g who (deed.Count h) o hw hd ho = made_kept t g who (deed.Count h) o hw hd ho
-step_kept t g who (deed.Check f fn a n) o hw hd ho =
-    made_kept t g who (deed.Check f fn a n) o hw hd ho
-step_kept t g who (deed.Read f o2 n) o hw hd ho = made_kept t g who (deed.Read f o2 n) o hw hd ho
-step_kept t g who (deed.Write f o2 b) o hw hd ho = made_kept t g who (deed.Write f o2 b) o hw hd ho
-step_kept t g who (deed.Trunc f n) o hw hd ho = made_kept t g who (deed.Trunc f n) o hw hd ho
-step_kept t g who (deed.SetAttr n b a) o hw hd ho =
-    made_kept t g who (deed.SetAttr n b a) o hw hd ho
-step_kept t g who (deed.SetMeta c) o hw hd ho = made_kept t g who (deed.SetMeta c) o hw hd ho
-step_kept t g who (deed.Take n) o hw hd ho = made_kept t g who (deed.Take n) o hw hd ho
-step_kept t g who (deed.Chunk n) o hw hd ho = made_kept t g who (deed.Chunk n) o hw hd ho
-step_kept t g who (deed.Finish n) o hw hd ho = made_kept t g who (deed.Finish n) o hw hd ho
-step_kept t g who (deed.Close n) o hw hd ho = made_kept t g who (deed.Close n) o hw hd ho
-step_kept t g who (deed.CloseTake n) o hw hd ho = made_kept t g who (deed.CloseTake n) o hw hd ho
-step_kept t g who (deed.CloseChunk n) o hw hd ho = made_kept t g who (deed.CloseChunk n) o hw hd ho
-step_kept t g who (deed.CloseFinish n) o hw hd ho =
-    made_kept t g who (deed.CloseFinish n) o hw hd ho
-step_kept t g who (deed.Post n) o hw hd ho = made_kept t g who (deed.Post n) o hw hd ho
-step_kept t g who (deed.Wait n) o hw hd ho = made_kept t g who (deed.Wait n) o hw hd ho
+step_kept : (t : Template) (g : Bool) (who : Who) (d : Deed) (o : Told) → IsDeed d
+    → list_all is_clean (step_words t g who d o) ≡ true
+step_kept t g who deed.Birth o hd = refl
+step_kept t g who (deed.Count h) o hd = made_kept t g who (deed.Count h) o hd
+step_kept t g who (deed.Check f fn a n) o hd =
+    made_kept t g who (deed.Check f fn a n) o hd
+step_kept t g who (deed.Read f o2 n) o hd = made_kept t g who (deed.Read f o2 n) o hd
+step_kept t g who (deed.Write f o2 b) o hd = made_kept t g who (deed.Write f o2 b) o hd
+step_kept t g who (deed.Trunc f n) o hd = made_kept t g who (deed.Trunc f n) o hd
+step_kept t g who (deed.SetAttr n b a) o hd =
+    made_kept t g who (deed.SetAttr n b a) o hd
+step_kept t g who (deed.SetMeta c) o hd = made_kept t g who (deed.SetMeta c) o hd
+step_kept t g who (deed.Take n) o hd = made_kept t g who (deed.Take n) o hd
+step_kept t g who (deed.Chunk n) o hd = made_kept t g who (deed.Chunk n) o hd
+step_kept t g who (deed.Finish n) o hd = made_kept t g who (deed.Finish n) o hd
+step_kept t g who (deed.Close n) o hd = made_kept t g who (deed.Close n) o hd
+step_kept t g who (deed.CloseTake n) o hd = made_kept t g who (deed.CloseTake n) o hd
+step_kept t g who (deed.CloseChunk n) o hd = made_kept t g who (deed.CloseChunk n) o hd
+step_kept t g who (deed.CloseFinish n) o hd =
+    made_kept t g who (deed.CloseFinish n) o hd
+step_kept t g who (deed.Post n) o hd = made_kept t g who (deed.Post n) o hd
+step_kept t g who (deed.Wait n) o hd = made_kept t g who (deed.Wait n) o hd
 
-pub events_kept : (t : Template) (g : Bool) (k : ℕ) (es : List Event) → AllByRecursion IsEvent es
-    → Is64 (k + length es) → list_all is_line (event_lines t g k es) ≡ true
-events_kept t g k [] h fits = refl
-events_kept t g k (e ∷ es) h fits =
-    rw (
-      number_kept k (omega (arith, fits)),
-      step_kept t g e.who e.deed e.told h.0.who h.0.deed
-          h.0.told,
-    ) (events_kept t g (k + 1) es h.1 (omega (arith, fits)))
+pub events_kept : (t : Template) (g : Bool) (k : ℕ) (es : List Event)
+    → AllByRecursion (λ (e : Event). IsDeed e.deed) es → list_all is_line (event_lines t g k es)
+    ≡ true
+events_kept t g k [] h = refl
+events_kept t g k (e ∷ es) h =
+    rw (number_kept k, step_kept t g e.who e.deed e.told h.0) (events_kept t g (k + 1) es h.1)

@@ -1,7 +1,7 @@
--- The words of an entry are its line in `ascii_runtime_measurements`; the words of an appended rule
--- are its text.
+-- The words of an entry make its line in `ascii_runtime_measurements`, and the words of an appended
+-- rule make its text.
 use Rattle.std.proofs.Common.{◌≡◌, ℕ, true, ◌==◌, nat_lt, List, [], ◌∷◌, ◌++◌, codes, map, refl, sym, ap, ◌∙◌, append_assoc, inl, inr}
-use Rattle.std.specs.Prelude.{decimal}
+use Rattle.report_text.specs.Numerals.{numeral}
 use Rattle.std.specs.List.{flat_map, join_with_byte, onto_first}
 use Rattle.std.proofs.lemmas.Bool.{cases_Bool, false≢true}
 use Rattle.std.proofs.lemmas.List.{append-nil}
@@ -28,7 +28,7 @@ pcr_join pcr h ws = elim (cases_Bool (nat_lt pcr 10)) [
   | inr e ↦ rw e refl
 ]
 
--- a word and others, each behind a space
+-- a word, and others that each follow a space
 join_behind : {F : Type 0} (spell : F → List ℕ) (w : List ℕ) (fs : List F)
     → join_with_byte 32 (w ∷ map spell fs) ≡ w ++ flat_map (λ f. codes " " ++ spell f) fs
 join_behind spell w [] = sym (append-nil w)
@@ -65,10 +65,10 @@ has_word (c ∷ cs) = elim (cases_Bool (c == 32)) [
   | inr e ↦ rw e (onto_filled c (words cs))
 ]
 
--- `rule PLACE TASK.CALL.STEP TEXT`
+-- the line of an appended rule has the form `rule PLACE TASK.CALL.STEP TEXT`
 pub rule_words : (place : ℕ) (r : RuleEntry) → join_with_byte 32 (rule_line place r)
-    ≡ codes "rule" ++ 32 ∷ (decimal place ++ 32 ∷ (who_word r.who ++ 32 ∷ rule_text r.rule))
+    ≡ codes "rule" ++ 32 ∷ (numeral place ++ 32 ∷ (who_word r.who ++ 32 ∷ rule_text r.rule))
 rule_words place r =
-    ap (λ l. codes "rule" ++ 32 ∷ (decimal place ++ 32 ∷ l))
+    ap (λ l. codes "rule" ++ 32 ∷ (numeral place ++ 32 ∷ l))
     (join_more (who_word r.who) (words (rule_text r.rule)) (has_word (rule_text r.rule))
     ∙ ap (λ l. who_word r.who ++ 32 ∷ l) (join_with_byte-slice_split 32 (rule_text r.rule)))

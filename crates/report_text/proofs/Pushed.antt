@@ -1,6 +1,6 @@
--- The pieces of each line, as the code puts them one behind another, are the line.
+-- The pieces of each line, as the code appends them, make the line.
 use Rattle.std.proofs.Common.{◌≡◌, ℕ, suc, ◌+◌, Bool, true, List, [], ◌∷◌, ◌++◌, map, length, codes, refl, sym, ap, ◌∙◌, append_assoc, arith}
-use Rattle.std.specs.Prelude.{decimal}
+use Rattle.report_text.specs.Numerals.{numeral}
 use Rattle.std.specs.List.{flat_map, join_with_byte, list_any}
 use Rattle.std.specs.Prelude.{◌==◌}
 use Rattle.std.proofs.lemmas.List.{append-nil}
@@ -22,7 +22,7 @@ use Rattle.report_text.specs.Words.{Line, event_lines, who_word}
 use Rattle.report_text.proofs.Joins.{join_append}
 use Rattle.report_text.proofs.Lines.{entry_line, rule_words}
 
--- lines made one of each element
+-- the text of a list of lines, one for each element
 pub text_of_map : {X : Type 0} (f : X → Line) (xs : List X) → text_of (map f xs)
     ≡ flat_map (λ x. line_text (f x)) xs
 text_of_map f [] = refl
@@ -60,11 +60,11 @@ rule_gather : (o k p s w b t n : List ℕ) → ((((((o ++ k) ++ p) ++ s) ++ w) +
 rule_gather o k p s w b t n = simp append_assoc
 
 pub rule_pushed : (o : List ℕ) (place : ℕ) (r : RuleEntry)
-    → ((((((o ++ codes "rule ") ++ decimal place) ++ codes " ") ++ who_word r.who) ++ codes " ")
+    → ((((((o ++ codes "rule ") ++ numeral place) ++ codes " ") ++ who_word r.who) ++ codes " ")
     ++ rule_text r.rule) ++ codes "\n"
     ≡ o ++ line_text (rule_line place r)
 rule_pushed o place r =
-    rule_gather o (codes "rule ") (decimal place) (codes " ") (who_word r.who) (codes " ")
+    rule_gather o (codes "rule ") (numeral place) (codes " ") (who_word r.who) (codes " ")
     (rule_text r.rule) (codes "\n")
     ∙ ap (λ l. o ++ (l ++ 10 ∷ [])) (sym (rule_words place r))
 
@@ -127,19 +127,19 @@ lines_gather o h f a m n z e = simp append_assoc
 
 pub inode_pushed : (o : List ℕ) (t : Template) (g : Bool) (k : ℕ) (i : EndedInode)
     → ((((((o ++ line_text (inode_head k i)) ++ line_text (codes "force" ∷ force_word i.force ∷ []))
-    ++ line_text (codes "attrs" ∷ decimal (length i.attrs) ∷ []))
+    ++ line_text (codes "attrs" ∷ numeral (length i.attrs) ∷ []))
     ++ flat_map (λ p. line_text (attr_line p)) i.attrs)
-    ++ (codes "events" ++ 32 ∷ decimal (length i.journal))) ++ codes "\n")
+    ++ (codes "events" ++ 32 ∷ numeral (length i.journal))) ++ codes "\n")
     ++ text_of (event_lines t g 0 i.journal)
     ≡ o ++ text_of (inode_lines t g k i)
 inode_pushed o t g k i =
-    let events : List Line = (codes "events" ∷ decimal (length i.journal) ∷ [])
+    let events : List Line = (codes "events" ∷ numeral (length i.journal) ∷ [])
     ∷ event_lines t g 0 i.journal in
     let head = line_text (inode_head k i) in
     let force = line_text (codes "force" ∷ force_word i.force ∷ []) in
-    let attrs = line_text (codes "attrs" ∷ decimal (length i.attrs) ∷ []) in
+    let attrs = line_text (codes "attrs" ∷ numeral (length i.attrs) ∷ []) in
     lines_gather o head force attrs (flat_map (λ p. line_text (attr_line p)) i.attrs)
-    (codes "events" ++ 32 ∷ decimal (length i.journal)) (codes "\n")
+    (codes "events" ++ 32 ∷ numeral (length i.journal)) (codes "\n")
     (text_of (event_lines t g 0 i.journal))
     ∙ ap (λ l. o ++ (head ++ (force ++ (attrs ++ (l ++ text_of events)))))
     (sym (text_of_map attr_line i.attrs))
@@ -167,12 +167,12 @@ answer_gather : (o k s r n : List ℕ) → (((o ++ k) ++ s) ++ r) ++ n ≡ o ++ 
 answer_gather o k s r n = simp append_assoc
 
 pub answer_pushed : (o : List ℕ) (call : ℕ) (r : Reply)
-    → (((o ++ decimal call) ++ codes " ") ++ join_with_byte 32 (reply_words r)) ++ codes "\n"
-    ≡ o ++ line_text (decimal call ∷ reply_words r)
+    → (((o ++ numeral call) ++ codes " ") ++ join_with_byte 32 (reply_words r)) ++ codes "\n"
+    ≡ o ++ line_text (numeral call ∷ reply_words r)
 answer_pushed o call r =
-    answer_gather o (decimal call) (codes " ") (join_with_byte 32 (reply_words r)) (codes "\n")
+    answer_gather o (numeral call) (codes " ") (join_with_byte 32 (reply_words r)) (codes "\n")
     ∙ ap (λ l. o ++ (l ++ 10 ∷ []))
-    (sym (join_append (decimal call ∷ []) (reply_words r) refl (reply_filled r)))
+    (sym (join_append (numeral call ∷ []) (reply_words r) refl (reply_filled r)))
 
 -- ---- the whole
 

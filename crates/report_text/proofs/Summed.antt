@@ -1,4 +1,4 @@
--- The lines of a summary, as the code puts their pieces one behind another.
+-- The lines of a summary are the pieces that the code appends.
 use Rattle.std.proofs.Common.{◌≡◌, ℕ, List, [], ◌∷◌, ◌++◌, codes, sym, ap, ◌∙◌, append_assoc}
 use Rattle.std.proofs.lemmas.List.{append-nil}
 use Rattle.std.proofs.lemmas.Grind.{flat_map-append}
@@ -16,7 +16,7 @@ sizes_spread : (n s l v q r d z : List ℕ)
     ≡ (n ++ z) ++ (((q ++ s) ++ z) ++ (((r ++ (l ++ (d ++ v))) ++ z) ++ []))
 sizes_spread n s l v q r d z = simp (append_assoc, append-nil)
 
--- the first three lines
+-- the first three lines: the number, the script's length, and the list's
 pub sizes_pushed : (o n s l v : List ℕ)
     → ((((o ++ (codes "gen" ++ 32 ∷ n)) ++ (codes "\nscript" ++ 32 ∷ s))
     ++ (codes "\nlist" ++ 32 ∷ l)) ++ (codes " violations" ++ 32 ∷ v)) ++ codes "\n"
@@ -38,7 +38,7 @@ counts_spread : (m k r q c z : List ℕ)
     ≡ (m ++ z) ++ (((q ++ (k ++ (c ++ r))) ++ z) ++ [])
 counts_spread m k r q c z = simp (append_assoc, append-nil)
 
--- the line of the events, and that of the replies
+-- the line of the events and that of the replies
 pub counts_pushed : (o m k r : List ℕ)
     → (((o ++ (codes "events" ++ 32 ∷ m)) ++ (codes "\nreplies ok" ++ 32 ∷ k))
     ++ (codes " refused" ++ 32 ∷ r)) ++ codes "\n"
@@ -50,7 +50,7 @@ counts_pushed o m k r =
     ∙ ap (λ t. o ++ (codes "events " ++ t))
     (counts_spread m k r (codes "replies ok ") (codes " refused ") (codes "\n"))
 
--- the three parts
+-- the three parts of a summary, one after another, are its text
 pub summary_pushed : (a b p : List Line)
     → (([] ++ text_of a) ++ text_of b) ++ text_of p ≡ text_of (a ++ (b ++ p))
 summary_pushed a b p =

@@ -1,13 +1,9 @@
--- Equal reports tell equal runs, but for what a line doesn't print.
+-- Equal reports determine the same run, up to what the lines don't print.
 use Rattle.std.proofs.Common.{inl, inr, ◌≡◌, ℕ, zero, suc, ◌+◌, ◌<◌, ◌≤◌, ◌/◌, ◌%◌, not, ◌==◌, Bool, true, false, nat_lt, List, [], ◌∷◌, ◌++◌, length, map, codes, if◌then◌else◌, refl, sym, ap, ◌∙◌, append_assoc, arith, Option, Some, None}
-use Rattle.std.specs.Prelude.{decimal, All}
+use Rattle.report_text.specs.Numerals.{numeral}
 use Rattle.std.specs.List.{AllByRecursion, list_all, list_any, count_by}
 use Rattle.std.specs.Str.{bytes_eq}
 use Rattle.std.proofs.lemmas.Bool.{cases_Bool, false≢true}
-use Rattle.std.proofs.lemmas.Bool.Decides.{nat_tests}
-use Rattle.std.proofs.lemmas.Fmt.{decimal_injective}
-use Rattle.std.proofs.lemmas.List.Elements.{All-head, All-tail}
-use Rattle.std.proofs.lemmas.List.Sums.{count_by-le-length}
 use Rattle.std.proofs.lemmas.List.Folds.{list_all-append}
 use Rattle.hex.specs.Hex.{encode_lower, IsBytes}
 use Rattle.hash_algos.specs.Algo.{algo_name, algo_size}
@@ -16,7 +12,6 @@ use Rattle.hash_algos.specs.declared.algo.Algo.TheVariants as algo
 use Rattle.hash_algos.specs.Digest.{HasDigestSize}
 use Rattle.hash_algos.specs.declared.digest.Digest.{Digest}
 use Rattle.ima_templates.specs.Digests.{template_digest}
-use Rattle.ima_templates.specs.Path.{IsGraphic}
 use Rattle.pcr_bank.specs.Banks.{register}
 use Rattle.pcr_bank.specs.declared.banks.Banks.{Banks}
 use Rattle.ima_templates.specs.declared.entry.Entry.{Entry}
@@ -34,13 +29,15 @@ use Rattle.call_steps.specs.declared.reply.Reply.{Reply}
 use Rattle.call_steps.specs.declared.reply.Reply.TheVariants as reply
 use Rattle.report_text.specs.Words.{Line, event_lines}
 use Rattle.policy_cell.specs.declared.cell.RuleEntry.{RuleEntry}
+use Rattle.policy_text.specs.RuleValue.{IsRule}
 use Rattle.inode_events.specs.EndedInode.{EndedInodeValue as EndedInode}
 use Rattle.run_model.specs.EndedValue.{EndedValue as Ended, EndedTaskValue as EndedTask}
 use Rattle.report_text.specs.Report.{pcr_words, entry_words, pcr_lines_at, pcr_lines_to, pcr_lines, rule_lines, appended_lines, force_word, attr_line, inode_lines, all_inode_lines, reply_words, reply_lines, task_lines, all_task_lines, report_lines, report_of}
 use Rattle.report_text.specs.Printed.{printed, IsTold, IsOneScript}
-use Rattle.report_text.specs.Ranges.{Is64, IsListEntry, IsRuleEntry, FitsInode, IsReply, FitsTask, Fits, IsClean}
+use Rattle.report_text.specs.Ranges.{FitsInode, Fits, IsClean, IsReply}
+use Rattle.report_text.proofs.Numerals.{high_clean, numeral_injective}
 use Rattle.report_text.proofs.Reading.{value, value_back, is_number, number_is, cause_at, cause_back, status_at, event_at, events_back}
-use Rattle.text_forms.specs.Words.{is_clean, is_clean_byte, is_line}
+use Rattle.text_forms.specs.Words.{is_clean, is_line}
 use Rattle.text_forms.proofs.Tells.{text_tells}
 use Rattle.report_text.proofs.Kept.{number_kept, hex_kept, append_kept, template_kept, algo_kept, cause_kept, status_kept, row_append, events_kept}
 use Rattle.report_text.proofs.Entries.{digest_text, fields_are, sig_words, bytes_at, bytes_back, entry_at, entries_back}
@@ -72,7 +69,7 @@ length_rules k (r ∷ rs) = omega (arith, length_rules (k + 1) rs)
 
 -- ---- replies
 
--- the one algorithm with so many bytes
+-- the one algorithm whose digests have `n` bytes
 abbrev algo_sized : ℕ → Algo
 algo_sized n =
     if n == 16 then algo.Md5 else if n == 20 then algo.Sha1 else if n == 32 then algo.Sha256
@@ -125,13 +122,13 @@ sized_back algo.Sha384 bytes h = rw h refl
 sized_back algo.Sha512 bytes h = rw h refl
 sized_back algo.Sha224 bytes h = rw h refl
 
-bytes_reply : (n : ℕ) (d : Digest) → Is64 n → HasDigestSize d → IsBytes d.bytes
+bytes_reply : (n : ℕ) (d : Digest) → HasDigestSize d → IsBytes d.bytes
     → reply_at (reply_words (reply.Bytes n d)) ≡ reply.Bytes n d
-bytes_reply n d h a k = rw (value_back n h, bytes_back d.bytes k, sized_back d.algo d.bytes a) refl
+bytes_reply n d a k = rw (value_back n, bytes_back d.bytes k, sized_back d.algo d.bytes a) refl
 
 reply_back : (r : Reply) → IsReply r → reply_at (reply_words r) ≡ r
 reply_back reply.Done h = refl
-reply_back (reply.Bytes n d) h = bytes_reply n d h.0 h.1 h.2
+reply_back (reply.Bytes n d) h = bytes_reply n d h.0 h.1
 reply_back reply.NotFound h = refl
 reply_back reply.BadFile h = refl
 reply_back reply.TextBusy h = refl
@@ -144,49 +141,47 @@ reply_back reply.NotAdmin h = refl
 reply_back (reply.Status s) h = status_reply s
 reply_back (reply.Denied c) h = rw (cause_back c) refl
 
-reply_kept : (r : Reply) → IsReply r → list_all is_clean (reply_words r) ≡ true
-reply_kept reply.Done h = refl
-reply_kept (reply.Bytes n d) h = rw (number_kept n h.0, hex_kept d.bytes) refl
-reply_kept reply.NotFound h = refl
-reply_kept reply.BadFile h = refl
-reply_kept reply.TextBusy h = refl
-reply_kept reply.TooBig h = refl
-reply_kept reply.TooLong h = refl
-reply_kept reply.NoData h = refl
-reply_kept reply.Invalid h = refl
-reply_kept reply.EvmName h = refl
-reply_kept reply.NotAdmin h = refl
-reply_kept (reply.Status s) h = rw (status_kept s) refl
-reply_kept (reply.Denied c) h = rw (cause_kept c) refl
+reply_kept : (r : Reply) → list_all is_clean (reply_words r) ≡ true
+reply_kept reply.Done = refl
+reply_kept (reply.Bytes n d) = rw (number_kept n, hex_kept d.bytes) refl
+reply_kept reply.NotFound = refl
+reply_kept reply.BadFile = refl
+reply_kept reply.TextBusy = refl
+reply_kept reply.TooBig = refl
+reply_kept reply.TooLong = refl
+reply_kept reply.NoData = refl
+reply_kept reply.Invalid = refl
+reply_kept reply.EvmName = refl
+reply_kept reply.NotAdmin = refl
+reply_kept (reply.Status s) = rw (status_kept s) refl
+reply_kept (reply.Denied c) = rw (cause_kept c) refl
 
 reply_tells : (a b : Reply) → IsReply a → IsReply b → reply_words a ≡ reply_words b → a ≡ b
 reply_tells a b p q e = sym (reply_back a p) ∙ ap reply_at e ∙ reply_back b q
 
--- no number stands first
+-- no line follows, or the next one doesn't begin with a number
 abbrev stops : List Line → Bool
 stops [] = true
 stops ([] ∷ ls) = true
 stops ((w ∷ ws) ∷ ls) = not (is_number w)
 
-stopped : (k : ℕ) (r : Reply) (ls x : List Line) → Is64 k → stops x ≡ true → x
-    ≡ (decimal k ∷ reply_words r) ∷ ls → ⊥
-stopped k r ls x h s e =
-    let one : stops ((decimal k ∷ reply_words r) ∷ ls) ≡ false = rw (number_is k h) refl in
+stopped : (k : ℕ) (r : Reply) (ls x : List Line) → stops x ≡ true → x
+    ≡ (numeral k ∷ reply_words r) ∷ ls → ⊥
+stopped k r ls x s e =
+    let one : stops ((numeral k ∷ reply_words r) ∷ ls) ≡ false = rw (number_is k) refl in
     false≢true (sym one ∙ sym (ap stops e) ∙ s)
 
 replies_tell : (k : ℕ) (a b : List Reply) (x y : List Line) → AllByRecursion IsReply a
-    → AllByRecursion IsReply b
-    → Is64 (k + length a) → Is64 (k + length b) → stops x ≡ true → stops y ≡ true
+    → AllByRecursion IsReply b → stops x ≡ true → stops y ≡ true
     → reply_lines k a ++ x ≡ reply_lines k b ++ y → (a ≡ b) × (x ≡ y)
-replies_tell k [] [] x y p q m n s t e = (refl, e)
-replies_tell k [] (b ∷ bs) x y p q m n s t e =
-    absurd (stopped k b (reply_lines (k + 1) bs ++ y) x (omega (arith, n)) s e)
-replies_tell k (a ∷ rs) [] x y p q m n s t e =
-    absurd (stopped k a (reply_lines (k + 1) rs ++ x) y (omega (arith, m)) t (sym e))
-replies_tell k (a ∷ rs) (b ∷ bs) x y p q m n s t e =
+replies_tell k [] [] x y p q s t e = (refl, e)
+replies_tell k [] (b ∷ bs) x y p q s t e =
+    absurd (stopped k b (reply_lines (k + 1) bs ++ y) x s e)
+replies_tell k (a ∷ rs) [] x y p q s t e =
+    absurd (stopped k a (reply_lines (k + 1) rs ++ x) y t (sym e))
+replies_tell k (a ∷ rs) (b ∷ bs) x y p q s t e =
     let first = reply_tells a b p.0 q.0 (cc) in
-    let others = replies_tell (k + 1) rs bs x y p.1 q.1 (omega (arith, m)) (omega (arith, n)) s t
-    (cc) in
+    let others = replies_tell (k + 1) rs bs x y p.1 q.1 s t (cc) in
     (cc (first, others.0), others.1)
 
 -- ---- tasks
@@ -198,7 +193,9 @@ tasks_stop : (k : ℕ) (ts : List EndedTask) → stops (all_task_lines k ts ++ e
 tasks_stop k [] = refl
 tasks_stop k (t ∷ ts) = refl
 
-tasks_tell : (k : ℕ) (a b : List EndedTask) → AllByRecursion FitsTask a → AllByRecursion FitsTask b
+tasks_tell : (k : ℕ) (a b : List EndedTask)
+    → AllByRecursion (λ (t : EndedTask). AllByRecursion IsReply t.replies) a
+    → AllByRecursion (λ (t : EndedTask). AllByRecursion IsReply t.replies) b
     → length a ≡ length b
     → all_task_lines k a ++ ending ≡ all_task_lines k b ++ ending → map (λ t. t.replies) a
     ≡ map (λ t. t.replies) b
@@ -211,8 +208,7 @@ tasks_tell k (a ∷ ts) (b ∷ bs) p q n e =
     sym (append_assoc (task_lines k a) (all_task_lines (k + 1) ts) ending) ∙ e
     ∙ append_assoc (task_lines k b) (all_task_lines (k + 1) bs) ending in
     let here = replies_tell 0 a.replies b.replies (all_task_lines (k + 1) ts ++ ending)
-    (all_task_lines (k + 1) bs ++ ending) p.0.replies q.0.replies
-    (omega (arith, p.0.count)) (omega (arith, q.0.count)) (tasks_stop (k + 1) ts)
+    (all_task_lines (k + 1) bs ++ ending) p.0 q.0 (tasks_stop (k + 1) ts)
     (tasks_stop (k + 1) bs) (cc) in
     let others = tasks_tell (k + 1) ts bs p.1 q.1 (omega (arith, n)) here.1 in
     cc (here.0, others)
@@ -224,28 +220,28 @@ inode_tells : (t : Template) (g : Bool) (k : ℕ) (a b : EndedInode) (x y : List
     → inode_lines t g k a ++ x ≡ inode_lines t g k b ++ y
     → (map (printed t g) a.journal ≡ map (printed t g) b.journal) × (x ≡ y)
 inode_tells t g k a b x y p q e =
-    let attrs = decimal_injective (length a.attrs) (length b.attrs) p.attr_count q.attr_count (cc)
+    let attrs = numeral_injective (length a.attrs) (length b.attrs) (cc)
     in
-    let tail : (map attr_line a.attrs ++ (codes "events" ∷ decimal (length a.journal) ∷ [])
+    let tail : (map attr_line a.attrs ++ (codes "events" ∷ numeral (length a.journal) ∷ [])
     ∷ event_lines t g 0 a.journal) ++ x
-    ≡ (map attr_line b.attrs ++ (codes "events" ∷ decimal (length b.journal) ∷ [])
+    ≡ (map attr_line b.attrs ++ (codes "events" ∷ numeral (length b.journal) ∷ [])
     ∷ event_lines t g 0 b.journal) ++ y = cc in
     let same : map attr_line a.attrs
-    ++ ((codes "events" ∷ decimal (length a.journal) ∷ []) ∷ event_lines t g 0 a.journal ++ x)
+    ++ ((codes "events" ∷ numeral (length a.journal) ∷ []) ∷ event_lines t g 0 a.journal ++ x)
     ≡ map attr_line b.attrs
-    ++ ((codes "events" ∷ decimal (length b.journal) ∷ []) ∷ event_lines t g 0 b.journal ++ y) =
-    sym (append_assoc (map attr_line a.attrs) ((codes "events" ∷ decimal (length a.journal) ∷ [])
+    ++ ((codes "events" ∷ numeral (length b.journal) ∷ []) ∷ event_lines t g 0 b.journal ++ y) =
+    sym (append_assoc (map attr_line a.attrs) ((codes "events" ∷ numeral (length a.journal) ∷ [])
     ∷ event_lines t g 0 a.journal) x) ∙ tail
-    ∙ append_assoc (map attr_line b.attrs) ((codes "events" ∷ decimal (length b.journal) ∷ [])
+    ∙ append_assoc (map attr_line b.attrs) ((codes "events" ∷ numeral (length b.journal) ∷ [])
     ∷ event_lines t g 0 b.journal) y in
     let rest = parts_by_length (map attr_line a.attrs) (map attr_line b.attrs) _ _
     (length_map attr_line a.attrs ∙ attrs ∙ sym (length_map attr_line b.attrs)) same in
-    let count = decimal_injective (length a.journal) (length b.journal) p.count q.count
+    let count = numeral_injective (length a.journal) (length b.journal)
     (cc (rest.1)) in
     let events = parts_by_length (event_lines t g 0 a.journal) (event_lines t g 0 b.journal) x y
     (length_events t g 0 a.journal ∙ count ∙ sym (length_events t g 0 b.journal)) (cc (rest.1)) in (
-      sym (events_back t g 0 a.journal p.events) ∙ ap (map (event_at g)) events.0
-          ∙ events_back t g 0 b.journal q.events,
+      sym (events_back t g 0 a.journal p.deeds) ∙ ap (map (event_at g)) events.0
+          ∙ events_back t g 0 b.journal q.deeds,
       events.1,
     )
 
@@ -311,21 +307,21 @@ behind_head (mark ∷ run ∷ list ∷ ls) = ls
 behind_head _ = []
 
 appended_tell : (g : Bool) (base : ℕ) (a b : List RuleEntry) (x y : List Line)
-    → AllByRecursion IsRuleEntry a → AllByRecursion IsRuleEntry b
-    → Is64 (base + length a) → Is64 (base + length b) → (g ≡ false → a ≡ []) → (g ≡ false → b ≡ [])
+    → AllByRecursion (λ (r : RuleEntry). IsRule r.rule) a
+    → AllByRecursion (λ (r : RuleEntry). IsRule r.rule) b → (g ≡ false → a ≡ []) → (g ≡ false → b ≡ [])
     → appended_lines g base a ++ x ≡ appended_lines g base b ++ y → (a ≡ b) × (x ≡ y)
-appended_tell true base a b x y p q m n u v e =
-    let count = decimal_injective (length a) (length b) (omega (arith, m)) (omega (arith, n)) (cc)
+appended_tell true base a b x y p q u v e =
+    let count = numeral_injective (length a) (length b) (cc)
     in
     let parts = parts_by_length (rule_lines base a) (rule_lines base b) x y (length_rules base a
     ∙ count ∙ sym (length_rules base b)) (cc) in
     (sym (rules_back base a p) ∙ ap (map rule_at) parts.0 ∙ rules_back base b q, parts.1)
-appended_tell false base a b x y p q m n u v e = (u refl ∙ sym (v refl), e)
+appended_tell false base a b x y p q u v e = (u refl ∙ sym (v refl), e)
 
 lines_tell : (a b : Ended) → Fits a → Fits b → IsOneScript a b → report_lines a ≡ report_lines b
     → IsTold a b
 lines_tell a b p q s e =
-    let count = decimal_injective (length a.list) (length b.list) p.count q.count (cc) in
+    let count = numeral_injective (length a.list) (length b.list) (cc) in
     let tails : map entry_words a.list ++ (pcr_lines a.list a.banks ++ behind_pcrs a)
     ≡ map entry_words b.list ++ (pcr_lines b.list b.banks ++ behind_pcrs b) = ap behind_head e
     in
@@ -340,40 +336,29 @@ lines_tell a b p q s e =
     ≡ appended_lines a.grows a.base b.rules
     ++ (all_inode_lines a.template a.grows 0 b.inodes ++ (all_task_lines 0 b.tasks ++ ending)) =
     rw (s.grows, s.base, s.template) (rw (s.grows, s.base, s.template) at behind) in
-    let rules = appended_tell a.grows a.base a.rules b.rules _ _ p.rules q.rules p.rules_count
-    (rw s.base q.rules_count) s.none_of_a (λ g. s.none_of_b (sym s.grows ∙ g)) behind2 in
+    let rules = appended_tell a.grows a.base a.rules b.rules _ _ p.rules q.rules s.none_of_a (λ g. s.none_of_b (sym s.grows ∙ g)) behind2 in
     let inodes = inodes_tell a.template a.grows 0 a.inodes b.inodes _ _ p.inodes q.inodes s.inodes
     rules.1 in
-    let tasks = tasks_tell 0 a.tasks b.tasks p.tasks q.tasks s.tasks inodes.1 in
+    let tasks = tasks_tell 0 a.tasks b.tasks p.replies q.replies s.tasks inodes.1 in
     record {
       events = inodes.0;
-      entries = sym (entries_back a.list p.entries) ∙ ap (map entry_at) list.0
-          ∙ entries_back b.list q.entries;
+      count = count;
+      entries = λ u v. sym (entries_back a.list u) ∙ ap (map entry_at) list.0
+          ∙ entries_back b.list v;
       rules = rules.0;
       replies = tasks;
     }
 
--- ---- every word is kept
+-- ---- every word is clean
 
 rows_append : (a b : List Line) → list_all is_line a ≡ true → list_all is_line b ≡ true
     → list_all is_line (a ++ b) ≡ true
 rows_append a b h k = rw (list_all-append is_line a b, h, k) refl
 
-digit_kept : (n : ℕ) → n < 10 → is_clean_byte (48 + n) ≡ true
-digit_kept n h = grind (arith, nat_tests)
-
-graphic_kept : (w : List ℕ) → All IsGraphic w → is_clean w ≡ true
-graphic_kept [] h = refl
-graphic_kept (b ∷ bs) h =
-    let here = All-head IsGraphic b bs h in
-    let one : is_clean_byte b ≡ true = grind (arith, nat_tests, here.0, here.1) in
-    rw one (graphic_kept bs (All-tail IsGraphic b bs h))
-
-pcr_kept : (pcr : ℕ) → pcr < 24 → list_all is_clean (pcr_words pcr) ≡ true
-pcr_kept pcr h = elim (cases_Bool (nat_lt pcr 10)) [
-  | inl e ↦ rw (e, digit_kept (pcr % 10) (omega arith)) refl
-  | inr e ↦ rw (e, digit_kept (pcr % 10) (omega arith), digit_kept (pcr / 10) (omega (arith, h)))
-      refl
+pcr_kept : (pcr : ℕ) → list_all is_clean (pcr_words pcr) ≡ true
+pcr_kept pcr = elim (cases_Bool (nat_lt pcr 10)) [
+  | inl e ↦ rw (e, high_clean (pcr % 10)) refl
+  | inr e ↦ rw (e, high_clean (pcr % 10), high_clean (pcr / 10)) refl
 ]
 
 digest_kept : (t : Template) (d : Digest) → is_clean (digest_text t d) ≡ true
@@ -396,48 +381,47 @@ is_line_append : (a : Line) (w : List ℕ) (ws : Line) → list_all is_clean a �
 is_line_append [] w ws h k = k
 is_line_append (v ∷ a) w ws h k = row_append (v ∷ a) (w ∷ ws) h k
 
-fields_kept : (e : Entry) → IsListEntry e
+fields_kept : (e : Entry) → IsClean e.name
     → list_all is_clean (map (λ f. field_text f e) (template_fields e.template)) ≡ true
 fields_kept e h =
     ap (list_all is_clean) (fields_are e.template e)
-    ∙ rw (digest_kept e.template e.digest, graphic_kept e.name h.entry.name_graphic)
+    ∙ rw (digest_kept e.template e.digest, h)
     (sig_kept e.template e.sig)
 
-entry_kept : (e : Entry) → IsListEntry e → is_line (entry_words e) ≡ true
+entry_kept : (e : Entry) → IsClean e.name → is_line (entry_words e) ≡ true
 entry_kept e h =
     is_line_append (pcr_words e.pcr) (encode_lower (template_digest e bank.Sha1).bytes)
     (template_word e.template ∷ map (λ f. field_text f e) (template_fields e.template))
-    (pcr_kept e.pcr h.entry.pcr)
+    (pcr_kept e.pcr)
     (rw (hex_kept (template_digest e bank.Sha1).bytes, template_kept e.template) (fields_kept e h))
 
-entries_kept : (es : List Entry) → AllByRecursion IsListEntry es
+entries_kept : (es : List Entry) → AllByRecursion (λ (e : Entry). IsClean e.name) es
     → list_all is_line (map entry_words es) ≡ true
 entries_kept [] h = refl
 entries_kept (e ∷ es) h = rw (entry_kept e h.0) (entries_kept es h.1)
 
-pcr_at_kept : (banks : Banks) (n : ℕ) (b : Bool) → n < 24
+pcr_at_kept : (banks : Banks) (n : ℕ) (b : Bool)
     → list_all is_line (pcr_lines_at banks n b) ≡ true
-pcr_at_kept banks n true h =
+pcr_at_kept banks n true =
     rw (
-      number_kept n (omega (arith, h)),
+      number_kept n,
       hex_kept (register banks bank.Sha1 n),
       hex_kept (register banks bank.Sha256 n),
     ) refl
-pcr_at_kept banks n false h = refl
+pcr_at_kept banks n false = refl
 
-pcr_to_kept : (list : List Entry) (banks : Banks) (n : ℕ) → n ≤ 24
+pcr_to_kept : (list : List Entry) (banks : Banks) (n : ℕ)
     → list_all is_line (pcr_lines_to list banks n) ≡ true
-pcr_to_kept list banks zero h = refl
-pcr_to_kept list banks (suc n) h =
+pcr_to_kept list banks zero = refl
+pcr_to_kept list banks (suc n) =
     rows_append (pcr_lines_to list banks n) (pcr_lines_at banks n (list_any (λ e. e.pcr == n) list))
-    (pcr_to_kept list banks n (omega (arith, h)))
-    (pcr_at_kept banks n (list_any (λ e. e.pcr == n) list) (omega (arith, h)))
+    (pcr_to_kept list banks n) (pcr_at_kept banks n (list_any (λ e. e.pcr == n) list))
 
-appended_kept : (g : Bool) (base : ℕ) (rs : List RuleEntry) → AllByRecursion IsRuleEntry rs
-    → Is64 (base + length rs) → list_all is_line (appended_lines g base rs) ≡ true
-appended_kept true base rs h fits = rw (number_kept (length rs) (omega (arith, fits)))
-    (rules_kept base rs h fits)
-appended_kept false base rs h fits = refl
+appended_kept : (g : Bool) (base : ℕ) (rs : List RuleEntry)
+    → AllByRecursion (λ (r : RuleEntry). IsRule r.rule) rs
+    → list_all is_line (appended_lines g base rs) ≡ true
+appended_kept true base rs h = rw (number_kept (length rs)) (rules_kept base rs h)
+appended_kept false base rs h = refl
 
 force_kept : (f : Option Digest) → is_clean (force_word f) ≡ true
 force_kept None = refl
@@ -449,52 +433,44 @@ attrs_kept : (ps : List Pair) → AllByRecursion (λ (p : Pair). IsClean p.0) ps
 attrs_kept [] h = refl
 attrs_kept (p ∷ ps) h = rw (h.0, hex_kept p.1) (attrs_kept ps h.1)
 
-inode_kept : (t : Template) (g : Bool) (k : ℕ) (i : EndedInode) → Is64 k → FitsInode i
+inode_kept : (t : Template) (g : Bool) (k : ℕ) (i : EndedInode) → FitsInode i
     → list_all is_line (inode_lines t g k i) ≡ true
-inode_kept t g k i fits h =
-    let events : list_all is_line ((codes "events" ∷ decimal (length i.journal) ∷ [])
+inode_kept t g k i h =
+    let events : list_all is_line ((codes "events" ∷ numeral (length i.journal) ∷ [])
     ∷ event_lines t g 0 i.journal) ≡ true =
-    rw (number_kept (length i.journal) h.count)
-    (events_kept t g 0 i.journal h.events (omega (arith, h.count))) in
+    rw (number_kept (length i.journal)) (events_kept t g 0 i.journal h.deeds) in
     rw (
-      number_kept k fits,
+      number_kept k,
       h.path,
-      number_kept i.writers h.writers,
-      number_kept i.readers h.readers,
-      number_kept i.execs h.execs,
+      number_kept i.writers,
+      number_kept i.readers,
+      number_kept i.execs,
       force_kept i.force,
-      number_kept (length i.attrs) h.attr_count,
+      number_kept (length i.attrs),
     )
-    (rows_append (map attr_line i.attrs) ((codes "events" ∷ decimal (length i.journal) ∷ [])
+    (rows_append (map attr_line i.attrs) ((codes "events" ∷ numeral (length i.journal) ∷ [])
     ∷ event_lines t g 0 i.journal) (attrs_kept i.attrs h.attrs) events)
 
 inodes_kept : (t : Template) (g : Bool) (k : ℕ) (ins : List EndedInode)
-    → AllByRecursion FitsInode ins → Is64 (k + length ins)
-    → list_all is_line (all_inode_lines t g k ins) ≡ true
-inodes_kept t g k [] h fits = refl
-inodes_kept t g k (i ∷ ins) h fits =
+    → AllByRecursion FitsInode ins → list_all is_line (all_inode_lines t g k ins) ≡ true
+inodes_kept t g k [] h = refl
+inodes_kept t g k (i ∷ ins) h =
     rows_append (inode_lines t g k i) (all_inode_lines t g (k + 1) ins)
-    (inode_kept t g k i (omega (arith, fits)) h.0)
-    (inodes_kept t g (k + 1) ins h.1 (omega (arith, fits)))
+    (inode_kept t g k i h.0) (inodes_kept t g (k + 1) ins h.1)
 
-replies_kept : (k : ℕ) (rs : List Reply) → AllByRecursion IsReply rs → Is64 (k + length rs)
-    → list_all is_line (reply_lines k rs) ≡ true
-replies_kept k [] h fits = refl
-replies_kept k (r ∷ rs) h fits = rw (number_kept k (omega (arith, fits)), reply_kept r h.0)
-    (replies_kept (k + 1) rs h.1 (omega (arith, fits)))
+replies_kept : (k : ℕ) (rs : List Reply) → list_all is_line (reply_lines k rs) ≡ true
+replies_kept k [] = refl
+replies_kept k (r ∷ rs) = rw (number_kept k, reply_kept r) (replies_kept (k + 1) rs)
 
 done_kept : (b : Bool) → is_clean (if b then codes "done" else codes "unfinished") ≡ true
 done_kept true = refl
 done_kept false = refl
 
-tasks_kept : (k : ℕ) (ts : List EndedTask) → AllByRecursion FitsTask ts → Is64 (k + length ts)
-    → list_all is_line (all_task_lines k ts) ≡ true
-tasks_kept k [] h fits = refl
-tasks_kept k (t ∷ ts) h fits =
+tasks_kept : (k : ℕ) (ts : List EndedTask) → list_all is_line (all_task_lines k ts) ≡ true
+tasks_kept k [] = refl
+tasks_kept k (t ∷ ts) =
     rows_append (task_lines k t) (all_task_lines (k + 1) ts)
-    (rw (number_kept k (omega (arith, fits)), done_kept t.done)
-    (replies_kept 0 t.replies h.0.replies (omega (arith, h.0.count))))
-    (tasks_kept (k + 1) ts h.1 (omega (arith, fits)))
+    (rw (number_kept k, done_kept t.done) (replies_kept 0 t.replies)) (tasks_kept (k + 1) ts)
 
 run_kept : (s d : Bool)
     → is_clean (if s then codes "stuck" else if d then codes "done" else codes "unfinished") ≡ true
@@ -502,29 +478,23 @@ run_kept true d = refl
 run_kept false true = refl
 run_kept false false = refl
 
-count_le : (es : List Entry) → count_by (λ x. x.violation) es ≤ length es
-count_le es = count_by-le-length (λ x. x.violation) es
-
 report_kept : (e : Ended) → Fits e → list_all is_line (report_lines e) ≡ true
 report_kept e h =
     rw (
       run_kept e.stuck (list_all (λ t. t.done) e.tasks),
-      number_kept (length e.list) h.count,
-      number_kept (count_by (λ x. x.violation) e.list)
-          (let le = count_le e.list in omega (arith, le, h.count)),
+      number_kept (length e.list),
+      number_kept (count_by (λ x. x.violation) e.list),
     )
     (rows_append (map entry_words e.list) (pcr_lines e.list e.banks ++ behind_pcrs e)
-    (entries_kept e.list h.entries)
+    (entries_kept e.list h.names)
     (rows_append (pcr_lines e.list e.banks) (behind_pcrs e)
-    (pcr_to_kept e.list e.banks 24 (omega arith))
+    (pcr_to_kept e.list e.banks 24)
     (rows_append (appended_lines e.grows e.base e.rules)
     (all_inode_lines e.template e.grows 0 e.inodes ++ (all_task_lines 0 e.tasks ++ ending))
-    (appended_kept e.grows e.base e.rules h.rules h.rules_count)
+    (appended_kept e.grows e.base e.rules h.rules)
     (rows_append (all_inode_lines e.template e.grows 0 e.inodes) (all_task_lines 0 e.tasks
-    ++ ending) (inodes_kept e.template e.grows 0 e.inodes h.inodes
-    (omega (arith, h.inodes_count)))
-    (rows_append (all_task_lines 0 e.tasks) ending
-    (tasks_kept 0 e.tasks h.tasks (omega (arith, h.tasks_count))) refl)))))
+    ++ ending) (inodes_kept e.template e.grows 0 e.inodes h.inodes)
+    (rows_append (all_task_lines 0 e.tasks) ending (tasks_kept 0 e.tasks) refl)))))
 
 pub report_tells : (a b : Ended) → Fits a → Fits b → IsOneScript a b → report_of a ≡ report_of b
     → IsTold a b

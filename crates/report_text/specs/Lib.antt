@@ -1,3 +1,4 @@
+pub mod Numerals
 pub mod Words
 pub mod Texts
 pub mod Printed

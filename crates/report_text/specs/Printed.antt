@@ -1,5 +1,6 @@
--- What the words of an event tell of it.
+-- The part of an event, an entry and a run that the words of a report determine.
 use Rattle.std.specs.Prelude.{◌≡◌, map, ℕ, Bool, false, List, [], length, Some, None, unwrap_or, option_map, replicate, if◌then◌else◌}
+use Rattle.std.specs.List.{AllByRecursion}
 use Rattle.hash_algos.specs.declared.algo.Algo.TheVariants.{Sha256}
 use Rattle.hash_algos.specs.declared.digest.Digest.{Digest}
 use Rattle.inode_meta.specs.declared.appraisal.Need.TheVariants as need
@@ -13,8 +14,10 @@ use Rattle.inode_events.specs.declared.deed.Deed.TheVariants as deed
 use Rattle.inode_events.specs.declared.told.Event.{Event}
 use Rattle.inode_events.specs.declared.told.Told.{Told}
 use Rattle.inode_events.specs.declared.told.Told.TheVariants as told
+use Rattle.report_text.specs.Ranges.{IsListEntry}
 
--- the template that will be used in place of the rule's; the allowed algorithms aren't told
+-- the action as printed: the template is the one that will be used, and the allowed algorithms
+-- aren't shown
 abbrev pub printed_action : Template → Action → Action
 printed_action default a = record {
   measure = a.measure;
@@ -27,7 +30,7 @@ printed_action default a = record {
   hash = a.hash;
 }
 
--- of bytes the length is told
+-- the bytes as printed: only their length is shown
 abbrev pub blank : List ℕ → List ℕ
 blank bytes = replicate (length bytes) 0
 
@@ -42,7 +45,7 @@ printed_deed default grows d = d
 abbrev pub no_digest : Digest
 no_digest = record { algo = Sha256; bytes = [] }
 
--- the image of a birth and the digest of a read aren't told
+-- the outcome as printed: the image of a birth and the digest of a read aren't shown
 abbrev pub printed_told : Told → Told
 printed_told (told.Image image) = told.Nothing
 printed_told (told.Read n digest) = told.Read n no_digest
@@ -59,7 +62,7 @@ printed_by default grows e d =
 abbrev pub printed : Template → Bool → Event → Event
 printed default grows e = printed_by default grows e e.deed
 
--- a line of the list doesn't tell whether its entry is a violation
+-- the entry as printed: a line of the list doesn't show whether its entry is a violation
 abbrev pub printed_entry : Entry → Entry
 printed_entry e = record {
   pcr = e.pcr;
@@ -70,15 +73,17 @@ printed_entry e = record {
   violation = false;
 }
 
--- what equal reports of two runs of one script tell
+-- what two runs of one script have in common if their reports are equal
 pub record IsTold (a b : Ended) : Type 0 where
   pub events : map (λ i. map (printed a.template a.grows) i.journal) a.inodes
       ≡ map (λ i. map (printed a.template a.grows) i.journal) b.inodes
-  pub entries : map printed_entry a.list ≡ map printed_entry b.list
+  pub count : length a.list ≡ length b.list
+  pub entries : AllByRecursion IsListEntry a.list → AllByRecursion IsListEntry b.list
+      → map printed_entry a.list ≡ map printed_entry b.list
   pub rules : a.rules ≡ b.rules
   pub replies : map (λ t. t.replies) a.tasks ≡ map (λ t. t.replies) b.tasks
 
--- what the script fixes of both
+-- what two runs have in common because they are of one script
 pub record IsOneScript (a b : Ended) : Type 0 where
   pub template : a.template ≡ b.template
   pub grows : a.grows ≡ b.grows

@@ -1,5 +1,6 @@
 -- The report of a run: lines of words, and their bytes.
-use Rattle.std.specs.Prelude.{ℕ, zero, suc, ◌+◌, ◌/◌, ◌%◌, ◌==◌, nat_lt, Bool, true, false, List, [], ◌∷◌, ◌++◌, length, codes, decimal, map, count_by, Option, Some, None, if◌then◌else◌}
+use Rattle.std.specs.Prelude.{ℕ, zero, suc, ◌+◌, ◌/◌, ◌%◌, ◌==◌, nat_lt, Bool, true, false, List, [], ◌∷◌, ◌++◌, length, codes, map, count_by, Option, Some, None, if◌then◌else◌}
+use Rattle.report_text.specs.Numerals.{numeral}
 use Rattle.std.specs.List.{list_all, list_any}
 use Rattle.hex.specs.Hex.{encode_lower}
 use Rattle.hash_algos.specs.Algo.{algo_name}
@@ -26,7 +27,7 @@ use Rattle.call_steps.specs.declared.reply.Reply.TheVariants as reply
 
 -- ---- the list
 
--- a register's number, right in a width of 2: below 10 an empty word stands before it
+-- a register's number, right-aligned in a width of 2: below 10 it follows an empty word
 abbrev pub pcr_words : ℕ → Line
 pcr_words pcr = if nat_lt pcr 10 then [] ∷ ((48 + pcr % 10) ∷ [])
     ∷ [] else ((48 + pcr / 10) ∷ (48 + pcr % 10) ∷ []) ∷ []
@@ -42,11 +43,11 @@ entry_words e =
 abbrev pub pcr_lines_at : Banks → ℕ → Bool → List Line
 pcr_lines_at banks pcr false = []
 pcr_lines_at banks pcr true =
-    (codes "pcr" ∷ codes "sha1" ∷ decimal pcr ∷ encode_lower (register banks Sha1 pcr) ∷ [])
-    ∷ (codes "pcr" ∷ codes "sha256" ∷ decimal pcr ∷ encode_lower (register banks Sha256 pcr) ∷ [])
+    (codes "pcr" ∷ codes "sha1" ∷ numeral pcr ∷ encode_lower (register banks Sha1 pcr) ∷ [])
+    ∷ (codes "pcr" ∷ codes "sha256" ∷ numeral pcr ∷ encode_lower (register banks Sha256 pcr) ∷ [])
     ∷ []
 
--- the registers below n that an entry names
+-- the lines of the registers below n that an entry extends
 abbrev pub pcr_lines_to : List Entry → Banks → ℕ → List Line
 pcr_lines_to list banks zero = []
 pcr_lines_to list banks (suc n) =
@@ -58,14 +59,14 @@ pcr_lines list banks = pcr_lines_to list banks 24
 -- ---- the appended rules
 
 abbrev pub rule_line : ℕ → RuleEntry → Line
-rule_line place r = codes "rule" ∷ decimal place ∷ who_word r.who ∷ words (rule_text r.rule)
+rule_line place r = codes "rule" ∷ numeral place ∷ who_word r.who ∷ words (rule_text r.rule)
 
 abbrev pub rule_lines : ℕ → List RuleEntry → List Line
 rule_lines place [] = []
 rule_lines place (r ∷ rs) = rule_line place r ∷ rule_lines (place + 1) rs
 
 abbrev pub appended_lines : Bool → ℕ → List RuleEntry → List Line
-appended_lines true base rules = (codes "appended" ∷ decimal (length rules) ∷ [])
+appended_lines true base rules = (codes "appended" ∷ numeral (length rules) ∷ [])
     ∷ rule_lines base rules
 appended_lines false base rules = []
 
@@ -80,16 +81,16 @@ attr_line pair = pair.0 ∷ encode_lower pair.1 ∷ []
 
 abbrev pub inode_head : ℕ → EndedInode → Line
 inode_head number i =
-    codes "inode" ∷ decimal number ∷ i.path ∷ codes "writers" ∷ decimal i.writers
-    ∷ codes "readers" ∷ decimal i.readers ∷ codes "execs" ∷ decimal i.execs ∷ []
+    codes "inode" ∷ numeral number ∷ i.path ∷ codes "writers" ∷ numeral i.writers
+    ∷ codes "readers" ∷ numeral i.readers ∷ codes "execs" ∷ numeral i.execs ∷ []
 
 abbrev pub inode_lines : Template → Bool → ℕ → EndedInode → List Line
 inode_lines default grows number i =
     inode_head number i
     ∷ (codes "force" ∷ force_word i.force ∷ [])
-    ∷ (codes "attrs" ∷ decimal (length i.attrs) ∷ [])
+    ∷ (codes "attrs" ∷ numeral (length i.attrs) ∷ [])
     ∷ map attr_line i.attrs
-    ++ (codes "events" ∷ decimal (length i.journal) ∷ [])
+    ++ (codes "events" ∷ numeral (length i.journal) ∷ [])
     ∷ event_lines default grows 0 i.journal
 
 abbrev pub all_inode_lines : Template → Bool → ℕ → List EndedInode → List Line
@@ -101,7 +102,7 @@ all_inode_lines default grows number (i ∷ rest) = inode_lines default grows nu
 
 abbrev pub reply_words : Reply → Line
 reply_words reply.Done = codes "ok" ∷ []
-reply_words (reply.Bytes n digest) = codes "ok" ∷ decimal n ∷ encode_lower digest.bytes ∷ []
+reply_words (reply.Bytes n digest) = codes "ok" ∷ numeral n ∷ encode_lower digest.bytes ∷ []
 reply_words reply.NotFound = codes "ENOENT" ∷ []
 reply_words reply.BadFile = codes "EBADF" ∷ []
 reply_words reply.TextBusy = codes "ETXTBSY" ∷ []
@@ -116,11 +117,11 @@ reply_words (reply.Denied cause) = codes "EACCES" ∷ cause_word cause ∷ []
 
 abbrev pub reply_lines : ℕ → List Reply → List Line
 reply_lines call [] = []
-reply_lines call (r ∷ rs) = (decimal call ∷ reply_words r) ∷ reply_lines (call + 1) rs
+reply_lines call (r ∷ rs) = (numeral call ∷ reply_words r) ∷ reply_lines (call + 1) rs
 
 abbrev pub task_lines : ℕ → EndedTask → List Line
 task_lines number t =
-    (codes "task" ∷ decimal number ∷ (if t.done then codes "done" else codes "unfinished") ∷ [])
+    (codes "task" ∷ numeral number ∷ (if t.done then codes "done" else codes "unfinished") ∷ [])
     ∷ reply_lines 0 t.replies
 
 abbrev pub all_task_lines : ℕ → List EndedTask → List Line
@@ -137,8 +138,8 @@ abbrev pub head_lines : Ended → List Line
 head_lines e =
     (codes "imakern" ∷ codes "report" ∷ codes "1" ∷ [])
     ∷ (codes "run" ∷ ending_word e ∷ [])
-    ∷ (codes "list" ∷ decimal (length e.list) ∷ codes "violations"
-    ∷ decimal (count_by (λ x. x.violation) e.list) ∷ []) ∷ []
+    ∷ (codes "list" ∷ numeral (length e.list) ∷ codes "violations"
+    ∷ numeral (count_by (λ x. x.violation) e.list) ∷ []) ∷ []
 
 abbrev pub report_lines : Ended → List Line
 report_lines e =

@@ -1,5 +1,6 @@
--- The summary of a generated run: how large it was, and the default register.
-use Rattle.std.specs.Prelude.{ℕ, Bool, true, not, List, [], ◌∷◌, ◌++◌, length, codes, decimal, count_by, sum_by}
+-- The summary of a generated run: its totals, and the default register.
+use Rattle.std.specs.Prelude.{ℕ, Bool, true, not, List, [], ◌∷◌, ◌++◌, length, codes, count_by, sum_by}
+use Rattle.report_text.specs.Numerals.{numeral}
 use Rattle.std.specs.Str.{bytes_eq}
 use Rattle.text_forms.specs.Words.{text_of}
 use Rattle.inode_events.specs.EndedInode.{EndedInodeValue as EndedInode}
@@ -19,24 +20,24 @@ is_ok_reply r = bytes_eq (first_word (reply_words r)) (codes "ok")
 abbrev pub event_count : List EndedInode → ℕ
 event_count inodes = sum_by (λ i. length i.journal) inodes
 
--- the replies that pass the test, of all tasks
+-- how many replies of all tasks pass the test
 abbrev pub reply_count : (Reply → Bool) → List EndedTask → ℕ
 reply_count p tasks = sum_by (λ t. count_by p t.replies) tasks
 
 abbrev pub size_lines : ℕ → ℕ → Ended → List Line
 size_lines number script e =
-    (codes "gen" ∷ decimal number ∷ [])
-    ∷ (codes "script" ∷ decimal script ∷ [])
-    ∷ (codes "list" ∷ decimal (length e.list) ∷ codes "violations"
-    ∷ decimal (count_by (λ x. x.violation) e.list) ∷ []) ∷ []
+    (codes "gen" ∷ numeral number ∷ [])
+    ∷ (codes "script" ∷ numeral script ∷ [])
+    ∷ (codes "list" ∷ numeral (length e.list) ∷ codes "violations"
+    ∷ numeral (count_by (λ x. x.violation) e.list) ∷ []) ∷ []
 
 abbrev pub count_lines : Ended → List Line
 count_lines e =
-    (codes "events" ∷ decimal (event_count e.inodes) ∷ [])
-    ∷ (codes "replies" ∷ codes "ok" ∷ decimal (reply_count is_ok_reply e.tasks)
-    ∷ codes "refused" ∷ decimal (reply_count (λ r. not (is_ok_reply r)) e.tasks) ∷ []) ∷ []
+    (codes "events" ∷ numeral (event_count e.inodes) ∷ [])
+    ∷ (codes "replies" ∷ codes "ok" ∷ numeral (reply_count is_ok_reply e.tasks)
+    ∷ codes "refused" ∷ numeral (reply_count (λ r. not (is_ok_reply r)) e.tasks) ∷ []) ∷ []
 
--- of the run of the script of a number, which has so many bytes
+-- the lines of the summary of the run of script `number`, whose text has `script` bytes
 abbrev pub summary_lines : ℕ → ℕ → Ended → List Line
 summary_lines number script e =
     size_lines number script e ++ (count_lines e ++ pcr_lines_at e.banks 10 true)

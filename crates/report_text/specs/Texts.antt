@@ -1,6 +1,7 @@
--- The same words as texts: parts of a line with the space before or behind them, which stand or
--- don't.
-use Rattle.std.specs.Prelude.{ℕ, Bool, true, false, ◌||◌, List, [], ◌∷◌, ◌++◌, codes, decimal, Option, Some, None, unwrap_or, if◌then◌else◌}
+-- The words of `Words` as texts: parts of a line with the space before or after them, each of which
+-- may be absent.
+use Rattle.std.specs.Prelude.{ℕ, Bool, true, false, ◌||◌, List, [], ◌∷◌, ◌++◌, codes, Option, Some, None, unwrap_or, if◌then◌else◌}
+use Rattle.report_text.specs.Numerals.{numeral}
 use Rattle.std.specs.List.{join_with_byte}
 use Rattle.ima_templates.specs.declared.entry.Placed.{Placed}
 use Rattle.ima_templates.specs.declared.entry.Placed.TheVariants.{Added, Already}
@@ -19,8 +20,8 @@ line_text ws = join_with_byte 32 ws ++ 10 ∷ []
 
 abbrev pub placed_text : Option Placed → List ℕ
 placed_text None = []
-placed_text (Some (Added place)) = codes "added " ++ decimal place ++ codes " "
-placed_text (Some (Already place)) = codes "already " ++ decimal place ++ codes " "
+placed_text (Some (Added place)) = codes "added " ++ numeral place ++ codes " "
+placed_text (Some (Already place)) = codes "already " ++ numeral place ++ codes " "
 
 abbrev pub verdict_text : Option Verdict → List ℕ
 verdict_text None = []
@@ -33,11 +34,11 @@ admitted_text admitted labelled =
     ++ (if labelled then codes " labelled" else [])
 
 abbrev pub rules_text : Bool → ℕ → List ℕ
-rules_text true n = codes " rules " ++ decimal n
+rules_text true n = codes " rules " ++ numeral n
 rules_text false n = []
 
 abbrev pub measure_text : Bool → ℕ → Template → List ℕ
-measure_text true pcr template = codes " measure " ++ decimal pcr ++ codes " "
+measure_text true pcr template = codes " measure " ++ numeral pcr ++ codes " "
     ++ template_word template
 measure_text false pcr template = []
 

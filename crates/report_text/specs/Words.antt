@@ -1,5 +1,6 @@
--- The words of an event: its place, who made it, what was done and what it was told.
-use Rattle.std.specs.Prelude.{ℕ, ◌+◌, Bool, true, false, List, [], ◌∷◌, ◌++◌, length, codes, decimal, Option, Some, None, unwrap_or, if◌then◌else◌}
+-- The words of an event: its place, the step that made it, its deed and its outcome.
+use Rattle.std.specs.Prelude.{ℕ, ◌+◌, Bool, true, false, List, [], ◌∷◌, ◌++◌, length, codes, Option, Some, None, unwrap_or, if◌then◌else◌}
+use Rattle.report_text.specs.Numerals.{numeral}
 use Rattle.std.specs.Fmt.{digits}
 use Rattle.std.specs.List.{join_with_byte}
 use Rattle.ima_templates.specs.declared.entry.Placed.{Placed}
@@ -29,7 +30,7 @@ abbrev pub Line : Type 0
 Line = List (List ℕ)
 
 abbrev pub who_word : Who → List ℕ
-who_word w = join_with_byte 46 (decimal w.task ∷ decimal w.call ∷ decimal w.step ∷ [])
+who_word w = join_with_byte 46 (numeral w.task ∷ numeral w.call ∷ numeral w.step ∷ [])
 
 -- ---- deeds
 
@@ -43,10 +44,10 @@ how_words (how.Write read create) = (if read then codes "rw" else codes "w") ∷
 how_words how.Exec = codes "x" ∷ []
 
 abbrev pub measure_words : Bool → ℕ → Template → Line
-measure_words true pcr template = codes "measure" ∷ decimal pcr ∷ template_word template ∷ []
+measure_words true pcr template = codes "measure" ∷ numeral pcr ∷ template_word template ∷ []
 measure_words false pcr template = []
 
--- whether a signature is asked for
+-- the word of appraisal, which says whether a signature is required
 abbrev pub appraise_words : Bool → Bool → Line
 appraise_words true any = (if any then codes "appraise" else codes "appraise-sig") ∷ []
 appraise_words false any = []
@@ -59,56 +60,56 @@ abbrev pub or_dash : Line → Line
 or_dash [] = codes "-" ∷ []
 or_dash (w ∷ ws) = w ∷ ws
 
--- what the families do, with the template that will be used
+-- the words of a check's actions, with the template that a measurement uses
 abbrev pub acts_words : Template → Action → Line
 acts_words default a =
     or_dash (measure_words a.measure a.pcr (unwrap_or a.template default)
     ++ appraise_words a.appraise (is_any a.need)
     ++ flag_words (codes "audit") a.audit ++ flag_words (codes "hash") a.hash)
 
--- the number of rules is shown where rules can be appended
+-- the number of rules, which is shown only if the run can append rules
 abbrev pub rules_words : Bool → ℕ → Line
-rules_words true n = codes "rules" ∷ decimal n ∷ []
+rules_words true n = codes "rules" ∷ numeral n ∷ []
 rules_words false n = []
 
 abbrev pub length_word : Option (List ℕ) → List ℕ
 length_word None = codes "-"
-length_word (Some bytes) = decimal (length bytes)
+length_word (Some bytes) = numeral (length bytes)
 
 abbrev pub change_words : Change → Line
 change_words (change.Mode mode) = codes "mode" ∷ digits 8 false mode ∷ []
-change_words (change.Owner uid gid) = codes "owner" ∷ decimal uid ∷ decimal gid ∷ []
+change_words (change.Owner uid gid) = codes "owner" ∷ numeral uid ∷ numeral gid ∷ []
 
 abbrev pub deed_words : Template → Bool → Deed → Line
 deed_words default grows deed.Birth = codes "birth" ∷ []
 deed_words default grows (deed.Count how) = codes "count" ∷ how_words how
 deed_words default grows (deed.Check file func action rules) =
-    codes "check" ∷ decimal file ∷ func_word func ∷ rules_words grows rules
+    codes "check" ∷ numeral file ∷ func_word func ∷ rules_words grows rules
     ++ acts_words default action
-deed_words default grows (deed.Take file) = codes "take" ∷ decimal file ∷ []
-deed_words default grows (deed.Chunk file) = codes "chunk" ∷ decimal file ∷ []
-deed_words default grows (deed.Finish file) = codes "finish" ∷ decimal file ∷ []
-deed_words default grows (deed.Read file from len) = codes "read" ∷ decimal file ∷ decimal from
-    ∷ decimal len ∷ []
-deed_words default grows (deed.Write file from bytes) = codes "write" ∷ decimal file ∷ decimal from
-    ∷ decimal (length bytes) ∷ []
-deed_words default grows (deed.Trunc file len) = codes "trunc" ∷ decimal file ∷ decimal len ∷ []
+deed_words default grows (deed.Take file) = codes "take" ∷ numeral file ∷ []
+deed_words default grows (deed.Chunk file) = codes "chunk" ∷ numeral file ∷ []
+deed_words default grows (deed.Finish file) = codes "finish" ∷ numeral file ∷ []
+deed_words default grows (deed.Read file from len) = codes "read" ∷ numeral file ∷ numeral from
+    ∷ numeral len ∷ []
+deed_words default grows (deed.Write file from bytes) = codes "write" ∷ numeral file ∷ numeral from
+    ∷ numeral (length bytes) ∷ []
+deed_words default grows (deed.Trunc file len) = codes "trunc" ∷ numeral file ∷ numeral len ∷ []
 deed_words default grows (deed.SetAttr name bytes admin) = codes "set-attr" ∷ name
     ∷ length_word bytes ∷ []
 deed_words default grows (deed.SetMeta change) = codes "set-meta" ∷ change_words change
-deed_words default grows (deed.Close file) = codes "close" ∷ decimal file ∷ []
-deed_words default grows (deed.CloseTake file) = codes "close-take" ∷ decimal file ∷ []
-deed_words default grows (deed.CloseChunk file) = codes "close-chunk" ∷ decimal file ∷ []
-deed_words default grows (deed.CloseFinish file) = codes "close-finish" ∷ decimal file ∷ []
-deed_words default grows (deed.Post sem) = codes "post" ∷ decimal sem ∷ []
-deed_words default grows (deed.Wait sem) = codes "wait" ∷ decimal sem ∷ []
+deed_words default grows (deed.Close file) = codes "close" ∷ numeral file ∷ []
+deed_words default grows (deed.CloseTake file) = codes "close-take" ∷ numeral file ∷ []
+deed_words default grows (deed.CloseChunk file) = codes "close-chunk" ∷ numeral file ∷ []
+deed_words default grows (deed.CloseFinish file) = codes "close-finish" ∷ numeral file ∷ []
+deed_words default grows (deed.Post sem) = codes "post" ∷ numeral sem ∷ []
+deed_words default grows (deed.Wait sem) = codes "wait" ∷ numeral sem ∷ []
 
--- ---- what is told
+-- ---- outcomes
 
 abbrev pub placed_words : Option Placed → Line
 placed_words None = []
-placed_words (Some (Added place)) = codes "added" ∷ decimal place ∷ []
-placed_words (Some (Already place)) = codes "already" ∷ decimal place ∷ []
+placed_words (Some (Added place)) = codes "added" ∷ numeral place ∷ []
+placed_words (Some (Already place)) = codes "already" ∷ numeral place ∷ []
 
 abbrev pub verdict_words : Option Verdict → Line
 verdict_words None = []
@@ -129,13 +130,13 @@ told_words told.Held = codes "held" ∷ []
 told_words told.NotFound = codes "notfound" ∷ []
 told_words told.TextBusy = codes "textbusy" ∷ []
 told_words told.Quiet = codes "quiet" ∷ []
-told_words (told.OpenWriters place) = codes "open-writers" ∷ decimal place ∷ []
-told_words (told.ToMToU place) = codes "tomtou" ∷ decimal place ∷ []
+told_words (told.OpenWriters place) = codes "open-writers" ∷ numeral place ∷ []
+told_words (told.ToMToU place) = codes "tomtou" ∷ numeral place ∷ []
 told_words told.Begun = codes "begun" ∷ []
 told_words (told.Grant grant) = grant_words grant
 told_words told.More = codes "more" ∷ []
 told_words told.Last = codes "last" ∷ []
-told_words (told.Read n digest) = decimal n ∷ []
+told_words (told.Read n digest) = numeral n ∷ []
 told_words told.Done = codes "done" ∷ []
 told_words told.TooBig = codes "toobig" ∷ []
 told_words told.EvmName = codes "evmname" ∷ []
@@ -150,14 +151,14 @@ told_words told.Nothing = codes "nothing" ∷ []
 
 -- ---- events
 
--- an event behind its place
+-- the words of an event after its place
 abbrev pub step_words : Template → Bool → Who → Deed → Told → Line
 step_words default grows who deed.Birth t = codes "birth" ∷ []
 step_words default grows who d t = who_word who ∷ deed_words default grows d ++ codes "="
     ∷ told_words t
 
 abbrev pub event_words : Template → Bool → ℕ → Event → Line
-event_words default grows place e = decimal place ∷ step_words default grows e.who e.deed e.told
+event_words default grows place e = numeral place ∷ step_words default grows e.who e.deed e.told
 
 abbrev pub event_lines : Template → Bool → ℕ → List Event → List Line
 event_lines default grows place [] = []

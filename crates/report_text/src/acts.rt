@@ -1,4 +1,4 @@
-// What a check's action does.
+// The actions of a check, and the number of rules that it saw.
 
 ghost use Rattle.std.specs.Prelude.{◌≡◌, ◌++◌, OnOk};
 ghost use Rattle.policy_text.specs.RuleValue.{is_any};
@@ -9,7 +9,7 @@ use inode_meta::{Need, Template};
 use policy_text::Action;
 use std::alloc::AllocError as OutOfMemory;
 
-// How many of the rules the check saw, where rules can be appended.
+// Prints the number of rules that the check saw, if the run can append rules.
 pub fn push_rules(out: &mut Vec<u8>, grows: bool, rules: u64) -> Result<(), OutOfMemory>
     ensures { OnOk result (out.new.items ≡ out.old.items ++ rules_text grows rules) }
 {
@@ -21,7 +21,8 @@ pub fn push_rules(out: &mut Vec<u8>, grows: bool, rules: u64) -> Result<(), OutO
     }
 }
 
-// What the families do, with the template that will be used, or a dash.
+// Prints the actions of a check, with the template that a measurement uses, or a dash if there are
+// none.
 pub fn push_acts(out: &mut Vec<u8>, default: Template, action: &Action) -> Result<(), OutOfMemory>
     ensures { OnOk result (out.new.items ≡ out.old.items ++ acts_text default action.now) }
 {

@@ -1,4 +1,4 @@
-// What an event did.
+// The words of an event's deed.
 
 ghost use Rattle.std.specs.Prelude.{◌≡◌, ◌∷◌, ◌++◌, OnOk, codes};
 ghost use Rattle.std.specs.List.{join_with_byte};
@@ -14,8 +14,8 @@ use std::alloc::AllocError as OutOfMemory;
 use std::io::Write;
 use xattr_store::Bytes;
 
-// `default` is the template that a measurement uses whose rule names none, and `grows` says whether
-// rules can be appended.
+// Prints a deed. `default` is the template of a measurement whose rule names none; `grows` says
+// whether the run can append rules.
 pub fn push_deed(
     out: &mut Vec<u8>,
     default: Template,
@@ -98,7 +98,7 @@ fn how_text(how: How) -> &'static str
     }
 }
 
-// The length of the value that is set, or a dash for a removal.
+// Prints the length of the new value, or a dash if the attribute is removed.
 fn push_length(out: &mut Vec<u8>, value: &Option<Bytes>) -> Result<(), OutOfMemory>
     ensures { OnOk result (out.new.items ≡ out.old.items ++ length_word value.now) }
 {
@@ -108,7 +108,7 @@ fn push_length(out: &mut Vec<u8>, value: &Option<Bytes>) -> Result<(), OutOfMemo
     }
 }
 
-// A mode is octal.
+// Prints a change of metadata, with a mode in octal.
 fn push_change(out: &mut Vec<u8>, change: Change) -> Result<(), OutOfMemory>
     ensures { OnOk result (out.new.items
         ≡ out.old.items ++ join_with_byte 32 (codes "set-meta" ∷ change_words change)) }

@@ -27,7 +27,7 @@ pub fn push_events(
     Ok(())
 }
 
-// Its place, the step that made it, what it did and what it was told.
+// Prints an event: its place, the step that made it, its deed and its outcome.
 fn push_event(
     out: &mut Vec<u8>,
     default: Template,
@@ -52,7 +52,7 @@ fn push_event(
     Ok(())
 }
 
-// `TASK.CALL.STEP`
+// Prints a step as `TASK.CALL.STEP`.
 pub fn push_who(out: &mut Vec<u8>, who: Who) -> Result<(), OutOfMemory>
     ensures { OnOk result (out.new.items ≡ out.old.items ++ who_word who) }
 {

@@ -1,6 +1,7 @@
-// The lines of the inodes.
+// The section of the inodes: their heads, attributes and journals.
 
-ghost use Rattle.std.specs.Prelude.{◌≡◌, [], ◌∷◌, ◌++◌, decimal, length, OnOk, codes};
+ghost use Rattle.std.specs.Prelude.{◌≡◌, [], ◌∷◌, ◌++◌, length, OnOk, codes};
+ghost use Rattle.report_text.specs.Numerals.{numeral};
 ghost use Rattle.std.specs.List.{flat_map};
 ghost use Rattle.text_forms.specs.Words.{text_of};
 ghost use Rattle.report_text.specs.Report.{all_inode_lines, attr_line, force_word, inode_head, inode_lines};
@@ -16,8 +17,23 @@ use list_format::{append_hex, append_named_digest};
 use std::alloc::{AllocError as OutOfMemory, Global};
 use xattr_store::{Attrs, Bytes};
 
-// Each inode is given up once it is told.
 pub fn push_inodes(
+    out: &mut Vec<u8>,
+    default: Template,
+    grows: bool,
+    inodes: &[EndedInode],
+) -> Result<(), OutOfMemory>
+    ensures { OnOk result (out.new.items
+        ≡ out.old.items ++ text_of (all_inode_lines default grows 0 inodes.now)) }
+{
+    for (number, inode) in inodes.iter().enumerate() {
+        push_inode(out, default, grows, number as u64, inode)?;
+    }
+    Ok(())
+}
+
+// Prints each inode and then drops it, so that its memory is free for the text.
+pub fn push_inodes_in_pieces(
     alloc: Global,
     out: &mut Pieces,
     default: Template,
@@ -58,7 +74,7 @@ fn push_inode(
     Ok(())
 }
 
-// Its number, its path, and the files that are still held.
+// Prints the head of an inode: its number, its path, and how many descriptors are still open on it.
 fn push_head(out: &mut Vec<u8>, number: u64, inode: &EndedInode) -> Result<(), OutOfMemory>
     ensures { OnOk result (out.new.items
         ≡ out.old.items ++ line_text (inode_head number inode.now)) }
@@ -73,7 +89,7 @@ fn push_head(out: &mut Vec<u8>, number: u64, inode: &EndedInode) -> Result<(), O
     Ok(())
 }
 
-// The digest in force.
+// Prints the digest in force as `ALGO:HEX`, or `none`.
 fn push_force(out: &mut Vec<u8>, force: &Option<Digest>) -> Result<(), OutOfMemory>
     ensures { OnOk result (out.new.items
         ≡ out.old.items ++ line_text (codes "force" ∷ force_word force.now ∷ [])) }
@@ -89,7 +105,7 @@ fn push_force(out: &mut Vec<u8>, force: &Option<Digest>) -> Result<(), OutOfMemo
 
 fn push_attrs(out: &mut Vec<u8>, attrs: &Attrs) -> Result<(), OutOfMemory>
     ensures { OnOk result (out.new.items ≡ out.old.items
-        ++ line_text (codes "attrs" ∷ decimal (length attrs.now) ∷ [])
+        ++ line_text (codes "attrs" ∷ numeral (length attrs.now) ∷ [])
         ++ flat_map (λ p. line_text (attr_line p)) attrs.now) }
 {
     push_numbers(out, b"attrs", &[attrs.as_slice().len() as u64])?;

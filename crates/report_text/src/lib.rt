@@ -1,8 +1,8 @@
 //! The report of a run: its list, registers, appended rules, journals and replies, in lines of
-//! words parted by one space; and the summary of a generated run.
+//! words separated by one space; and the summary of a generated run.
 //!
-//! The definitions stand in `specs/`. That equal reports of two runs of one script tell of equal
-//! events, entries, rules and replies is the law of [`law`].
+//! The definitions are in `specs/`. The law in [`law`] says that two runs of one script with equal
+//! reports have equal events, entries, rules and replies.
 #![tactic(auto)]
 
 mod acts;
@@ -18,6 +18,7 @@ mod tolds;
 mod totals;
 
 pub use call_steps as steps;
-pub use print::report;
+pub use print::{report, report_in_pieces};
 pub use run_model as model;
+pub use std::alloc::AllocError as OutOfMemory;
 pub use totals::summary;

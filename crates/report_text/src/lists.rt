@@ -1,4 +1,4 @@
-// The lines of the list, of the registers and of the appended rules.
+// The sections of the measurement list, the registers and the appended rules.
 
 ghost use Rattle.std.specs.Prelude.{◌≡◌, ◌++◌, ◌<◌, ◌==◌, true, OnOk};
 ghost use Rattle.std.specs.List.{flat_map, list_any};
@@ -27,7 +27,7 @@ pub fn push_entries(out: &mut Vec<u8>, list: &[Entry]) -> Result<(), OutOfMemory
     Ok(())
 }
 
-// The registers that an entry names, in rising order.
+// Prints the registers that at least one entry extends, in rising order.
 pub fn push_registers(out: &mut Vec<u8>, list: &[Entry], banks: &Banks) -> Result<(), OutOfMemory>
     ensures { OnOk result (out.new.items
         ≡ out.old.items ++ text_of (pcr_lines list.now banks.now)) }
@@ -44,7 +44,7 @@ fn is_named(list: &[Entry], pcr: u8) -> bool
     list.iter().any(|e| e.pcr == pcr)
 }
 
-// A register in both banks, where it is named.
+// Prints the value of a register in both banks, if `named` says that an entry extends it.
 fn push_register(out: &mut Vec<u8>, banks: &Banks, pcr: u8, named: bool) -> Result<(), OutOfMemory>
     requires { pcr < 24 }
     ensures { OnOk result (out.new.items
@@ -57,7 +57,7 @@ fn push_register(out: &mut Vec<u8>, banks: &Banks, pcr: u8, named: bool) -> Resu
     }
 }
 
-// A register in both banks.
+// Prints the value of a register in both banks, one line each.
 pub fn push_values(out: &mut Vec<u8>, banks: &Banks, pcr: u8) -> Result<(), OutOfMemory>
     requires { pcr < 24 }
     ensures { OnOk result (out.new.items
@@ -72,7 +72,7 @@ pub fn push_values(out: &mut Vec<u8>, banks: &Banks, pcr: u8) -> Result<(), OutO
     Ok(())
 }
 
-// The appended rules by their places, which follow the places of the script's own rules.
+// Prints the appended rules with their places, which follow those of the script's own rules.
 pub fn push_appended(
     alloc: Global,
     out: &mut Vec<u8>,

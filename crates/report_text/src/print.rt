@@ -1,25 +1,37 @@
-// The whole report.
+// The report as a whole.
 
-ghost use Rattle.std.specs.Prelude.{◌≡◌, [], ◌∷◌, ◌++◌, IfOk, OnOk, codes, decimal, length};
+ghost use Rattle.std.specs.Prelude.{◌≡◌, [], ◌∷◌, ◌++◌, IfOk, OnOk, codes, length};
+ghost use Rattle.report_text.specs.Numerals.{numeral};
 ghost use Rattle.std.specs.List.{count_by, flat_map, list_all};
 ghost use Rattle.list_format.specs.Line.{ascii_line};
 ghost use Rattle.text_forms.specs.Words.{text_of};
 ghost use Rattle.report_text.specs.Report.{appended_lines, ending_word, head_lines, pcr_lines, report_of};
 
-use crate::inodes::push_inodes;
+use crate::inodes::{push_inodes, push_inodes_in_pieces};
 use crate::lists::{push_appended, push_entries, push_registers};
 use crate::push::push_numbers;
-use crate::tasks::push_tasks;
+use crate::tasks::{push_tasks, push_tasks_in_pieces};
 use ima_io::Pieces;
 use list_format::violations;
 use run_model::{Ended, EndedTask};
 use std::alloc::{AllocError as OutOfMemory, Global};
 
-/// The report of a run, in lines that end in a newline: whether it is done, its list in the form of
-/// `ascii_runtime_measurements`, the registers that an entry names, the appended rules where the
-/// script can append any, each inode with its journal, and each task with its replies. Each journal
-/// is given up once it is told, so that the report takes its room.
-pub fn report(alloc: Global, e: Ended) -> Result<Pieces, OutOfMemory>
+/// The report of a run, in lines that end in a newline: whether the run is done; its list, in the
+/// form of `ascii_runtime_measurements`; the registers that an entry extends; the appended rules,
+/// if the script can append any; each inode with its journal; and each task with its replies.
+pub fn report(alloc: Global, e: &Ended) -> Result<Vec<u8>, OutOfMemory>
+    ensures { IfOk result (λ text. text.items ≡ report_of e.now) }
+{
+    let mut out = head(alloc, e)?;
+    push_inodes(&mut out, e.template, e.grows, e.inodes.as_slice())?;
+    push_tasks(&mut out, e.tasks.as_slice())?;
+    push_end(&mut out)?;
+    Ok(out)
+}
+
+/// The same report, in pieces. Each journal is dropped once it is printed, so that the report
+/// reuses its memory.
+pub fn report_in_pieces(alloc: Global, e: Ended) -> Result<Pieces, OutOfMemory>
     ensures { IfOk result (λ text. text ≡ report_of e) }
 {
     let mut out = Pieces::new(alloc);
@@ -31,13 +43,13 @@ pub fn report(alloc: Global, e: Ended) -> Result<Pieces, OutOfMemory>
         tasks,
         ..
     } = e;
-    push_inodes(alloc, &mut out, template, grows, inodes)?;
-    push_tasks(alloc, &mut out, tasks)?;
+    push_inodes_in_pieces(alloc, &mut out, template, grows, inodes)?;
+    push_tasks_in_pieces(alloc, &mut out, tasks)?;
     out.push(end(alloc)?)?;
     Ok(out)
 }
 
-// What stands before the inodes.
+// The sections of the report before the inodes.
 fn head(alloc: Global, e: &Ended) -> Result<Vec<u8>, OutOfMemory>
     ensures { IfOk result (λ out. out.items ≡ ((text_of (head_lines e.now)
         ++ flat_map ascii_line e.now.list)
@@ -56,8 +68,14 @@ fn end(alloc: Global) -> Result<Vec<u8>, OutOfMemory>
     ensures { IfOk result (λ out. out.items ≡ codes "end\n") }
 {
     let mut out = Vec::new(alloc);
-    out.extend_from_slice(b"end\n")?;
+    push_end(&mut out)?;
     Ok(out)
+}
+
+fn push_end(out: &mut Vec<u8>) -> Result<(), OutOfMemory>
+    ensures { OnOk result (out.new.items ≡ out.old.items ++ codes "end\n") }
+{
+    out.extend_from_slice(b"end\n")
 }
 
 fn push_head(out: &mut Vec<u8>, e: &Ended) -> Result<(), OutOfMemory>

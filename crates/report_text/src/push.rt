@@ -1,16 +1,17 @@
-// Numbers and words, put behind a text, and texts in pieces.
+// Appends numbers and words to a text, and cuts a long text into pieces.
 
-ghost use Rattle.std.specs.Prelude.{◌≡◌, [], ◌∷◌, ◌++◌, decimal, map, IfOk, OnOk};
+ghost use Rattle.std.specs.Prelude.{◌≡◌, [], ◌∷◌, ◌++◌, map, IfOk, OnOk};
+ghost use Rattle.report_text.specs.Numerals.{numeral};
 ghost use Rattle.std.specs.List.{join_with_byte};
 
 use ima_io::Pieces;
 use itoa::Buffer;
 use std::alloc::{AllocError as OutOfMemory, Global};
 
-// So many bytes make a piece.
+// The length in bytes at which a text is cut off as a piece.
 const PIECE: usize = 32_768;
 
-// Puts the piece behind the others where it is long enough, and gives what the text goes on with.
+// Moves the text to `out` if it is long enough for a piece, and returns the text to go on with.
 pub fn cut(alloc: Global, out: &mut Pieces, piece: Vec<u8>) -> Result<Vec<u8>, OutOfMemory>
     ensures { IfOk result (λ rest. out.new ++ rest.items ≡ out.old ++ piece.items) }
 {
@@ -21,16 +22,17 @@ pub fn cut(alloc: Global, out: &mut Pieces, piece: Vec<u8>) -> Result<Vec<u8>, O
     Ok(Vec::new(alloc))
 }
 
+#[tactic(auto, using(crate::proofs::Numerals::numeral_of_word))]
 pub fn push_number(out: &mut Vec<u8>, n: u64) -> Result<(), OutOfMemory>
-    ensures { OnOk result (out.new.items ≡ out.old.items ++ decimal n) }
+    ensures { OnOk result (out.new.items ≡ out.old.items ++ numeral n) }
 {
     out.extend_from_slice(Buffer::new().format(n).as_bytes())
 }
 
-// The words, and each number behind a space.
+// Prints the words, and then each number after a space.
 pub fn push_numbers(out: &mut Vec<u8>, words: &[u8], numbers: &[u64]) -> Result<(), OutOfMemory>
     ensures { OnOk result (out.new.items
-        ≡ out.old.items ++ join_with_byte 32 (words.now ∷ map decimal numbers.now)) }
+        ≡ out.old.items ++ join_with_byte 32 (words.now ∷ map numeral numbers.now)) }
 {
     out.extend_from_slice(words)?;
     for number in numbers {
@@ -40,10 +42,10 @@ pub fn push_numbers(out: &mut Vec<u8>, words: &[u8], numbers: &[u64]) -> Result<
     Ok(())
 }
 
-// The words, and a number behind a space.
+// Prints the words, a space and the number.
 pub fn push_sum(out: &mut Vec<u8>, words: &[u8], n: u128) -> Result<(), OutOfMemory>
     ensures { OnOk result (out.new.items
-        ≡ out.old.items ++ join_with_byte 32 (words.now ∷ decimal n ∷ [])) }
+        ≡ out.old.items ++ join_with_byte 32 (words.now ∷ numeral n ∷ [])) }
 {
     out.extend_from_slice(words)?;
     out.extend_from_slice(b" ")?;

@@ -1,6 +1,7 @@
-// The lines of the tasks.
+// The section of the tasks: whether each is done, and its replies.
 
-ghost use Rattle.std.specs.Prelude.{◌≡◌, ◌∷◌, ◌++◌, decimal, OnOk};
+ghost use Rattle.std.specs.Prelude.{◌≡◌, ◌∷◌, ◌++◌, OnOk};
+ghost use Rattle.report_text.specs.Numerals.{numeral};
 ghost use Rattle.std.specs.List.{join_with_byte};
 ghost use Rattle.text_forms.specs.Words.{text_of};
 ghost use Rattle.report_text.specs.Report.{all_task_lines, reply_lines, reply_words, task_lines};
@@ -13,8 +14,22 @@ use list_format::append_hex;
 use run_model::EndedTask;
 use std::alloc::{AllocError as OutOfMemory, Global};
 
-// Each task is given up once it is told.
-pub fn push_tasks(alloc: Global, out: &mut Pieces, tasks: Vec<EndedTask>) -> Result<(), OutOfMemory>
+pub fn push_tasks(out: &mut Vec<u8>, tasks: &[EndedTask]) -> Result<(), OutOfMemory>
+    ensures { OnOk result (out.new.items
+        ≡ out.old.items ++ text_of (all_task_lines 0 tasks.now)) }
+{
+    for (number, task) in tasks.iter().enumerate() {
+        push_task(out, number as u64, task)?;
+    }
+    Ok(())
+}
+
+// Prints each task and then drops it, so that its memory is free for the text.
+pub fn push_tasks_in_pieces(
+    alloc: Global,
+    out: &mut Pieces,
+    tasks: Vec<EndedTask>,
+) -> Result<(), OutOfMemory>
     ensures { OnOk result (out.new ≡ out.old ++ text_of (all_task_lines 0 tasks.items)) }
 {
     let mut piece = Vec::new(alloc);
@@ -42,7 +57,7 @@ fn push_task(out: &mut Vec<u8>, number: u64, task: &EndedTask) -> Result<(), Out
     Ok(())
 }
 
-// The replies of the answered calls by the calls' numbers.
+// Prints the replies of the answered calls, each with the number of its call.
 fn push_replies(out: &mut Vec<u8>, replies: &[Reply]) -> Result<(), OutOfMemory>
     ensures { OnOk result (out.new.items
         ≡ out.old.items ++ text_of (reply_lines 0 replies.now)) }
@@ -55,7 +70,7 @@ fn push_replies(out: &mut Vec<u8>, replies: &[Reply]) -> Result<(), OutOfMemory>
 
 fn push_answer(out: &mut Vec<u8>, call: u64, reply: &Reply) -> Result<(), OutOfMemory>
     ensures { OnOk result (out.new.items
-        ≡ out.old.items ++ line_text (decimal call ∷ reply_words reply.now)) }
+        ≡ out.old.items ++ line_text (numeral call ∷ reply_words reply.now)) }
 {
     push_number(out, call)?;
     out.extend_from_slice(b" ")?;

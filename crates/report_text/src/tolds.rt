@@ -1,4 +1,4 @@
-// What an event was told.
+// The words of an event's outcome.
 
 ghost use Rattle.std.specs.Prelude.{◌≡◌, ◌++◌, OnOk};
 ghost use Rattle.std.specs.List.{join_with_byte};

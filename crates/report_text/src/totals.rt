@@ -1,6 +1,7 @@
-// The summary of a generated run: its sums.
+// The summary of a generated run: its totals.
 
-ghost use Rattle.std.specs.Prelude.{◌≡◌, [], ◌∷◌, ◌++◌, IfOk, OnOk, count_by, decimal, not};
+ghost use Rattle.std.specs.Prelude.{◌≡◌, [], ◌∷◌, ◌++◌, IfOk, OnOk, count_by, not};
+ghost use Rattle.report_text.specs.Numerals.{numeral};
 ghost use Rattle.std.specs.List.{join_with_byte};
 ghost use Rattle.text_forms.specs.Words.{text_of};
 ghost use Rattle.report_text.specs.Summary.{count_lines, event_count, is_ok_reply, reply_count, size_lines, summary_of};
@@ -14,9 +15,10 @@ use list_format::violations;
 use run_model::{Ended, EndedTask};
 use std::alloc::{AllocError as OutOfMemory, Global};
 
-/// The summary of the run of the script of a number, which has `script` bytes: in lines that end in
-/// a newline the number, the script's length, the length of the list and its violations, the events
-/// of all inodes, the replies that begin with `ok` and the others, and the default register.
+/// The summary of the run of the generated script `number`, whose text has `script` bytes. Its
+/// lines, which end in a newline, have the number, the length of the script, the length of the list
+/// and its violations, the number of events of all inodes, the number of replies that begin with
+/// `ok` and of the others, and the default register.
 pub fn summary(alloc: Global, number: u32, script: usize, e: &Ended) -> Result<Vec<u8>, OutOfMemory>
     ensures { IfOk result (λ text. text.items ≡ summary_of number script e.now) }
 {
@@ -61,7 +63,7 @@ fn count_events(inodes: &[EndedInode]) -> u128
     events
 }
 
-// The replies that begin with `ok`, and the others.
+// The number of replies that begin with `ok`, and of the others.
 #[derive(Clone, Copy)]
 struct Replies {
     ok: u128,

@@ -1,4 +1,4 @@
--- A task's checks are decided rightly by what its passes have seen.
+-- A task's checks are decided rightly according to what its passes have seen.
 use Rattle.std.proofs.Common.{◌≡◌, ℕ, ◌+◌, ◌<◌, ◌≤◌, List, [], ◌∷◌, ◌++◌, length, map, Option, Some, None, sym, ◌∙◌, ap, subst, arith, length-append}
 use Rattle.std.specs.Prelude.{take}
 use Rattle.std.proofs.lemmas.List.{append_assoc, length-map, map-append, take-append-le, take_all}
@@ -24,7 +24,7 @@ pub take_prefix : {A : Type 0} (k : ℕ) (xs ys : List A) → IsPrefix xs ys →
     → take k ys ≡ take k xs
 take_prefix k xs ys a le = ap (take k) (sym a.1) ∙ take-append-le k xs a.0 le
 
--- more appended rules are more rules
+-- appending rules extends the rules in force
 pub rules_prefix : (scene : Scene) (xs ys : List RuleEntry) → IsPrefix xs ys
     → IsPrefix (rules_with scene xs) (rules_with scene ys)
 rules_prefix scene xs ys a = (

@@ -1,4 +1,4 @@
--- A turn's events and rules are its task's own, and no one else's.
+-- The events and rules of a turn belong to its task, and to no other.
 use Rattle.std.proofs.Common.{◌≡◌, ◌≢◌, ℕ, zero, suc, ◌+◌, ◌<◌, ◌≤◌, List, [], ◌∷◌, ◌++◌, length, map, Option, Some, None, refl, sym, ◌∙◌, ap, subst, arith, inl, inr}
 use Rattle.std.specs.Prelude.{◌⊎◌, ◌==◌, All, Bool, true, false, cond, slice_get, slice_set}
 use Rattle.std.proofs.lemmas.Bool.{eq-eqb, ne_eqb}
@@ -34,7 +34,7 @@ use Rattle.run_model.specs.rules.declared.cell.RuleEntry.{RuleEntry}
 use Rattle.rule_laws.specs.Kept.{AreSigned, GoLeaves, GoOwns, GoSigns, Owns}
 use Rattle.rule_laws.specs.Moments.{answers_to, answers_told, check_answers, does_answers}
 
--- ---- one event more in a journal
+-- ---- a journal with one more event
 
 pub set_parts : {A : Type 0} (xs : List A) (i k : ℕ) (x y : A)
     → slice_get (slice_set xs i x) k ≡ Some y → i < length xs
@@ -49,7 +49,7 @@ set_parts (z ∷ xs) (suc i) (suc k) x y h l = at (set_parts xs i k x y h (omega
   at (inl e) = inl (ap suc e.0, e.1)
   at (inr e) = inr (λ q. e.0 (omega arith), e.1)
 
--- nobody is told a birth
+-- no step of a task is a birth
 abbrev NoBirth : Deed → Option Told → Type 0
 NoBirth deed.Birth (Some t) = ⊥
 NoBirth _ _ = Unit {0}
@@ -185,7 +185,7 @@ own_checks scene n p h i j file func mask place action rules (Some t) at =
     ++ event_in j (who_at n p (thought (mode_of scene) p h).mind) o
     (record { place = place; told = t; action = action; rules = rules })) (sym at)
 
--- a step that isn't an event
+-- the step makes no event
 abbrev IsQuiet : Step → Type 0
 IsQuiet (Does i d) = ⊥
 IsQuiet (Checks i file func mask) = ⊥
@@ -446,7 +446,7 @@ pub law_go_leaves : GoLeaves
 law_go_leaves scene n k p q s t h even ne w =
     step_leaves scene n k p q s t h (step_at p t.mind) even ne w
 
--- ---- whose events and rules there are
+-- ---- the owners of events and rules
 
 abbrev ByTask : ℕ → Event → Type 0
 ByTask count e = caller_of e ≤ count

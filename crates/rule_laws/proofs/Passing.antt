@@ -1,4 +1,4 @@
--- What a task's passes have seen.
+-- The parts of the journals and of the rules that a task's passes have seen.
 use Rattle.std.proofs.Common.{◌≡◌, ℕ, zero, suc, List, [], ◌∷◌, map, Some, refl, sym, ◌∙◌, ap, subst}
 use Rattle.std.specs.Prelude.{slice_get, slice_set}
 use Rattle.std.specs.List.{AllZip}

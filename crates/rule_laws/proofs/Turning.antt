@@ -1,4 +1,4 @@
--- Turns keep what tasks have of their checks, and that the rules rise.
+-- Turns preserve the fit of tasks' checks, and that the number of rules never falls.
 use Rattle.std.proofs.Common.{◌≡◌, ℕ, zero, suc, ◌+◌, ◌<◌, List, [], ◌∷◌, ◌++◌, length, map, get_or, Option, Some, None, refl, sym, ◌∙◌, ap, subst, arith, inl, inr, length-append}
 use Rattle.std.specs.Prelude.{◌⊎◌, Bool, true, false, cond, nat_lt, slice_get, slice_set}
 use Rattle.std.proofs.lemmas.List.{length-map, length-set}
@@ -75,7 +75,7 @@ journals_grow (j ∷ js) (suc i) ys (suc k) journal h =
 pub journals_same : (js : List (List Event)) → JournalsGrow js js
 journals_same js k journal h = record { longer = journal; there = h; before = prefix_refl journal }
 
--- ---- what a turn's task hears
+-- ---- the task after a turn
 
 heard_told : (scene : Scene) (p : Program) (h : List Answer) (place : ℕ) (action : Action)
     (rules : ℕ) (o : Option Told)
@@ -123,7 +123,7 @@ step_hears scene n p s h (Some (Appends rule)) = refl
 pub law_go_hears : GoHears
 law_go_hears scene n p s h = step_hears scene n p s h (step_at p (thought (mode_of scene) p h).mind)
 
--- ---- what it leaves
+-- ---- the lists after a turn
 
 abbrev Grows : State → State → Type 0
 Grows s new = SeesMore (seen_in s) (seen_in new) × (length new.journals ≡ length s.journals)
@@ -179,7 +179,7 @@ step_grows scene n p s t (Some (Appends rule)) = (
 pub law_go_grows : GoGrows
 law_go_grows scene n p s t = step_grows scene n p s t (step_at p t.mind)
 
--- ---- its checks
+-- ---- the task's checks after a turn
 
 abbrev FitsAfter : Scene → Program → List Answer → State → List Answer → Type 0
 FitsAfter scene p h new answers = ChecksFit scene p (seen_in new) (answers ++ h)
@@ -344,7 +344,7 @@ event_rises scene s i inode who d o l c r k journal h =
           (prefix_refl s.added) (r i (journal_at s i) (slice_get-get_or s.journals i [] l)) c)
       at (inr g) = r k journal g
 
--- a step that isn't a check
+-- the step isn't a check
 abbrev NoCheck : Step → Type 0
 NoCheck (Does i d) = (count : ℕ) → CountsAll count d
 NoCheck _ = Unit {0}

@@ -1,4 +1,4 @@
--- A task's checks, by what its passes have seen of the journals and of the appended rules.
+-- A task's checks, related to what its passes have seen of the journals and the appended rules.
 use Rattle.std.specs.Prelude.{◌≡◌, ℕ, ◌<◌, ◌≤◌, List, [], ◌∷◌, length, map, Option, Some, None, slice_get, slice_set, take}
 use Rattle.std.specs.List.{AllZip}
 use Rattle.grow_list.specs.Shown.{Passed}
@@ -15,14 +15,14 @@ use Rattle.run_model.specs.Scene.{Program, Scene, Station, decided, mode_of, rul
 use Rattle.run_model.specs.Served.{AreSuited, Run, rules_known}
 use Rattle.run_model.specs.rules.declared.cell.RuleEntry.{RuleEntry}
 
--- what a task's passes have seen: of each inode's journal, and of the appended rules
+-- what a task's passes have seen of each inode's journal and of the appended rules
 pub record Seen : Type 0 where
   pub journals : List (List Event)
   pub added : List RuleEntry
 
 -- ---- a check
 
--- the check at this place was decided by so many first rules of those seen
+-- the check at this place was decided by the first of the rules seen, as many as its answer says
 pub record IsDecidedIn (scene : Scene) (s : Seen) (p : Program) (known : ℕ) (a : Answer)
     (inode : ℕ) (func : Func) (mask : ℕ) : Type 0 where
   pub station : Station
@@ -54,7 +54,7 @@ SuitIn scene s p (a ∷ before) =
     SuitsIn scene s p (rules_known scene p before)
     (step_at p (thought (mode_of scene) p before).mind) a × SuitIn scene s p before
 
--- what the task has of its checks: each was decided rightly by what is seen now, and the rules that
+-- the task's checks fit: each was decided rightly according to what is seen now, and the rules that
 -- the task knows of are seen
 pub record ChecksFit (scene : Scene) (p : Program) (s : Seen) (h : List Answer) : Type 0 where
   pub suit : SuitIn scene s p h
@@ -103,8 +103,8 @@ FitsByStep =
     → IsPlainStep scene new (step_at p (thought (mode_of scene) p h).mind) a
     → ChecksFit scene p new (a ∷ h)
 
--- the answer to a check that was decided by all rules that the task's pass has seen now, for the
--- journal as it stood before
+-- the answer to a check that was decided by all rules that the task's pass has now seen, for the
+-- journal before the check
 pub record IsCheckStep (scene : Scene) (s : Seen) (p : Program) (a : Answer) (inode : ℕ)
     (func : Func) (mask : ℕ) : Type 0 where
   pub station : Station
@@ -123,7 +123,7 @@ FitsByCheck =
     → step_at p (thought (mode_of scene) p h).mind ≡ Some (Checks inode file func mask)
     → IsCheckStep scene new p a inode func mask → ChecksFit scene p new (a ∷ h)
 
--- a run has more than what was seen
+-- the journals and rules of a whole run
 abbrev pub seen_of : Run → Seen
 seen_of run = record { journals = run.journals; added = run.added }
 
@@ -134,12 +134,12 @@ FitsAreSuited =
 
 -- ---- by the passes
 
--- what they have seen
+-- what the passes have seen
 abbrev pub seen_by : List (Passed Event) → Passed RuleEntry → Seen
 seen_by passes rules =
     record { journals = map (λ (q : Passed Event). q.seen) passes; added = rules.seen }
 
--- one inode's pass and the rules' pass have moved on
+-- a look of one inode's pass and of the rules' pass only adds to what the task has seen
 abbrev pub SeesByLook : Type 0
 SeesByLook =
     (passes : List (Passed Event)) (rules rules2 : Passed RuleEntry) (i : ℕ)
@@ -147,7 +147,7 @@ SeesByLook =
     → IsPrefix rules.seen rules2.seen → SeesMore (seen_by passes rules)
     (seen_by (slice_set passes i new) rules2)
 
--- at the end
+-- a run extends what the passes have seen
 abbrev pub SeesFromPasses : Type 0
 SeesFromPasses =
     (passes : List (Passed Event)) (rules : Passed RuleEntry) (run : Run)
@@ -155,7 +155,7 @@ SeesFromPasses =
     (journal : List Event). IsPrefix q.seen journal) passes run.journals
     → IsPrefix rules.seen run.added → SeesMore (seen_by passes rules) (seen_of run)
 
--- the pass that has moved on has seen what the journal had before its step
+-- the pass that made a step has seen what the journal had before it
 abbrev pub StandsByLook : Type 0
 StandsByLook =
     (passes : List (Passed Event)) (rules : Passed RuleEntry) (i : ℕ) (old new : Passed Event)

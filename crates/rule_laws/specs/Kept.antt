@@ -1,4 +1,4 @@
--- What turns on plain lists keep of all tasks' histories, and that their runs are served.
+-- What turns on plain lists preserve of all tasks' histories, and that their runs are served.
 use Rattle.std.specs.Prelude.{◌≡◌, ◌≢◌, ℕ, ◌<◌, ◌≤◌, All, List, length, Some, slice_get}
 use Rattle.inode_events.specs.Callers.{caller_of}
 use Rattle.inode_events.specs.declared.told.Event.{Event}
@@ -19,7 +19,7 @@ pub record Owns (scene : Scene) (n : ℕ) (p : Program) (s : State) (h : List An
       → events_of n journal ≡ own (mode_of scene) n p i h
   pub rules : rules_of n s.added ≡ own_rules (mode_of scene) n p h
 
--- each event is of a task or an inode's birth, and each rule of a task
+-- each event is by a task or is an inode's birth, and each rule is by a task
 pub record AreSigned (count : ℕ) (s : State) : Type 0 where
   pub events : (i : ℕ) (journal : List Event) → slice_get s.journals i ≡ Some journal
       → All (λ (e : Event). caller_of e ≤ count) journal
@@ -59,7 +59,7 @@ abbrev pub TurnsAreServed : Type 0
 TurnsAreServed =
     (scene : Scene) (turns : List ℕ) → Served scene (run_at (turns_of scene (start_of scene) turns))
 
--- the run is determined
+-- the ending determines the run
 abbrev pub IsDetermined : Ending → Type 0
 IsDetermined (ending.Threads n) = ⊥
 IsDetermined _ = Unit {0}

@@ -1,4 +1,4 @@
--- Turns on plain lists: the answers that they give, and what all tasks have of their checks.
+-- Turns on plain lists: their answers, and the checks of all tasks.
 use Rattle.std.specs.Prelude.{◌≡◌, ℕ, All, List, [], ◌∷◌, ◌++◌, length, Option, Some, None, slice_get}
 use Rattle.policy_text.specs.declared.access.Action.{Action}
 use Rattle.policy_text.specs.declared.rule.Func.{Func}
@@ -21,7 +21,7 @@ use Rattle.run_model.specs.Turns.{Moment, State, go, journal_at, run_at, start_o
 use Rattle.rule_laws.specs.Checks.{ChecksFit, Seen, SeesMore}
 use Rattle.rule_laws.specs.Stations.{StationRules}
 
--- ---- the answer to a step: one, or none where it is blocked
+-- ---- the answer to a step: one, or none if the step is blocked
 
 abbrev pub answers_told : ℕ → Action → ℕ → Option Told → List Answer
 answers_told place action rules None = []
@@ -53,14 +53,14 @@ answers_to scene p s (Some (Signals d)) =
     answers_told (length s.signals) no_action 0 (semaphore_says (past s.signals) d)
 answers_to scene p s (Some (Appends rule)) = plain_answer (length s.added) told.Done ∷ []
 
--- the history after a turn
+-- the history of the task after a turn, with the turn's answer if there is one
 abbrev pub history_after : Scene → Program → State → List Answer → List Answer
 history_after scene p s h = answers_to scene p s (step_at p (thought (mode_of scene) p h).mind) ++ h
 
 abbrev pub seen_in : State → Seen
 seen_in s = record { journals = s.journals; added = s.added }
 
--- the rules rise along each journal
+-- the number of rules never falls along any journal
 abbrev pub StationsRise : Scene → State → Type 0
 StationsRise scene s =
     (i : ℕ) (journal : List Event) → slice_get s.journals i ≡ Some journal
@@ -108,7 +108,7 @@ TurnFits = (scene : Scene) (m : Moment) (n : ℕ) → IsFit scene m → IsFit sc
 abbrev pub TurnsAreFit : Type 0
 TurnsAreFit = (scene : Scene) (turns : List ℕ) → IsFit scene (turns_of scene (start_of scene) turns)
 
--- the answers of a task suit the run
+-- the answers of the task suit the run
 pub record HasSuited (scene : Scene) (m : Moment) (p : Program) (t : Thought) : Type 0 where
   pub history : List Answer
   pub stands : thought (mode_of scene) p history ≡ t

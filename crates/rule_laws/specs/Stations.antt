@@ -1,4 +1,5 @@
--- The rules that a journal's checks count, by what the inode's pass of the appended rules has seen.
+-- The number of rules that a journal's checks count, against what the inode's pass of the rules
+-- saw.
 use Rattle.std.specs.Prelude.{◌≡◌, ℕ, ◌+◌, ◌≤◌, All, List, [], ◌∷◌, ◌++◌, length, Option}
 use Rattle.std.specs.List.{AllZip}
 use mathlib.Core.List.{IsPrefix}
@@ -13,18 +14,18 @@ use Rattle.inode_events.specs.declared.told.Told.{Told}
 use Rattle.run_model.specs.Served.{RulesRise, last_counted}
 use Rattle.run_model.specs.rules.declared.cell.RuleEntry.{RuleEntry}
 
--- along the journal the number never falls, and the last one is at most the base rules and those
--- that the pass has seen
+-- the number never falls along the journal, and the last one is at most the number of base rules
+-- plus those that the pass has seen
 pub record StationRules (base : ℕ) (journal : List Event) (seen : List RuleEntry) : Type 0 where
   pub rise : RulesRise base (past journal)
   pub last : last_counted base (past journal) ≤ base + length seen
 
--- a check counts between these
+-- a check counts at least `least` and at most `most` rules
 abbrev pub CountsFrom : ℕ → ℕ → Deed → Type 0
 CountsFrom least most (deed.Check file func action rules) = (least ≤ rules) × (rules ≤ most)
 CountsFrom least most d = Unit {0}
 
--- a check counts so many
+-- a check counts exactly this number of rules
 abbrev pub CountsAll : ℕ → Deed → Type 0
 CountsAll count (deed.Check file func action rules) = rules ≡ count
 CountsAll count d = Unit {0}

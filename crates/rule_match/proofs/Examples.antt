@@ -1,4 +1,4 @@
--- The definitions on written-out rules and accesses.
+-- The definitions applied to concrete rules and accesses.
 use Rattle.std.proofs.Common.{◌≡◌, ℕ, true, false, [], ◌∷◌, Some, None, refl}
 use Rattle.policy_text.specs.meta.declared.appraisal.Need.TheVariants as need
 use Rattle.policy_text.specs.RuleValue.{RuleValue}
@@ -10,7 +10,7 @@ use Rattle.policy_text.specs.declared.rule.IdTest.TheVariants.{Is, Above, Below}
 use Rattle.rule_match.specs.Conditions.{rule_matches}
 use Rattle.rule_match.specs.Decision.{decide_of}
 
--- a line with an action alone
+-- a line with only an action
 abbrev line : Act → RuleValue
 line act = record {
   act = act;
@@ -33,8 +33,8 @@ line act = record {
   template = None;
 }
 
--- a file of user 7 on ext4, opened under the mask by a task of the user `uid` with the effective
--- user 0
+-- a file of user 7 on ext4, opened with this mask by a task with real user ID `uid` and effective
+-- user ID 0
 abbrev opened : ℕ → ℕ → Access
 opened mask uid = record {
   func = func.FileCheck;
@@ -53,8 +53,7 @@ opened mask uid = record {
   };
 }
 
--- `dont_measure uid=0`, `measure`, `appraise`: the first line of a family decides, and it doesn't
--- end another family
+-- `dont_measure uid=0`, `measure`, `appraise`: the first line of a family decides that family only
 first_of_family : decide_of (record (line act.DontMeasure) { uid = Some (Is 0) } ∷ line act.Measure
     ∷ line act.Appraise ∷ []) (opened 4 0)
     ≡ record {
@@ -99,7 +98,7 @@ nothing_matches : decide_of (record (line act.Hash) { func = Some func.BprmCheck
     }
 nothing_matches = refl
 
--- an open for reading and writing under `mask=MAY_READ` and under `mask=^MAY_READ`
+-- opening for reading and writing passes `mask=^MAY_READ` but not `mask=MAY_READ`
 exact_mask : rule_matches
     (record (line act.Measure) { mask = Some (record { exact = true; bits = 4 }) }) (opened 6 0)
     ≡ false
@@ -115,7 +114,7 @@ missing_mask : rule_matches
     ≡ false
 missing_mask = refl
 
--- `uid` and `euid` are two numbers, and `>` leaves the number itself out
+-- `uid` and `euid` are compared separately, and `>` is strict
 uid_apart : rule_matches (record (line act.Measure) { uid = Some (Is 0); euid = Some (Is 0) })
     (opened 4 1000) ≡ false
 uid_apart = refl
@@ -132,7 +131,7 @@ above_less : rule_matches
     ≡ true
 above_less = refl
 
--- the keys of the file system
+-- the keys that test the file system
 on_ext4 : rule_matches
     (record (line act.Measure) {
       fsmagic = Some 0xef53;

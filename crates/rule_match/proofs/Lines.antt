@@ -13,7 +13,7 @@ use Rattle.rule_match.specs.declared.group.Group.{Group}
 abbrev pub head_of : List ℕ → Option ℕ
 head_of lines = slice_get lines 0
 
--- another line than the first is passed without effect
+-- passing a line that isn't the group's first one changes nothing
 after_other : (line : ℕ) (lines : List ℕ) → ((l : ℕ) → head_of lines ≡ Some l → l ≢ line)
     → lines_after line lines ≡ lines
 after_other line [] other = refl
@@ -21,7 +21,7 @@ after_other line (l ∷ lines) other =
     ap (λ (b : Bool). cond b lines (l ∷ lines)) (ne_eqb l line (other l refl))
 
 module _ (g : Group) where
-  -- the first line of a group is one of the rules' lines
+  -- the first line of a group is one of the lines of the rules
   pub head_within : (k : ℕ) (rules : List RuleValue) (l : ℕ) → head_of (lines_from g k rules)
       ≡ Some l → (k ≤ l) × (l < k + length rules)
   head_within k [] l is = absurd (none-some l is)
@@ -36,7 +36,7 @@ module _ (g : Group) where
         choose true at rest = let same : k ≡ l = same_Some k l at in (omega arith, omega arith)
         choose false at rest = let w = rest at in (omega (arith, w.0), omega (arith, w.1))
 
-  -- a rule above the first line of the group is of another group
+  -- a rule before the first line of the group belongs to another group
   pub above_head : (k : ℕ) (rules : List RuleValue) (i : ℕ) (r : RuleValue) → slice_get rules i
       ≡ Some r
       → ((l : ℕ) → head_of (lines_from g k rules) ≡ Some l → k + i < l) → same_group (group_of r) g
@@ -62,7 +62,7 @@ module _ (g : Group) where
       choose false has all (suc j) at same rest =
           rest j at (λ l head. let less : k + i < l = all l head in omega arith)
 
-  -- the lines of the group once the walk has passed a line that isn't later than the first of them
+  -- the group's lines that remain after the walk has passed a line up to the first of them
   pub lines_passed : (k : ℕ) (rules : List RuleValue) (line : ℕ) → k ≤ line
       → line < k + length rules
       → ((l : ℕ) → head_of (lines_from g k rules) ≡ Some l → line ≤ l)
@@ -103,7 +103,7 @@ module _ (g : Group) where
           rest (omega arith) all
           ∙ ap (lines_from g (line + 1)) (after (line + 1 - (k + 1)) (omega arith))
 
-  -- the lines of the group with one rule more
+  -- the lines of the group after a rule is appended
   pub lines_from-push : (k : ℕ) (rules : List RuleValue) (r : RuleValue)
       → lines_from g k (rules ++ r ∷ []) ≡ lines_from g k rules
       ++ cond (same_group (group_of r) g) ((k + length rules) ∷ []) []
@@ -132,7 +132,7 @@ module _ (g : Group) where
             either true xs ys = refl
             either false xs ys = refl
 
--- what holds of two first lines holds of the earlier one
+-- a property of two first lines is a property of the earlier one
 pub earlier_all : (P : ℕ → Type 0) (m n : Option ℕ) (l : ℕ) → ((i : ℕ) → m ≡ Some i → P i)
     → ((i : ℕ) → n ≡ Some i → P i) → earlier_of m n ≡ Some l → P l
 earlier_all P None n l p q is = q l is
@@ -163,7 +163,7 @@ earlier_min (Some m) (Some n) line least = choose (nat_lt n m) refl least where
         (λ l e. let same : n ≡ l = same_Some n l e in omega arith),
       )
 
--- where there is no earlier line there is neither
+-- if there is no earlier line, there is neither of the two
 pub earlier_none : (m n : Option ℕ) → earlier_of m n ≡ None → (m ≡ None) × (n ≡ None)
 earlier_none None n is = (refl, is)
 earlier_none (Some m) None is = absurd (none-some m (sym is))

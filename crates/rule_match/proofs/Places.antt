@@ -1,4 +1,4 @@
--- The first place at which a test passes.
+-- The first index at which a test passes.
 use Rattle.std.proofs.Common.{◌≡◌, ℕ, suc, ◌+◌, Bool, true, false, List, [], ◌∷◌, ◌++◌, length, Some, None, cond, refl, sym, ap, ◌∙◌, arith, append_assoc, length-append}
 use Rattle.std.specs.List.{position_from}
 use Rattle.std.specs.Option.{option_and_then, option_or}
@@ -6,7 +6,7 @@ use Rattle.std.specs.Prelude.{find, slice_get}
 use Rattle.rule_match.proofs.Lookups.{get-seam}
 
 module _ {X : Type 0} (p : X → Bool) where
-  -- the first place among the first elements, or else in the rest
+  -- the first index among the elements of the first part, or else among those of the second
   pub position-append : (k : ℕ) (xs ys : List X) → position_from p k (xs ++ ys)
       ≡ option_or (position_from p k xs) (position_from p (k + length xs) ys)
   position-append k [] ys = let at : k ≡ k + 0 = omega arith in ap (λ (n : ℕ). position_from p n ys)
@@ -22,7 +22,7 @@ module _ {X : Type 0} (p : X → Bool) where
         let at : k + 1 + length xs ≡ k + suc (length xs) = omega arith in
         rest ∙ ap (λ (n : ℕ). option_or (position_from p (k + 1) xs) (position_from p n ys)) at
 
-  -- none where no element passes
+  -- there is no such index if no element passes
   pub position-none : (k : ℕ) (xs : List X)
       → ((i : ℕ) (x : X) → slice_get xs i ≡ Some x → p x ≡ false) → position_from p k xs ≡ None
   position-none k [] none = refl
@@ -30,7 +30,7 @@ module _ {X : Type 0} (p : X → Bool) where
       ap (λ (b : Bool). cond b (Some k) (position_from p (k + 1) xs)) (none 0 x refl)
       ∙ position-none (k + 1) xs (λ i y is. none (suc i) y is)
 
-  -- the first element that passes stands at the first place
+  -- the element at the first such index is the first element that passes
   pub find_at_position : (front xs : List X)
       → option_and_then (slice_get (front ++ xs)) (position_from p (length front) xs) ≡ find p xs
   find_at_position front [] = refl

@@ -1,4 +1,4 @@
--- Rules that don't match leave the decision as it is.
+-- Rules that don't match don't affect the decision.
 use Rattle.std.proofs.Common.{◌≡◌, ℕ, ◌&&◌, ◌==◌, Bool, true, false, Option, Some, None, refl, ◌⊎◌, inl, inr, ⊎_elim}
 use Rattle.std.proofs.lemmas.Bool.{and_cases, and_left, and_right}
 use Rattle.policy_text.specs.RuleValue.{RuleValue, if_there}
@@ -13,7 +13,7 @@ true_of_and : (x : Bool) → (x && true) ≡ false → x ≡ false
 true_of_and true is = is
 true_of_and false is = refl
 
--- a rule of none of the four groups asks for another function or another magic number
+-- a rule in none of the four groups requires another function or another magic number
 fails : (a : Access) (func : Option Func) (magic : Option ℕ)
     → same_group (record { func = func; magic = magic }) (group_of_both a) ≡ false
     → same_group (record { func = func; magic = magic }) (group_of_func a) ≡ false

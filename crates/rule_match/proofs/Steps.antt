@@ -1,4 +1,4 @@
--- The turns of a walk through the candidates.
+-- The turns of a walk over the candidates.
 use Rattle.std.proofs.Common.{◌≡◌, ℕ, ◌+◌, ◌-◌, ◌<◌, ◌≤◌, List, length, take, drop, get_or, Option, Some, None, true, false, refl, sym, ap, subst, ◌∙◌, arith}
 use Rattle.std.proofs.Math.Seq.{take-add}
 use Rattle.std.proofs.lemmas.List.{drop-drop, length-drop, length-take, take_all, take-append-drop}
@@ -18,7 +18,7 @@ use Rattle.rule_match.proofs.Lookups.{get-take, take-next}
 use Rattle.rule_match.proofs.Skips.{matches_not}
 use Rattle.rule_match.proofs.Walks.{deciders-complete, deciders-next, deciders-skip}
 
--- the walk has passed the lines above `start`, and has found what they decide
+-- the walk has passed the lines before `start`, and has found the lines among them that decide
 pub record Walks (rules : List RuleValue) (a : Access) (c : Candidates) (d : Deciders) : Type 0
   where
     pub start : ℕ
@@ -26,13 +26,13 @@ pub record Walks (rules : List RuleValue) (a : Access) (c : Candidates) (d : Dec
     pub stands : StandsAt start rules a c
     pub found : AreDeciders a (take start rules) d
 
--- how many lines are left from the next on
+-- the number of lines from the next candidate on
 abbrev pub lines_left : List RuleValue → Candidates → ℕ
 lines_left rules c = option_map_or (λ line. length rules - line) (earliest_of c) 0
 
 module _ (rules : List RuleValue) (a : Access) (c : Candidates) (start : ℕ)
     (within : start ≤ length rules) (stands : StandsAt start rules a c) where
-  -- what holds of the first line of each group holds of the first of all
+  -- a property of the first line of each group is a property of the first candidate
   earliest_all : (P : ℕ → Type 0) (line : ℕ)
       → ((g : Group) (l : ℕ) → head_of (lines_from g start (drop start rules)) ≡ Some l → P l)
       → earliest_of c ≡ Some line → P line
@@ -55,7 +55,7 @@ module _ (rules : List RuleValue) (a : Access) (c : Candidates) (start : ℕ)
       in (omega (arith, w.0), omega (arith, w.1, within, length-drop start rules)))
       is
 
-  -- a rule above the first lines of all four groups doesn't match
+  -- a rule before the first lines of all four groups doesn't match
   none_above : (n : ℕ) → ((l : ℕ) → head_of c.both.now ≡ Some l → n ≤ l)
       → ((l : ℕ) → head_of c.func.now ≡ Some l → n ≤ l)
       → ((l : ℕ) → head_of c.magic.now ≡ Some l → n ≤ l)
@@ -73,7 +73,7 @@ module _ (rules : List RuleValue) (a : Access) (c : Candidates) (start : ℕ)
       (above_head group_of_neither start (drop start rules) i r at
       (λ l e. let w = neither l (ap head_of stands.neither ∙ e) in omega arith))
 
-  -- at the end no rule that is left matches
+  -- at the end, none of the remaining rules matches
   pub ends : (d : Deciders) → earliest_of c ≡ None → AreDeciders a (take start rules) d
       → AreDeciders a rules d
   ends d none found =
@@ -89,7 +89,7 @@ module _ (rules : List RuleValue) (a : Access) (c : Candidates) (start : ℕ)
       (λ l e. absurd (none-some l (sym by_none.1 ∙ e))) i r (omega arith) at)
       found)
 
-  -- the walk comes to the next line: what stands between doesn't match
+  -- the walk goes to the next candidate: the rules between don't match
   pub reaches : (d : Deciders) (line : ℕ) → earliest_of c ≡ Some line
       → AreDeciders a (take start rules) d → AreDeciders a (take line rules) d
   reaches d line is found =
@@ -110,7 +110,7 @@ module _ (rules : List RuleValue) (a : Access) (c : Candidates) (start : ℕ)
       (omega (arith, below, length-take (line - start) (drop start rules))) there)
       found)
 
-  -- the candidates behind the next line
+  -- the candidates that remain after the next line is passed
   passed_lines : (g : Group) (line : ℕ) → earliest_of c ≡ Some line
       → ((l : ℕ) → head_of (lines_from g start (drop start rules)) ≡ Some l → line ≤ l)
       → lines_after line (lines_from g start (drop start rules))
@@ -149,7 +149,7 @@ module _ (rules : List RuleValue) (a : Access) (c : Candidates) (start : ℕ)
             (λ l e. by_none.1 l (ap head_of stands.neither ∙ e));
       }
 
--- what is found after the line that follows the first ones
+-- the deciding lines after the line that follows the first ones
 pub found_next : (rules : List RuleValue) (a : Access) (line : ℕ) (r : RuleValue)
     (d next : Deciders) → line < length rules → r ≡ get_or rules line r → next
     ≡ after_line a line r d
@@ -162,14 +162,14 @@ found_next rules a line r d next within read is found =
     (subst (λ (rs : List RuleValue). AreDeciders a rs (after_line a line r d))
     (sym (take-next line rules r at)) (deciders-next a (take line rules) r line d end found))
 
--- once all four families are decided, or all rules are passed, the places are those of all rules
+-- once all four families are decided, the deciding lines are those of all rules
 pub found_all : (rules : List RuleValue) (a : Access) (n : ℕ) (d : Deciders) → is_complete d ≡ true
     → AreDeciders a (take n rules) d → AreDeciders a rules d
 found_all rules a n d whole found =
     subst (λ (rs : List RuleValue). AreDeciders a rs d) (take-append-drop n rules)
     (deciders-complete a (take n rules) (drop n rules) d whole found)
 
--- fewer lines are left behind a line
+-- fewer lines remain after a line is passed
 fewer : (n line : ℕ) (o : Option ℕ) → line < n → ((l : ℕ) → o ≡ Some l → line + 1 ≤ l)
     → option_map_or (λ l. n - l) o 0 < n - line
 fewer n line None within behind = omega arith
@@ -177,11 +177,11 @@ fewer n line (Some l) within behind = omega (arith, behind l refl)
 
 module _ (rules : List RuleValue) (a : Access) (c : Candidates) (d : Deciders)
     (w : Walks rules a c d) where
-  -- the next line is one of the rules'
+  -- the next line is one of the lines of the rules
   pub next_within : (line : ℕ) → Some line ≡ earliest_of c → line < length rules
   next_within line is = (earliest_within rules a c w.start w.within w.stands line (sym is)).1
 
-  -- what is found once the next line is passed
+  -- the deciding lines after the next line is passed
   pub next_found : (line : ℕ) (r : RuleValue) (found : Deciders) → Some line ≡ earliest_of c → r
       ≡ get_or rules line r → found ≡ after_line a line r d
       → AreDeciders a (take (line + 1) rules) found
@@ -189,7 +189,7 @@ module _ (rules : List RuleValue) (a : Access) (c : Candidates) (d : Deciders)
       found_next rules a line r d found (next_within line is) read after
       (reaches rules a c w.start w.within w.stands d line (sym is) w.found)
 
-  -- the walk goes on behind the next line
+  -- the walk continues after the next line
   pub goes_on : (line : ℕ) (r : RuleValue) (next : Candidates) (found : Deciders) → Some line
       ≡ earliest_of c → r ≡ get_or rules line r → found ≡ after_line a line r d
       → next.both.now ≡ lines_after line c.both.now → next.func.now ≡ lines_after line c.func.now
@@ -214,11 +214,11 @@ module _ (rules : List RuleValue) (a : Access) (c : Candidates) (d : Deciders)
         },
       )
 
-  -- the walk ends where no line is left
+  -- if no line remains, the walk has found the deciding lines of all rules
   pub walked : None ≡ earliest_of c → AreDeciders a rules d
   walked is = ends rules a c w.start w.within w.stands d (sym is) w.found
 
--- once all rules are passed, the places are those of all rules
+-- once all rules are passed, the deciding lines are those of all rules
 pub found_end : (rules : List RuleValue) (a : Access) (n : ℕ) (d : Deciders) → length rules ≤ n
     → AreDeciders a (take n rules) d → AreDeciders a rules d
 found_end rules a n d past found = subst (λ (rs : List RuleValue). AreDeciders a rs d)

@@ -1,4 +1,5 @@
--- What a walk from the first line on has found, and when no later line counts.
+-- The deciding lines that a walk from the first line on has found, and the point from which no
+-- later line matters.
 use Rattle.std.proofs.Common.{◌≡◌, ℕ, zero, suc, ◌+◌, ◌&&◌, Bool, true, false, List, [], ◌∷◌, ◌++◌, length, Option, Some, None, cond, refl, sym, ap, ◌∙◌, arith}
 use Rattle.std.proofs.lemmas.Bool.{and_right}
 use Rattle.std.specs.List.{position_from}
@@ -28,7 +29,7 @@ no_family true = refl
 no_family false = refl
 
 module _ (a : Access) where
-  -- one family's place, behind rules that don't match
+  -- one family's deciding line doesn't change with rules that don't match
   skipped : (f : Family) (front back : List RuleValue) (o : Option ℕ)
       → ((i : ℕ) (r : RuleValue) → slice_get back i ≡ Some r → rule_matches r a ≡ false)
       → o ≡ place_of_first f front a → o ≡ place_of_first f (front ++ back) a
@@ -39,7 +40,7 @@ module _ (a : Access) where
       (λ i r at. and_right (is_of f r.act) (rule_matches r a) (none i r at))))
       ∙ sym (position-append (decides f a) 0 front back)
 
-  -- rules that don't match decide nothing
+  -- rules that don't match decide no family
   pub deciders-skip : (front back : List RuleValue) (d : Deciders)
       → ((i : ℕ) (r : RuleValue) → slice_get back i ≡ Some r → rule_matches r a ≡ false)
       → AreDeciders a front d → AreDeciders a (front ++ back) d
@@ -50,7 +51,7 @@ module _ (a : Access) where
     hashing = skipped Hashing front back d.hashing none are.hashing;
   }
 
-  -- one family's place, behind any rules, where it is found
+  -- one family's deciding line, once found, doesn't change with later rules
   settled : (f : Family) (front back : List RuleValue) (o : Option ℕ) → is_some o ≡ true → o
       ≡ place_of_first f front a → o ≡ place_of_first f (front ++ back) a
   settled f front back o some is =
@@ -58,7 +59,7 @@ module _ (a : Access) where
       (position_from (decides f a) (0 + length front) back) (ap is_some (sym is) ∙ some))
       ∙ sym (position-append (decides f a) 0 front back)
 
-  -- once each family has its line, no later rule counts
+  -- once all families are decided, no later rule matters
   pub deciders-complete : (front back : List RuleValue) (d : Deciders) → is_complete d ≡ true
       → AreDeciders a front d → AreDeciders a (front ++ back) d
   deciders-complete front back d whole are =
@@ -80,7 +81,7 @@ module _ (a : Access) where
       and_true_right true y is = is
       and_true_right false y is = absurd cc
 
-  -- one family's place, after one more rule that matches
+  -- one family's deciding line, after one more rule that matches
   passed : (f : Family) (front : List RuleValue) (r : RuleValue) (line : ℕ) (o : Option ℕ)
       → rule_matches r a ≡ true → line ≡ length front
       → o ≡ place_of_first f front a → decided_with o f r.act line
@@ -105,7 +106,7 @@ module _ (a : Access) where
           ∙ ap (λ (b : Bool). option_or (place_of_first f front a)
           (cond b (Some (0 + length front)) None)) (sym test)
 
-  -- what is found, after one more rule
+  -- the deciding lines, after one more rule
   pub deciders-next : (front : List RuleValue) (r : RuleValue) (line : ℕ) (d : Deciders) → line
       ≡ length front
       → AreDeciders a front d → AreDeciders a (front ++ r ∷ []) (after_line a line r d)
@@ -133,7 +134,7 @@ module _ (a : Access) where
     }
     choose false fails = deciders-skip front (r ∷ []) d (λ i s at. only i s fails at) are
 
-  -- the action of the rules at these places is what the rules have done
+  -- the rule at the index of a family's deciding line is the one that this family carries out
   carried : (f : Family) (rules : List RuleValue) (o : Option ℕ) → o ≡ place_of_first f rules a
       → carried_at rules o
       ≡ carried_out (option_and_then (slice_get rules) (place_of_first f rules a))
@@ -150,7 +151,7 @@ module _ (a : Access) where
       (carried_out ((ap (option_and_then (slice_get rules)) are.auditing ∙ found Auditing) i))
       (carried_out ((ap (option_and_then (slice_get rules)) are.hashing ∙ found Hashing) i))
 
--- the families apart make one action
+-- the results of the four families make up one action
 pub action_joined : (v : ActionValue) (m p u h : Option RuleValue) (audit hash : Bool) → v
     ≡ action_of m p None None → audit ≡ is_some u → hash ≡ is_some h
     → record {

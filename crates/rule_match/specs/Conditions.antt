@@ -1,4 +1,4 @@
--- When a rule matches an access: what it says by each of its keys holds
+-- The condition under which a rule matches an access: that of each of its keys holds
 -- (Documentation/ABI/testing/ima_policy).
 use Rattle.std.specs.Prelude.{Bool}
 use Rattle.std.specs.List.{list_all}

@@ -1,12 +1,12 @@
--- First match: what the rules have done with an access. Per family of actions the first line that
--- matches decides, and later lines of that family are ignored. No family has an effect on another.
+-- First match: the action that the rules require for an access. In each family of actions the first
+-- line that matches decides, and later lines of that family are ignored. No family affects another.
 use Rattle.std.specs.Prelude.{ℕ, Bool, true, false, ◌&&◌, List, Option, Some, None, is_some, unwrap_or, find, if◌then◌else◌}
 use Rattle.std.specs.List.{position_from}
 use Rattle.std.specs.Option.{option_and_then, option_map_or}
 use Rattle.policy_text.specs.meta.declared.identity.Cred.{Cred}
 use Rattle.policy_text.specs.meta.declared.identity.Meta.{Meta}
 use Rattle.policy_text.specs.meta.declared.appraisal.Need.TheVariants as need
-use Rattle.policy_text.specs.meta.declared.measurement.TheConstants.{DEFAULT_PCR}
+use Rattle.policy_text.specs.meta.Registers.{default_pcr}
 use Rattle.policy_text.specs.ActionValue.{ActionValue}
 use Rattle.policy_text.specs.RuleValue.{RuleValue}
 use Rattle.policy_text.specs.declared.access.Access.{Access}
@@ -18,7 +18,7 @@ use Rattle.rule_match.specs.Conditions.{rule_matches}
 use Rattle.rule_match.specs.declared.family.Family.{Family}
 use Rattle.rule_match.specs.declared.family.Family.TheVariants.{Measuring, Appraising, Auditing, Hashing}
 
--- whether the action is of the family
+-- whether the action belongs to the family
 abbrev pub is_of : Family → Act → Bool
 is_of Measuring act.Measure = true
 is_of Measuring act.DontMeasure = true
@@ -30,7 +30,7 @@ is_of Hashing act.Hash = true
 is_of Hashing act.DontHash = true
 is_of _ _ = false
 
--- a `dont_` line has nothing done
+-- a `dont_` line requires nothing to be done
 abbrev pub is_done : Act → Bool
 is_done act.Measure = true
 is_done act.Appraise = true
@@ -38,28 +38,28 @@ is_done act.Audit = true
 is_done act.Hash = true
 is_done _ = false
 
--- whether the line decides on the access for the family, where no earlier line does
+-- whether the line decides on the access for the family, unless an earlier line does
 abbrev pub decides : Family → Access → RuleValue → Bool
 decides f a r = is_of f r.act && rule_matches r a
 
 abbrev pub first_of : Family → List RuleValue → Access → Option RuleValue
 first_of f rules a = find (decides f a) rules
 
--- the place of that line, counted from 0
+-- the index of the line that decides for the family, counted from 0
 abbrev pub place_of_first : Family → List RuleValue → Access → Option ℕ
 place_of_first f rules a = position_from (decides f a) 0 rules
 
--- the rule, where it has something done
+-- the rule, if it requires something to be done
 abbrev pub carried_out : Option RuleValue → Option RuleValue
 carried_out None = None
 carried_out (Some r) = if is_done r.act then Some r else None
 
--- the action of the rules that are carried out, one at most for each family
+-- the action that these rules require, at most one for each family
 abbrev pub action_of : Option RuleValue → Option RuleValue → Option RuleValue → Option RuleValue
     → ActionValue
 action_of measure appraise audit hash = record {
   measure = is_some measure;
-  pcr = unwrap_or (option_and_then (λ r. r.pcr) measure) DEFAULT_PCR;
+  pcr = unwrap_or (option_and_then (λ r. r.pcr) measure) default_pcr;
   template = option_and_then (λ r. r.template) measure;
   appraise = is_some appraise;
   need = option_map_or (λ r. r.need) appraise need.Any;
@@ -68,7 +68,7 @@ action_of measure appraise audit hash = record {
   hash = is_some hash;
 }
 
--- a task's access to an inode on this file system, whose owner is that of the metadata
+-- a task's access to an inode on this file system, with the owner and the group of the metadata
 abbrev pub access_of : Cred → Super → Meta → Func → ℕ → Access
 access_of cred place meta func mask = record {
   func = func;

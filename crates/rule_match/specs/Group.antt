@@ -1,4 +1,4 @@
--- A group as a key: two groups are the same where both parts are.
+-- A group as a hash key: two groups are the same if both their parts are.
 use Rattle.std.specs.Prelude.{ℕ, Bool, ◌++◌}
 use Rattle.std.specs.Hash as fed
 use Rattle.std.specs.Option.{option_map}
@@ -14,6 +14,6 @@ same_group = (group_eq.ghosts).eq
 abbrev pub func_number : Func → ℕ
 func_number f = tag_of the_type f
 
--- what `hash` writes: the number of the function, and the magic number
+-- the data that `hash` writes: the number of the function, and the magic number
 abbrev pub group_writes : Group → fed.HashWrites
 group_writes g = fed.option fed.u8 (option_map func_number g.func) ++ fed.option fed.u64 g.magic

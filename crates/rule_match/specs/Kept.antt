@@ -1,4 +1,4 @@
--- The lines that a table keeps of each group.
+-- The lines that the table holds for each group.
 use Rattle.std.specs.Prelude.{ℕ, List, [], Option, Some, None}
 use Rattle.std.specs.declared.hash.FoldHasher.{FoldHasher}
 use Rattle.std.specs.declared.hash.BuildHasherDefault.{BuildHasherDefault}
@@ -14,6 +14,6 @@ abbrev pub lines_in : Option (Vec ℕ) → List ℕ
 lines_in None = []
 lines_in (Some lines) = lines.items
 
--- none where the table doesn't have the group
+-- the lines of the group, none if the table doesn't have it
 abbrev pub lines_at : LineTable → Group → List ℕ
 lines_at table g = lines_in (hash.get same_group table g)

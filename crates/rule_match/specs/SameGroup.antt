@@ -1,4 +1,4 @@
--- Groups that are the same are equal, and so they are hashed alike.
+-- Groups that compare as the same are equal, and so have the same hash.
 use Rattle.std.proofs.Common.{◌≡◌, ℕ, Bool, true, Option, Some, None, ap, arith, nat_eq, refl, rules}
 use Rattle.std.proofs.lemmas.Bool.Decides.{nat_tests}
 use Rattle.std.specs.Cmp.{first_so, second_so}

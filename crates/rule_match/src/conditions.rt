@@ -5,11 +5,10 @@ ghost use Rattle.rule_match.specs.Conditions.{rule_matches};
 
 use policy_text::{Access, Key, Rule};
 
-/// Whether the rule matches the access: what it says by each of its keys holds. A key that it
-/// doesn't have holds of every access, and so do the options.
+/// Whether the rule matches the access: all its conditions hold. Options always hold, and so does
+/// the condition of a key that the rule doesn't have.
 ///
-/// `euid` and `egid` compare the effective numbers alone. For a task that may set its ids the
-/// kernel
+/// `euid` and `egid` only compare the effective IDs. For a task that may set its IDs the kernel
 /// also looks at the real and the saved ones.
 pub fn matches(r: &Rule, a: &Access) -> bool
     ensures { result ≡ rule_matches r.now a.now }

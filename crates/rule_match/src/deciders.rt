@@ -9,22 +9,22 @@ use crate::family::{Family, is_done};
 use policy_text::meta::DEFAULT_PCR;
 use policy_text::{Access, Act, Action, Rule};
 
-/// Of each family the place of the line that decides on an access, counted from 0, where one was
+/// For each family, the index of the line that decides on an access, counted from 0, if one was
 /// found.
 #[derive(Clone, Copy, Debug, PartialEq, Eq)]
 pub struct Deciders {
-    /// Of `measure` and `dont_measure`.
+    /// The line that decides between `measure` and `dont_measure`.
     pub measuring: Option<usize>,
-    /// Of `appraise` and `dont_appraise`.
+    /// The line that decides between `appraise` and `dont_appraise`.
     pub appraising: Option<usize>,
-    /// Of `audit` and `dont_audit`.
+    /// The line that decides between `audit` and `dont_audit`.
     pub auditing: Option<usize>,
-    /// Of `hash` and `dont_hash`.
+    /// The line that decides between `hash` and `dont_hash`.
     pub hashing: Option<usize>,
 }
 
 impl Deciders {
-    /// Before any line.
+    /// The state before the first line: no family is decided.
     pub fn none() -> Deciders
         ensures { result
             ≡ record { measuring = None; appraising = None; auditing = None; hashing = None } }
@@ -37,8 +37,8 @@ impl Deciders {
         }
     }
 
-    /// After one more line: if its rule matches, it decides in its family where no earlier line
-    /// does.
+    /// The state after one more line: if its rule matches, it decides its family unless an earlier
+    /// line already does.
     pub fn with(self, line: usize, rule: &Rule, a: &Access) -> Deciders
         ensures { result ≡ after_line a.now line rule.now self }
     {
@@ -53,7 +53,7 @@ impl Deciders {
         }
     }
 
-    /// Whether each family has its line, so that no later one counts.
+    /// Whether all four families are decided, so that no later line matters.
     pub fn is_complete(self) -> bool
         ensures { result ≡ is_complete self }
     {
@@ -63,7 +63,7 @@ impl Deciders {
             && self.hashing.is_some()
     }
 
-    /// What the deciding rules have done.
+    /// The action that the deciding rules require.
     pub fn action(self, rules: &[Rule]) -> Action
         ensures { result ≡ action_of
             (carried_at rules.now self.measuring) (carried_at rules.now self.appraising)
@@ -77,7 +77,7 @@ impl Deciders {
     }
 }
 
-// The action with the measurement that the rule asks for, in one that has none.
+// Adds the measurement that the rule requires to an action without one.
 fn with_measure(action: Action, rule: Option<&Rule>) -> Action
     ensures { (appraise audit hash : Option RuleValue) → action ≡ action_of None appraise audit hash
         → result ≡ action_of (option_copied rule.entry) appraise audit hash }
@@ -94,7 +94,7 @@ fn with_measure(action: Action, rule: Option<&Rule>) -> Action
     }
 }
 
-// The action with the appraisal that the rule asks for, in one that has none.
+// Adds the appraisal that the rule requires to an action without one.
 fn with_appraise(action: Action, rule: Option<&Rule>) -> Action
     ensures { (measure audit hash : Option RuleValue) → action ≡ action_of measure None audit hash
         → result ≡ action_of measure (option_copied rule.entry) audit hash }
@@ -111,7 +111,8 @@ fn with_appraise(action: Action, rule: Option<&Rule>) -> Action
     }
 }
 
-// The family's line, where this one matches and its action is `act`.
+// The line that decides the family, if its rule matches with the action `act`: the earlier one if
+// there is one, else this one if `act` is of the family.
 fn decided(earlier: Option<usize>, family: Family, act: Act, line: usize) -> Option<usize>
     ensures { result ≡ decided_with earlier family act line }
 {
@@ -122,7 +123,7 @@ fn decided(earlier: Option<usize>, family: Family, act: Act, line: usize) -> Opt
     }
 }
 
-// The rule at the place, where it has something done.
+// The rule at the index `place`, if it requires something to be done.
 fn carried_out(rules: &[Rule], place: Option<usize>) -> Option<&Rule>
     ensures { option_copied result ≡ carried_at rules.now place }
 {

@@ -4,12 +4,12 @@ ghost use Rattle.rule_match.specs.Decision.{decide_of};
 use crate::deciders::Deciders;
 use policy_text::{Access, Action, Policy};
 
-/// What the policy has done with the access. For each family of actions (`measure` and
-/// `dont_measure`, and so on) the first line that matches decides. A family without one does
-/// nothing, and none has an effect on another; in the kernel a matching `appraise` line also takes
-/// away what an earlier `hash` line asked for.
+/// The action that the policy requires for the access. In each family of actions (`measure` and
+/// `dont_measure`, and so on) the first line that matches decides. A family without a matching line
+/// requires nothing, and no family affects another; in the kernel, a matching `appraise` line also
+/// cancels what an earlier `hash` line required.
 ///
-/// No line is looked at once all four families are decided.
+/// The search ends as soon as all four families are decided.
 pub fn decide(p: &Policy, a: &Access) -> Action
     ensures { result ≡ decide_of p.now a.now }
 {

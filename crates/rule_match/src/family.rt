@@ -3,21 +3,21 @@ ghost use Rattle.rule_match.specs.Decision.{is_of, is_done};
 
 use policy_text::Act;
 
-/// A family of actions: to do something with an access, and not to do it.
+/// A family of actions: to do a thing with an access, and not to do it.
 #[derive(Clone, Copy, Debug, PartialEq, Eq)]
 pub enum Family {
-    /// `measure` and `dont_measure`
+    /// The actions `measure` and `dont_measure`.
     Measuring,
-    /// `appraise` and `dont_appraise`
+    /// The actions `appraise` and `dont_appraise`.
     Appraising,
-    /// `audit` and `dont_audit`
+    /// The actions `audit` and `dont_audit`.
     Auditing,
-    /// `hash` and `dont_hash`
+    /// The actions `hash` and `dont_hash`.
     Hashing,
 }
 
 impl Family {
-    /// Whether the action is of the family.
+    /// Whether the action belongs to the family.
     pub fn has(self, act: Act) -> bool
         ensures { result ≡ is_of self act }
     {
@@ -30,7 +30,7 @@ impl Family {
     }
 }
 
-/// Whether the action has something done.
+/// Whether the action requires something to be done: it isn't one of the `dont_` actions.
 pub fn is_done(act: Act) -> bool
     ensures { result ≡ is_done act }
 {

@@ -6,8 +6,8 @@ ghost use Rattle.rule_match.specs.SameGroup.{same_group-hashed};
 use policy_text::{Func, Rule};
 use std::hash::{Hash, Hasher};
 
-/// The `func=` and the `fsmagic=` of a rule. The rules of a group are those that have the same; a
-/// rule without one of the two shares its group only with rules that are without it too.
+/// The `func=` and the `fsmagic=` of a rule, either of which may be absent. Rules that agree in
+/// both form a group.
 #[derive(Clone, Copy, Debug, PartialEq, Eq)]
 pub struct Group {
     pub func: Option<Func>,
@@ -15,7 +15,7 @@ pub struct Group {
 }
 
 impl Group {
-    /// The group of a rule.
+    /// The group to which a rule belongs.
     pub fn of(r: &Rule) -> Group
         ensures { result ≡ group_of r.now }
     {
@@ -26,7 +26,7 @@ impl Group {
     }
 }
 
-/// A function is hashed by its number.
+/// Hashes the function by its number, and then the magic number.
 impl Hash for Group {
     ghost hash_input = { group_writes };
 
@@ -38,22 +38,22 @@ impl Hash for Group {
     }
 }
 
-/// The lines at which a walk from the first line to the last looks next: of each group whose rules
-/// can match the access those lines that the walk hasn't passed.
+/// The lines that a walk from the first line to the last still has to visit: for each group whose
+/// rules can match the access, its lines that the walk hasn't passed.
 #[derive(Clone, Copy)]
 pub struct Candidates<'a> {
-    /// Of the rules with the access's function and magic number.
+    /// The lines of rules with the access's function and magic number.
     pub both: &'a [usize],
-    /// Of the rules with its function and no `fsmagic=`.
+    /// The lines of rules with the access's function and no `fsmagic=`.
     pub func: &'a [usize],
-    /// Of the rules with its magic number and no `func=`.
+    /// The lines of rules with the access's magic number and no `func=`.
     pub magic: &'a [usize],
-    /// Of the rules with neither.
+    /// The lines of rules with neither `func=` nor `fsmagic=`.
     pub neither: &'a [usize],
 }
 
 impl<'a> Candidates<'a> {
-    /// The first of the lines.
+    /// The first line that remains, if there is one.
     pub fn earliest(self) -> Option<usize>
         ensures { result ≡ earliest_of self.entry }
     {
@@ -62,7 +62,7 @@ impl<'a> Candidates<'a> {
         earlier(by_func, by_none)
     }
 
-    /// The lines to look at after `line`.
+    /// The lines that remain after `line`.
     pub fn after(self, line: usize) -> Candidates<'a>
         ensures both { result.both.now ≡ lines_after line self.entry.both.now }
         ensures func { result.func.now ≡ lines_after line self.entry.func.now }

@@ -14,12 +14,12 @@ use std::alloc::{AllocError as OutOfMemory, Global};
 use std::collections::HashMap;
 use std::marker::Model;
 
-/// A list of rules that finds those that can match an access. Contracts see the list. It has no
-/// limit of its own.
+/// A list of rules with an index of those that can match an access. Contracts see the list. It has
+/// no length limit of its own.
 ///
-/// Rules are grouped by their `func=` and inside by their `fsmagic=`. The index keeps the lines of
-/// each group, so that a decision goes from the first line to the last through the rules of at most
-/// four groups, and no further than to the line by which all four families are decided.
+/// Rules are grouped by their `func=` and, within that, by their `fsmagic=`. The index keeps the
+/// lines of each group, so that a decision visits the rules of at most four groups in the order of
+/// their lines, and stops at the line by which all four families are decided.
 #[derive(Drop)]
 pub struct Index {
     rules: Vec<Rule>,
@@ -40,7 +40,7 @@ impl Model for Index {
 }
 
 impl Index {
-    /// An index of the policy's rules, which it takes over.
+    /// An index of the policy's rules, of which it takes ownership.
     pub fn start(alloc: Global, p: Policy) -> Result<Index, OutOfMemory>
         ensures { IfOk result (λ index. index ≡ p) }
     {
@@ -61,7 +61,7 @@ impl Index {
         self.rules.as_slice()
     }
 
-    /// Appends a copy of the rule. After memory ran out the index is as before.
+    /// Appends a copy of the rule. If memory runs out, the index doesn't change.
     pub fn append(&mut self, r: &Rule) -> Result<(), OutOfMemory>
         ensures ok { OnOk result (self.new ≡ self.old ++ r.now ∷ []) }
         ensures err { OnErr result (self.new ≡ self.old) }
@@ -81,15 +81,16 @@ impl Index {
         Ok(())
     }
 
-    /// What the rules have done with the access, by first match: the answer of [`crate::decide`]
-    /// over the same rules. Rules of other functions aren't looked at.
+    /// The action that the rules require for the access, by first match: the result of
+    /// [`crate::decide`] over the same rules. Rules of other functions aren't visited.
     pub fn decide(&self, a: &Access) -> Action
         ensures { result ≡ decide_of self.now a.now }
     {
         self.deciders(a).action(&self.rules)
     }
 
-    /// The place of the line that decides for the family, counted from 0: the first that matches.
+    /// The index of the line that decides for the family, counted from 0: the first line of the
+    /// family that matches.
     pub fn decider(&self, family: Family, a: &Access) -> Option<usize>
         ensures { result ≡ place_of_first family self.now a.now }
     {
@@ -102,7 +103,7 @@ impl Index {
         }
     }
 
-    // The places of the lines that decide.
+    // For each family, the index of the line that decides.
     fn deciders(&self, a: &Access) -> Deciders
         ensures { AreDeciders a.now self.now result }
     {
@@ -125,7 +126,7 @@ impl Index {
     }
 }
 
-// The line joins those of its group.
+// Adds a line to those of its rule's group.
 fn add_line(
     alloc: Global,
     lines: &mut HashMap<Group, Vec<usize>>,
@@ -148,7 +149,8 @@ fn add_line(
     Ok(())
 }
 
-// The lines that decide, from the first of the candidates on until all four families are decided.
+// Walks over the candidates, from the first line on, until all four families are decided, and
+// returns the lines that decide.
 fn walk(rules: &[Rule], from: Candidates<'_>, a: &Access) -> Deciders
     requires { StandsAt 0 rules.now a.now from }
     ensures { AreDeciders a.now rules.now result }

@@ -1,5 +1,6 @@
-//! Rules matched against accesses, and the decision by first match: for each family of actions the
-//! first line of the policy that matches the access decides (Documentation/ABI/testing/ima_policy).
+//! The matching of rules against accesses, and the decision by first match: in each family of
+//! actions the first line of the policy that matches the access decides
+//! (Documentation/ABI/testing/ima_policy).
 #![tactic(auto)]
 
 mod conditions;
@@ -15,3 +16,4 @@ pub use family::Family;
 pub use index::Index;
 pub use policy_text as policy;
 pub use policy_text::meta;
+pub use std::alloc::AllocError as OutOfMemory;

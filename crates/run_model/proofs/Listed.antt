@@ -1,4 +1,4 @@
--- What a step leaves of the measurement list is what its event says of it.
+-- A step changes the measurement list as its event says.
 use Rattle.std.proofs.Common.{◌≡◌, ℕ, Bool, true, false, ◌&&◌, not, if◌then◌else◌, List, [], ◌∷◌, ◌++◌, ◌+◌, arith, length, Option, Some, None, refl, ap, subst, sym, ◌∙◌}
 use Rattle.std.specs.Prelude.{◌==◌, nat_lt, option_map, is_some}
 use Rattle.std.specs.List.{position_or_len}
@@ -101,7 +101,7 @@ granted_listed i file list f p true t =
     measured_by i file list f p (place_of_same list (measured i file f p)) refl
 granted_listed i file list f p false t = (refl, tt)
 
--- what an event with this grant says of the list, where the digests are these
+-- a grant's event says of the list what the step did to it, for a grant from these digests
 abbrev Says : Inode → ℕ → List Entry → Option Entry → Told → Option Digests → List Event → Type 0
 Says i file list e (told.Grant grant) f p =
     IsAdded list (list_after list e (Some (told.Grant grant))) (added_at grant.placed f i file p)
@@ -121,7 +121,7 @@ take_says i file list (Some f) p =
     (told.Grant (grant_of i file (placed_for list
     (measured_if (last_check file p).action.measure i file (Some f) p)) f.digest p))
 
--- what is said so is what the definitions say of a take and a finish
+-- if the event of a take says this of the list, so do the definitions
 take_from : (i : Inode) (file : ℕ) (list : List Entry) (e : Option Entry) (p : List Event)
     (t : Told) → Says i file list e t (in_force i p) p
     → IsAdded list (list_after list e (Some t)) (adds i (deed.Take file) t p)

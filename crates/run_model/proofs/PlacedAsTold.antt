@@ -1,4 +1,4 @@
--- The place that a step is told.
+-- The place in an outcome determines that outcome again.
 use Rattle.std.proofs.Common.{◌≡◌, ℕ, Bool, true, false, ◌&&◌, if◌then◌else◌, List, Option, Some, None, refl, ap, subst}
 use Rattle.std.specs.Prelude.{nat_lt}
 use Rattle.std.proofs.lemmas.Option.{none-some, same_Some}
@@ -18,7 +18,7 @@ use Rattle.call_steps.specs.events.declared.told.Told.{Told}
 use Rattle.call_steps.specs.events.declared.told.Told.TheVariants as told
 use Rattle.run_model.specs.Laws.{PlacedIsTold}
 
--- a check
+-- the outcome of a check
 check_placed : (writing measure must some_readers some_writers : Bool) (place : ℕ)
     → let t = if writing then (if some_readers && must then told.ToMToU place else told.Quiet) else
     (if measure && some_writers then told.OpenWriters place else told.Quiet) in
@@ -35,7 +35,7 @@ check_placed false true must some_readers false place = refl
 check_placed false false must some_readers true place = refl
 check_placed false false must some_readers false place = refl
 
--- a grant
+-- the outcome of a grant
 grant_placed : (i : Inode) (file : ℕ) (placed : Placed) (digest : Digest) (p : List Event)
     → grant_of i file (placed_in (told.Grant (grant_of i file placed digest p))) digest p
     ≡ grant_of i file placed digest p
@@ -54,7 +54,7 @@ take_placed : (i : Inode) (file : ℕ) (placed : Placed) (f : Option Digests) (p
 take_placed i file placed None p = refl
 take_placed i file placed (Some f) p = ap told.Grant (grant_placed i file placed f.digest p)
 
--- where the answer is some outcome, what holds of the outcome holds of it
+-- computing an outcome again from its own place gives that outcome
 with_told : (told_by : Placed → Told) (placed : Placed) (t : Told)
     → told_by (placed_in (told_by placed)) ≡ told_by placed → Some (told_by placed) ≡ Some t
     → Some (told_by (placed_in t)) ≡ Some t

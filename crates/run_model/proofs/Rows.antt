@@ -1,4 +1,4 @@
--- Two whole runs, turn by turn from the start. Digests stay as they are written.
+-- Two whole runs, turn by turn from the start. Digests are left unevaluated.
 use Rattle.std.proofs.Common.{◌≡◌, ℕ, Bool, true, false, List, [], ◌∷◌, codes, Option, Some, None, zero, suc, arith, refl, ap, subst, lit<, sym, ◌∙◌}
 use Rattle.std.specs.Prelude.{All, ◌≤◌, ◌<◌, ◌&&◌, leb, slice_get}
 use Rattle.std.proofs.lemmas.Bool.{and_parts, leb-true}
@@ -153,7 +153,7 @@ abbrev pub granted : Placed → Told
 granted placed =
     told.Grant (record { placed = Some placed; verdict = None; admitted = true; labelled = false })
 
--- up to the finish of the first collection
+-- the events up to the finish of the first collection
 abbrev pub hashed : List Event
 hashed =
     did nobody deed.Birth (told.Image image)
@@ -217,7 +217,7 @@ one_hashes : turns_of one (start_of one) (0 ∷ 0 ∷ 0 ∷ 0 ∷ [])
 unfolding past
 one_hashes = refl
 
--- the finish, by where the entry stands
+-- the moment after the finish, given where the entry is in the list
 abbrev one_finished : Option ℕ → Moment
 one_finished at = moment (opened (placed_by at 1)) (add_by at (boot ∷ []) entry) (has_opened ∷ [])
 
@@ -251,14 +251,14 @@ one_ends : turns_of one (one_finished None) (0 ∷ 0 ∷ []) ≡ one_end
 unfolding past
 one_ends = refl
 
--- the seven turns, where the entry isn't the boot aggregate
+-- the seven turns, if the entry isn't the same as the boot aggregate
 pub one_runs : place_of_same (boot ∷ []) entry ≡ None
     → turns_of one (start_of one) (0 ∷ 0 ∷ 0 ∷ 0 ∷ 0 ∷ 0 ∷ 0 ∷ []) ≡ one_end
 one_runs differs =
     ap (λ m. turns_of one m (0 ∷ 0 ∷ 0 ∷ [])) one_hashes
     ∙ ap (λ m. turns_of one m (0 ∷ 0 ∷ [])) (one_finishes ∙ ap one_finished differs) ∙ one_ends
 
--- its round moves nobody
+-- a round at the end moves no task
 pub one_is_still : round_moves one one_end ≡ false
 one_is_still = refl
 
@@ -326,7 +326,7 @@ one_tasks zero p t e f =
     (subst (λ u. IsServed one one_run 0 reader u) (same_Some has_closed t f) one_is_served)
 one_tasks (suc n) p t e f = absurd (none-some p e)
 
--- each event is the birth, or the task's
+-- the event is the birth, or the task's
 abbrev IsOfOne : Event → Type 0
 IsOfOne e = caller_of e ≤ 1
 
@@ -357,7 +357,7 @@ read_rises = (
   ),
 )
 
--- that run is served
+-- the run is served
 pub one_run_is_served : Served one one_run
 unfolding past
 one_run_is_served = record {
@@ -403,7 +403,7 @@ each_moves differs (suc (suc (suc (suc (suc (suc (suc k))))))) below = absurd (t
     too_many : (k : ℕ) → suc (suc (suc (suc (suc (suc (suc k)))))) < 7 → ⊥
     too_many k below = omega arith
 
--- it is the run of the script
+-- the run by rounds is the run of the script
 pub one_is_run : place_of_same (boot ∷ []) entry ≡ None → IsRunOf one ending.Rounds one_run
 one_is_run differs = (
   one_end,

@@ -1,4 +1,4 @@
--- What doesn't move changes nothing.
+-- A turn or round that doesn't move changes nothing.
 use Rattle.std.proofs.Common.{◌≡◌, inl, inr, ℕ, false, List, [], ◌∷◌, Option, Some, None, ◌<◌, length, refl, ap, subst, sym, ◌∙◌}
 use Rattle.std.specs.Prelude.{slice_get, slice_set}
 use Rattle.std.proofs.lemmas.List.{append-nil, set-get_or}
@@ -24,11 +24,11 @@ use Rattle.run_model.specs.Rounds.{RoundsTo, all_tasks, any_moves, is_moved, mov
 use Rattle.run_model.specs.Scene.{decided, Program, Scene, Station, inode_of, mode_of, rules_with}
 use Rattle.run_model.specs.Turns.{Moment, State, Turned, go, go_check, go_does, go_event, go_signal, go_step, hear_told, journal_at, state_on, turn, turn_of, turned, turns_of}
 
--- a turn left everything as it was
+-- a turn left the lists and the task unchanged
 abbrev Same : Turned → State → Thought → Type 0
 Same r s t = (r.state ≡ s) × (r.thought ≡ t)
 
--- a blocked event
+-- a blocked event leaves the lists unchanged
 blocked_state : (s : State) (i : ℕ) (inode : Inode) (w : Who) (d : Deed)
     → state_on s i inode w d None ≡ s
 blocked_state s i inode w d =
@@ -131,7 +131,7 @@ turns_still scene m (n ∷ ns) still =
 pub still_round : StillRound
 still_round scene m still = turns_still scene m (all_tasks scene) still
 
--- a round before the other's end would move, and at an end none moves
+-- a round before the later end would move a task, but none moves at the earlier end
 no_earlier : (scene : Scene) (first a b : Moment) (x : RoundsTo scene first a)
     (y : RoundsTo scene first b) → x.count < y.count → ⊥
 no_earlier scene first a b x y below =

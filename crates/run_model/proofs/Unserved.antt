@@ -1,6 +1,6 @@
--- Runs of two tasks that aren't served, each by one thing in it: an event is left out, one is of
--- nobody, one has another Who, a check has another action, or it counts fewer rules than its task
--- appended.
+-- Runs of two tasks that aren't served, each for one reason: an event is missing, an event belongs
+-- to no task, an event has the wrong Who, a check has the wrong action, or a check counts fewer
+-- rules than its task appended.
 use Rattle.std.proofs.Common.{◌≡◌, ℕ, ◌+◌, ◌≤◌, true, false, List, [], ◌∷◌, ◌++◌, Option, Some, None, refl, ap, subst, sym, ◌∙◌, inl, inr, arith, max}
 use Rattle.std.specs.Prelude.{◌⊎◌, All, take, slice_get}
 use Rattle.std.proofs.lemmas.List.{append-nil}
@@ -39,15 +39,15 @@ use Rattle.run_model.specs.Scene.{Program, Scene, Station, decided, mode_of}
 use Rattle.run_model.specs.Served.{AreSuited, IsDecided, IsServed, Run, Served, final_rules}
 use Rattle.run_model.proofs.Rows.{boot, did, entry, has_opened, has_written, measure, opened, reading, root, rule, scene_with, station, two, who, writing}
 
--- ---- what stands at the begin of a history
+-- ---- the first answers of a history
 
--- the history has this answer behind these first ones
+-- the history has this answer right after its first ones
 record GoesOn (h first : List Answer) : Type 0 where
   pub later : List Answer
   pub next : Answer
   pub is : h ≡ later ++ next ∷ first
 
--- a history that begins with these answers has no more, or goes on
+-- a history that begins with these answers either ends there or goes on
 further : (h later first : List Answer) → h ≡ later ++ first → (h ≡ first) ⊎ GoesOn h first
 further h [] first e = inl e
 further h (a ∷ later) first e = inr (at (further (later ++ first) later first refl)) where
@@ -61,7 +61,7 @@ further h (a ∷ later) first e = inr (at (further (later ++ first) later first 
         is = e ∙ ap (λ (x : List Answer). a ∷ x) g.is;
       }
 
--- the events of the first answers stand first
+-- the events of the first answers come first
 own_begins : (mode : Mode) (n : ℕ) (p : Program) (i : ℕ) (later first : List Answer)
     → IsPrefix (own mode n p i first) (own mode n p i (later ++ first))
 own_begins mode n p i [] first = prefix_refl (own mode n p i first)
@@ -72,20 +72,20 @@ own_begins mode n p i (a ∷ later) first =
     (own_begins mode n p i later first)
     (prefix_append (own mode n p i (later ++ first)) (event_in i (who_at n p m) (step_at p m) a))
 
--- the first answers suit too
+-- the first answers are suited too
 suited_first : (scene : Scene) (run : Run) (p : Program) (later first : List Answer)
     → AreSuited scene run p (later ++ first) → AreSuited scene run p first
 suited_first scene run p [] first s = s
 suited_first scene run p (a ∷ later) first s = suited_first scene run p later first s.1
 
--- the answer behind the first ones makes this event
+-- the answer right after the first ones makes this event
 record Makes (h first : List Answer) (make : Answer → ℕ × Event) (x : ℕ × Event) : Type 0 where
   pub later : List Answer
   pub next : Answer
   pub is : h ≡ later ++ next ∷ first
   pub event : make next ≡ x
 
--- An event of the task 1 in the journal 0 that the first answers don't make is made by the next
+-- An event of task 1 in journal 0 that the first answers don't make is made by the next answer
 makes : (p : Program) (h later first : List Answer) (k : ℕ) (make : Answer → ℕ × Event)
     (x : ℕ × Event) → h ≡ later ++ first
     → slice_get (own Off 1 p 0 h) k ≡ Some x → slice_get (own Off 1 p 0 first) k ≡ None
@@ -112,7 +112,7 @@ makes p h later first k make x begins here none each = at (further h later first
 abbrev writer : Program
 writer = record { cred = root; calls = writing ∷ [] }
 
--- that run, with what stands behind the reader's events, the newest first
+-- the run, with these events, oldest first, after the reader's
 abbrev run_with : List Event → Run
 run_with events =
     record {
@@ -122,7 +122,7 @@ run_with events =
       thoughts = has_opened ∷ has_written ∷ [];
     }
 
--- what the writer's first answer makes, and its second one
+-- the event that the writer's first answer makes
 abbrev count : Answer → ℕ × Event
 count a = (a.place, did (who 1 0 0) (deed.Count (how.Write false false)) a.told)
 
@@ -142,7 +142,7 @@ record Counts (h : List Answer) : Type 0 where
   pub rules : ℕ
   pub is : h ≡ later ++ held action rules ∷ []
 
--- a writer whose first event is that it counted its file was told so first
+-- if the writer's first event is the count of its file, that count was its first answer
 counts : (h : List Answer) → slice_get (own Off 1 writer 0 h) 0 ≡ Some (6, counted) → Counts h
 counts h here =
     at (makes writer h h [] 0 count (6, counted) (sym (append-nil h)) here refl (λ a. refl)) where
@@ -164,12 +164,12 @@ counts h here =
                 } ∷ []);
           }
 
--- ---- an event is left out
+-- ---- an event is missing
 
 abbrev left_out : Run
 left_out = run_with (counted ∷ [])
 
--- the writer has its reply, and its check isn't there
+-- the writer has its reply, but its check isn't in the journal
 left_out_unserved : Served two left_out → ⊥
 left_out_unserved served = at (served.tasks 1 writer has_written refl refl) where
   at : IsServed two left_out 1 writer has_written → ⊥
@@ -195,19 +195,19 @@ left_out_unserved served = at (served.tasks 1 writer has_written refl refl) wher
           (check g.next) (own_begins Off 1 writer 0 g.later (g.next ∷ held c.action c.rules ∷ []))
           refl)
 
--- ---- an event is of nobody
+-- ---- an event belongs to no task
 
 abbrev checked : Who → Action → Event
 checked w action = did w (deed.Check 6 FileCheck action 1) (told.ToMToU 2)
 
--- a third task has opened
+-- a third task has opened the file
 abbrev of_nobody : Event
 of_nobody = did (who 2 0 0) (deed.Count (how.Read false)) told.Held
 
 abbrev invented : Run
 invented = run_with (counted ∷ checked (who 1 0 1) no_action ∷ of_nobody ∷ [])
 
--- there are two tasks alone
+-- there are only two tasks
 invented_unserved : Served two invented → ⊥
 invented_unserved served =
     let journal = opened (Added 1) ++ counted ∷ checked (who 1 0 1) no_action ∷ of_nobody ∷ [] in
@@ -217,7 +217,7 @@ invented_unserved served =
     all (8, omega arith, refl) in
     omega arith
 
--- ---- another Who, and another action
+-- ---- a wrong Who, and a wrong action
 
 -- the writer's check, whatever its Who and action
 record Checks (run : Run) (h : List Answer) (x : ℕ × Event) : Type 0 where
@@ -266,7 +266,7 @@ misnamed_unserved served = at (served.tasks 1 writer has_written refl refl) wher
 abbrev misruled : Run
 misruled = run_with (counted ∷ checked (who 1 0 1) measure ∷ [])
 
--- what a check's deed says
+-- the action in a check's deed
 abbrev action_in : Deed → Action
 action_in (deed.Check file func action rules) = action
 action_in d = no_action
@@ -275,7 +275,7 @@ abbrev rules_in : Deed → ℕ
 rules_in (deed.Check file func action rules) = rules
 rules_in d = 0
 
--- the rule measures reads alone
+-- the rule measures only reads
 misruled_unserved : Served two misruled → ⊥
 unfolding past
 misruled_unserved served = at (served.tasks 1 writer has_written refl refl) where
@@ -335,7 +335,7 @@ has_added = record {
   replies = reply.Done ∷ reply.Done ∷ [];
 }
 
--- its count, and its check by so many rules
+-- the adder's count
 abbrev counted_next : Event
 counted_next = did (who 1 1 0) (deed.Count (how.Write false false)) told.Held
 
@@ -356,7 +356,7 @@ uncounted = record {
   thoughts = has_opened ∷ has_added ∷ [];
 }
 
--- the script's rule and the one that it appended are two
+-- the script's rule and the appended one make two
 uncounted_unserved : Served adding uncounted → ⊥
 uncounted_unserved served = at (served.tasks 1 adder has_added refl refl) where
   at : IsServed adding uncounted 1 adder has_added → ⊥

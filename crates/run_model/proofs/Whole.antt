@@ -1,4 +1,4 @@
--- The two runs, whole: the file's entry isn't the boot aggregate, whatever its digest.
+-- The two runs, unconditionally: the file's entry isn't the boot aggregate, whatever its digest.
 use Rattle.std.proofs.Common.{◌≡◌, ℕ, Bool, true, false, List, [], ◌∷◌, Option, Some, None, refl, ap, sym, subst, ◌∙◌, lit<, arith}
 use Rattle.std.specs.Prelude.{◌≤◌, ◌&&◌, nat_le, All}
 use Rattle.std.proofs.lemmas.Bool.{and_parts, leb-true}
@@ -19,7 +19,7 @@ use Rattle.run_model.proofs.Rows.{boot, entry, has_opened, has_written, image, m
 
 -- ---- which entries are the same
 
--- all bytes are printable and no space, decided
+-- whether all bytes are printable and none is a space
 abbrev are_graphic : List ℕ → Bool
 are_graphic [] = true
 are_graphic (b ∷ rest) = (nat_le 0x21 b && nat_le b 0x7e) && are_graphic rest
@@ -34,7 +34,7 @@ graphic (b ∷ rest) g =
       leb-true b 0x7e ends.1,
     ) (graphic rest parts.1)
 
--- the boot aggregate is an entry that can stand in a list
+-- the boot aggregate is a valid entry of a measurement list
 pub boot_valid : IsEntry boot
 boot_valid = record {
   pcr = lit< tt;
@@ -50,7 +50,7 @@ boot_valid = record {
   violation = λ e. cc;
 }
 
--- so is the entry of the file
+-- the entry of the file is a valid entry of a measurement list
 pub entry_valid : IsEntry entry
 entry_valid = record {
   pcr = lit< tt;
@@ -76,7 +76,7 @@ entry_apart = sym (same_data-fields boot entry false boot_valid entry_valid refl
   other_name : boot.name ≡ entry.name → false ≡ true
   other_name e = cc
 
--- so the file's entry is new
+-- the file's entry is new to a list that has only the boot aggregate
 pub entry_is_new : place_of_same (boot ∷ []) entry ≡ None
 entry_is_new = rw entry_apart refl
 

@@ -1,4 +1,4 @@
--- How a run may stand at its end.
+-- The possible states of a run at its end.
 use Rattle.std.specs.Prelude.{◌≡◌, ℕ, ◌+◌, ◌-◌, ◌≤◌, ◌==◌, Bool, true, false, ◌&&◌, ◌||◌, not, List, [], ◌∷◌, length, take, Option, Some, slice_get, if◌then◌else◌}
 use Rattle.call_steps.specs.declared.call.Call.{Call}
 use Rattle.call_steps.specs.declared.call.Call.TheVariants as call
@@ -25,7 +25,7 @@ how_many test (c ∷ cs) = if test c then 1 + how_many test cs else how_many tes
 abbrev pub answered : Program → Thought → List Call
 answered p t = take (length t.replies) p.calls
 
--- so many answered calls of all tasks pass the test
+-- the number of answered calls, of all tasks, that pass the test
 abbrev pub answered_by : (Call → Bool) → List Program → List Thought → ℕ
 answered_by test [] thoughts = 0
 answered_by test (p ∷ ps) [] = 0
@@ -37,13 +37,13 @@ posted sem programs thoughts = answered_by (posts_to sem) programs thoughts
 abbrev pub waited : ℕ → List Program → List Thought → ℕ
 waited sem programs thoughts = answered_by (waits_for sem) programs thoughts
 
--- what is left of a semaphore: its answered posts less its answered waits
+-- the value of a semaphore: its answered posts minus its answered waits
 abbrev pub left : ℕ → List Program → List Thought → ℕ
 left sem programs thoughts = posted sem programs thoughts - waited sem programs thoughts
 
 -- ---- done and stuck
 
--- each call is answered
+-- all calls are answered
 abbrev pub is_done : Program → Thought → Bool
 is_done p t = length t.replies == length p.calls
 
@@ -52,7 +52,7 @@ all_done [] thoughts = true
 all_done (p ∷ ps) [] = true
 all_done (p ∷ ps) (t ∷ ts) = is_done p t && all_done ps ts
 
--- the next call is a wait of which nothing is left
+-- the next call is a wait for a semaphore that is at 0
 abbrev pub waits_in_vain : (ℕ → ℕ) → Option Call → Bool
 waits_in_vain left_of (Some (call.Wait sem)) = left_of sem == 0
 waits_in_vain left_of _ = false
@@ -64,7 +64,7 @@ all_wait left_of (p ∷ ps) (t ∷ ts) =
     (is_done p t || waits_in_vain left_of (slice_get p.calls (length t.replies)))
     && all_wait left_of ps ts
 
--- some task isn't done, and each that isn't done waits in vain
+-- some task isn't done, and every such task waits for a semaphore that is at 0
 abbrev pub is_stuck : List Program → List Thought → Bool
 is_stuck programs thoughts =
     not (all_done programs thoughts) && all_wait
@@ -72,7 +72,7 @@ is_stuck programs thoughts =
 
 -- ---- the end
 
--- a schedule may stop anywhere; rounds and threads go on until each task is done or the run is
+-- a schedule may stop anywhere; rounds and threads go on until all tasks are done or the run is
 -- stuck
 abbrev pub IsThrough : Ending → Bool → Type 0
 IsThrough (ending.Schedule turns) over = Unit {0}
@@ -80,6 +80,6 @@ IsThrough _ over = over ≡ true
 
 pub record IsEnded (ending : Ending) (programs : List Program) (thoughts : List Thought)
     : Type 0 where
-  -- nobody took from a semaphore what wasn't there
+  -- every wait that was answered had its post
   pub paid : (sem : ℕ) → waited sem programs thoughts ≤ posted sem programs thoughts
   pub through : IsThrough ending (all_done programs thoughts || is_stuck programs thoughts)

@@ -1,4 +1,4 @@
--- What a run leaves, as contracts see it, and as the run that is shown gives it.
+-- The final state of a run: the contract view of it, and its definition from the shown run.
 use Rattle.std.specs.Prelude.{ℕ, Bool, true, false, List, [], ◌∷◌, length}
 use Rattle.std.specs.List.{list_any}
 use Rattle.inode_meta.specs.declared.measurement.Template.{Template}
@@ -16,13 +16,13 @@ use Rattle.run_model.specs.Scene.{Program, Scene, Station, inode_of}
 use Rattle.run_model.specs.Served.{Run}
 use Rattle.policy_cell.specs.declared.cell.RuleEntry.{RuleEntry}
 
--- whether each call of the task is answered, and the replies
+-- whether all calls of the task are answered, and the replies
 pub record EndedTaskValue : Type 0 where
   pub done : Bool
   pub replies : List Reply
 
--- `base` is the number of the script's rules, and `grows` says that some task's program can append
--- rules
+-- `base` is the number of the script's rules, and `grows` says whether some task's program can
+-- append rules
 pub record EndedValue : Type 0 where
   pub inodes : List EndedInodeValue
   pub list : List Entry
@@ -49,11 +49,11 @@ abbrev pub appends : Call → Bool
 appends (call.AddRule rule) = true
 appends _ = false
 
--- some task's program can append a rule
+-- whether some task's program can append a rule
 abbrev pub grows : Scene → Bool
 grows scene = list_any (λ (p : Program). list_any appends p.calls) scene.programs
 
--- what the run leaves: the registers are the replay of the list
+-- the final state of a run, in which the PCRs are the replay of the measurement list
 abbrev pub ended_of : Scene → Run → EndedValue
 ended_of scene run = record {
   inodes = inodes_ended scene scene.stations run.journals;

@@ -1,5 +1,5 @@
--- The history of a task: what each of its steps was told, newest first. From the program and the
--- history alone come where the task stands, its replies, and the events that it made.
+-- The history of a task: the answer to each of its steps, newest first. The program and the history
+-- alone determine the task's position, its replies, and the events that it made.
 use Rattle.std.specs.Prelude.{ℕ, ◌==◌, List, [], ◌∷◌, ◌++◌, Option, Some, None, slice_get, if◌then◌else◌}
 use Rattle.inode_meta.specs.declared.appraisal.Mode.{Mode}
 use Rattle.inode_meta.specs.declared.step.Who.{Who}
@@ -16,8 +16,8 @@ use Rattle.call_steps.specs.declared.reply.Reply.{Reply}
 use Rattle.run_model.specs.Scene.{Program}
 use Rattle.policy_cell.specs.declared.cell.RuleEntry.{RuleEntry}
 
--- what one step was told: the place where its event or its rule stands, the outcome, and of a check
--- the action and the number of rules by which it was decided
+-- the answer to one step: the place of its event or rule, the outcome, and for a check the action
+-- and the number of rules that decided it
 pub record Answer : Type 0 where
   pub place : ℕ
   pub told : Told
@@ -28,7 +28,7 @@ pub record Answer : Type 0 where
 abbrev pub plain_answer : ℕ → Told → Answer
 plain_answer place t = record { place = place; told = t; action = no_action; rules = 0 }
 
--- where a task stands, with its replies so far
+-- the position of a task, with its replies so far
 pub record Thought : Type 0 where
   pub mind : Mind
   pub replies : List Reply
@@ -43,7 +43,7 @@ replied replies (Some r) = replies ++ r ∷ []
 abbrev pub thought_with : Thought → Mind × Option Reply → Thought
 thought_with t after = record { mind = after.0; replies = replied t.replies after.1 }
 
--- the task hears what the step of its call was told; a task whose program is over hears nothing
+-- the task takes the outcome of its step; a task whose program is over is unchanged
 abbrev pub hear_in : Mode → Program → Option Call → Thought → Answer → Thought
 hear_in mode p None t a = t
 hear_in mode p (Some c) t a =
@@ -55,7 +55,7 @@ call_at p m = slice_get p.calls m.at
 abbrev pub hear : Mode → Program → Thought → Answer → Thought
 hear mode p t a = hear_in mode p (call_at p t.mind) t a
 
--- where the task stands after the steps of the history
+-- the task after the steps of the history
 abbrev pub thought : Mode → Program → List Answer → Thought
 thought mode p [] = start
 thought mode p (a ∷ before) = hear mode p (thought mode p before) a
@@ -74,14 +74,14 @@ abbrev pub who_in : ℕ → Program → Option Call → Mind → Who
 who_in n p None m = record { task = n; call = m.at; step = 0 }
 who_in n p (Some c) m = record { task = n; call = m.at; step = number_of p.cred.admin c m }
 
--- its Who, of the task n
+-- the Who of the next step, for task n
 abbrev pub who_at : ℕ → Program → Mind → Who
 who_at n p m = who_in n p (call_at p m) m
 
 abbrev pub event : Who → Deed → Told → Event
 event who d t = record { who = who; deed = d; told = t }
 
--- the event of a step in the journal i, with its place
+-- the event of a step, with its place, if it is in journal i
 abbrev pub event_in : ℕ → Who → Option Step → Answer → List (ℕ × Event)
 event_in i who (Some (Does inode d)) a =
     if inode == i then (a.place, event who d a.told) ∷ [] else []
@@ -102,21 +102,21 @@ signal_in who _ a = []
 
 -- ---- what the task made, oldest first
 
--- its events in the journal i
+-- the task's events in journal i
 abbrev pub own : Mode → ℕ → Program → ℕ → List Answer → List (ℕ × Event)
 own mode n p i [] = []
 own mode n p i (a ∷ before) =
     let m = (thought mode p before).mind in
     own mode n p i before ++ event_in i (who_at n p m) (step_at p m) a
 
--- the rules that it appended
+-- the rules that the task appended
 abbrev pub own_rules : Mode → ℕ → Program → List Answer → List (ℕ × RuleEntry)
 own_rules mode n p [] = []
 own_rules mode n p (a ∷ before) =
     let m = (thought mode p before).mind in
     own_rules mode n p before ++ rule_in (who_at n p m) (step_at p m) a
 
--- its posts and waits
+-- the task's posts and waits
 abbrev pub own_signals : Mode → ℕ → Program → List Answer → List (ℕ × Event)
 own_signals mode n p [] = []
 own_signals mode n p (a ∷ before) =

@@ -21,37 +21,37 @@ StillTurn = (scene : Scene) (n : ℕ) (p : Program) (s : State) (t : Thought)
     → is_moved (go scene n p s t).turn ≡ false
     → ((go scene n p s t).state ≡ s) × ((go scene n p s t).thought ≡ t)
 
--- a round that moves none changes nothing
+-- a round that moves no task changes nothing
 abbrev pub StillRound : Type 0
 StillRound =
     (scene : Scene) (m : Moment) → round_moves scene m ≡ false
     → turns_of scene m (all_tasks scene) ≡ m
 
--- rounds have one end
+-- rounds from the same start end at the same moment
 abbrev pub OneEnd : Type 0
 OneEnd = (scene : Scene) (start a b : Moment) → RoundsTo scene start a → RoundsTo scene start b
     → a ≡ b
 
--- what a step is told with a place of the list is what the journal says with the place that was
--- told
+-- an outcome computed with the list's answer is the outcome that the journal gives for the place in
+-- that outcome
 abbrev pub PlacedIsTold : Type 0
 PlacedIsTold =
     (i : Inode) (p : List Event) (placed : Placed) (d : Deed) (t : Told)
     → says i p placed d ≡ Some t → says i p (placed_in t) d ≡ Some t
 
--- the list after a step: as it was, or with the entry that the event adds at its end, which no
--- earlier one is the same as
+-- the list after a step: as it was, or with the event's entry at its end, if no earlier entry is
+-- the same
 abbrev pub IsAdded : List Entry → List Entry → Option Listed → Type 0
 IsAdded list after None = after ≡ list
 IsAdded list after (Some added) =
     (added.0 ≡ length list) × (place_of_same list added.1 ≡ None) × (after ≡ list ++ added.1 ∷ [])
 
--- the entry that the event finds stands there first
+-- the entry that the event finds is the first such entry, at the place that the event names
 abbrev pub IsFound : List Entry → Option Listed → Type 0
 IsFound list None = Unit {0}
 IsFound list (Some found) = place_of_same list found.1 ≡ Some found.0
 
--- what a step leaves of the list is what its event says of it
+-- a step changes the list as its event says
 abbrev pub StepIsListed : Type 0
 StepIsListed =
     (i : Inode) (list : List Entry) (d : Deed) (p : List Event) (t : Told)

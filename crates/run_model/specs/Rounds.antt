@@ -22,16 +22,16 @@ abbrev pub moves_at : Scene → Moment → ℕ → Option Program → Option Tho
 moves_at scene m n (Some p) (Some t) = is_moved (go scene n p m.state t).turn
 moves_at scene m n _ _ = false
 
--- a turn of the task n moves it
+-- a turn of task n moves it
 abbrev pub moves : Scene → Moment → ℕ → Bool
 moves scene m n = moves_at scene m n (slice_get scene.programs n) (slice_get m.thoughts n)
 
--- one of these turns moves its task
+-- at least one of these turns moves its task
 abbrev pub any_moves : Scene → Moment → List ℕ → Bool
 any_moves scene m [] = false
 any_moves scene m (n ∷ ns) = moves scene m n || any_moves scene (turn scene m n) ns
 
--- the tasks, in order
+-- the numbers of all tasks, in order
 abbrev pub all_tasks : Scene → List ℕ
 all_tasks scene = numbers (length scene.programs)
 
@@ -42,14 +42,14 @@ abbrev pub rounds : Scene → ℕ → Moment → Moment
 rounds scene zero m = m
 rounds scene (suc n) m = turns_of scene (rounds scene n m) (all_tasks scene)
 
--- rounds from the start until one moves none. There is at most one such end
+-- rounds from the start until one moves no task; there is at most one such end
 pub record RoundsTo (scene : Scene) (start end : Moment) : Type 0 where
   pub count : ℕ
   pub ends : end ≡ rounds scene count start
   pub still : round_moves scene end ≡ false
   pub before : (k : ℕ) → k < count → round_moves scene (rounds scene k start) ≡ true
 
--- the run of a script. With threads it isn't determined
+-- the run of a script; with threads it isn't determined
 abbrev pub IsRunOf : Scene → Ending → Run → Type 0
 IsRunOf scene (ending.Schedule turns) run =
     run ≡ run_at (turns_of scene (start_of scene) turns)

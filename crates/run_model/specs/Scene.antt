@@ -1,4 +1,4 @@
--- What a script sets up: its scene, and what never changes while it runs.
+-- The setup of a script, which never changes while the script runs.
 use Rattle.std.specs.Prelude.{ℕ, false, List, [], ◌++◌, map}
 use Rattle.call_steps.specs.templates.declared.entry.Entry.{Entry}
 use Rattle.inode_meta.specs.declared.appraisal.Mode.{Mode}
@@ -15,18 +15,17 @@ use Rattle.call_steps.specs.events.declared.settings.Settings.{Settings}
 use Rattle.call_steps.specs.declared.call.Call.{Call}
 use Rattle.policy_cell.specs.declared.cell.RuleEntry.{RuleEntry}
 
--- no file system
+-- the absence of a file system
 abbrev pub no_super : Super
 no_super = record { magic = 0; uuid = 0; name = []; versions = false }
 
--- a file of the script: its path, the inode as it comes into being, and the file system on which it
--- lies
+-- a file of the script: its path, its inode at birth, and its file system
 pub record Station : Type 0 where
   pub path : List ℕ
   pub birth : Image
   pub place : Super
 
--- a task: its credentials and its calls
+-- the credentials and the calls of a task
 pub record Program : Type 0 where
   pub cred : Cred
   pub calls : List Call
@@ -46,10 +45,10 @@ inode_of scene s = record { path = s.path; settings = scene.settings; birth = s.
 abbrev pub mode_of : Scene → Mode
 mode_of scene = scene.settings.mode
 
--- the rules in force: the script's, and behind them the appended ones
+-- the rules in force: the script's, followed by the appended ones
 abbrev pub rules_with : Scene → List RuleEntry → List RuleValue
 rules_with scene added = scene.rules ++ map (λ (r : RuleEntry). r.rule) added
 
--- the action that the rules give it
+-- the action that the rules give an access
 abbrev pub decided : List RuleValue → Cred → Super → Meta → Func → ℕ → ActionValue
 decided rules cred place meta func mask = decide_of rules (access_of cred place meta func mask)

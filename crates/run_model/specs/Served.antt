@@ -1,4 +1,4 @@
--- When journals, appended rules and replies are those of the tasks' calls.
+-- When journals, appended rules and replies come from the tasks' calls.
 use Rattle.std.specs.Prelude.{◌≡◌, ℕ, ◌+◌, ◌<◌, ◌≤◌, All, List, [], ◌∷◌, length, map, max, Option, Some, None, slice_get, take}
 use Rattle.policy_cell.specs.growing.Entries.{entries_of}
 use Rattle.call_steps.specs.policy.RuleValue.{RuleValue}
@@ -18,7 +18,7 @@ use Rattle.run_model.specs.Scene.{Program, Scene, Station, decided, mode_of, rul
 use Rattle.policy_cell.specs.declared.cell.RuleEntry.{RuleEntry}
 
 -- a run as it is shown: the journal of each inode, oldest event first, the measurement list, the
--- appended rules, and where each task stands
+-- appended rules, and the position of each task
 pub record Run : Type 0 where
   pub journals : List (List Event)
   pub list : List Entry
@@ -28,13 +28,13 @@ pub record Run : Type 0 where
 abbrev pub final_rules : Scene → Run → List RuleValue
 final_rules scene run = rules_with scene run.added
 
--- ---- whose the entries are
+-- ---- the entries of a task
 
--- the events of the task n in a journal, each with its place
+-- the events of task n in a journal, each with its place
 abbrev pub events_of : ℕ → List Event → List (ℕ × Event)
 events_of n journal = entries_of (n + 1) (map caller_of journal) journal
 
--- the rules that the task n appended, each with its place
+-- the rules that task n appended, each with its place
 abbrev pub rules_of : ℕ → List RuleEntry → List (ℕ × RuleEntry)
 rules_of n added = entries_of n (map (λ (r : RuleEntry). r.who.task) added) added
 
@@ -45,16 +45,16 @@ known_after base (Some (Checks inode file func mask)) a old = a.rules
 known_after base (Some (Appends rule)) a old = max old (base + a.place + 1)
 known_after base _ a old = old
 
--- How many rules the task knows of: the script's, those that its last check counted, and those up
--- to the last one that it appended. Its next check counts as many at least
+-- The number of rules that the task knows of: the script's, those that decided its last check, and
+-- those up to the last one that it appended. Its next check counts at least that many
 abbrev pub rules_known : Scene → Program → List Answer → ℕ
 rules_known scene p [] = length scene.rules
 rules_known scene p (a ∷ before) =
     known_after (length scene.rules) (step_at p (thought (mode_of scene) p before).mind) a
     (rules_known scene p before)
 
--- A check is decided by so many first rules of the final ones, for the task's credentials, the file
--- system of the inode, and the metadata at that check
+-- A check is decided by the first of the final rules, as many as the answer says, for the task's
+-- credentials, the file system of the inode, and the metadata at that check
 pub record IsDecided (scene : Scene) (run : Run) (p : Program) (known : ℕ) (a : Answer) (inode : ℕ)
     (func : Func) (mask : ℕ) : Type 0 where
   pub station : Station
@@ -66,7 +66,7 @@ pub record IsDecided (scene : Scene) (run : Run) (p : Program) (known : ℕ) (a 
   pub action : a.action ≡ decided (take a.rules (final_rules scene run)) p.cred station.place
       (metadata (past (take a.place journal))) func mask
 
--- an answer suits its step: it has no more than the step asks for, on an inode that is there
+-- an answer suits its step: it holds nothing that the step doesn't ask for, and the inode exists
 abbrev pub Suits : Scene → Run → Program → ℕ → Option Step → Answer → Type 0
 Suits scene run p known None a = ⊥
 Suits scene run p known (Some Nothing) a = a ≡ plain_answer 0 told.Nothing
@@ -92,7 +92,7 @@ abbrev pub last_counted : ℕ → List Event → ℕ
 last_counted base [] = base
 last_counted base (e ∷ before) = counted_by e.deed (last_counted base before)
 
--- along a journal, read from its newest event back, this number never falls
+-- along a journal, from the oldest event to the newest, this number never falls
 abbrev pub RulesRise : ℕ → List Event → Type 0
 RulesRise base [] = Unit {0}
 RulesRise base (e ∷ before) =
@@ -101,10 +101,10 @@ RulesRise base (e ∷ before) =
 
 -- ---- the tasks
 
--- The task n has made its steps: there is a history of them, by which it stands where it stands,
--- with its replies. Each step that is an event stands under its Who in the journal of its inode, in
--- order, and so stands each rule that it appended; no others of its number stand there. Its calls
--- are answered from the first on, and a prefix of the steps of the next one may stand
+-- Task n has made its steps: some history leads to its position and replies. Each step that is an
+-- event is in the journal of its inode, under its Who and in order, and each rule that the task
+-- appended is in the same way among the rules; nothing else there has the task's number. Its calls
+-- are answered in order, and some first steps of the next call may have been made
 pub record IsServed (scene : Scene) (run : Run) (n : ℕ) (p : Program) (t : Thought) : Type 0 where
   pub history : List Answer
   pub stands : thought (mode_of scene) p history ≡ t
@@ -114,15 +114,15 @@ pub record IsServed (scene : Scene) (run : Run) (n : ℕ) (p : Program) (t : Tho
   pub rules : rules_of n run.added ≡ own_rules (mode_of scene) n p history
 
 pub record Served (scene : Scene) (run : Run) : Type 0 where
-  -- one journal for each inode, and one thought for each task
+  -- one journal for each inode, and one position for each task
   pub journals : length run.journals ≡ length scene.stations
   pub thoughts : length run.thoughts ≡ length scene.programs
   pub tasks : (n : ℕ) (p : Program) (t : Thought) → slice_get scene.programs n ≡ Some p
       → slice_get run.thoughts n ≡ Some t → IsServed scene run n p t
-  -- no other events stand but the births, and no other rules but the script's
+  -- apart from the births there are no other events, and apart from the script's no other rules
   pub no_other_events : All (λ (journal : List Event). All
       (λ (e : Event). caller_of e ≤ length scene.programs) journal) run.journals
   pub no_other_rules : All (λ (r : RuleEntry). r.who.task < length scene.programs) run.added
-  -- along a journal's checks the number of rules never falls
+  -- along the checks of a journal, the number of rules never falls
   pub rules_rise : All (λ (journal : List Event). RulesRise (length scene.rules)
       (past journal)) run.journals

@@ -1,4 +1,4 @@
--- Which runs may be shown for a script, whatever its ending and however its threads fell.
+-- Which runs may be shown for a script, whatever its ending and however its threads interleave.
 use Rattle.std.specs.Prelude.{All, List, [], ◌∷◌}
 use Rattle.call_steps.specs.events.Legal.{Legal}
 use Rattle.call_steps.specs.events.Merged.{IsMerged, Journal}

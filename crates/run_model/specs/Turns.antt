@@ -25,21 +25,21 @@ use Rattle.policy_cell.specs.declared.cell.RuleEntry.{RuleEntry}
 use Rattle.run_model.specs.declared.turn.Turn.{Turn}
 use Rattle.run_model.specs.declared.turn.Turn.TheVariants as turns
 
--- the lists of a world: the journals, the measurement list, the posts and waits, and the appended
--- rules
+-- the lists of a run in progress: the journals, the measurement list, the posts and waits, and the
+-- appended rules
 pub record State : Type 0 where
   pub journals : List (List Event)
   pub list : List Entry
   pub signals : List Event
   pub added : List RuleEntry
 
--- what a turn leaves of the lists and of its task
+-- the lists and the task after a turn, and whether the task moved
 pub record Turned : Type 0 where
   pub state : State
   pub thought : Thought
   pub turn : Turn
 
--- ---- a step that can be blocked: `None` is blocked, and changes nothing
+-- ---- steps that can be blocked: `None` means blocked, and changes nothing
 
 abbrev pub turn_of : Option Told → Turn
 turn_of None = turns.Blocked
@@ -55,14 +55,14 @@ hear_told mode p t place action rules (Some o) =
 abbrev pub journal_at : State → ℕ → List Event
 journal_at s i = get_or s.journals i []
 
--- the lists after it
+-- the lists after a step on an inode
 abbrev pub state_on : State → ℕ → Inode → Who → Deed → Option Told → State
 state_on s i inode who d o = record s {
   journals = slice_set s.journals i (journal_at s i ++ made who d o);
   list = list_after s.list (asked inode d (past (journal_at s i))) o;
 }
 
--- `action` and `rules` are those of a check
+-- an event on an inode; `action` and `rules` are those of a check
 abbrev pub go_event : Scene → ℕ → Program → State → Thought → ℕ → Inode → Deed → Action → ℕ → Turned
 go_event scene n p s t i inode d action rules =
     let o = outcome inode s.list d (past (journal_at s i)) in
@@ -75,13 +75,13 @@ go_event scene n p s t i inode d action rules =
 abbrev pub stays : State → Thought → Turned
 stays s t = record { state = s; thought = t; turn = turns.Blocked }
 
--- an inode that isn't there, which no script names, blocks
+-- a step on an inode that doesn't exist, which no script can name, is blocked
 abbrev pub go_does : Scene → ℕ → Program → State → Thought → ℕ → Option Station → Deed → Turned
 go_does scene n p s t i None d = stays s t
 go_does scene n p s t i (Some station) d =
     go_event scene n p s t i (inode_of scene station) d no_action 0
 
--- a check is decided by all rules in force, for the metadata as it is
+-- a check is decided by all rules in force, for the present metadata
 abbrev pub go_check : Scene → ℕ → Program → State → Thought → ℕ → Option Station → ℕ → Func → ℕ
     → Turned
 go_check scene n p s t i None file func mask = stays s t
@@ -121,7 +121,7 @@ go_step scene n p s t (Some (Appends rule)) = record {
   turn = turns.Moved;
 }
 
--- one step of the task n
+-- one step of task n
 abbrev pub go : Scene → ℕ → Program → State → Thought → Turned
 go scene n p s t = go_step scene n p s t (step_at p t.mind)
 
@@ -139,7 +139,7 @@ turned scene m n (Some p) (Some t) =
     }
 turned scene m n _ _ = m
 
--- a turn of the task n
+-- a turn of task n
 abbrev pub turn : Scene → Moment → ℕ → Moment
 turn scene m n = turned scene m n (slice_get scene.programs n) (slice_get m.thoughts n)
 
@@ -150,7 +150,7 @@ turns_of scene m (n ∷ ns) = turns_of scene (turn scene m n) ns
 
 -- ---- the start and the end
 
--- the journal of an inode that was just born
+-- the journal of an inode that was just created
 abbrev pub newborn : Station → List Event
 newborn station = event nobody deed.Birth (told.Image station.birth) ∷ []
 
@@ -166,7 +166,7 @@ start_of scene = record {
   thoughts = map (λ (p : Program). start) scene.programs;
 }
 
--- the run as it is shown when it stops at this moment
+-- the run as it is shown if it stops at this moment
 abbrev pub run_at : Moment → Run
 run_at m = record {
   journals = m.state.journals;

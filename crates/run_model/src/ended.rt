@@ -6,10 +6,10 @@ use inode_meta::Template;
 use policy_cell::RuleEntry;
 use std::marker::Model;
 
-/// A task at the end of a run. Contracts see the record of its fields, the replies as a list.
+/// A task at the end of a run. Contracts see its fields, with the replies as a list.
 #[derive(Drop)]
 pub struct EndedTask {
-    /// Whether each of its calls is answered.
+    /// Whether all of its calls are answered.
     pub done: bool,
     /// The replies of the answered calls, in order.
     pub replies: Vec<Reply>,
@@ -23,23 +23,22 @@ impl Model for EndedTask {
     ghost view = { λ t. record { done = t.done; replies = t.replies.items } };
 }
 
-/// What a run leaves. Contracts see the record of its fields, each vector as a list.
+/// The final state of a run. Contracts see its fields, with each vector as a list.
 #[derive(Drop)]
 pub struct Ended {
     /// The inodes with their journals, in the order of the script.
     pub inodes: Vec<EndedInode>,
-    /// The measurement list.
+    /// The entries of the measurement list, oldest first.
     pub list: Vec<Entry>,
-    /// The registers, which are the replay of the list.
+    /// The PCRs, which are the replay of the measurement list.
     pub banks: Banks,
     /// The tasks, in the order of their numbers.
     pub tasks: Vec<EndedTask>,
-    /// Whether some task isn't done and each that isn't waits for a semaphore of which nothing is
-    /// left.
+    /// Whether some task isn't done, and every such task waits for a semaphore that is at 0.
     pub stuck: bool,
-    /// The template of the script.
+    /// The template that the script sets.
     pub template: Template,
-    /// The appended rules, in order.
+    /// The rules that tasks appended, in order.
     pub rules: Vec<RuleEntry>,
     /// The number of the script's own rules.
     pub base: u64,

@@ -1,10 +1,10 @@
-/// What a turn did.
+/// The effect of a turn on its task.
 #[derive(Clone, Copy, Debug, PartialEq, Eq)]
 pub enum Turn {
     /// The task made a step.
     Moved,
-    /// Its step can't be made now.
+    /// The task's step can't be made now.
     Blocked,
-    /// Its program was over.
+    /// The task's program was over.
     Done,
 }

@@ -1,4 +1,4 @@
--- The lines of a file's attributes put them again.
+-- Reading the lines of a file's attributes sets them again.
 use Rattle.std.proofs.Common.{◌≡◌, ℕ, ◌+◌, ◌<◌, ◌≤◌, Bool, true, false, ◌&&◌, not, nat_le, nat_lt, List, [], ◌∷◌, ◌++◌, length, map, None, Ok, is_some, refl, sym, ap, ◌∙◌, subst, arith, append_assoc}
 use Rattle.std.specs.Prelude.{codes}
 use Rattle.std.specs.Cmp.Lexicographic.{nat_list_cmp_total}
@@ -29,7 +29,7 @@ use Rattle.script_print.proofs.Words.{hex_plain, value_back, word_plain}
 
 -- ---- names in byte order
 
--- the names of the attributes come before this one
+-- the names of these attributes all come before this one
 abbrev pub AreBefore : List Pair → List ℕ → Type 0
 AreBefore done name = AllByRecursion (λ a. byte_order a.0 name ≡ Less) done
 
@@ -46,7 +46,7 @@ all_before (d ∷ ds) rest a h = (before_at d.0 ds rest a h.0, all_before ds res
 after : (name low : List ℕ) → byte_order low name ≡ Less → byte_order name low ≡ Greater
 after name low h = nat_list_cmp_total.antisymm name low ∙ ap ordering_reverse h
 
--- a name behind those that are there is put at the end
+-- a name after those that are there is put at the end
 pub put_end : (name bytes : List ℕ) (done : List Pair) → AreBefore done name
     → put name bytes done ≡ done ++ (name, bytes) ∷ []
 put_end name bytes [] h = refl
@@ -63,12 +63,12 @@ value_few : (attrs : List Pair) (done rest : List Pair) (a : Pair) → IsAttrs (
 value_few attrs [] rest a h = h.1
 value_few attrs (d ∷ ds) rest a h = value_few attrs ds rest a h.2
 
--- ---- one line after the other
+-- ---- one line after another
 
 abbrev pub with_attrs : FileBlock → List Pair → FileBlock
 with_attrs b attrs = record b { image = record b.image { attrs = attrs } }
 
--- the attributes so far, how many of them count, and the bytes of all values
+-- the attributes so far, how many of them count, and the total length of all values
 pub record Put : Type 0 where
   pub done : List Pair
   pub counted : ℕ
@@ -83,7 +83,7 @@ room n m h = grind (arith, nat_tests)
 not_above : (n most : ℕ) → n ≤ most → nat_lt most n ≡ false
 not_above n most h = grind (arith, nat_tests)
 
--- a count is within its limit where the attribute counts
+-- the count is within its limit if the attribute counts
 not_full : (b : Bool) (n : ℕ) → n + one_if b ≤ most_attrs
     → (b && not (nat_lt n most_attrs)) ≡ false
 not_full false n h = refl
@@ -104,7 +104,7 @@ module _ (base : Draft) (files : List FileBlock) (b : FileBlock) (limit : ℕ)
   abbrev here : Put → Draft
   here x = putting base files b x
 
-  -- the attributes to come are in order, and there is room for them
+  -- the remaining attributes are in order, and there is room for them
   pub record AreLeft (x : Put) (attrs : List Pair) : Type 0 where
     pub ordered : IsAttrs (x.done ++ attrs)
     pub forms : list_all is_attr attrs ≡ true
@@ -113,7 +113,7 @@ module _ (base : Draft) (files : List FileBlock) (b : FileBlock) (limit : ℕ)
     pub there : is_filled attrs ≡ true → b.image.present ≡ true
     pub whole : x.done ++ attrs ≡ b.image.attrs
 
-  -- what the line of an attribute makes
+  -- the draft after the line of an attribute
   put_back : (a : Pair) (x : Put) → AreBefore x.done a.0 → is_attr a ≡ true
       → length a.1 ≤ most_value → x.counted + attr_count a ≤ most_attrs
       → x.sum + attr_bytes a ≤ most_bytes
@@ -182,7 +182,7 @@ module _ (base : Draft) (files : List FileBlock) (b : FileBlock) (limit : ℕ)
         };
       }
 
-  -- what the lines of all attributes make
+  -- the draft after the lines of all attributes
   pub attrs_again : (n : ℕ) → AreAttrs b.image.attrs → n + sum_by attr_bytes b.image.attrs ≤ limit
       → (is_filled b.image.attrs ≡ true → b.image.present ≡ true)
       → Leads Put here (here (record { done = []; counted = 0; sum = n }))

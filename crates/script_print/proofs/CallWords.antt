@@ -12,12 +12,12 @@ use Rattle.script_text.specs.declared.head.Head.TheVariants as head
 use Rattle.script_print.specs.Lines.{Line, begins_line, is_plain}
 use Rattle.script_print.specs.Spelling.{call_line}
 
--- the words behind the first
+-- the words after the first
 abbrev pub rest_of : Line → Line
 rest_of [] = []
 rest_of (w ∷ ws) = ws
 
--- the first word of a call's line
+-- the kind of a call's line
 abbrev pub word_of : Call → CallWord
 word_of (call.Open fd inode h trunc) = word.Open
 word_of (call.Read fd from len) = word.Read
@@ -42,7 +42,7 @@ word_of (call.Firmware inode) = word.Firmware
 abbrev pub words_of : List FileBlock → Call → Line
 words_of files c = rest_of (call_line files c)
 
--- the first word of a call's line, with which a line begins
+-- the first word of a call's line, with which a line can begin
 pub record IsFirst (files : List FileBlock) (c : Call) (w : List ℕ) : Type 0 where
   pub line : call_line files c ≡ w ∷ words_of files c
   pub begins : begins_line w ≡ true

@@ -1,4 +1,4 @@
--- The line of a call makes it again.
+-- Reading the line of a call makes the call again.
 use Rattle.std.proofs.Common.{◌≡◌, ℕ, ◌+◌, ◌<◌, ◌≤◌, Bool, true, false, ◌&&◌, ◌||◌, not, nat_le, nat_lt, List, [], ◌∷◌, ◌++◌, length, map, take, Some, None, Ok, refl, sym, ap, ◌∙◌, arith}
 use Rattle.std.specs.Fmt.{decimal}
 use Rattle.std.specs.List.{list_all}
@@ -79,7 +79,7 @@ module _ (files : List FileBlock) (paths : List (List ℕ)) (found : AreFound fi
   inode_back : (i : ℕ) → i < n → inode_at paths (path_at files i) ≡ Ok i
   inode_back i lt = rw (path i lt, place i lt) refl
 
-  -- the words behind the first of a call's line are plain, and make the call
+  -- the words after the first of a call's line are plain, and are read as the call
   pub record IsRead (c : Call) (ws : Line) : Type 0 where
     pub plain : list_all is_plain ws ≡ true
     pub back : call_of (word_of c) (text_behind ws) (take 9 ws) paths ≡ Ok c
@@ -131,7 +131,7 @@ module _ (files : List FileBlock) (paths : List (List ℕ)) (found : AreFound fi
       rw (descriptor_back fd d, inode_back i lt) refl
   open_back fd i how.Exec trunc d lt w e = absurd (false≢true (sym e))
 
-  -- a value of this length
+  -- a value of a length within these limits
   valued : (least most : ℕ) (v : List ℕ) → least ≤ length v → length v ≤ most
       → are_bytes v ≡ true → is_value least most v ≡ true
   valued least most v low high bytes =
@@ -144,7 +144,7 @@ module _ (files : List FileBlock) (paths : List (List ℕ)) (found : AreFound fi
   mmap_back m fd true s d = rw (small_back m (small_fits m s), descriptor_back fd d) refl
   mmap_back m fd false s d = rw (small_back m (small_fits m s), descriptor_back fd d) refl
 
-  -- the words of a call's line make the call
+  -- the words of a call's line are read as the call
   pub call_back : (c : Call) → is_line_call n c ≡ true → HasReadRule c
       → IsRead c (words_of files c)
   unfolding call_of

@@ -1,4 +1,4 @@
--- The lines of EVM's settings and of file systems make them again.
+-- Reading the lines of EVM's settings and of file systems makes them again.
 use Rattle.std.proofs.Common.{◌≡◌, ℕ, ◌+◌, ◌<◌, ◌≤◌, ◌==◌, Bool, true, false, ◌&&◌, ◌⊎◌, not, nat_le, nat_lt, List, [], ◌∷◌, ◌++◌, length, map, Option, Some, None, refl, sym, ◌∙◌, subst, inl, inr, arith, length-append, append_assoc}
 use Rattle.std.specs.Prelude.{codes}
 use Rattle.std.specs.Cmp.Lexicographic.{bytes_decides}
@@ -53,7 +53,7 @@ key_for s (Some key) is = record {
 
 -- ---- the names
 
--- a name of those is not the lock
+-- an added name isn't `.`, the lock
 not_lock : (w : List ℕ) → is_added_name w ≡ true → bytes_eq w (codes ".") ≡ false
 not_lock w h = elim (cases_Bool (bytes_eq w (codes "."))) [
   | inl e ↦
@@ -80,7 +80,7 @@ module _ (s : ScriptValue) where
   abbrev named : Named → Draft
   named x = draft (record (after_key s) { added = x.done }) x.at
 
-  -- the names to come are new, and there is room for them
+  -- the remaining names are new, and there is room for them
   pub record AreLeft (x : Named) (ws : List (List ℕ)) : Type 0 where
     pub at : IsAt x.at 7
     pub forms : list_all is_added_name ws ≡ true
@@ -192,7 +192,7 @@ module _ (s : ScriptValue) where
         (above 8 n 7 false at (omega arith)) refl)
   ]
 
-  -- EVM's settings
+  -- the lines of EVM's settings are read as these settings
   pub evm_again : if_there is_key s.key ≡ true → AreNames s.added → is_format s.format ≡ true
       → Reads (draft (after_mode s) 5) (evm_lines s) (draft after_evm 8)
   evm_again key names format =

@@ -14,7 +14,7 @@ use Rattle.script_print.specs.Spelling.{meta_words, octal}
 use Rattle.script_print.proofs.AttrsAgain.{with_attrs}
 use Rattle.script_print.proofs.Words.{decimal_plain, id_back, id_plain, ino_back, ino_plain, mode_back, numeral_back, octal_plain, path_plain}
 
--- what the words that `file` and `absent` share say of a block
+-- the front of a block, as the words that `file` and `absent` share give it
 abbrev pub front_for : FileBlock → Front
 front_for b = record {
   path = b.path;
@@ -30,7 +30,7 @@ front_for b = record {
 abbrev pub bare_block : FileBlock → FileBlock
 bare_block b = with_attrs b []
 
--- the metadata has numbers within their limits
+-- the numbers in the metadata are within their limits
 pub record IsMeta (m : Meta) : Type 0 where
   pub ino : is_ino m.ino ≡ true
   pub generation : is_id m.generation ≡ true

@@ -1,4 +1,4 @@
--- The lines of files make them again.
+-- Reading the lines of files makes the files again.
 use Rattle.std.proofs.Common.{◌≡◌, ℕ, zero, suc, ◌+◌, ◌^◌, ◌<◌, ◌≤◌, Bool, true, false, ◌&&◌, ◌||◌, not, nat_le, nat_lt, List, [], ◌∷◌, ◌++◌, length, map, flat_map, slice_get, Option, Some, None, Ok, ok_or, if◌then◌else◌, refl, sym, ap, ◌∙◌, subst, inl, inr, arith, length-append, append_assoc}
 use Rattle.std.specs.Prelude.{codes}
 use Rattle.std.specs.List.{AllByRecursion, sum_by}
@@ -45,7 +45,7 @@ flip : (b : Bool) → not b ≡ true → b ≡ false
 flip true h = absurd (false≢true h)
 flip false h = refl
 
--- a file system that is there has a number below their number
+-- the number of an existing file system is below the count
 there_below : (supers : List Super) (k : ℕ) (i : Image) → IsOnSome (slice_get supers k) i
     → k < length supers
 there_below [] k i h = absurd h
@@ -54,7 +54,7 @@ there_below (x ∷ xs) (suc k) i h = let lt = there_below xs k i h in omega arit
 
 -- ---- a block
 
--- what a block needs of a draft
+-- the properties that a block needs of a draft
 pub record Fits (b : FileBlock) (d : Draft) : Type 0 where
   pub file : IsFile d.script.supers b
   pub fs : length d.script.supers ≤ most_supers
@@ -92,7 +92,7 @@ module _ (b : FileBlock) (d : Draft) (h : Fits b d) where
       (place_back (length d.script.supers) b.fs below fs_fits)
       ∙ on_some (slice_get d.script.supers b.fs) h.file.on ∙ block_back
 
--- a file that isn't there has nothing
+-- an absent file has neither content nor attributes
 pub record IsEmpty (i : Image) : Type 0 where
   pub content : i.content ≡ []
   pub attrs : i.attrs ≡ []
@@ -117,7 +117,7 @@ content_value : (c : List ℕ) → length c ≤ most_content → are_bytes c ≡
 content_value c few bytes =
     rw (at_most 0 (length c) (omega arith), at_most (length c) most_content few) bytes
 
--- the line of a file, whether it is there or not
+-- the line of a file, present or absent
 abbrev line_by : FileBlock → Bool → Line
 line_by b p =
     kind_word p ∷ shared_words b
@@ -186,13 +186,13 @@ module _ (b : FileBlock) (d : Draft) (h : Fits b d) (at : IsAt d.at 10) where
       one_line (codes "absent") (shared_words b) head.Absent d made refl refl
       (shared_plain b h.file.path meta fits) refl (again_at 10 d.at at) (absent_back e)
 
-  -- the line of a file makes it without its attributes
+  -- reading the line of a file makes the file without its attributes
   pub file_again : Reads d (file_line b ∷ []) made
   file_again = read_by b.image.present refl
 
--- ---- one file after the other
+-- ---- one file after another
 
--- the files so far, with what a draft counts
+-- the files so far, with the counts of the draft
 pub record Filed : Type 0 where
   pub done : List FileBlock
   pub at : ℕ
@@ -213,7 +213,7 @@ module _ (s : ScriptValue) (supers : length s.supers ≤ most_supers)
     paths = x.paths;
   }
 
-  -- the files to come are new, and there is room for them
+  -- the remaining files are new, and there is room for them
   pub record AreLeft (x : Filed) (bs : List FileBlock) : Type 0 where
     pub at : IsAt x.at 10
     pub each : AllByRecursion (IsFile s.supers) bs
@@ -224,7 +224,7 @@ module _ (s : ScriptValue) (supers : length s.supers ≤ most_supers)
     pub paths : x.paths ≡ map path_of_block x.done
     pub whole : x.done ++ bs ≡ s.files
 
-  -- the attributes of a file that has some are those of one that is there
+  -- a file with attributes is present
   there_if : (i : Image) → is_bare i ≡ true → is_filled i.attrs ≡ true → i.present ≡ true
   there_if i bare some = elim (cases_Bool i.present) [
     | inl e ↦ e
@@ -293,7 +293,7 @@ module _ (s : ScriptValue) (supers : length s.supers ≤ most_supers)
         };
       }
 
-  -- the lines of all files make them
+  -- reading the lines of all files makes the files again
   pub files_again : AreFiles s.supers s.files → (m : ℕ) → IsAt m 9
       → Leads Filed filing (filing (record {
         done = [];

@@ -5,7 +5,7 @@ use Rattle.std.specs.List.{concat}
 use Rattle.hex.specs.Hex.{encode_lower, encode_with, lower_digits}
 use Rattle.inode_events.proofs.about_pages.Walking.{concat_more}
 
--- the text of bytes behind bytes
+-- the digits of two byte strings in a row are the digits of each in a row
 encode_lower-append : (xs ys : List ℕ) → encode_lower (xs ++ ys)
     ≡ encode_lower xs ++ encode_lower ys
 unfolding encode_with
@@ -14,7 +14,7 @@ encode_lower-append (x ∷ xs) ys =
     ap (λ (l : List ℕ). slice_index lower_digits (x / 16) ∷ slice_index lower_digits (x % 16) ∷ l)
     (encode_lower-append xs ys)
 
--- one page more
+-- the digits so far with those of one more page
 pub digits_more : (out start key page : List ℕ) (pages : List (List ℕ)) (i : ℕ)
     → i < length pages → page ≡ get_or pages i page
     → out ≡ start ++ (key ++ encode_lower (concat (take i pages)))

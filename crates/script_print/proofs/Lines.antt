@@ -1,4 +1,4 @@
--- Lines of plain words are read word by word, and one by one.
+-- Lines of plain words are read word by word, and one after another.
 use Rattle.std.proofs.Common.{◌≡◌, ℕ, ◌+◌, Bool, true, false, not, ◌==◌, List, [], ◌∷◌, ◌++◌, map, Option, Some, None, Result, Ok, Err, if◌then◌else◌, refl, sym, ap, ◌∙◌, arith}
 use Rattle.std.specs.List.{list_all, join_with_byte}
 use Rattle.std.proofs.lemmas.Bool.{false≢true}
@@ -40,12 +40,12 @@ clean w h = all_weaker is_visible is_clean_byte clean_byte w h
 no_space : (b : ℕ) → is_visible b ≡ true → (b == 32) ≡ false
 no_space b h = grind (arith, nat_tests)
 
--- words behind a space each are words with one space between
+-- words preceded by a space each are words joined by spaces
 pub joined_is : (w : List ℕ) (ws : Line) → words_text (w ∷ ws) ≡ join_with_byte 32 (w ∷ ws)
 joined_is w [] = append-nil w
 joined_is w (v ∷ ws) = ap (λ (t : List ℕ). w ++ 32 ∷ t) (joined_is v ws)
 
--- what stands behind the first word
+-- the text after the first word
 abbrev pub text_behind : Line → Option (List ℕ)
 text_behind [] = None
 text_behind (w ∷ ws) = Some (words_text (w ∷ ws))
@@ -102,7 +102,7 @@ not_skipped ([] ∷ ws) h = absurd (false≢true h)
 not_skipped ((c ∷ cs) ∷ []) h = not_comment c (left_true (not (c == 35)) _ h)
 not_skipped ((c ∷ cs) ∷ v ∷ ws) h = not_comment c (left_true (not (c == 35)) _ h)
 
--- what lines make of a draft
+-- the draft after these lines
 abbrev pub run : Draft → List Line → Made
 run d [] = Ok d
 run d (l ∷ ls) = add d (words_text l) >>= λ e. run e ls
@@ -116,14 +116,14 @@ one_by_one : (n : ℕ) (d : Draft) (line : List ℕ) (texts : List (List ℕ))
 one_by_one n d line [] = refl
 one_by_one n d line (t ∷ ts) = refl
 
--- a line that makes something leaves the question to the lines behind it
+-- after a line that was read the rest depends only on the lines after it
 after : (n : ℕ) (r : Made) (ls : List Line) (e : Draft) → (r >>= λ x. run x ls) ≡ Ok e
     → ((x : Draft) → run x ls ≡ Ok e → Folded (n + 1) x (map words_text ls ++ [] ∷ []) ≡ Ok e)
     → (at_line fault_at n r >>= λ x. Folded (n + 1) x (map words_text ls ++ [] ∷ [])) ≡ Ok e
 after n (Ok x) ls e made more = more x made
 after n (Err c) ls e made more = absurd (cc made)
 
--- lines that all make something, the last of them an end, are a text
+-- lines that are all read, the last as an ending line, make up a text
 pub folded : (ls : List Line) (n : ℕ) (d e : Draft) → list_all is_read_line ls ≡ true
     → run d ls ≡ Ok e → is_over e ≡ true → Folded n d (map words_text ls ++ [] ∷ []) ≡ Ok e
 folded [] n d e h made over =

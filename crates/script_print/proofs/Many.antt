@@ -1,4 +1,4 @@
--- Sections of lines, one line or more for each of their items.
+-- Sections with one line or more for each of their items.
 use Rattle.std.proofs.Common.{◌≡◌, ℕ, ◌≤◌, ◌<◌, Bool, true, nat_le, nat_lt, List, [], ◌∷◌, map, flat_map, refl, subst, arith}
 use Rattle.std.proofs.lemmas.Bool.Decides.{nat_tests}
 use Rattle.std.proofs.lemmas.List.Concat.{flat_map_single}
@@ -7,7 +7,7 @@ use Rattle.script_text.specs.Heads.{in_order}
 use Rattle.script_print.specs.Lines.{Line}
 use Rattle.script_print.proofs.Steps.{Reads, followed, nothing}
 
--- the lines make a draft of the state s, of which Q holds
+-- the lines lead to the draft of a state that satisfies Q
 pub record Leads (S : Type 0) (draft : S → Draft) (d : Draft) (ls : List Line) (Q : S → Type 0)
     : Type 0 where
   pub to : S
@@ -17,7 +17,7 @@ pub record Leads (S : Type 0) (draft : S → Draft) (d : Draft) (ls : List Line)
 module _ {A S : Type 0} (draft : S → Draft) (lines : A → List Line) (Inv : S → List A → Type 0)
     (step : (x : A) (xs : List A) (s : S) → Inv s (x ∷ xs)
     → Leads S draft (draft s) (lines x) (λ t. Inv t xs)) where
-  -- one item after the other
+  -- the items are read one after another
   pub many : (xs : List A) (s : S) → Inv s xs
       → Leads S draft (draft s) (flat_map lines xs) (λ t. Inv t [])
   many [] s h = record { to = s; reads = nothing (draft s); is = h }
@@ -31,13 +31,13 @@ module _ {A S : Type 0} (draft : S → Draft) (lines : A → List Line) (Inv : S
         is = others.is;
       }
 
--- a line of each item
+-- the items are read with one line for each
 pub by_map : {A : Type 0} (line : A → Line) (xs : List A) (d e : Draft)
     → Reads d (flat_map (λ x. line x ∷ []) xs) e → Reads d (map line xs) e
 by_map line xs d e h =
     let P : List Line → Type 0 = λ ls. Reads d ls e in subst P (flat_map_single line xs) h
 
--- a rank behind the first line, and not behind this one
+-- a rank after the first line, and at most `most`
 pub record IsAt (n most : ℕ) : Type 0 where
   pub some : 1 ≤ n
   pub few : n ≤ most

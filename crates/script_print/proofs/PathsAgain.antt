@@ -1,4 +1,4 @@
--- A path is found where its file stands.
+-- A path is found at the index of its file.
 use Rattle.std.proofs.Common.{◌≡◌, ℕ, zero, suc, ◌+◌, ◌<◌, Bool, true, false, not, List, [], ◌∷◌, ◌++◌, length, map, slice_get, Option, Some, None, is_some, refl, sym, ap, ◌∙◌, inl, inr, arith, length-append, append_assoc}
 use Rattle.std.specs.Cmp.Lexicographic.{bytes_decides}
 use Rattle.std.specs.List.{list_all}
@@ -18,7 +18,7 @@ on_none : (o : Option ℕ) → is_some (one_on o) ≡ is_some o
 on_none None = refl
 on_none (Some n) = refl
 
--- a path behind those that are others
+-- a path after different ones has their number as its index
 pub place_first : (before rest : List (List ℕ)) (w : List ℕ) → has_place before w ≡ false
     → place_in (before ++ w ∷ rest) w ≡ Some (length before)
 place_first [] rest w h = rw (reflexive w) refl
@@ -35,7 +35,7 @@ pub flip : (b : Bool) → not b ≡ true → b ≡ false
 flip true h = absurd (false≢true h)
 flip false h = refl
 
--- a path is found where it stands
+-- a path is found at its index
 pub place_again : (before ws : List (List ℕ)) → are_apart has_place before ws ≡ true → (k : ℕ)
     (w : List ℕ) → slice_get ws k ≡ Some w → place_in (before ++ ws) w ≡ Some (length before + k)
 place_again before [] h k w e = absurd (cc e)
@@ -56,20 +56,20 @@ place_again before (v ∷ vs) h (suc k) w e =
     ∙ place_again (before ++ v ∷ []) vs (right_true (not fresh) rest h) k w e
     ∙ ap (λ (n : ℕ). Some n) more
 
--- the files of a script, which have paths that are apart
+-- the files of a script, whose paths are all different
 pub record AreFound (files : List FileBlock) (paths : List (List ℕ)) : Type 0 where
   pub are : paths ≡ map path_of_block files
   pub apart : are_apart has_place [] (map path_of_block files) ≡ true
   pub forms : list_all is_path (map path_of_block files) ≡ true
 
--- the path of a number is that of the file that stands there
+-- the path at an index is that of the file there
 pub got : (files : List FileBlock) (k : ℕ) → k < length files
     → slice_get (map path_of_block files) k ≡ Some (path_at files k)
 got [] k lt = absurd (omega (arith, lt))
 got (b ∷ bs) zero lt = refl
 got (b ∷ bs) (suc k) lt = got bs k (omega (arith, lt))
 
--- the path of a number has the form of one
+-- the path at an index has the form of a path
 pub form_at : (files : List FileBlock) (k : ℕ) → k < length files
     → list_all is_path (map path_of_block files) ≡ true → is_path (path_at files k) ≡ true
 form_at [] k lt h = absurd (omega (arith, lt))

@@ -1,4 +1,4 @@
--- The pieces that the code puts one behind another are lines.
+-- The pieces that the code appends one after another make up lines.
 use Rattle.std.proofs.Common.{◌≡◌, ℕ, ◌+◌, ◌<◌, List, [], ◌∷◌, ◌++◌, get_or, length, map, take, refl, sym, ap, ◌∙◌, subst, append_assoc}
 use Rattle.std.specs.Prelude.{decimal}
 use Rattle.std.specs.List.{AllByRecursion, flat_map}
@@ -10,13 +10,13 @@ use Rattle.script_text.proofs.Lasts.{each_behind}
 use Rattle.script_print.specs.Lines.{Line, behind_space, line_text, lines_text, spaced, words_text}
 use Rattle.script_print.proofs.RulesAgain.{rule_joined}
 
--- lines made one of each element
+-- the text of lines, one for each element
 pub text_of_map : {X : Type 0} (f : X → Line) (xs : List X)
     → flat_map (λ x. line_text (f x)) xs ≡ lines_text (map f xs)
 text_of_map f [] = refl
 text_of_map f (x ∷ xs) = ap (λ l. line_text (f x) ++ l) (text_of_map f xs)
 
--- the same of lines made of each element
+-- the text of lines, several for each element
 pub text_of_flat : {X : Type 0} (f : X → List Line) (xs : List X)
     → flat_map (λ x. lines_text (f x)) xs ≡ lines_text (flat_map f xs)
 text_of_flat f [] = refl
@@ -31,20 +31,20 @@ turns_text (t ∷ ts) = ap (λ l. 32 ∷ (decimal t ++ l)) (turns_text ts)
 pub lines_more : (ls ms : List Line) → lines_text (ls ++ ms) ≡ lines_text ls ++ lines_text ms
 lines_more ls ms = flat_map-append line_text ls ms
 
--- a rule behind the first word
+-- the text of a rule after the first word
 pub rule_behind : (w : List ℕ) (r : RuleValue)
     → words_text (w ∷ rule_words r) ≡ w ++ 32 ∷ rule_text r
 rule_behind w r = ap (λ t. w ++ 32 ∷ t) (rule_joined r)
 
--- ---- one section behind another
+-- ---- one section after another
 
--- lines put behind lines
+-- lines appended to lines
 put_more : (o p : List ℕ) (done ls : List Line) (text : List ℕ) → o ≡ lines_text done
     → text ≡ lines_text ls → p ≡ o ++ text → p ≡ lines_text (done ++ ls)
 put_more o p done ls text h e k =
     k ∙ ap (λ t. t ++ text) h ∙ ap (λ t. lines_text done ++ t) e ∙ sym (lines_more done ls)
 
--- the same where something stands before them
+-- lines appended to lines that follow some text
 put_behind : (start o p : List ℕ) (done ls : List Line) (text : List ℕ)
     → o ≡ start ++ lines_text done → text ≡ lines_text ls → p ≡ o ++ text
     → p ≡ start ++ lines_text (done ++ ls)
@@ -53,20 +53,20 @@ put_behind start o p done ls text h e k =
     ∙ ap (λ t. start ++ (lines_text done ++ t)) e
     ∙ ap (λ t. start ++ t) (sym (lines_more done ls))
 
--- one line is lines
+-- the text of one line
 one_line_text : (l : Line) → line_text l ≡ lines_text (l ∷ [])
 one_line_text l = sym (append-nil (line_text l))
 
--- sections, grouped as they are put, are the lines of the script
+-- the sections, grouped as they are appended, are the lines of the script
 grouped : (a b c d e f g : List Line)
     → ((((((a ++ b) ++ c) ++ d) ++ e) ++ f) ++ g) ≡ a ++ (b ++ (c ++ (d ++ (e ++ (f ++ g)))))
 grouped a b c d e f g = simp append_assoc
 
--- the same of the lines of EVM's settings
+-- the lines of EVM's settings, grouped as they are appended
 grouped_four : (a b c d : List Line) → (((a ++ b) ++ c) ++ d) ≡ a ++ (b ++ (c ++ d))
 grouped_four a b c d = simp append_assoc
 
--- a line, and the lines behind it
+-- a line, and the lines after it
 pub block_put : (start o p : List ℕ) (l : Line) (ls : List Line) (text : List ℕ)
     → o ≡ start ++ line_text l → text ≡ lines_text ls → p ≡ o ++ text
     → p ≡ start ++ lines_text (l ∷ ls)
@@ -74,7 +74,7 @@ block_put start o p l ls text h e k =
     k ∙ ap (λ t. t ++ text) h ∙ append_assoc start (line_text l) text
     ∙ ap (λ t. start ++ (line_text l ++ t)) e
 
--- five lines
+-- five lines appended to a text
 pub five_put : (start o1 o2 o3 o4 o5 : List ℕ) (l1 l2 l3 l4 l5 : Line)
     → o1 ≡ start ++ line_text l1 → o2 ≡ o1 ++ line_text l2 → o3 ≡ o2 ++ line_text l3
     → o4 ≡ o3 ++ line_text l4 → o5 ≡ o4 ++ line_text l5
@@ -82,7 +82,7 @@ pub five_put : (start o1 o2 o3 o4 o5 : List ℕ) (l1 l2 l3 l4 l5 : Line)
 five_put start o1 o2 o3 o4 o5 l1 l2 l3 l4 l5 e1 e2 e3 e4 e5 =
     rw (e5, e4, e3, e2, e1) (simp append_assoc)
 
--- three sections and a line
+-- three sections and a line appended to a text
 pub four_put : (start o1 o2 o3 o4 : List ℕ) (a b c : List Line) (text : List ℕ) (l : Line)
     → o1 ≡ start ++ lines_text a → text ≡ lines_text b → o2 ≡ o1 ++ text
     → o3 ≡ o2 ++ lines_text c → o4 ≡ o3 ++ line_text l
@@ -94,7 +94,7 @@ four_put start o1 o2 o3 o4 a b c text l e1 t e2 e3 e4 =
     in
     h4 ∙ ap (λ ls. start ++ lines_text ls) (grouped_four a b c (l ∷ []))
 
--- six sections and a line
+-- six sections and a line appended to a text
 pub seven_put : (o0 o1 o2 o3 o4 o5 o6 o7 : List ℕ) (a b c d e f : List Line)
     (tc td te tf : List ℕ) (l : Line)
     → o0 ≡ [] → o1 ≡ o0 ++ lines_text a → o2 ≡ o1 ++ lines_text b
@@ -113,37 +113,37 @@ seven_put o0 o1 o2 o3 o4 o5 o6 o7 a b c d e f tc td te tf l n e1 e2 c3 e3 c4 e4 
     (one_line_text l) e7 in
     h7 ∙ ap (λ ls. lines_text ls) (grouped a b c d e f (l ∷ []))
 
--- ---- the words of a line, one behind another
+-- ---- the words of a line, one after another
 
--- a first word and a rule
+-- a first word and a rule, appended to a text
 pub added_put : (start o p : List ℕ) (w : List ℕ) (r : RuleValue) → o ≡ start ++ (w ++ 32 ∷ [])
     → p ≡ o ++ rule_text r → p ≡ start ++ words_text (w ∷ rule_words r)
 added_put start o p w r h k =
     k ∙ ap (λ t. t ++ rule_text r) h ∙ append_assoc start (w ++ 32 ∷ []) (rule_text r)
     ∙ ap (λ t. start ++ t) (append_assoc w (32 ∷ []) (rule_text r) ∙ sym (rule_behind w r))
 
--- the same with the end of the line
+-- a first word, a rule and the end of the line, appended to a text
 pub rule_put : (start o p q : List ℕ) (w : List ℕ) (r : RuleValue) → o ≡ start ++ (w ++ 32 ∷ [])
     → p ≡ o ++ rule_text r → q ≡ p ++ 10 ∷ [] → q ≡ start ++ line_text (w ∷ rule_words r)
 rule_put start o p q w r h k e =
     e ∙ ap (λ t. t ++ 10 ∷ []) (added_put start o p w r h k)
     ∙ append_assoc start (words_text (w ∷ rule_words r)) (10 ∷ [])
 
--- a first word and turns
+-- a first word and turns, appended to a text
 pub turns_put : (start o p q : List ℕ) (w : List ℕ) (turns : List ℕ) → o ≡ start ++ w
     → p ≡ o ++ flat_map (λ t. 32 ∷ decimal t) turns → q ≡ p ++ 10 ∷ []
     → q ≡ start ++ line_text (w ∷ map decimal turns)
 turns_put start o p q w turns h k e =
     rw (e, k, h, turns_text turns) (simp append_assoc)
 
--- three words, some more, and the last
+-- three words, some more, and the last, appended to a text
 pub front_put : (start o1 o2 o3 o4 o5 o6 k p f : List ℕ) (ms cs : Line) → o1 ≡ start ++ k
     → o2 ≡ o1 ++ 32 ∷ p → o3 ≡ o2 ++ 32 ∷ f → o4 ≡ o3 ++ spaced ms → o5 ≡ o4 ++ spaced cs
     → o6 ≡ o5 ++ 10 ∷ [] → o6 ≡ start ++ line_text (k ∷ p ∷ f ∷ (ms ++ cs))
 front_put start o1 o2 o3 o4 o5 o6 k p f ms cs e1 e2 e3 e4 e5 e6 =
     rw (e6, e5, e4, e3, e2, e1, flat_map-append behind_space ms cs) (simp append_assoc)
 
--- pieces of a text in any grouping
+-- pieces of a text, grouped as they are appended
 five_pieces : (start o1 o2 o3 o4 o5 o6 w m u key n v s e : List ℕ)
     → o1 ≡ start ++ (w ++ (s ++ m)) → o2 ≡ o1 ++ (s ++ u) → o3 ≡ o2 ++ (s ++ key)
     → o4 ≡ o3 ++ n → o5 ≡ o4 ++ (s ++ v) → o6 ≡ o5 ++ e
@@ -152,7 +152,7 @@ five_pieces : (start o1 o2 o3 o4 o5 o6 w m u key n v s e : List ℕ)
 five_pieces start o1 o2 o3 o4 o5 o6 w m u key n v s e e1 e2 e3 e4 e5 e6 =
     rw (e6, e5, e4, e3, e2, e1) (simp (append-nil, append_assoc))
 
--- five words, of which one is a key and a value
+-- five words, one of which is a key and a value, appended to a text
 pub super_put : (start o1 o2 o3 o4 o5 o6 w m u key n v : List ℕ)
     → o1 ≡ start ++ (w ++ 32 ∷ m) → o2 ≡ o1 ++ 32 ∷ u → o3 ≡ o2 ++ 32 ∷ key → o4 ≡ o3 ++ n
     → o5 ≡ o4 ++ 32 ∷ v → o6 ≡ o5 ++ 10 ∷ []
@@ -160,9 +160,9 @@ pub super_put : (start o1 o2 o3 o4 o5 o6 w m u key n v : List ℕ)
 super_put start o1 o2 o3 o4 o5 o6 w m u key n v e1 e2 e3 e4 e5 e6 =
     five_pieces start o1 o2 o3 o4 o5 o6 w m u key n v (32 ∷ []) (10 ∷ []) e1 e2 e3 e4 e5 e6
 
--- ---- one turn of a loop
+-- ---- one pass of a loop
 
--- the elements before the next one, and that one
+-- the elements up to the next one, and that one
 taken : {X : Type 0} (xs : List X) (i : ℕ) (x : X) → i < length xs → x ≡ get_or xs i x
     → take (i + 1) xs ≡ take i xs ++ x ∷ []
 taken xs i x lt is = take_more xs i x lt ∙ ap (λ y. take i xs ++ y ∷ []) (sym is)
@@ -179,7 +179,7 @@ text_more f xs i x start o p lt is h k =
     ∙ sym (flat_map-append f (take i xs) (x ∷ []))
     ∙ ap (λ l. flat_map f l) (sym (taken xs i x lt is)))
 
--- what holds of the elements so far, and of one more
+-- a property of the elements so far holds with one more
 pub all_more : {X : Type 0} (P : X → Type 0) (xs : List X) (i : ℕ) (x : X) → i < length xs
     → x ≡ get_or xs i x → AllByRecursion P (take i xs) → P x
     → AllByRecursion P (take (i + 1) xs)

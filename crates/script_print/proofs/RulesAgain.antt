@@ -1,4 +1,4 @@
--- The lines of rules make them again.
+-- Reading the lines of rules makes the rules again.
 use Rattle.std.proofs.Common.{◌≡◌, ℕ, ◌+◌, ◌<◌, ◌≤◌, true, nat_lt, List, [], ◌∷◌, ◌++◌, length, map, Ok, refl, sym, ap, ◌∙◌, subst, arith, length-append, append_assoc}
 use Rattle.std.specs.Prelude.{codes}
 use Rattle.std.specs.List.{AllByRecursion, list_all}
@@ -30,7 +30,7 @@ visible_plain w h = right_true (is_filled w) (is_plain w) h
 pub rule_plain : (r : RuleValue) → IsReadRule r → list_all is_plain (rule_words r) ≡ true
 rule_plain r h = all_weaker is_visible_word is_plain visible_plain (rule_words r) h.visible
 
--- the words of a rule are its text
+-- the words of a rule, joined, are its text
 pub rule_joined : (r : RuleValue) → words_text (rule_words r) ≡ rule_text r
 unfolding rule_text
 rule_joined r = joined_is (act_word r.act) (key_words keys r)
@@ -78,7 +78,7 @@ module _ (base : Draft) (rules : List RuleValue)
         };
       }
 
-  -- the lines of all rules make them
+  -- reading the lines of all rules makes the rules again
   pub rules_again : AllByRecursion IsReadRule rules → base.script.rules ≡ [] → IsAt base.at 10
       → Leads ℕ (λ m. ruling (record { done = rules; at = m })) base (map rule_line rules)
       (λ m. IsAt m 11)

@@ -1,4 +1,4 @@
--- The canonical text of a script is read as the script.
+-- The canonical text of a script is read as the same script.
 use Rattle.std.proofs.Common.{◌≡◌, ℕ, ◌+◌, ◌<◌, ◌≤◌, true, false, nat_le, nat_lt, List, [], ◌∷◌, ◌++◌, length, map, flat_map, Ok, refl, sym, ap, ◌∙◌, subst, arith}
 use Rattle.std.specs.Prelude.{codes}
 use Rattle.std.specs.Fmt.{decimal}
@@ -126,7 +126,7 @@ module _ (s : ScriptValue) (h : IsScript s) (rules : AllByRecursion IsReadRule s
   files_small : sum_by file_bytes s.files ≤ most_bytes
   files_small = omega (arith, h.bytes_few)
 
-  -- a script with its files, and what a draft counts of them
+  -- a script with some of its files, and the counts of its draft
   abbrev filed : Filed → Draft
   filed x = record (filing s h.supers.few files_small x) {
     script = record (after_supers s) { files = s.files };
@@ -224,7 +224,7 @@ module _ (s : ScriptValue) (h : IsScript s) (rules : AllByRecursion IsReadRule s
         is = record { script = refl; over = refl };
       }
 
-  -- what is printed of a script is read as that script
+  -- the canonical text of a script is read as that script
   pub script_again : script_of (script_text s) ≡ Ok s
   unfolding script_text
   script_again =

@@ -1,4 +1,4 @@
--- The lines of the first settings make them again.
+-- Reading the lines of the first settings makes the settings again.
 use Rattle.std.proofs.Common.{◌≡◌, ℕ, ◌≤◌, ◌==◌, true, ◌&&◌, nat_le, List, [], ◌∷◌, length, Option, Some, Ok, refl, sym, ap, ◌∙◌, arith}
 use Rattle.std.specs.Prelude.{codes}
 use Rattle.std.proofs.lemmas.Bool.{false≢true}
@@ -29,7 +29,7 @@ use Rattle.script_print.specs.Spelling.{hex_text, setting_lines}
 use Rattle.script_print.proofs.Steps.{Reads, followed, one_line}
 use Rattle.script_print.proofs.Words.{hex_plain, value_back}
 
--- a draft behind a line of this rank, with another script
+-- the draft after a line of this rank
 abbrev pub at_rank : Draft → ℕ → Draft
 at_rank d n = record d { at = n }
 
@@ -139,7 +139,7 @@ mode_line d m h =
     (both_true (is_plain (mode_word m)) true (mode_plain m) refl) refl h
     (rw (mode_again m) refl)
 
--- the script behind its first five lines
+-- the script after its first five lines
 abbrev pub after_mode : ScriptValue → ScriptValue
 after_mode s = record plain_script {
   hash = s.hash;
@@ -148,7 +148,7 @@ after_mode s = record plain_script {
   mode = s.mode;
 }
 
--- a draft by what differs
+-- a draft, by its script and rank
 abbrev pub draft : ScriptValue → ℕ → Draft
 draft s at = record start { script = s; at = at }
 

@@ -1,4 +1,4 @@
--- What lines make of a draft, one section after the other.
+-- The draft after lines, one section after another.
 use Rattle.std.proofs.Common.{◌≡◌, ℕ, true, List, [], ◌∷◌, ◌++◌, take, Option, Some, None, Result, Ok, Err, ok_or, refl, ap, ◌∙◌}
 use Rattle.std.specs.List.{list_all}
 use Rattle.std.proofs.lemmas.List.Folds.{list_all-append}
@@ -16,7 +16,7 @@ use Rattle.script_text.proofs.Holding.{both_true}
 use Rattle.script_print.specs.Lines.{Line, begins_line, is_plain, is_read_line, lines_text, words_text}
 use Rattle.script_print.proofs.Lines.{cut_words_text, fields_words_text, folded, lines_of, run, text_behind}
 
--- the lines are read word by word, and make the draft e of the draft d
+-- the lines are read word by word, and lead from draft d to draft e
 pub record Reads (d : Draft) (ls : List Line) (e : Draft) : Type 0 where
   pub lines : list_all is_read_line ls ≡ true
   pub made : run d ls ≡ Ok e
@@ -80,7 +80,7 @@ one_line w ws h d e begins plain others is at makes = record {
   made = only (add d (words_text (w ∷ ws))) e (added w ws h d plain others is at ∙ makes);
 }
 
--- lines of which the last is an end are the text of a script
+-- lines of which the last is an ending line are the text of a script
 pub text_read : (ls : List Line) (d : Draft) → Reads start ls d → is_over d ≡ true
     → script_of (lines_text ls) ≡ Ok d.script
 text_read ls d h over =

@@ -1,4 +1,4 @@
--- The lines of tasks make them again.
+-- Reading the lines of tasks makes the tasks again.
 use Rattle.std.proofs.Common.{◌≡◌, ℕ, ◌+◌, ◌<◌, ◌≤◌, Bool, true, false, ◌&&◌, not, nat_lt, List, [], ◌∷◌, ◌++◌, length, map, flat_map, take, Option, Some, Ok, refl, sym, ap, ◌∙◌, subst, arith, length-append, append_assoc}
 use Rattle.std.specs.Prelude.{codes}
 use Rattle.std.specs.Fmt.{decimal}
@@ -37,7 +37,7 @@ room n m h = grind (arith, nat_tests)
 not_above : (n most : ℕ) → n ≤ most → nat_lt most n ≡ false
 not_above n most h = grind (arith, nat_tests)
 
--- there is room for a rule where the call appends one
+-- there is room for a rule if the call appends one
 free_for : (b : Bool) (n : ℕ) → n + one_if b ≤ most_rules
     → (b && not (nat_lt n most_rules)) ≡ false
 free_for false n h = refl
@@ -45,7 +45,7 @@ free_for true n h = rw (room n most_rules (omega (arith, h))) refl
 
 -- ---- credentials
 
--- four numbers within their limits
+-- the four numbers of the credentials are within their limits
 pub record IsCred (c : Cred) : Type 0 where
   pub uid : is_id c.uid ≡ true
   pub euid : is_id c.euid ≡ true
@@ -111,16 +111,16 @@ module _ (d : Draft) (c : Cred) (h : is_cred c ≡ true) (at : IsAt d.at 12)
       one_line (codes "task") (id_words c ++ admin_words c.admin) head.Task d with_it refl refl
       (cred_plain c (cred_parts c h) c.admin) refl (again_at 12 d.at at) task_back
 
--- ---- calls, one line after the other
+-- ---- calls, one line after another
 
--- the calls so far, with what a draft counts
+-- the calls so far, with the counts of the draft
 pub record Called : Type 0 where
   pub done : List Call
   pub calls : ℕ
   pub appended : ℕ
   pub sum : ℕ
 
--- what a task's calls may count at their end
+-- the limits on the counts after all calls of a task
 pub record Most : Type 0 where
   pub calls : ℕ
   pub appended : ℕ
@@ -150,7 +150,7 @@ module _ (base : Draft) (found : AreFound base.script.files base.paths) (tasks :
     sum = x.sum;
   }
 
-  -- the calls to come have their forms, and there is room for them
+  -- the remaining calls have their forms, and there is room for them
   pub record AreLeft (x : Called) (cs : List Call) : Type 0 where
     pub forms : list_all (is_line_call (length files)) cs ≡ true
     pub read : AllByRecursion HasReadRule cs
@@ -230,9 +230,9 @@ module _ (base : Draft) (found : AreFound base.script.files base.paths) (tasks :
         is = r.is;
       }
 
--- ---- one task after the other
+-- ---- one task after another
 
--- the tasks so far, with what a draft counts
+-- the tasks so far, with the counts of the draft
 pub record Tasked : Type 0 where
   pub done : List TaskBlock
   pub at : ℕ
@@ -251,7 +251,7 @@ module _ (base : Draft) (found : AreFound base.script.files base.paths) (tasks :
       sum = x.sum;
     }
 
-    -- the tasks to come have their forms, and there is room for them
+    -- the remaining tasks have their forms, and there is room for them
     pub record TasksLeft (x : Tasked) (ts : List TaskBlock) : Type 0 where
       pub at : IsAt x.at 12
       pub forms : list_all (is_task (length base.script.files)) ts ≡ true
@@ -328,7 +328,7 @@ module _ (base : Draft) (found : AreFound base.script.files base.paths) (tasks :
           };
         }
 
-    -- the lines of all tasks make them
+    -- reading the lines of all tasks makes the tasks again
     pub tasks_again : (x : Tasked) → TasksLeft x tasks
         → Leads Tasked tasking (tasking x) (flat_map (task_lines base.script.files) tasks)
         (λ y. TasksLeft y [])

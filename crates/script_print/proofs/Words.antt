@@ -1,4 +1,4 @@
--- What is printed of numbers, values and names is plain, and is read again.
+-- The printed words of numbers, values and names are plain, and are read as the same.
 use Rattle.std.proofs.Common.{◌≡◌, ℕ, ◌-◌, ◌^◌, ◌<◌, ◌≤◌, ◌==◌, Bool, true, false, ◌&&◌, nat_le, List, [], ◌∷◌, length, Option, Some, None, if◌then◌else◌, refl, sym, ap, ◌∙◌, inl, inr, arith}
 use Rattle.std.specs.Fmt.{decimal}
 use Rattle.std.specs.List.{list_all, slice_split, onto_first}
@@ -73,7 +73,7 @@ small_back n h = short_number_of-decimal 63 n (omega arith) (omega arith)
 pub offset_back : (n : ℕ) → nat_le n 0xffff_ffff ≡ true → offset_of (decimal n) ≡ Some n
 offset_back n h = id_back n h
 
--- a number of one or more
+-- a number of at least one is read again
 any_back : (o : Option ℕ) (n : ℕ) → o ≡ Some n → 1 ≤ n → if_any o ≡ Some n
 any_back o n e some = let other : (n == 0) ≡ false = grind (arith, nat_tests) in rw (e, other) refl
 
@@ -87,7 +87,7 @@ place_back count n lt fits =
     let some : (count == 0) ≡ false = grind (arith, nat_tests) in
     rw some (short_number_of-decimal (count - 1) n fits (omega arith))
 
--- where a number is read, the text has the form of one
+-- a word that is read as a number has the form of one
 form_of : (b : Bool) (le : Bool) (v n : ℕ) → (if b && le then Some v else None) ≡ Some n → b ≡ true
 form_of true le v n e = refl
 form_of false le v n e = absurd (cc e)
@@ -136,7 +136,7 @@ parts_plain parts h = all_weaker (is_word 255) is_plain word_plain parts h
 abbrev parts_of : List ℕ → List (List ℕ)
 parts_of bs = slice_split (λ c. c == 47) bs
 
--- a part with a byte more is plain only where the byte is visible
+-- a part with one more byte is plain only if the byte is visible
 onto_plain : (b : ℕ) (parts : List (List ℕ)) → list_all is_plain (onto_first b parts) ≡ true
     → (is_visible b ≡ true) × (list_all is_plain parts ≡ true)
 onto_plain b [] h =
@@ -152,7 +152,7 @@ onto_plain b (part ∷ parts) h =
 slash_visible : (b : ℕ) → (b == 47) ≡ true → is_visible b ≡ true
 slash_visible b h = grind (arith, nat_tests)
 
--- parts that are plain between slashes
+-- text whose parts between slashes are plain is plain
 between_plain : (bs : List ℕ) → list_all is_plain (parts_of bs) ≡ true → is_plain bs ≡ true
 between_plain [] h = refl
 between_plain (b ∷ bs) h = elim (cases_Bool (b == 47)) [

@@ -3,18 +3,18 @@ use Rattle.std.specs.Prelude.{ℕ, ◌==◌, Bool, false, ◌&&◌, not, List, [
 use Rattle.std.specs.List.{flat_map, list_all}
 use Rattle.text_forms.specs.Words.{is_visible}
 
--- the words of a line
+-- a line, as the list of its words
 abbrev pub Line : Type 0
 Line = List (List ℕ)
 
 abbrev pub behind_space : List ℕ → List ℕ
 behind_space w = 32 ∷ w
 
--- words behind a space each
+-- the words, each preceded by a space
 abbrev pub spaced : Line → List ℕ
 spaced ws = flat_map behind_space ws
 
--- the line without its newline
+-- the text of the line without its newline
 abbrev pub words_text : Line → List ℕ
 words_text [] = []
 words_text (w ∷ ws) = w ++ spaced ws
@@ -28,12 +28,12 @@ lines_text ls = flat_map line_text ls
 abbrev pub is_plain : List ℕ → Bool
 is_plain w = list_all is_visible w
 
--- a word with which a line begins that is neither empty nor a comment
+-- a word that can begin a line: it isn't empty, and the line isn't a comment
 abbrev pub begins_line : List ℕ → Bool
 begins_line [] = false
 begins_line (c ∷ cs) = not (c == 35)
 
--- a line that is read as the words that it is made of
+-- a line whose text is read as the same words
 abbrev pub is_read_line : Line → Bool
 is_read_line [] = false
 is_read_line (w ∷ ws) = begins_line w && list_all is_plain (w ∷ ws)

@@ -1,4 +1,4 @@
--- Rules whose text is read as the rule.
+-- Rules whose text is read as the same rule.
 use Rattle.std.specs.Prelude.{◌≡◌, true, Ok}
 use Rattle.std.specs.List.{AllByRecursion, list_all}
 use Rattle.call_steps.specs.declared.call.Call.{Call}
@@ -12,7 +12,7 @@ pub record IsReadRule (r : RuleValue) : Type 0 where
   pub again : rule_of (rule_text r) ≡ Ok r
   pub visible : list_all is_visible_word (rule_words r) ≡ true
 
--- the rule that a call appends, where it appends one
+-- the rule that a call appends, if any, is read as the same rule
 abbrev pub HasReadRule : Call → Type 0
 HasReadRule (call.AddRule rule) = IsReadRule rule
 HasReadRule _ = Unit {0}

@@ -51,7 +51,7 @@ setting_lines s =
     ∷ (codes "template" ∷ template_word s.template ∷ [])
     ∷ (codes "boot" ∷ hex_text s.boot.bytes ∷ []) ∷ (codes "appraise" ∷ mode_word s.mode ∷ []) ∷ []
 
--- the format is 1 or 2
+-- the word of the format, which is 1 or 2
 abbrev pub format_word : ℕ → List ℕ
 format_word f = if f == 2 then codes "2" else codes "1"
 
@@ -93,7 +93,7 @@ file_line b =
 abbrev pub attr_line : Pair → Line
 attr_line a = codes "attr" ∷ a.0 ∷ hex_text a.1 ∷ []
 
--- what a seal wrote stands among the attributes
+-- the block of a file, in which the attributes that a seal set are listed with the others
 abbrev pub file_lines : FileBlock → List Line
 file_lines b = file_line b ∷ map attr_line b.image.attrs
 
@@ -195,6 +195,6 @@ script_lines s =
     ++ (map rule_line s.rules
     ++ (flat_map (task_lines s.files) s.tasks ++ ending_line s.ending ∷ [])))))
 
--- the canonical text
+-- the canonical text of a script
 unfoldable pub script_text : ScriptValue → List ℕ
 script_text s = lines_text (script_lines s)

@@ -135,7 +135,7 @@ fn push_call(
     }
 }
 
-// The path of the file of this number; nothing for a number without a file.
+// The path of the file of this number; empty if there is no such file.
 fn path_at(files: &[FileBlock], inode: u32) -> &[u8]
     ensures { result.now ≡ path_at files.now inode }
 {

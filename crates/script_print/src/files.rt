@@ -66,7 +66,7 @@ fn push_content(out: &mut Vec<u8>, image: &Image) -> Result<(), OutOfMemory>
     Ok(())
 }
 
-// The bytes of a content, page by page.
+// Appends the word `content=hex:` with the bytes of a content, page by page.
 fn push_pages(out: &mut Vec<u8>, content: &Content) -> Result<(), OutOfMemory>
     ensures { OnOk result (
         out.new.items ≡ out.old.items ++ (codes " content=" ++ hex_text content.now)) }

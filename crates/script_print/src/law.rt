@@ -8,10 +8,11 @@ ghost use Rattle.script_text.specs.ScriptValue.{ScriptValue};
 ghost use Rattle.script_print.specs.Rules.{AreReadRules, IsReadRule};
 ghost use Rattle.script_print.specs.Spelling.{script_text};
 
-/// The canonical text of a script is read as the same script: all settings but an absent key, the
-/// `boot` digest among them, and then the sections in order, where values stand as `hex:` in lower
-/// case, and the attributes of a sealed file as attributes, without a `seal`. The text of each of
-/// its rules has to be read as the rule, which `policy_text::print_rule` ensures of every rule.
+/// The canonical text of a script is read as the same script. It has all settings except an absent
+/// key, with the `boot` digest among them, and then the sections in order. Values are spelled as
+/// `hex:` in lower case, and the attributes of a sealed file as attributes, without a `seal`. The
+/// text of each of its rules must be read as the rule, which `policy_text::print_rule` ensures of
+/// every rule.
 pub fn text_is_read()
     ensures { (s : ScriptValue) → IsScript s → AllByRecursion IsReadRule s.rules
         → AllByRecursion AreReadRules s.tasks → script_of (script_text s) ≡ Ok s }

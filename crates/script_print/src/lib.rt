@@ -1,6 +1,6 @@
 //! The canonical text of a script, which is read as the same script.
 //!
-//! `specs/Spelling` has the text line by line, each line by its words.
+//! `specs/Spelling` defines the text line by line, each line by its words.
 #![tactic(auto)]
 
 mod calls;
@@ -13,3 +13,4 @@ mod settings;
 pub use law::text_is_read;
 pub use list_format as list_lines;
 pub use script::print;
+pub use std::alloc::AllocError as OutOfMemory;

@@ -1,4 +1,4 @@
-// Words and numbers, put behind a text.
+// Appending words and numbers to a text.
 
 ghost use Rattle.std.specs.Prelude.{◌≡◌, [], ◌∷◌, ◌++◌, decimal, OnOk};
 ghost use Rattle.hex.specs.Hex.{encode_lower};
@@ -9,7 +9,7 @@ use list_format::append_hex;
 use std::alloc::AllocError as OutOfMemory;
 use std::io::Write;
 
-// A number behind its key.
+// Appends a key and a decimal number.
 pub fn push_number(out: &mut Vec<u8>, key: &[u8], n: u64) -> Result<(), OutOfMemory>
     ensures { OnOk result (out.new.items ≡ out.old.items ++ (key.now ++ decimal n)) }
 {
@@ -20,7 +20,7 @@ pub fn push_number(out: &mut Vec<u8>, key: &[u8], n: u64) -> Result<(), OutOfMem
     }
 }
 
-// A mode behind its key, in octal digits.
+// Appends a key and a mode in octal digits.
 pub fn push_octal(out: &mut Vec<u8>, key: &[u8], mode: u16) -> Result<(), OutOfMemory>
     ensures { OnOk result (out.new.items ≡ out.old.items ++ (key.now ++ octal mode)) }
 {
@@ -31,7 +31,7 @@ pub fn push_octal(out: &mut Vec<u8>, key: &[u8], mode: u16) -> Result<(), OutOfM
     }
 }
 
-// A value behind its key.
+// Appends a key and a value as `hex:`.
 pub fn push_value(out: &mut Vec<u8>, key: &[u8], bytes: &[u8]) -> Result<(), OutOfMemory>
     ensures { OnOk result (out.new.items ≡ out.old.items ++ (key.now ++ hex_text bytes.now)) }
 {
@@ -40,7 +40,7 @@ pub fn push_value(out: &mut Vec<u8>, key: &[u8], bytes: &[u8]) -> Result<(), Out
     append_hex(out, b':', bytes)
 }
 
-// Bytes in hexadecimal.
+// Appends bytes in hexadecimal.
 pub fn push_hex(out: &mut Vec<u8>, bytes: &[u8]) -> Result<(), OutOfMemory>
     ensures { OnOk result (out.new.items ≡ out.old.items ++ encode_lower bytes.now) }
 {
@@ -53,7 +53,7 @@ pub fn push_hex(out: &mut Vec<u8>, bytes: &[u8]) -> Result<(), OutOfMemory>
     Ok(())
 }
 
-// A word behind a space.
+// Appends a space and a word.
 pub fn push_word(out: &mut Vec<u8>, word: &[u8]) -> Result<(), OutOfMemory>
     ensures { OnOk result (out.new.items ≡ out.old.items ++ 32 ∷ word.now) }
 {
@@ -61,7 +61,7 @@ pub fn push_word(out: &mut Vec<u8>, word: &[u8]) -> Result<(), OutOfMemory>
     out.extend_from_slice(word)
 }
 
-// A line of two words.
+// Appends a line of two words.
 pub fn push_line(out: &mut Vec<u8>, head: &[u8], word: &[u8]) -> Result<(), OutOfMemory>
     ensures { OnOk result (out.new.items ≡ out.old.items ++ line_text (head.now ∷ word.now ∷ [])) }
 {
@@ -71,7 +71,7 @@ pub fn push_line(out: &mut Vec<u8>, head: &[u8], word: &[u8]) -> Result<(), OutO
     Ok(())
 }
 
-// A line of a word and a value.
+// Appends a line of a word and a value.
 pub fn push_value_line(out: &mut Vec<u8>, head: &[u8], bytes: &[u8]) -> Result<(), OutOfMemory>
     ensures { OnOk result (
         out.new.items ≡ out.old.items ++ line_text (head.now ∷ hex_text bytes.now ∷ [])) }

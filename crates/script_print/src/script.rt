@@ -10,9 +10,9 @@ use crate::settings::{push_evm, push_settings, push_supers};
 use script_text::Script;
 use std::alloc::{AllocError as OutOfMemory, Global};
 
-/// The canonical text of a script, which is read as the same script: all settings but an absent
-/// key, the `boot` digest among them, and then the sections in order. Values stand as `hex:` in
-/// lower case, and the attributes of a sealed file as attributes, without a `seal`.
+/// The canonical text of a script, which is read as the same script: all settings except an absent
+/// key, with the `boot` digest among them, and then the sections in order. Values are spelled as
+/// `hex:` in lower case, and the attributes of a sealed file as attributes, without a `seal`.
 pub fn print(alloc: Global, script: &Script) -> Result<Vec<u8>, OutOfMemory>
     ensures text { IfOk result (λ v. v.items ≡ script_text script.now) }
     ensures again { IfOk result (λ v. script_of v.items ≡ Ok script.now) }

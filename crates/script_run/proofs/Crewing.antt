@@ -1,4 +1,4 @@
--- One task more of a script.
+-- The loop of `crew`: one more task of a script.
 use Rattle.std.proofs.Common.{◌≡◌, ℕ, zero, suc, ◌+◌, ◌<◌, List, [], ◌∷◌, ◌++◌, length, drop, Some, Result, Ok, Err, IfOk, refl, ap, sym, subst, ◌∙◌, ◌⊎◌, inl, inr, arith}
 use Rattle.std.specs.Prelude.{slice_get}
 use Rattle.std.proofs.lemmas.List.{length-append}
@@ -14,7 +14,7 @@ use Rattle.task_runner.proofs.about_closes.Gets.{get_parts}
 use Rattle.script_scene.specs.Scene.{program_of}
 use Rattle.script_run.specs.Crew.{AreNew, IsNew}
 
--- what a new task is, of what `Task::new` says of it
+-- a task is new, given what `Task::new` ensures
 pub new_is : {E : Type 0} (r : Result Tasked E) (n : ℕ) (block : TaskBlock) (calls : List Call)
     (passes : PassesValue) → calls ≡ block.calls
     → IfOk r (λ t. t.number ≡ n)
@@ -32,7 +32,7 @@ new_is (Ok t) n block calls passes same number program thought task = record {
 }
 new_is (Err e) n block calls passes same number program thought task = tt
 
--- the item at a place, and those behind it
+-- the item at a place and the items after it, from the list from that place on
 next : {A : Type 0} (xs : List A) (k : ℕ) (x : A) (rest : List A) → x ∷ rest ≡ drop k xs
     → (slice_get xs k ≡ Some x) × (rest ≡ drop (suc k) xs)
 next [] zero x rest e = absurd (omega (arith, ap length e))
@@ -43,7 +43,7 @@ next (y ∷ ys) zero x rest e = (
 )
 next (y ∷ ys) (suc k) x rest e = next ys k x rest e
 
--- the tasks so far are new, and the blocks and the passes of the others are left
+-- the tasks so far are new, and the blocks and the passes of the other tasks are left
 pub record Crewed (blocks rest : List TaskBlock) (passes left : List PassesValue)
     (tasks : List Tasked) : Type 0 where
   pub left_is : left ≡ drop (length tasks) passes
@@ -53,7 +53,7 @@ pub record Crewed (blocks rest : List TaskBlock) (passes left : List PassesValue
       → (block : TaskBlock) → slice_get blocks k ≡ Some block
       → (own : PassesValue) → slice_get passes k ≡ Some own → IsNew k block own t
 
--- a task among those before, or the last one
+-- with a new task at the end, each task is the new one of its block and passes
 one : (blocks : List TaskBlock) (passes : List PassesValue) (tasks : List Tasked)
     (block : TaskBlock) (own : PassesValue) (t : Tasked)
     → ((k : ℕ) (u : Tasked) → slice_get tasks k ≡ Some u

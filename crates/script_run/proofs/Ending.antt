@@ -1,28 +1,28 @@
--- What the turns of a script lead to is a run of the script, with all that is promised.
+-- The turns of a script lead to a run of the script, with all that is promised of it.
 use Rattle.std.proofs.Common.{◌≡◌, ℕ, ◌<◌, ◌||◌, true, false, nat_le, nat_lt, All, List, [], ◌∷◌, length, map, Result, Ok, Err, IfOk, refl, ap, sym, subst, ◌∙◌}
 use Rattle.std.specs.List.{AllByRecursion, list_all}
 use Rattle.std.proofs.lemmas.List.{length-map}
 use Rattle.std.proofs.lemmas.List.Elements.{All-from_recursion}
 use Rattle.call_steps.specs.declared.ending.Ending.{Ending}
 use Rattle.call_steps.specs.declared.ending.Ending.TheVariants as ending
-use Rattle.ima_templates.specs.IsEntry.{IsEntry}
-use Rattle.ima_templates.specs.Path.{IsMeasuredPath}
+use Rattle.ima_templates.proofs.ReplayLemmas.{register-banks_of}
 use Rattle.ima_templates.specs.Replay.{banks_of}
+use Rattle.ima_templates.specs.registers.Banks.{register}
+use Rattle.ima_templates.specs.registers.declared.banks.Banks.{Banks}
 use Rattle.ima_templates.specs.declared.entry.Entry.{Entry}
-use Rattle.policy_text.specs.meta.declared.measurement.Template.TheVariants.{Ima}
-use Rattle.policy_text.specs.declared.access.Super.{Super}
 use Rattle.run_model.specs.Ended.{IsThrough}
 use Rattle.run_model.specs.EndedValue.{EndedValue, ended_of}
 use Rattle.run_model.specs.Rounds.{IsRunOf, RoundsTo, moves}
-use Rattle.run_model.specs.Scene.{Program, Scene, Station}
+use Rattle.run_model.specs.Scene.{Program, Scene}
 use Rattle.run_model.specs.Served.{Run}
 use Rattle.run_model.specs.Shown.{IsShown}
 use Rattle.run_model.specs.Turns.{Moment, run_at, start_of, turns_of}
-use Rattle.script_text.specs.Forms.{IsFile, IsScript, is_ending}
+use Rattle.script_text.specs.Forms.{IsScript, is_ending}
 use Rattle.script_text.specs.Limits.{most_threads, most_turns}
 use Rattle.script_text.proofs.Holding.{left_true, right_true}
 use Rattle.script_text.specs.ScriptValue.{ScriptValue}
-use Rattle.script_text.specs.declared.blocks.FileBlock.{FileBlock}
+use Rattle.report_laws.proofs.Runs.{report_determines}
+use Rattle.report_text.specs.Report.{report_of}
 use Rattle.shown_laws.proofs.Denied.{denied_there}
 use Rattle.shown_laws.proofs.Sound.{admitted_there, covered_there, fresh_there, labelled_there, rare_there}
 use Rattle.shown_laws.specs.Places.{HasForms}
@@ -33,20 +33,13 @@ use Rattle.task_runner.specs.frames.Tasks.{Tasked}
 use Rattle.task_runner.specs.frames.World.{WorldValue}
 use Rattle.task_runner.specs.laws_of_turns.Runs.{StillRuns, moment_in, scene_in}
 use Rattle.task_runner.specs.ends.Settled.{is_over}
-use Rattle.script_scene.specs.Scene.{IsForFiles, scene_of, station_of}
-use Rattle.script_scene.proofs.Paths.{measured_path}
-use Rattle.script_run.specs.Run.{AreWithin, HasRun, HasStarted, LeadsTo, Promised}
+use Rattle.script_scene.specs.Scene.{IsForFiles, scene_of}
+use Rattle.script_run.specs.Run.{AreRulesKept, AreWithin, HasRun, HasStarted, LeadsTo, Promised}
 use Rattle.script_run.proofs.Fits.{at_most, below}
+use Rattle.script_run.proofs.Forms.{script_forms}
+use Rattle.script_run.proofs.Names.{script_names}
 
--- the paths of a script's files can be shown by each template
-paths_shown : (supers : List Super) (files : List FileBlock)
-    → AllByRecursion (IsFile supers) files
-    → AllByRecursion (λ (x : Station). IsMeasuredPath Ima x.path)
-    (map (station_of supers) files)
-paths_shown supers [] h = tt
-paths_shown supers (b ∷ bs) h = (measured_path b.path h.0.path, paths_shown supers bs h.1)
-
--- what an ending leads to has gone on as long as the ending asks
+-- a run that an ending leads to has gone on for as long as the ending asks
 through : (scene : Scene) (count : ℕ) (way : Ending) (m end : Moment)
     → LeadsTo scene count way m end
     → (((k : ℕ) → k < count → moves scene end k ≡ false) → is_over scene end ≡ true)
@@ -55,46 +48,44 @@ through scene count (ending.Schedule turns) m end leads ends = tt
 through scene count ending.Rounds m end leads ends = ends leads.1
 through scene count (ending.Threads n) m end leads ends = ends leads
 
--- and it is the run of its scene
+-- a run that an ending leads to is a run of its scene
 own : (scene : Scene) (count : ℕ) (way : Ending) (end : Moment)
     → LeadsTo scene count way (start_of scene) end → IsRunOf scene way (run_at end)
 own scene count (ending.Schedule turns) end leads = ap run_at leads
 own scene count ending.Rounds end leads = (end, (leads.0, refl))
 own scene count (ending.Threads n) end leads = tt
 
--- what is promised of the run that was led to
+-- all that is promised of a run holds of the run that the turns lead to
 promised : (s : ScriptValue) → IsScript s → (for_files : IsForFiles s) (count : ℕ)
     (end : Moment) (e : EndedValue)
     → LeadsTo (scene_of s for_files) count s.ending (start_of (scene_of s for_files)) end
-    → e ≡ ended_of (scene_of s for_files) (run_at end) → All IsEntry e.list
+    → e ≡ ended_of (scene_of s for_files) (run_at end)
     → (((k : ℕ) → k < count → moves (scene_of s for_files) end k ≡ false)
     → is_over (scene_of s for_files) end ≡ true)
     → ((way : Ending) → IsThrough way (is_over (scene_of s for_files) end)
     → IsShown (scene_of s for_files) way (run_at end))
     → Promised (scene_of s for_files) s.ending (run_at end) e
-promised s kept for_files count end e leads ended entries ends shows =
+promised s kept for_files count end e leads ended ends shows =
     let scene = scene_of s for_files in
     let run = run_at end in
     let shown = shows s.ending (through scene count s.ending (start_of scene) end leads ends) in
-    let forms : HasForms scene run = record {
-      paths = All-from_recursion (λ (x : Station). IsMeasuredPath Ima x.path) scene.stations
-          (paths_shown s.supers s.files kept.files.each);
-      entries = subst (λ (x : EndedValue). All IsEntry x.list) ended entries;
-    } in record {
+    let forms : HasForms scene = script_forms s kept for_files in record {
       shown = shown;
       own = own scene count s.ending end leads;
       leaves = ended;
       fresh = fresh_there scene s.ending run shown;
       covered = covered_there scene s.ending run shown forms;
-      replayed = ap (λ (x : EndedValue). x.banks) ended
-          ∙ ap (λ (x : EndedValue). banks_of x.list) (sym ended);
+      replayed = λ bank pcr below.
+          ap (λ (x : Banks). register x bank pcr) (ap (λ (x : EndedValue). x.banks) ended
+          ∙ ap (λ (x : EndedValue). banks_of x.list) (sym ended))
+          ∙ register-banks_of e.list bank pcr below;
       admitted = admitted_there scene s.ending run shown;
       denied = denied_there scene s.ending run shown;
       labelled = labelled_there scene s.ending run shown;
       rarely_hashed = rare_there scene s.ending run shown;
     }
 
--- a schedule of a script names its tasks
+-- a schedule of a script names only its tasks
 turns_within : (n : ℕ) (turns : List ℕ) → list_all (λ t. nat_lt t n) turns ≡ true
     → AllByRecursion (λ k. k < n) turns
 turns_within n [] h = tt
@@ -118,7 +109,7 @@ within s world tasks way kept started =
     (λ i. (sym started.all i, sym started.ending i))
     (ending_within (length s.tasks) s.ending kept.ending)
 
--- they are still as many as the world has
+-- after the turns there are still as many tasks as the world has
 pub still_all : (s : ScriptValue) (world world2 : WorldValue) (tasks tasks2 : List Tasked)
     (way : Ending) → HasStarted s world tasks way → StillRuns world world2 tasks tasks2
     → length tasks2 ≡ world2.frame.tasks
@@ -132,12 +123,12 @@ module _ (s : ScriptValue) (kept : IsScript s) (world world2 : WorldValue)
     (still : StillRuns world world2 tasks tasks2)
     (leads : LeadsTo (scene_in world tasks) (length tasks) way (moment_in world tasks)
     (moment_in world2 tasks2)) where
-  -- as many tasks as before
+  -- the turns don't change the number of tasks
   pub same_count : length tasks2 ≡ length tasks
   same_count = sym (length-map tasks2 runs.program_of) ∙ ap length still.programs
       ∙ length-map tasks runs.program_of
 
-  -- the scene at the end is still the script's
+  -- the scene after the turns is still the script's
   same_scene : scene_in world2 tasks2 ≡ scene_of s kept.template
   same_scene = (λ i. frames.scene_of (still.frame i) (still.programs i))
       ∙ started.scene kept.template
@@ -153,32 +144,37 @@ module _ (s : ScriptValue) (kept : IsScript s) (world world2 : WorldValue)
       (subst (λ (m : Moment). LeadsTo (scene_in world tasks) (length tasks) way m
       (moment_in world2 tasks2)) started.start leads)))
 
-  -- what the close says of the run holds of the script's
-  pub has_run : (e : EndedValue)
+  -- what the close ensures of the run holds of the script
+  pub has_run : AreRulesKept s → (e : EndedValue)
       → e ≡ ended_of (scene_in world2 tasks2) (run_at (moment_in world2 tasks2))
-      → All IsEntry e.list
       → (((k : ℕ) → k < length tasks2
       → moves (scene_in world2 tasks2) (moment_in world2 tasks2) k ≡ false)
       → is_over (scene_in world2 tasks2) (moment_in world2 tasks2) ≡ true)
       → ((w : Ending) → IsThrough w (is_over (scene_in world2 tasks2) (moment_in world2 tasks2))
       → IsShown (scene_in world2 tasks2) w (run_at (moment_in world2 tasks2)))
       → HasRun s e
-  has_run e ended entries ends shows =
-      let m = moment_in world2 tasks2 in record {
+  has_run rules e ended ends shows =
+      let m = moment_in world2 tasks2 in
+      let p : Promised (scene_of s kept.template) s.ending (run_at m) e =
+      promised s kept kept.template (length tasks2) m e leads_on
+      (ended ∙ ap (λ (x : Scene). ended_of x (run_at m)) same_scene)
+      (subst (λ (x : Scene). ((k : ℕ) → k < length tasks2 → moves x m k ≡ false)
+      → is_over x m ≡ true) same_scene ends)
+      (subst (λ (x : Scene). (w : Ending) → IsThrough w (is_over x m)
+      → IsShown x w (run_at m)) same_scene shows) in
+      record {
         for_files = kept.template;
         run = run_at m;
-        promised = promised s kept kept.template (length tasks2) m e leads_on
-            (ended ∙ ap (λ (x : Scene). ended_of x (run_at m)) same_scene) entries
-            (subst (λ (x : Scene). ((k : ℕ) → k < length tasks2 → moves x m k ≡ false)
-            → is_over x m ≡ true) same_scene ends)
-            (subst (λ (x : Scene). (w : Ending) → IsThrough w (is_over x m)
-            → IsShown x w (run_at m)) same_scene shows);
+        promised = p;
+        only = λ other shown same.
+            report_determines (scene_of s kept.template) s.ending other (run_at m)
+            (script_names s kept rules kept.template) shown p.shown
+            (same ∙ ap (λ (x : EndedValue). report_of x) p.leaves);
       }
 
-  -- the same of the answer of the close
-  pub run_is : {E : Type 0} (r : Result EndedValue E)
+  -- a successful close returns the state that a run of the script leaves
+  pub run_is : {E : Type 0} (r : Result EndedValue E) → AreRulesKept s
       → IfOk r (λ e. e ≡ ended_of (scene_in world2 tasks2) (run_at (moment_in world2 tasks2)))
-      → IfOk r (λ e. All IsEntry e.list)
       → IfOk r (λ e. ((k : ℕ) → k < length tasks2
       → moves (scene_in world2 tasks2) (moment_in world2 tasks2) k ≡ false)
       → is_over (scene_in world2 tasks2) (moment_in world2 tasks2) ≡ true)
@@ -186,5 +182,5 @@ module _ (s : ScriptValue) (kept : IsScript s) (world world2 : WorldValue)
       → IsThrough w (is_over (scene_in world2 tasks2) (moment_in world2 tasks2))
       → IsShown (scene_in world2 tasks2) w (run_at (moment_in world2 tasks2)))
       → IfOk r (HasRun s)
-  run_is (Ok e) ended entries ends shows = has_run e ended entries ends shows
-  run_is (Err e) ended entries ends shows = tt
+  run_is (Ok e) rules ended ends shows = has_run rules e ended ends shows
+  run_is (Err e) rules ended ends shows = tt

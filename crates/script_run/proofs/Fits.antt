@@ -1,4 +1,4 @@
--- What a script keeps is what a world and its tasks ask for.
+-- A script that the grammar accepts has all that a world and its tasks require.
 use Rattle.std.proofs.Common.{◌≡◌, ℕ, zero, suc, ◌+◌, ◌<◌, ◌≤◌, ◌&&◌, ◌||◌, Bool, true, false, nat_le, nat_lt, List, [], ◌∷◌, length, map, Option, Some, None, refl, subst, ap, sym, ◌∙◌, arith}
 use Rattle.std.specs.Prelude.{slice_get, All}
 use Rattle.std.specs.List.{AllByRecursion, list_all}
@@ -34,7 +34,7 @@ or_false false h = h
 
 -- ---- files
 
--- a world can have the files of a script
+-- each file of a script is one that a world can have
 pub files_fit : (supers : List Super) (files : List FileBlock)
     → AllByRecursion (IsFile supers) files → AllByRecursion started.IsFile (map file_of files)
 files_fit supers [] h = tt
@@ -43,7 +43,7 @@ files_fit supers (b ∷ bs) h = (
   files_fit supers bs h.1,
 )
 
--- the place is there
+-- the index of a file system that is found is within the list
 there : (supers : List Super) (n : ℕ) (o : Option Super) (i : Image) → slice_get supers n ≡ o
     → IsOnSome o i → n < length supers
 there [] n None i is on = absurd on
@@ -51,7 +51,7 @@ there [] n (Some s) i is on = absurd (none-some s is)
 there (s ∷ ss) zero o i is on = omega arith
 there (s ∷ ss) (suc n) o i is on = omega (arith, there ss n o i is on)
 
--- and their file systems are there
+-- each file of a script names a file system that the script has
 pub places_fit : (supers : List Super) (files : List FileBlock)
     → AllByRecursion (IsFile supers) files
     → AllByRecursion (λ place. place < length supers) (map fs_of files)
@@ -61,7 +61,7 @@ places_fit supers (b ∷ bs) h =
 
 -- ---- calls
 
--- a call of a script has the form that a task asks for
+-- each call of a script has the form that a task requires
 call_fits : (files : ℕ) (c : Call) → is_call files c ≡ true → IsFit c × IsWithin files c
 call_fits files (call.Open fd inode how true) h =
     let writes : is_writer how ≡ true =
@@ -93,7 +93,7 @@ call_fits files (call.AddRule rule) h = (tt, tt)
 call_fits files (call.Module inode) h = (tt, below inode files h)
 call_fits files (call.Firmware inode) h = (tt, below inode files h)
 
--- and so has each
+-- the call at each place of a script's calls has the form that a task requires
 pub calls_fit : (files : ℕ) (calls : List Call) → list_all (is_line_call files) calls ≡ true
     → (k : ℕ) (c : Call) → slice_get calls k ≡ Some c → IsFit c × IsWithin files c
 calls_fit files [] h k c at = absurd (none-some c at)

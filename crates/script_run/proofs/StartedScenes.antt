@@ -1,4 +1,4 @@
--- The scene of a world that was started with a script's parts is the script's.
+-- A world that was started with the parts of a script has the script's scene.
 use Rattle.std.proofs.Common.{◌≡◌, ℕ, List, [], ◌∷◌, length, map, drop, get_or, refl, ap, sym, ◌∙◌, arith}
 use Rattle.run_model.specs.events.declared.image.Image.{Image}
 use Rattle.policy_text.specs.declared.access.Super.{Super}
@@ -13,7 +13,7 @@ use Rattle.script_scene.specs.Scene as scripts
 use Rattle.script_scene.specs.Scene.{IsForFiles, file_of, fs_of, program_of}
 use Rattle.script_scene.specs.declared.parts.ScriptParts.{ScriptParts}
 
--- the stations are the files on their file systems
+-- the stations of the scene are the files on their file systems
 stations_are : (frame : Frame) (sites : List Site) (files : List FileBlock)
     → map (λ (s : Site). (s.path, s.birth)) sites ≡ map file_of files
     → map (λ (s : Site). s.place) sites ≡ map fs_of files
@@ -32,7 +32,7 @@ stations_are frame (s ∷ ss) (b ∷ bs) e p =
       place = get_or frame.supers (place i) no_super;
     } ∷ rest i
 
--- the whole scene
+-- the scene of the started world is that of the script
 pub scene_is : (s : ScriptValue) (p : ScriptParts) (frame : Frame) (count : ℕ)
     (programs : List Program) (for_files : IsForFiles s) → ArePartsOf s p
     → IsFrameOf p.settings p.boot p.inodes.items p.supers.items p.places.items p.rules count frame

@@ -1,4 +1,4 @@
--- New tasks are those of their world, with the programs of the script, before their first calls.
+-- New tasks belong to their world, and have the programs of the script before their first calls.
 use Rattle.std.proofs.Common.{◌≡◌, ℕ, zero, suc, ◌+◌, ◌<◌, true, List, [], ◌∷◌, ◌++◌, length, map, Some, refl, ap, sym, subst, ◌∙◌, arith}
 use Rattle.std.specs.Prelude.{slice_get}
 use Rattle.std.specs.List.{AllByRecursion, list_all}
@@ -38,7 +38,7 @@ found [] k below = absurd (omega (arith, below))
 found (x ∷ xs) zero below = (x, refl)
 found (x ∷ xs) (suc k) below = found xs k (omega (arith, below))
 
--- lists with the same items are the same
+-- lists with the same item at each place are equal
 same_lists : {A : Type 0} (xs ys : List A) → length xs ≡ length ys
     → ((k : ℕ) (x : A) → slice_get xs k ≡ Some x → slice_get ys k ≡ Some x) → xs ≡ ys
 same_lists [] [] e each = refl
@@ -49,7 +49,7 @@ same_lists (x ∷ xs) (y ∷ ys) e each =
     let rest = same_lists xs ys (omega (arith, e)) (λ k. each (suc k)) in
     λ i. sym first i ∷ rest i
 
--- the calls of a task of a script
+-- the calls of each task of a script are calls that a task of its world may have
 task_fits : (files : ℕ) (blocks : List TaskBlock) → list_all (is_task files) blocks ≡ true
     → (k : ℕ) (block : TaskBlock) → slice_get blocks k ≡ Some block
     → AreCallsOf files block.calls
@@ -64,7 +64,7 @@ task_fits files (b ∷ bs) h (suc k) block at =
 
 module _ (blocks : List TaskBlock) (passes : List PassesValue) (tasks : List Tasked)
     (new : AreNew blocks passes tasks) (even : length passes ≡ length blocks) where
-  -- each task is the new one of its block and passes
+  -- each task is the new task of its block and passes
   at : (k : ℕ) (t : Tasked) → slice_get tasks k ≡ Some t
       → (block : TaskBlock) × ((slice_get blocks k ≡ Some block)
       × ((own : PassesValue) × ((slice_get passes k ≡ Some own) × IsNew k block own t)))
@@ -110,7 +110,7 @@ module _ (blocks : List TaskBlock) (passes : List PassesValue) (tasks : List Tas
       (map_get program_of blocks k a.0 a.1.0)
       ∙ ap Some (sym a.1.1.1.1.thought ∙ t.1.1))
 
--- the world and the tasks that the parts of a script start are the script's
+-- the world and the tasks that are started with a script's parts are those of the script
 pub started_is : (s : ScriptValue) → IsScript s → (p : ScriptParts) → ArePartsOf s p
     → (world : WorldValue) (passes : List PassesValue) (tasks : List Tasked) (count : ℕ)
     → count ≡ length p.tasks.items

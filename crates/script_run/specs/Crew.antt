@@ -6,7 +6,7 @@ use Rattle.task_runner.specs.frames.Frame.{Frame}
 use Rattle.task_runner.specs.frames.Tasks.{AreCallsOf, ArePassesOf, AreUnused, IsTask, PassesValue, Tasked}
 use Rattle.script_scene.specs.Scene.{program_of}
 
--- the task of this number, block and passes, in each world to which they belong
+-- a new task with this number, block and passes, in any world to which the passes and calls belong
 pub record IsNew (n : ℕ) (block : TaskBlock) (passes : PassesValue) (t : Tasked) : Type 0 where
   pub number : t.number ≡ n
   pub program : t.mind.program ≡ program_of block
@@ -14,7 +14,7 @@ pub record IsNew (n : ℕ) (block : TaskBlock) (passes : PassesValue) (t : Taske
   pub task : (frame : Frame) → ArePassesOf frame n passes → AreUnused passes
       → AreCallsOf (length frame.sites) block.calls → IsTask frame t
 
--- there is one for each block, in order
+-- one new task for each block, in order
 pub record AreNew (blocks : List TaskBlock) (passes : List PassesValue) (tasks : List Tasked)
     : Type 0 where
   pub count : length tasks ≡ length blocks

@@ -1,5 +1,6 @@
 pub mod Crew
 pub mod Run
+pub mod Laws
 pub use Rattle.run_model.specs as model
 pub use Rattle.script_scene.specs as scenes
 pub use Rattle.task_runner.specs.frames

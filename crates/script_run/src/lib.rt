@@ -1,10 +1,15 @@
-//! The run of a script: its world and its tasks from their start to what they leave.
+//! Runs a script: starts its world and its tasks, gives the tasks their turns, and collects what is
+//! left of them.
 #![tactic(auto)]
 
+mod appended;
+mod laws;
 mod members;
 mod running;
 
+pub use laws::shown_runs_are_sound;
 pub use members::crew;
 pub use running::run;
 pub use script_scene as scenes;
+pub use task_runner as runners;
 pub use task_runner::tasks;

@@ -1,4 +1,4 @@
-// The tasks of a script.
+// Makes the tasks of a script from its task blocks.
 ghost use Rattle.std.specs.Prelude.{◌≡◌, ◌<◌, ◌^◌, IfOk, length};
 ghost use Rattle.script_run.specs.Crew.{AreNew, IsNew};
 
@@ -8,7 +8,7 @@ use std::collections::VecDeque;
 use task_runner::frames::Passes;
 use task_runner::tasks::Task;
 
-// The task of this number, before its first call.
+// Makes task `number` of the script, before its first call.
 fn task_of(
     alloc: Global,
     number: u32,
@@ -21,8 +21,8 @@ fn task_of(
     Task::new(alloc, number, cred, calls.into_vec(), passes)
 }
 
-/// The tasks of these blocks before their first calls, in order and each with its passes. Their
-/// numbers are the places of their blocks.
+/// The tasks of these blocks before their first calls, in order, each with its own passes. The
+/// number of a task is the index of its block.
 pub fn crew(
     alloc: Global,
     blocks: Vec<TaskBlock>,

@@ -1,10 +1,11 @@
-//! The run of a script.
+//! The run of a script, from its start to its end.
 
 ghost use Rattle.std.specs.Prelude.{◌≡◌, ◌<◌, All, IfOk, length};
 ghost use Rattle.script_run.specs.Run.{AreWithin, HasRun, HasStarted, LeadsTo};
 ghost use Rattle.task_runner.specs.frames.Runs.{AreTasks};
 ghost use Rattle.task_runner.specs.laws_of_turns.Runs.{StillRuns, moment_in, scene_in};
 
+use crate::appended::rules_kept;
 use crate::members::crew;
 use call_steps::Ending;
 use run_model::Ended;
@@ -18,7 +19,8 @@ use task_runner::outer::Gate;
 use task_runner::tasks::{Task, World};
 use task_runner::{run_rounds, run_schedule, run_threads};
 
-// The world and the tasks of a script before their first turn, and how they are run.
+// The world of a script and its tasks before their first turn, and the ending that says how they
+// run.
 fn started(alloc: Global, script: Script) -> Result<(World, Vec<Task>, Ending), OutOfMemory>
     ensures { IfOk result (λ r. HasStarted script r.0 r.1.items r.2) }
 {
@@ -41,7 +43,7 @@ fn started(alloc: Global, script: Script) -> Result<(World, Vec<Task>, Ending), 
     Ok((world, tasks, ending))
 }
 
-// Turns of the tasks, as their ending says.
+// Gives the tasks their turns, as the ending says.
 fn turn_all<G: Gate + Sync, R: Threads + Wait + Sync>(
     rt: &R,
     world: World,
@@ -71,9 +73,10 @@ fn turn_all<G: Gate + Sync, R: Threads + Wait + Sync>(
     }
 }
 
-/// What the run of the script leaves, each step behind the gate. Its turns are those of its
-/// schedule, or rounds of all tasks until one moves none; with `threads` its tasks run on so many
-/// threads, however their steps fall, and then in rounds until none moves.
+/// Runs the script, passing the gate before each step, and returns the state that the run leaves.
+/// The turns are those of the script's schedule, or rounds of all tasks until a round moves none of
+/// them. With `threads n` the tasks run on `n` threads, with their steps in any order, and then in
+/// rounds until none moves.
 pub fn run<G: Gate + Sync, R: Threads + Wait + Sync>(
     rt: &R,
     alloc: Global,
@@ -83,6 +86,7 @@ pub fn run<G: Gate + Sync, R: Threads + Wait + Sync>(
     ensures { IfOk result (HasRun script) }
 {
     script.keeps();
+    rules_kept(&script);
     let (world, tasks, ending) = started(alloc, script)?;
     let mut tasks = tasks;
     let after = turn_all(rt, world, &mut tasks, &ending, gate)?;

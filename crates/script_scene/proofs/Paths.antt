@@ -1,4 +1,4 @@
--- What a path of a script is to the measurement list.
+-- A path of a script, as a path of the measurement list.
 use Rattle.std.proofs.Common.{◌≡◌, ℕ, zero, suc, ◌-◌, ◌<◌, ◌≤◌, ◌==◌, Bool, true, false, cond, ◌&&◌, not, List, [], ◌∷◌, length, get_or, refl, sym, ap, ◌∙◌, arith}
 use Rattle.std.specs.Prelude.{nat_le}
 use Rattle.std.specs.List.{slice_split, onto_first, list_all, suffix_len, All}
@@ -21,29 +21,29 @@ pub and_right : (a b : Bool) → (a && b) ≡ true → b ≡ true
 and_right true b h = h
 and_right false b h = absurd (cc)
 
--- a visible byte can stand in a path of an entry
+-- a visible byte may occur in a path of an entry
 visible_is_graphic : (b : ℕ) → is_visible b ≡ true → IsGraphic b
 visible_is_graphic b h = (grind (arith, nat_tests), grind (arith, nat_tests))
 
--- what the test on numbers says
+-- the test on numbers decides the order
 at_most_by : (n m : ℕ) → nat_le n m ≡ true → n ≤ m
 at_most_by n m h = grind (arith, nat_tests)
 
 equal_by : (n m : ℕ) → (n == m) ≡ true → n ≡ m
 equal_by n m h = grind (arith, nat_tests)
 
--- each byte is graphic, by cases
+-- each byte is graphic, by recursion on the list
 abbrev AllGraphic : List ℕ → Type 0
 AllGraphic [] = Unit {0}
 AllGraphic (b ∷ bs) = IsGraphic b × AllGraphic bs
 
--- the same for all bytes of a list
+-- bytes that are all graphic by recursion are so at each index
 all_graphic : (bs : List ℕ) → AllGraphic bs → All IsGraphic bs
 all_graphic [] h k d lt = absurd (omega (arith, lt))
 all_graphic (b ∷ bs) h zero d lt = h.0
 all_graphic (b ∷ bs) h (suc k) d lt = all_graphic bs h.1 k d (omega (arith, lt))
 
--- a part of a path has visible bytes alone
+-- all bytes of the part are visible
 abbrev visible : List ℕ → Bool
 visible part = list_all is_visible part
 
@@ -51,7 +51,7 @@ visible part = list_all is_visible part
 abbrev parts_of : List ℕ → List (List ℕ)
 parts_of bs = slice_split (λ c. c == 47) bs
 
--- components are visible
+-- the components of a path are visible
 words_visible : (parts : List (List ℕ)) → list_all (is_word 255) parts ≡ true
     → list_all visible parts ≡ true
 words_visible [] h = refl
@@ -62,7 +62,7 @@ words_visible (part ∷ parts) h =
     let rest = words_visible parts (and_right (is_word 255 part) _ h) in
     rw (here, rest) refl
 
--- a part with a byte more is visible only where the byte is
+-- if a part with one more byte in front is visible, so are the byte and the part
 onto_visible : (b : ℕ) (parts : List (List ℕ)) → list_all visible (onto_first b parts) ≡ true
     → (is_visible b ≡ true) × (list_all visible parts ≡ true)
 onto_visible b [] h = (and_left (is_visible b) true (and_left (is_visible b && true) true h), refl)
@@ -73,11 +73,11 @@ onto_visible b (part ∷ parts) h =
       rw (and_right (is_visible b) (visible part) here, rest) refl,
     )
 
--- a slash can stand in a path of an entry
+-- a slash may occur in a path of an entry
 slash_is_graphic : (b : ℕ) → (b == 47) ≡ true → IsGraphic b
 slash_is_graphic b h = (grind (arith, nat_tests), grind (arith, nat_tests))
 
--- one byte more: a slash, or a byte of the first part
+-- one more byte in front: a slash, or a byte of the first part
 parts_step : (b : ℕ) (bs : List ℕ) (slash : Bool) → (b == 47) ≡ slash
     → (list_all visible (parts_of bs) ≡ true → AllGraphic bs)
     → list_all visible (cond slash ([] ∷ parts_of bs) (onto_first b (parts_of bs))) ≡ true
@@ -87,20 +87,20 @@ parts_step b bs false e more h =
     let both = onto_visible b (parts_of bs) h in
     (visible_is_graphic b both.0, more both.1)
 
--- visible words that are separated by slashes are graphic
+-- visible parts separated by slashes are graphic
 parts_graphic : (bs : List ℕ) → list_all visible (parts_of bs) ≡ true → AllGraphic bs
 parts_graphic [] h = tt
 parts_graphic (b ∷ bs) h = parts_step b bs (b == 47) refl (parts_graphic bs) h
 
 -- ---- the last component
 
--- the length of the last part, where there is one
+-- the length of the last part, if there is one
 abbrev last_length : List (List ℕ) → ℕ
 last_length [] = 0
 last_length (w ∷ []) = length w
 last_length (w ∷ v ∷ ws) = last_length (v ∷ ws)
 
--- in front of the last part stands a slash, if anything, and none stands in it
+-- the last part has no slash, and is preceded by a slash or by nothing
 record IsCut (xs : List ℕ) (ws : List (List ℕ)) : Type 0 where
   filled : 1 ≤ length ws
   within : last_length ws ≤ length xs
@@ -111,7 +111,7 @@ record IsCut (xs : List ℕ) (ws : List (List ℕ)) : Type 0 where
   slash : 0 < length xs - last_length ws
       → not (get_or xs (length xs - last_length ws - 1) 0 == 47) ≡ false
 
--- one part more in front
+-- one more part in front
 cut_slash : (x : ℕ) (xs : List ℕ) (ws : List (List ℕ)) → (x == 47) ≡ true → IsCut xs ws
     → IsCut (x ∷ xs) ([] ∷ ws)
 cut_slash x xs [] is c = absurd (omega (arith, c.filled))
@@ -143,7 +143,7 @@ cut_slash x xs (w ∷ ws) is c =
           rw place (ap (λ m. not (get_or xs m 0 == 47)) (sym there)
           ∙ c.slash (omega (arith, e)))
 
--- one byte more in the first part
+-- one more byte in the first part
 cut_onto : (x : ℕ) (xs : List ℕ) (ws : List (List ℕ)) → (x == 47) ≡ false → IsCut xs ws
     → IsCut (x ∷ xs) (onto_first x ws)
 cut_onto x xs [] not_it c = absurd (omega (arith, c.filled))
@@ -181,13 +181,13 @@ cut_onto x xs (w ∷ v ∷ ws) not_it c =
           ≡ suc (length xs - last_length (v ∷ ws) - 1) = omega (arith, less) in
           rw place (c.slash (omega (arith, less)))
 
--- one byte more
+-- one more byte in front
 cut_more : (x : ℕ) (xs : List ℕ) (ws : List (List ℕ)) (slash : Bool) → (x == 47) ≡ slash
     → IsCut xs ws → IsCut (x ∷ xs) (cond slash ([] ∷ ws) (onto_first x ws))
 cut_more x xs ws true is c = cut_slash x xs ws is c
 cut_more x xs ws false is c = cut_onto x xs ws is c
 
--- the parts of any bytes are cut at their slashes
+-- the parts of any bytes are cut at the slashes
 cut_of : (xs : List ℕ) → IsCut xs (parts_of xs)
 cut_of [] = record {
   filled = omega arith;
@@ -199,7 +199,7 @@ cut_of [] = record {
 }
 cut_of (x ∷ xs) = cut_more x xs (parts_of xs) (x == 47) refl (cut_of xs)
 
--- the last of some words has 1 to 255 bytes
+-- the last of some components has 1 to 255 bytes
 last_word : (ws : List (List ℕ)) → 1 ≤ length ws → list_all (is_word 255) ws ≡ true
     → (1 ≤ last_length ws) × (last_length ws ≤ 255)
 last_word [] some h = absurd (omega (arith, some))
@@ -214,7 +214,7 @@ last_word (w ∷ []) some h = word_length w (and_left (is_word 255 w) true h) wh
 last_word (w ∷ v ∷ ws) some h =
     last_word (v ∷ ws) (omega arith) (and_right (is_word 255 w) (list_all (is_word 255) (v ∷ ws)) h)
 
--- what stands behind the last slash is the last part
+-- the text after the last slash is the last part
 last_is : (xs : List ℕ) → length (last_component (47 ∷ xs)) ≡ last_length (parts_of xs)
 last_is xs =
     let c = cut_slash 47 xs (parts_of xs) refl (cut_of xs) in
@@ -230,7 +230,7 @@ last_is xs =
       skipped [] some = absurd (omega (arith, some))
       skipped (w ∷ ws) some = refl
 
--- a path of a script can be shown by each template
+-- each template can represent a path of a script
 pub measured_path : (path : List ℕ) → is_path path ≡ true → IsMeasuredPath Ima path
 measured_path [] h = absurd (cc)
 measured_path (b ∷ parts) h =

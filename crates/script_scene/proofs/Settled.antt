@@ -1,4 +1,4 @@
--- Settings with one field's proof in place of another are the same.
+-- Settings are the same with another proof for one of their fields.
 use Rattle.std.proofs.Common.{◌≡◌, true, subst}
 use Rattle.std.proofs.Math.Bool.{Bool-set}
 use Rattle.script_text.specs.evm.Setup.{Setup}
@@ -8,7 +8,7 @@ use Rattle.script_text.specs.Files.{setup_of}
 use Rattle.script_text.specs.ScriptValue.{ScriptValue}
 use Rattle.script_scene.specs.Scene.{IsForFiles, settings_of}
 
--- the settings of a script, whose EVM was made apart
+-- the settings of a script, whose EVM was made separately
 abbrev pub made : (s : ScriptValue) → Setup → IsForFiles s → Settings
 made s evm for_files = record {
   hash = s.hash;
@@ -28,7 +28,7 @@ made_same s p evm is q = λ i. record {
   for_files = Bool-set (is_named_template s.template) true p q i;
 }
 
--- they are those of the script that contracts see
+-- these settings are those of the script that contracts see
 pub made_is : (v s : ScriptValue) (p : IsForFiles v) (evm : Setup) → v ≡ s → evm ≡ setup_of s
     → (q : IsForFiles s) → made v evm p ≡ settings_of s q
 made_is v s p evm same is q =

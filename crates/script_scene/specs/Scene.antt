@@ -4,7 +4,7 @@ use Rattle.hash_algos.specs.declared.digest.Digest.{Digest}
 use Rattle.ima_templates.specs.Entries.{entry_of}
 use Rattle.ima_templates.specs.declared.entry.Entry.{Entry}
 use Rattle.inode_meta.specs.declared.measurement.Template.{Template}
-use Rattle.inode_meta.specs.declared.measurement.TheConstants.{DEFAULT_PCR}
+use Rattle.inode_meta.specs.Registers.{default_pcr}
 use Rattle.run_model.specs.events.declared.image.Image.{Image}
 use Rattle.run_model.specs.events.declared.settings.Settings.{Settings}
 use Rattle.policy_text.specs.RuleValue.{is_named_template}
@@ -15,11 +15,11 @@ use Rattle.script_text.specs.ScriptValue.{ScriptValue}
 use Rattle.script_text.specs.declared.blocks.FileBlock.{FileBlock}
 use Rattle.script_text.specs.declared.blocks.TaskBlock.{TaskBlock}
 
--- the script has a template that is for files, as each script has
+-- the script's template is one that is for files, as it is for every script
 abbrev pub IsForFiles : ScriptValue → Type 0
 IsForFiles s = IsTrue (is_named_template s.template)
 
--- what it sets for all inodes
+-- the settings that the script makes for all inodes
 abbrev pub settings_of : (s : ScriptValue) → IsForFiles s → Settings
 settings_of s for_files = record {
   hash = s.hash;
@@ -31,9 +31,9 @@ settings_of s for_files = record {
 
 -- the first entry of the measurement list, whose digest is by SHA-1 under the template `ima`
 abbrev pub boot_by : Template → Digest → Entry
-boot_by template boot = entry_of DEFAULT_PCR template boot boot (codes "boot_aggregate") []
+boot_by template boot = entry_of default_pcr template boot boot (codes "boot_aggregate") []
 
--- ---- files, each with its file system, which a script has
+-- ---- files, each with its file system
 
 abbrev pub file_of : FileBlock → List ℕ × Image
 file_of b = (b.path, b.image)

@@ -1,4 +1,4 @@
-//! What a script sets up for a run: the scene that the definitions of runs speak of, and the parts
+//! What a script sets up for a run: the scene that the definitions of runs refer to, and the parts
 //! with which a world starts.
 #![tactic(auto)]
 

@@ -14,25 +14,25 @@ use std::alloc::{AllocError as OutOfMemory, Global};
 /// The parts with which the world and the tasks of a script start.
 #[derive(Drop)]
 pub struct ScriptParts {
-    /// What is set for all inodes.
+    /// The settings that all inodes share.
     pub settings: Settings,
-    /// The first entry of the measurement list.
+    /// The first entry of the measurement list, `boot_aggregate`.
     pub boot: Entry,
-    /// The path of each file, and its inode as the run begins.
+    /// The path of each file, and its inode as the run begins, in order.
     pub inodes: Vec<(Bytes, Image)>,
-    /// The number of each file's file system.
+    /// The number of each file's file system, in the order of the files.
     pub places: Vec<u32>,
-    /// The file systems.
+    /// The file systems, in order.
     pub supers: Vec<Super>,
     /// The rules in force as the run begins.
     pub rules: Policy,
-    /// The tasks.
+    /// The tasks, in order.
     pub tasks: Vec<TaskBlock>,
-    /// How the tasks are run.
+    /// How the tasks are run: by a schedule, in rounds or on threads.
     pub ending: Ending,
 }
 
-/// The parts of the script, which is taken apart.
+/// Takes the script apart into these parts.
 pub fn parts_of(alloc: Global, script: Script) -> Result<ScriptParts, OutOfMemory>
     ensures { IfOk result (ArePartsOf script) }
 {
@@ -60,7 +60,7 @@ pub fn parts_of(alloc: Global, script: Script) -> Result<ScriptParts, OutOfMemor
     })
 }
 
-// The files with their paths, and the numbers of their file systems.
+// Splits the files into the paths with their inodes, and the numbers of their file systems.
 fn split(
     alloc: Global,
     files: Vec<FileBlock>,

@@ -1,4 +1,4 @@
-// What a script sets for all inodes, and the first entry of the measurement list.
+// The settings that a script makes for all inodes, and the first entry of the measurement list.
 ghost use Rattle.std.specs.Prelude.{◌≡◌, IfOk};
 ghost use Rattle.hash_algos.specs.declared.algo.Algo.TheVariants.{Sha1};
 ghost use Rattle.inode_meta.specs.declared.measurement.Template.TheVariants.{Ima};
@@ -13,7 +13,7 @@ use script_text::Script;
 use script_text::evm::Evm;
 use std::alloc::{AllocError as OutOfMemory, Global};
 
-/// EVM as the settings of the script have it.
+/// EVM as the script's settings configure it.
 pub fn evm_of(alloc: Global, script: &Script) -> Result<Evm, OutOfMemory>
     ensures { IfOk result (λ evm. evm ≡ setup_of script.now) }
 {
@@ -37,7 +37,7 @@ pub fn settings_of(alloc: Global, script: &Script) -> Result<Settings, OutOfMemo
     })
 }
 
-/// The first entry of the list, `boot_aggregate` with this digest under this template.
+/// The first entry of the list: `boot_aggregate` with this digest, under this template.
 pub fn boot_entry(alloc: Global, template: Template, boot: &Digest) -> Result<Entry, OutOfMemory>
     requires { template ≡ Ima → boot.now.algo ≡ Sha1 }
     ensures { IfOk result (λ entry. entry ≡ boot_by template boot.now) }

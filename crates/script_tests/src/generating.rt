@@ -1,5 +1,5 @@
 // Scripts whose digests a program of 25 lines in another language gives, which follows the format's
-// description alone, with its own SHA-256.
+// description alone, with its own SHA-256. A summary shows of the text only how long it is.
 
 use hash_algos::{Algo, digest_of};
 use load_gen::script;
@@ -11,25 +11,19 @@ fn scripts_are_those_of_the_format(rt: HostRuntime) -> Result<(), Fail> {
     let rows = [
         (
             1,
-            44_883,
             "d7ffc30f183c2c449c513fac2ea9f3210c68fff07ac0d609cfde0190e34ca3db",
         ),
         (
             2,
-            44_848,
             "a2e017c878fcf851d2d0b96366814137d376f6ee8726ec7bc28e95c104b94705",
         ),
         (
             1_000_000,
-            44_805,
             "5d2e362b83c02624f860c74dc694125bbfbb07c3eb3b3002e257adc62a10a851",
         ),
     ];
-    for (number, length, digest) in rows {
+    for (number, digest) in rows {
         let text = script(alloc, number)?;
-        assert_eq!(rt; text.len(), length);
-        let newlines = text.iter().filter(|b| **b == b'\n').count();
-        assert_eq!(rt; newlines, 3_225);
         let sum = digest_of(Algo::Sha256, text.as_slice());
         assert_eq!(rt; hex::encode(alloc, sum.as_slice())?.as_str(), digest);
     }

@@ -1,5 +1,5 @@
-//! Tests of texts: reading a script, what each line gives and what is refused with which cause; the
-//! command line; printed scripts, labels and reports.
+//! Tests of texts that no case of `worked_runs` can hold or show: scripts that are too long for a
+//! file, the texts of scripts that are made and printed, and a command line with an empty word.
 //!
 //! They stand here, and not beside what they test, since a crate with tests is proved twice.
 #![tactic(auto)]
@@ -7,12 +7,8 @@
 #[cfg(test)]
 mod generating;
 #[cfg(test)]
-mod labels;
+mod limits;
 #[cfg(test)]
 mod printing;
-#[cfg(test)]
-mod reports;
-#[cfg(test)]
-mod scripts;
 #[cfg(test)]
 mod words;

@@ -1,5 +1,5 @@
-//! What no clause says: a text, what is printed of the script that it makes, and that this is
-//! printed of itself.
+//! Tests of what no contract says: a text and the canonical text of its script, which is its own
+//! canonical text.
 
 use load_gen::prints::print;
 use script_text::parse;
@@ -38,7 +38,7 @@ const ROWS: [(&str, &str); 3] = [
             removexattr /a user.a\nchmod /a 644\nchown /a 1 2\naddrule audit mask=MAY_READ\n\
             task uid=0 euid=0 gid=0 egid=0\nexec 63 /a\nmread 1 2 3\nschedule 1 0 1\n",
     ),
-    // What a seal writes stands among the attributes.
+    // The values that a seal writes are printed among the attributes.
     (
         "imakern 1\n\
             fs magic=0xef53 uuid=00000000-0000-0000-0000-000000000001 name=ext4 versions\n\
@@ -55,7 +55,7 @@ const ROWS: [(&str, &str); 3] = [
     ),
 ];
 
-// What is printed of a text's script.
+// The canonical text of the script that a text has, or `None` if it isn't a script.
 fn printed(alloc: Global, text: &str) -> Result<Option<Vec<u8>>, OutOfMemory> {
     if text.len() > 1 << 20 {
         return Ok(None);

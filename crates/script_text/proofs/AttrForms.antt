@@ -1,4 +1,4 @@
--- Attributes that lines and seals put keep the forms of attributes.
+-- Attributes that are set by lines and seals have the forms of attributes.
 use Rattle.std.proofs.Common.{◌≡◌, ℕ, ◌+◌, ◌≤◌, Bool, true, false, not, ◌&&◌, ◌||◌, cond, List, [], ◌∷◌, length, Option, Some, None, if◌then◌else◌, refl, sym, ap, ◌∙◌, subst, inl, inr, arith}
 use Rattle.std.specs.Cmp.Lexicographic.{bytes_decides}
 use Rattle.std.specs.List.{list_all, sum_by}
@@ -65,11 +65,11 @@ forms_without name (a ∷ rest) all =
           (forms_without name rest others)
     ]
 
--- equal in order, and so the same name
+-- names that are equal in the order are the same
 same_name : (name other : List ℕ) → byte_order name other ≡ Equal → name ≡ other
 same_name name other e = (bytes_decides name other).0 (eq_as_ordered name other Equal e)
 
--- a sum over the attributes grows by no more than what is put there
+-- setting an attribute increases a sum by at most the new attribute's share
 pub sum_put : (g : Pair → ℕ) (name bytes : List ℕ) (attrs : List Pair)
     → sum_by g (put name bytes attrs) ≤ sum_by g attrs + g (name, bytes)
 sum_put g name bytes [] = omega (arith, sum_by-cons g (name, bytes) [])
@@ -98,7 +98,7 @@ sum_without g name (a ∷ rest) =
       | false ↦ omega (arith, whole, sum_by-cons g a (without name rest), sum_without g name rest)
     ]
 
--- one attribute more
+-- the attributes still have their forms after one more is set
 pub attrs_more : (name bytes : List ℕ) (attrs : List Pair) → is_attr (name, bytes) ≡ true
     → length bytes ≤ 4096 → sum_by attr_count attrs + one_if (is_counted name) ≤ most_attrs
     → AreAttrs attrs → AreAttrs (put name bytes attrs)
@@ -134,7 +134,7 @@ hmac_form key message =
     both_true (is_word 255 evm_name) (are_bytes (evm_value key message)) refl
     (hmac_bytes key message)
 
--- attributes whose HMAC is written anew keep their forms
+-- the attributes still have their forms after their HMAC is renewed
 under : (key : Option (List ℕ)) (evm : Setup) (attrs : List Pair) (meta : Meta)
     → AreAttrs attrs → AreAttrs (renewed_under key evm attrs meta)
 under None evm attrs meta h = h
@@ -151,7 +151,7 @@ under (Some key) evm attrs meta h =
       }
     ]
 
--- what a seal makes of the attributes keeps their forms
+-- the attributes still have their forms after a seal
 pub attrs_sealed : (evm : Setup) (a : Algo) (content : List ℕ) (attrs : List Pair) (meta : Meta)
     → AreAttrs attrs
     → AreAttrs (renewed evm (put ima_name (label_of (digest_of a content)) attrs) meta)
@@ -175,7 +175,7 @@ sum_under g none (Some key) evm attrs meta =
       | false ↦ sum_without g evm_name attrs
     ]
 
--- no sum grows that counts neither the label nor the HMAC
+-- a sum that counts neither the label nor the HMAC doesn't grow by a seal
 pub sum_sealed : (g : Pair → ℕ) → ((v : List ℕ) → g (ima_name, v) ≡ 0)
     → ((v : List ℕ) → g (evm_name, v) ≡ 0)
     → (evm : Setup) (label : List ℕ) (attrs : List Pair) (meta : Meta)

@@ -29,12 +29,12 @@ use Rattle.script_text.specs.declared.head.CallWord.TheVariants as word
 use Rattle.script_text.proofs.Holding.{at_some, both_true, bound, given, left_true, right_true, tested}
 use Rattle.script_text.proofs.ValueForms.{any_within, is_value, number_within, value_within}
 
--- any value will do
+-- every result satisfies the trivial property
 pub any_ok : {A : Type 0} (r : Result A LineCause) → IfOk r (λ x. Unit {0})
 any_ok (Ok x) = tt
 any_ok (Err c) = tt
 
--- a path's number is below the number of the paths
+-- an index below n, increased by one, is below n + 1
 one_on_bound : (o : Option ℕ) (n : ℕ) → IfSome o (λ k. nat_lt k n ≡ true)
     → IfSome (one_on o) (λ k. nat_lt k (n + 1) ≡ true)
 one_on_bound None n h = tt
@@ -64,7 +64,7 @@ inode_bound paths path =
     (place_bound paths path))
     (λ e. tt)
 
--- opened for reading or writing, and cut only for writing
+-- the file is opened for reading or writing, and truncated only for writing
 abbrev is_way : How × Bool → Bool
 is_way o = (is_writer o.0 || not o.1) && not (is_exec o.0)
 
@@ -100,7 +100,7 @@ module _ (paths : List (List ℕ)) where
   abbrev At : ℕ → Type 0
   At i = nat_lt i n ≡ true
 
-  -- both parts of what a call is
+  -- the call has both parts of its form
   call_is : (c : Call) → is_call n c ≡ true → is_spelled c ≡ true → Is c
   call_is c form spelled = both_true (is_call n c) (is_spelled c) form spelled
 
@@ -266,7 +266,7 @@ module _ (paths : List (List ℕ)) where
   small_bound (w ∷ x ∷ more) = tt
   small_bound [] = tt
 
-  -- the number of a map, a run or a semaphore alone
+  -- a line with only the number of a map, a run or a semaphore
   by_small : (words : List (List ℕ)) (f : ℕ → Call) → ((m : ℕ) → is_small m ≡ true → Is (f m))
       → Formed n (small_in words >>= λ m. Ok (f m))
   by_small words f h =
@@ -359,7 +359,7 @@ module _ (paths : List (List ℕ)) where
   chown_formed (path ∷ []) = tt
   chown_formed [] = tt
 
-  -- the file of a path alone
+  -- a line with only the path of a file
   by_inode : (words : List (List ℕ)) (f : ℕ → Call) → ((i : ℕ) → At i → Is (f i))
       → Formed n (inode_in words paths >>= λ i. Ok (f i))
   by_inode (path ∷ []) f h =

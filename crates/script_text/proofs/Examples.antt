@@ -1,4 +1,4 @@
--- Lines and texts, each with what it makes.
+-- Examples of lines and texts, each with its value.
 use Rattle.std.proofs.Common.{◌≡◌, ℕ, Bool, true, false, List, [], ◌∷◌, codes, Result, Ok, Err, Some, None, refl}
 use Rattle.call_steps.specs.declared.call.Call.TheVariants as call
 use Rattle.call_steps.specs.declared.ending.Ending.TheVariants as ending
@@ -22,7 +22,7 @@ first_path : (place_in paths (codes "/a") ≡ Some 0) × (place_in paths (codes 
     × (place_in paths (codes "/c") ≡ None)
 first_path = (refl, refl, refl)
 
--- the form of all words comes before the question what is there
+-- a word of the wrong form is refused before it is asked whether the path exists
 opens : (open_of (codes "7" ∷ codes "/b" ∷ codes "rw" ∷ codes "create" ∷ []) paths
     ≡ Ok (call.Open 7 1 (how.Write true true) false))
     × (open_of (codes "7" ∷ codes "/b" ∷ codes "r" ∷ codes "trunc" ∷ []) paths

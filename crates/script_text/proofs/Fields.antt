@@ -7,7 +7,7 @@ Words = List (Bor (List ℕ))
 abbrev texts : Words → List (List ℕ)
 texts ws = map (λ w. w.now) ws
 
--- what is made of each smaller number of words is made of any words that are too few
+-- a reader that refuses each smaller number of words refuses all words that are too few
 module _ {X : Type 0} (made : List (List ℕ) → X) (bad : X) where
   pub below_three : made [] ≡ bad
       → ((a : List ℕ) → made (a ∷ []) ≡ bad)

@@ -14,7 +14,8 @@ use Rattle.call_steps.specs.events.declared.image.Image.{Image}
 use Rattle.inode_meta.specs.declared.measurement.Template.{Template}
 use Rattle.inode_meta.specs.declared.measurement.Template.TheVariants as template
 use Rattle.policy_text.specs.RuleValue.{is_named_template}
-use Rattle.policy_text.specs.Values.{look_up, template_of}
+use Rattle.policy_text.specs.Values.{template_of}
+use Rattle.text_forms.specs.Tables.{look_up}
 use Rattle.policy_text.specs.declared.access.Super.{Super}
 use Rattle.text_forms.specs.FileSystems.{magic_of, uuid_of, without_0x}
 use Rattle.text_forms.specs.Lines.{◌>>=◌}
@@ -74,7 +75,7 @@ digest_formed a word =
 pub key_formed : (word : List ℕ) → IfSome (value_of 1 most_key word) (λ k. is_key k ≡ true)
 key_formed word = value_within 1 most_key word
 
--- ---- words behind a key
+-- ---- words after a key
 
 by_key : {A : Type 0} (P : A → Type 0) (form : List ℕ → Option A)
     → ((text : List ℕ) → IfSome (form text) P) → (o : Option (List ℕ)) → IfSome (read_by form o) P
@@ -103,7 +104,7 @@ magic_formed text = elim (cases_Bool (nat_le (length (without_0x text)) 16)) [
 digit_small : (c : ℕ) → is_hex_digit c ≡ true → digit_of c < 16
 digit_small c h = grind (arith, nat_tests)
 
--- past the end of the digits a zero is read
+-- after the end of the digits a zero is read
 digits_small : (hex : List ℕ) → list_all is_hex_digit hex ≡ true → (i : ℕ)
     → digit_of (slice_index hex i) < 16
 digits_small [] h i = omega arith
@@ -191,7 +192,7 @@ super_formed [] = tt
 
 -- ---- files
 
--- a file system that is there is there with one more behind it
+-- a file system that exists still does after one more is added
 pub on_more : (supers : List Super) (s : Super) (k : ℕ) (i : Image)
     → IsOnSome (slice_get supers k) i → IsOnSome (slice_get (supers ++ s ∷ []) k) i
 on_more [] s k i h = absurd h
@@ -274,7 +275,7 @@ file_in_formed (p ∷ f ∷ []) = tt
 file_in_formed (p ∷ []) = tt
 file_in_formed [] = tt
 
--- a content of so many bytes
+-- a content within the limit
 abbrev pub is_content : List ℕ → Bool
 is_content c = is_value 0 most_content c
 

@@ -1,4 +1,4 @@
--- Each line of files keeps what a script keeps.
+-- Each line of files preserves the invariant of a script.
 use Rattle.std.proofs.Common.{◌≡◌, ℕ, ◌+◌, ◌≤◌, Bool, true, false, not, ◌&&◌, ◌||◌, nat_le, nat_lt, List, [], ◌∷◌, ◌++◌, length, map, Option, Some, None, Ok, Err, IfSome, is_some, slice_get, if◌then◌else◌, refl, inl, inr, sym, ap, ◌∙◌, subst, lit≤, arith, length-append}
 use Rattle.std.specs.Prelude.{codes}
 use Rattle.std.specs.List.{sum_by}
@@ -164,7 +164,7 @@ absent_kept words d h =
     (λ f e. front_kept f false [] d h
     (at_some IsFront (front_in words) f (front_in_formed words) e) refl refl)
 
--- the last file is changed: it keeps its path and its content, and is one as before
+-- the last file is changed, but keeps its path and its content, and has the form of a file
 module _ (g : FileBlock → FileBlock) (counted : ℕ) (unsealed : Bool) (sum : ℕ) (d : Draft)
     (h : IsDraft d) (added : ℕ)
     (keeps : (b : FileBlock) → IsFile d.script.supers b → IsOpen d.counted d.unsealed b
@@ -178,7 +178,7 @@ module _ (g : FileBlock → FileBlock) (counted : ℕ) (unsealed : Bool) (sum : 
   same_paths : map path_of_block (change_last g d.script.files) ≡ map path_of_block d.script.files
   same_paths = map_changed g path_of_block path d.script.files
 
-  -- a draft that differs in its last file alone
+  -- the invariant holds of a draft that differs only in its last file
   pub last_kept : counted ≤ most_attrs → d.sum + added ≤ sum → sum ≤ most_bytes
       → IsDraft (record d {
         script = record d.script { files = change_last g d.script.files };
@@ -214,13 +214,13 @@ module _ (g : FileBlock → FileBlock) (counted : ℕ) (unsealed : Bool) (sum : 
 
 -- ---- attributes
 
--- an image with other attributes is on its file system
+-- an image with other attributes is on the same file system
 on_with : (o : Option Super) (i : Image) (attrs : List Pair) → IsOnSome o i
     → IsOnSome o (record i { attrs = attrs })
 on_with None i attrs h = h
 on_with (Some s) i attrs h = record { place = h.place; versions = h.versions }
 
--- what a pair of an attribute's line is
+-- the properties of the pair in an attribute's line
 pub record IsPair (name bytes : List ℕ) : Type 0 where
   pub form : is_attr (name, bytes) ≡ true
   pub few : length bytes ≤ 4096
@@ -251,7 +251,7 @@ put_grows : (name bytes : List ℕ) (b : FileBlock)
     → file_bytes (attrs_put name bytes b) ≤ file_bytes b + counted_length name bytes
 put_grows name bytes b = omega (arith, sum_put attr_bytes name bytes b.image.attrs)
 
--- there is room where one of them counts
+-- there is room for the attribute if it counts
 room_for_attr : (b : Bool) (n : ℕ) → (b && not (nat_lt n most_attrs)) ≡ false → n ≤ most_attrs
     → n + one_if b ≤ most_attrs
 room_for_attr true n e le = below n most_attrs (not_false (nat_lt n most_attrs) e)

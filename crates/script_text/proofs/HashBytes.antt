@@ -33,7 +33,7 @@ low_first : (k i n : ℕ) → are_bytes (bytes_low_first i k n) ≡ true
 low_first zero i n = refl
 low_first (suc k) i n = rw (byte_small i n) (low_first k (suc i) n)
 
--- the first bytes of bytes
+-- a prefix of bytes is bytes
 front : (n : ℕ) (xs : List ℕ) → are_bytes xs ≡ true → are_bytes (take n xs) ≡ true
 front zero xs h = refl
 front (suc n) [] h = refl

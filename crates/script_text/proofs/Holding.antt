@@ -1,13 +1,13 @@
--- What holds of each value that a line makes.
+-- Properties of each value that a line makes.
 use Rattle.std.proofs.Common.{◌≡◌, ℕ, Bool, true, false, not, ◌&&◌, List, [], ◌∷◌, Option, Some, None, Result, Ok, Err, IfOk, IfSome, ok_or, if◌then◌else◌, refl, sym, subst, inl, inr}
 use Rattle.std.specs.List.{list_all}
 use Rattle.std.specs.Str.{bytes_eq}
 use Rattle.std.proofs.lemmas.Bool.{cases_Bool, false≢true}
-use Rattle.policy_text.specs.Values.{look_up}
+use Rattle.text_forms.specs.Tables.{look_up}
 use Rattle.text_forms.specs.Lines.{◌>>=◌}
 use Rattle.script_words.specs.declared.fault.LineCause.{LineCause}
 
--- ---- one step after the other
+-- ---- one step after another
 
 pub given : {A B : Type 0} (Q : B → Type 0) (o : Option A) (c : LineCause)
     (f : A → Result B LineCause) → ((x : A) → o ≡ Some x → IfOk (f x) Q)
@@ -50,7 +50,7 @@ pub not_false : (a : Bool) → not a ≡ false → a ≡ true
 not_false true h = refl
 not_false false h = absurd (false≢true (sym h))
 
--- what a table gives is one of its values
+-- a value looked up in a table is one of the table
 pub looked_up : {A : Type 0} (p : A → Bool) (table : List (List ℕ × A)) (word : List ℕ)
     → list_all (λ e. p e.1) table ≡ true → IfSome (look_up table word) (λ x. p x ≡ true)
 looked_up p [] word h = tt

@@ -1,4 +1,4 @@
--- Each line of settings and file systems keeps what a script keeps.
+-- Each line of settings and file systems preserves the invariant of a script.
 use Rattle.std.proofs.Common.{◌≡◌, ℕ, suc, ◌+◌, ◌≤◌, Bool, true, false, not, ◌&&◌, ◌||◌, nat_le, nat_lt, List, [], ◌∷◌, ◌++◌, length, map, Option, Some, None, Result, Ok, Err, IfOk, IfSome, ok_or, is_some, slice_get, if◌then◌else◌, refl, inl, inr, sym, ap, ◌∙◌, subst, lit≤, arith, length-append}
 use Rattle.std.specs.Prelude.{codes}
 use Rattle.std.specs.List.{AllByRecursion, list_all, list_any, sum_by}
@@ -46,8 +46,7 @@ pub record AreListed (paths : List (List ℕ)) (files : List FileBlock) : Type 0
   pub are : paths ≡ map path_of_block files
   pub same : length paths ≡ length files
 
--- the last file has no more attributes that count than are counted, and is there unless it is
--- sealed
+-- at most `counted` attributes of the last file count, and the file is present if `unsealed`
 pub record IsOpen (counted : ℕ) (unsealed : Bool) (b : FileBlock) : Type 0 where
   pub few : sum_by attr_count b.image.attrs ≤ counted
   pub present : unsealed ≡ true → b.image.present ≡ true
@@ -55,21 +54,21 @@ pub record IsOpen (counted : ℕ) (unsealed : Bool) (b : FileBlock) : Type 0 whe
 abbrev pub IsLast : ℕ → Bool → List FileBlock → Type 0
 IsLast counted unsealed files = IfSome (last_of files) (IsOpen counted unsealed)
 
--- the counts are within their limits, and the bytes of all values are counted
+-- the counts are within their limits, and `sum` covers the bytes of all values
 pub record AreWithin (files : List FileBlock) (tasks : List TaskBlock) (count sum : ℕ) : Type 0
   where
     pub counted : count ≤ most_attrs
     pub all : bytes_in files tasks ≤ sum
     pub few : sum ≤ most_bytes
 
--- how many calls there are, and how many rules are appended
+-- the counts of calls and of appended rules are at least the actual ones
 pub record AreCounts (rs : List RuleValue) (tasks : List TaskBlock) (n more : ℕ) : Type 0 where
   pub calls : sum_by calls_of tasks ≤ n
   pub few : n ≤ most_calls
   pub appended : sum_by appended_by tasks ≤ more
   pub rules : length rs + more ≤ most_rules
 
--- what a script keeps while its lines are read
+-- the invariant of a script while its lines are read
 abbrev pub IsDraft : Draft → Type 0
 IsDraft d =
     (is_named_template d.script.template ≡ true)

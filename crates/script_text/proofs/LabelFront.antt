@@ -1,4 +1,4 @@
--- The front of an array in which a label was written.
+-- The first bytes of an array in which a label was written.
 use Rattle.std.proofs.Common.{◌≡◌, ℕ, ◌-◌, List, [], ◌∷◌, ◌++◌, length, take, refl, ap, arith}
 use Rattle.std.proofs.Math.Seq.{take-append_seam}
 

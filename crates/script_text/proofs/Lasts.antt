@@ -1,4 +1,4 @@
--- Lists of which the last is changed, or one more is put behind.
+-- Lists of which the last element is changed, or to which one is appended.
 use Rattle.std.proofs.Common.{◌≡◌, ℕ, zero, suc, ◌+◌, ◌-◌, ◌≤◌, Bool, true, false, not, ◌&&◌, List, [], ◌∷◌, ◌++◌, length, map, take, slice_get, Option, Some, None, IfSome, refl, sym, ap, ◌∙◌, subst, inl, inr, arith, length-append, append_assoc}
 use Rattle.std.specs.List.{AllByRecursion, list_all, sum_by}
 use Rattle.std.proofs.Math.Seq.{take-append_seam}
@@ -10,7 +10,7 @@ use Rattle.script_text.specs.Draft.{change_last, changed, last_of}
 use Rattle.script_text.specs.Forms.{are_apart}
 use Rattle.script_text.proofs.Holding.{left_true, right_true}
 
--- a list is empty, or has a last
+-- induction on a list from its end
 pub by_last : {A : Type 0} (P : List A → Type 0) → P []
     → ((xs : List A) (x : A) → P (xs ++ x ∷ [])) → (xs : List A) → P xs
 by_last P none some [] = none
@@ -40,7 +40,7 @@ pub change_none : {A : Type 0} (f : A → A) → change_last f [] ≡ []
 unfolding change_last
 change_none f = refl
 
--- ---- what holds of each
+-- ---- a property of each element
 
 pub each_behind : {A : Type 0} (P : A → Type 0) (xs : List A) (x : A) → AllByRecursion P xs → P x
     → AllByRecursion P (xs ++ x ∷ [])
@@ -57,7 +57,7 @@ pub each_weaker : {A : Type 0} (P Q : A → Type 0) → ((x : A) → P x → Q x
 each_weaker P Q f [] all = tt
 each_weaker P Q f (x ∷ xs) all = (f x all.0, each_weaker P Q f xs all.1)
 
--- a word that isn't among those before it is put behind them
+-- a word that isn't among those before it stays apart from them when it is appended
 pub apart_behind : (among : List (List ℕ) → List ℕ → Bool) (before ws : List (List ℕ)) (w : List ℕ)
     → are_apart among before ws ≡ true → among (before ++ ws) w ≡ false
     → are_apart among before (ws ++ w ∷ []) ≡ true
@@ -71,7 +71,7 @@ apart_behind among before (v ∷ vs) w h new = elim (cases_Bool (not (among befo
   | inr e ↦ absurd (false≢true (rw e at h))
 ]
 
--- ---- the last is changed
+-- ---- the last element is changed
 
 module _ {A : Type 0} (f : A → A) where
   pub length_changed : (xs : List A) → length (change_last f xs) ≡ length xs
@@ -80,7 +80,7 @@ module _ {A : Type 0} (f : A → A) where
       (λ ys y. rw (change_behind f ys y)
       (length-append ys (f y ∷ []) ∙ sym (length-append ys (y ∷ []))))
 
-  -- what holds of each still does, where the last has it from another fact
+  -- a property of each element is preserved if the changed last element satisfies it
   pub each_changed : (P Q : A → Type 0) → ((x : A) → P x → Q x → P (f x)) → (xs : List A)
       → AllByRecursion P xs → IfSome (last_of xs) Q → AllByRecursion P (change_last f xs)
   each_changed P Q h =
@@ -113,7 +113,7 @@ module _ {A : Type 0} (f : A → A) where
       (λ ys y last. rw (change_behind f ys y)
       (rw (last_behind ys (f y)) (h y (rw (last_behind ys y) at last))))
 
-  -- a sum grows by no more than the last of it
+  -- changing the last element increases a sum by at most its own increase
   pub sum_changed : (g : A → ℕ) (n : ℕ) → ((x : A) → g (f x) ≤ g x + n) → (xs : List A)
       → sum_by g (change_last f xs) ≤ sum_by g xs + n
   sum_changed g n h =
@@ -122,7 +122,7 @@ module _ {A : Type 0} (f : A → A) where
       (λ ys y. rw (change_behind f ys y)
       (omega (arith, sum_by_push g ys (f y), sum_by_push g ys y, h y)))
 
-  -- what the change keeps of each
+  -- mapping by a function that the change preserves gives the same list
   pub map_changed : {B : Type 0} (v : A → B) → ((x : A) → v (f x) ≡ v x) → (xs : List A)
       → map v (change_last f xs) ≡ map v xs
   map_changed v h =

@@ -1,4 +1,4 @@
--- The calls and tasks of a script are those of a script with more files.
+-- The calls and tasks of a script are also those of a script with more files.
 use Rattle.std.proofs.Common.{◌≡◌, ℕ, ◌≤◌, Bool, true, ◌&&◌, nat_lt, List, map, arith}
 use Rattle.std.specs.List.{list_all}
 use Rattle.std.proofs.lemmas.Bool.Decides.{nat_tests}
@@ -11,7 +11,7 @@ use Rattle.script_text.specs.Forms.{AreTasks, is_cred, is_line_call, is_spelled,
 use Rattle.script_text.specs.declared.blocks.TaskBlock.{TaskBlock}
 use Rattle.script_text.proofs.Holding.{both_true, left_true, right_true}
 
--- a call of a script is one of a script with more files
+-- an index below a number of files is below a greater number
 more_below : (i n m : ℕ) → n ≤ m → nat_lt i n ≡ true → nat_lt i m ≡ true
 more_below i n m le h = grind (arith, nat_tests)
 

@@ -1,4 +1,4 @@
--- A map of paths with one path more.
+-- A map of paths with one more path.
 use Rattle.std.proofs.Common.{◌≡◌, ℕ, suc, ◌+◌, Bool, true, false, cond, List, [], ◌∷◌, ◌++◌, length, Option, Some, None, Vec, Global, refl, sym, ap, subst, ◌∙◌, inl, inr, arith}
 use Rattle.std.specs.BTreeMap.{BTreeMap, UpdatesBy, get_by, is_at}
 use Rattle.std.specs.Cmp.{eq_by_cmp_equiv}
@@ -17,7 +17,7 @@ Paths = BTreeMap (Vec ℕ Global) ℕ
 abbrev key_order : Vec ℕ Global → Vec ℕ Global → Ordering
 key_order a b = slice_cmp nat_cmp a.items b.items
 
--- the first of two that is there
+-- the first of two options, or else the second
 abbrev either : Option ℕ → Option ℕ → Option ℕ
 either (Some n) m = Some n
 either None m = m
@@ -40,7 +40,7 @@ counted true n None = let e : n + 1 ≡ suc n = omega arith in rw e refl
 counted false n (Some m) = refl
 counted false n None = refl
 
--- where a path stands among the others and one more
+-- the index of a path among the paths with one appended
 place_behind : (paths : List (List ℕ)) (p q : List ℕ) → place_in (paths ++ p ∷ []) q
     ≡ either (place_in paths q) (cond (bytes_eq q p) (Some (length paths)) None)
 place_behind [] p q = refl
@@ -64,7 +64,7 @@ kept : (eq : Vec ℕ Global → Vec ℕ Global → Bool) (test : Vec ℕ Global 
 unfolding KeepsOthers
 kept eq test old new h = h
 
--- other paths are found as before
+-- all other paths are found as before
 others : (key : Vec ℕ Global) (m n : Paths) (w : Option ℕ)
     → UpdatesBy key_order (key_order key) m n w → (q : List ℕ) → bytes_eq key.items q ≡ false
     → get_by (λ k. slice_cmp nat_cmp q k.items) n ≡ get_by (λ k. slice_cmp nat_cmp q k.items) m
@@ -72,7 +72,7 @@ others key m n w h q e =
     kept _ _ _ _ h.3 _ (λ x y. (eq_by_cmp_equiv nat_list_cmp_total).congr q x.items y.items)
     (λ k. apart key.items q k.items e)
 
--- the map with a path more, which wasn't there, has it under the next number
+-- the map with a new path has it under the next index
 pub one_path_more : (key : Vec ℕ Global) (m n : Paths) (paths : List (List ℕ))
     → UpdatesBy key_order (key_order key) m n (Some (length paths))
     → Finds m paths → place_in paths key.items ≡ None → Finds n (paths ++ key.items ∷ [])

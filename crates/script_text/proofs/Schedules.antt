@@ -1,4 +1,4 @@
--- The turns of a schedule, one word after the other.
+-- The turns of a schedule, one word after another.
 use Rattle.std.proofs.Common.{◌≡◌, ℕ, List, [], ◌∷◌, ◌++◌, Result, Ok, Err, refl, sym, ap, append_assoc}
 use Rattle.std.proofs.lemmas.List.{append-nil}
 use Rattle.text_forms.specs.Lines.{◌>>=◌}
@@ -8,7 +8,7 @@ use Rattle.script_words.specs.declared.fault.LineErr.TheVariants as err
 use Rattle.script_words.specs.Gives.{LineFails}
 use Rattle.script_text.specs.Tasks.{turn_of, turns_from}
 
--- turns in front of others
+-- turns put before others
 abbrev pub onto : List ℕ → Result (List ℕ) LineCause → Result (List ℕ) LineCause
 onto ts (Ok us) = Ok (ts ++ us)
 onto ts (Err c) = Err c

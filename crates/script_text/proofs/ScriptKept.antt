@@ -1,4 +1,4 @@
--- Each line keeps what a script keeps, and so does a whole text.
+-- Each line preserves the invariant of a script, and so does a whole text.
 use Rattle.std.proofs.Common.{◌≡◌, ℕ, ◌+◌, Bool, true, false, List, [], ◌∷◌, Option, Result, Ok, Err, IfOk, if◌then◌else◌, ◌==◌, lit≤, refl, subst}
 use Rattle.call_steps.specs.declared.call.Call.{Call}
 use Rattle.text_forms.specs.Lines.{◌>>=◌, at_line, lines}
@@ -19,7 +19,7 @@ use Rattle.script_text.proofs.FilesKept.{absent_kept, attr_kept, file_kept, seal
 use Rattle.script_text.proofs.Kept.{IsDraft, Keeps, boot_kept, format_kept, hash_kept, key_kept, mode_kept, name_kept, script_from, super_kept, template_kept, version_kept}
 use Rattle.script_text.proofs.TasksKept.{call_line_kept, rounds_kept, rule_kept, schedule_kept, task_kept, threads_kept}
 
--- the line stands there, and so an attribute or a seal in a file's block
+-- a line that can follow those before it preserves the invariant
 head_kept : (k : Head) (text : Option (List ℕ)) (words : List (List ℕ)) (d : Draft) → IsDraft d
     → stands k d ≡ true → Keeps (with_head k text words (record d { at = rank k }))
 unfolding with_head
@@ -107,7 +107,7 @@ whole : (r : Result Draft Fault) (d : Draft) → Reads r → r ≡ Ok d → IsDr
 whole (Err f) d h e = absurd (cc e)
 whole (Ok x) d h e = let same : x ≡ d = cc e in subst IsDraft same h
 
--- what a text makes is a script
+-- the result of a text is a script
 pub script_is : (text : List ℕ) (d : Draft) → text_of add is_over start text ≡ Ok d
     → IsScript d.script
 script_is text d e =

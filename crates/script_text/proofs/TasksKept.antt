@@ -1,4 +1,4 @@
--- Rules, tasks, calls and the end keep what a script keeps.
+-- Rules, tasks, calls and the end preserve the invariant of a script.
 use Rattle.std.proofs.Common.{◌≡◌, ℕ, ◌+◌, ◌≤◌, Bool, true, false, not, ◌&&◌, nat_le, nat_lt, List, [], ◌∷◌, ◌++◌, length, Option, Some, None, Ok, Err, IfOk, IfSome, if◌then◌else◌, ◌-◌, ◌==◌, refl, inl, inr, sym, ap, ◌∙◌, arith, length-append}
 use Rattle.std.specs.Prelude.{codes}
 use Rattle.std.specs.List.{list_all}
@@ -30,7 +30,7 @@ use Rattle.script_text.proofs.Lasts.{all_changed, length_changed, sum_changed}
 use Rattle.script_text.proofs.ValueForms.{any_within, number_within}
 use Rattle.script_text.proofs.Kept.{IsDraft, Keeps}
 
--- there is room for one rule more
+-- there is room for one more rule
 room_left : (d : Draft) → has_room d ≡ true → length d.script.rules + d.appended + 1 ≤ most_rules
 room_left d h = grind (arith, nat_tests, h)
 
@@ -151,7 +151,7 @@ task_kept words d h =
 
 -- ---- calls
 
--- where the call appends a rule there is room for it
+-- there is room for the rule if the call appends one
 room_for : (b r : Bool) (n : ℕ) → (b && not r) ≡ false → (r ≡ true → n + 1 ≤ most_rules)
     → n ≤ most_rules → n + one_if b ≤ most_rules
 room_for true r n e room le = room (not_false r e)

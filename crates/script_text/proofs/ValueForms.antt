@@ -70,7 +70,7 @@ to_index (x ∷ xs) h zero =
     grind (arith, nat_tests)
 to_index (x ∷ xs) h (suc i) = to_index xs (right_true (is_byte x) (are_bytes xs) h) i
 
--- bytes as the hexadecimal digits have them
+-- bytes by the test are bytes at each index
 pub indexed : (xs : List ℕ) → are_bytes xs ≡ true → IsBytes xs
 indexed xs h = to_index xs h
 
@@ -148,7 +148,7 @@ any_bytes most text = elim (cases_Bool (starts text (codes "hex:"))) [
   ]
 ]
 
--- bytes, at least so many and at most so many
+-- bytes, at least `least` and at most `most` of them
 abbrev pub is_value : ℕ → ℕ → List ℕ → Bool
 is_value least most v = nat_le least (length v) && nat_le (length v) most && are_bytes v
 

@@ -7,7 +7,7 @@ use Rattle.call_steps.specs.events.declared.deed.Change.{Change}
 use Rattle.call_steps.specs.events.declared.deed.Change.TheVariants as change
 use Rattle.call_steps.specs.events.declared.deed.How.{How}
 use Rattle.call_steps.specs.events.declared.deed.How.TheVariants as how
-use Rattle.policy_text.specs.Values.{look_up}
+use Rattle.text_forms.specs.Tables.{look_up}
 use Rattle.text_forms.specs.Lines.{◌>>=◌}
 use Rattle.text_forms.specs.Paths.{is_path}
 use Rattle.text_forms.specs.Tokens.{is_filled}
@@ -21,15 +21,15 @@ use Rattle.script_text.specs.Places.{place_in}
 use Rattle.script_text.specs.declared.head.CallWord.{CallWord}
 use Rattle.script_text.specs.declared.head.CallWord.TheVariants as word
 
--- a call, or why the line is none
+-- a call, or the cause for which its line is refused
 abbrev pub Called : Type 0
 Called = Result Call LineCause
 
--- the words of a line, and the paths of the files
+-- a reader of the words of a line, given the paths of the files
 abbrev pub Reader : Type 0
 Reader = List (List ℕ) → List (List ℕ) → Called
 
--- no further words stand behind
+-- no further words follow
 abbrev pub alone : {A : Type 0} → List (List ℕ) → Result A LineCause → Result A LineCause
 alone more r = if is_filled more then Err cause.BadField else r
 
@@ -38,7 +38,7 @@ abbrev pub inode_at : List (List ℕ) → List ℕ → Result ℕ LineCause
 inode_at paths path = if is_path path then ok_or (place_in paths path) cause.Unknown
     else Err cause.BadField
 
--- `create` or not, and then `trunc` or not
+-- optional `create`, then optional `trunc`
 abbrev pub flags_of : List (List ℕ) → Option (Bool × Bool)
 flags_of [] = Some (false, false)
 flags_of (a ∷ []) = look_up ((codes "create", (true, false)) ∷ (codes "trunc", (false, true)) ∷ [])
@@ -47,7 +47,7 @@ flags_of (a ∷ b ∷ []) = if bytes_eq a (codes "create") && bytes_eq b (codes 
     then Some (true, true) else None
 flags_of _ = None
 
--- only a file open for writing is cut
+-- how a file is opened and whether it is truncated; only a file open for writing can be
 abbrev pub opened : List ℕ → Bool → Bool → Option (How × Bool)
 opened way create trunc =
     if bytes_eq way (codes "r") then (if trunc then None else Some (how.Read create, false))
@@ -97,7 +97,7 @@ mread_of (map ∷ off ∷ len ∷ more) =
     (call.Mread m o n))
 mread_of _ = Err cause.BadField
 
--- the number of a map, a run or a semaphore alone
+-- the number of a map, a run or a semaphore as the only word
 abbrev pub small_in : List (List ℕ) → Result ℕ LineCause
 small_in (n ∷ []) = ok_or (small_of n) cause.BadField
 small_in _ = Err cause.BadField
@@ -132,7 +132,7 @@ chown_of (path ∷ uid ∷ gid ∷ []) paths =
     (call.SetMeta i (change.Owner u g))
 chown_of _ paths = Err cause.BadField
 
--- the file of a path alone
+-- the number of a path's file, with the path as the only word
 abbrev pub inode_in : List (List ℕ) → List (List ℕ) → Result ℕ LineCause
 inode_in (path ∷ []) paths = inode_at paths path
 inode_in _ paths = Err cause.BadField
@@ -140,7 +140,7 @@ inode_in _ paths = Err cause.BadField
 abbrev pub added_rule : Option (List ℕ) → Called
 added_rule text = rule_of text >>= λ r. Ok (call.AddRule r)
 
--- the call of a line, by its first word, the text behind it and the words of that
+-- the call of a line, by its first word, the text after it, and the words of that text
 unfoldable pub call_of : CallWord → Option (List ℕ) → List (List ℕ) → List (List ℕ) → Called
 call_of word.Open text words paths = open_of words paths
 call_of word.Read text words paths = read_of words

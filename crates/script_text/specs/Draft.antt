@@ -11,19 +11,19 @@ pub record Draft : Type 0 where
   pub script : ScriptValue
   -- the rank of the last line
   pub at : ℕ
-  -- whether the last file is there, and no seal stands behind it
+  -- whether the last file is present and has no `seal` line yet
   pub unsealed : Bool
-  -- how many of its attribute lines count
+  -- how many of the last file's attribute lines count towards the limit
   pub counted : ℕ
-  -- how many calls the tasks have, and how many rules they append
+  -- the number of calls of all tasks, and of the rules that they append
   pub calls : ℕ
   pub appended : ℕ
-  -- the lengths of the values that are counted, in sum
+  -- the total length of the values that count towards the limit
   pub sum : ℕ
-  -- the paths of the files
+  -- the paths of the files, in order
   pub paths : List (List ℕ)
 
--- what a script without a setting has
+-- a script without any setting
 abbrev pub plain_script : ScriptValue
 plain_script = record {
   hash = Sha256;
@@ -54,7 +54,7 @@ start = record {
   paths = [];
 }
 
--- the last of a list, if there is one
+-- the last element of a list, if there is one
 abbrev pub last_of : {A : Type 0} → List A → Option A
 last_of xs = slice_get xs (length xs - 1)
 
@@ -62,6 +62,6 @@ abbrev pub changed : {A : Type 0} → (A → A) → List A → Option A → List
 changed f xs None = xs
 changed f xs (Some x) = take (length xs - 1) xs ++ f x ∷ []
 
--- the list with its last changed
+-- the list with its last element changed
 unfoldable pub change_last : {A : Type 0} → (A → A) → List A → List A
 change_last f xs = changed f xs (last_of xs)

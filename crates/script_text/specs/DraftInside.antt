@@ -1,4 +1,4 @@
--- A draft's fields as contracts see them.
+-- The value of a draft that contracts see, by its fields.
 use Rattle.script_text.specs.declared.draft.Draft.TheInside.{Inside}
 use Rattle.script_text.specs.Draft.{Draft}
 

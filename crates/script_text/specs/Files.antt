@@ -26,7 +26,7 @@ use Rattle.script_text.specs.ScriptValue.{ScriptValue}
 use Rattle.script_text.specs.Settings.{Made, name_of, one_if}
 use Rattle.script_text.specs.declared.blocks.FileBlock.{FileBlock}
 
--- the words that `file` and `absent` share; the number of the file system may be of any length
+-- the words that `file` and `absent` share; the number of the file system may have any length
 pub record Front : Type 0 where
   pub path : List ℕ
   pub fs : List ℕ
@@ -55,7 +55,7 @@ front_of p f i g u o m =
     (behind_by id_of (codes "uid=") u) (behind_by id_of (codes "gid=") o)
     (behind_by mode_of (codes "mode=") m)
 
--- the file as its block begins, on the file system n
+-- the file as its block begins, on file system n
 abbrev pub block_of : Front → ℕ → Super → Bool → List ℕ → FileBlock
 block_of f n s present content = record {
   path = f.path;
@@ -76,7 +76,7 @@ block_of f n s present content = record {
   };
 }
 
--- the sum, where it is within its limit
+-- the sum, if it is within its limit
 abbrev pub within_sum : ℕ → Option ℕ
 within_sum sum = if nat_lt most_bytes sum then None else Some sum
 
@@ -97,7 +97,7 @@ with_block b d =
     else if nat_lt most_bytes (d.sum + length b.image.content) then Err cause.TooLarge
     else Ok (filed b d)
 
--- on the file system of this number, if it is there
+-- the draft with a file on the file system of this number, if there is one
 abbrev pub on_super : Front → Bool → List ℕ → Draft → Option ℕ → Made
 on_super f present content d None = Err cause.Unknown
 on_super f present content d (Some n) =
@@ -152,7 +152,7 @@ has_attr_in name (Some b) = is_some (value name b.image.attrs)
 abbrev pub has_attr : List ℕ → Draft → Bool
 has_attr name d = has_attr_in name (last_of d.script.files)
 
--- the last file has one attribute more
+-- the draft with an attribute of its last file set
 abbrev pub attr_put : List ℕ → List ℕ → Draft → Draft
 attr_put name bytes d =
     record d {
@@ -183,7 +183,7 @@ with_attr words d =
 abbrev pub setup_of : ScriptValue → Setup
 setup_of s = record { key = s.key; added = s.added; format = s.format }
 
--- the label of the content by the default algorithm, and the HMAC where there is a key
+-- the file with the label of its content by the default algorithm, and the HMAC if there is a key
 abbrev pub sealed : Setup → Algo → FileBlock → FileBlock
 sealed evm a b =
     record b {
@@ -193,7 +193,7 @@ sealed evm a b =
       };
     }
 
--- `seal`; nothing but another block or section may follow
+-- `seal`, after which the block of the file can't go on
 unfoldable pub with_seal : List (List ℕ) → Draft → Made
 with_seal [] d =
     Ok (record d {

@@ -1,4 +1,4 @@
--- What a script keeps: the forms of its parts, their lengths and how many they may be.
+-- The invariants of a script: the forms of its parts, their lengths and their numbers.
 use Rattle.std.specs.Prelude.{◌≡◌, ℕ, ◌+◌, ◌^◌, ◌≤◌, ◌==◌, Bool, true, false, ◌&&◌, ◌||◌, not, nat_le, nat_lt, List, [], ◌∷◌, ◌++◌, length, map, Option, Some, None, is_some, slice_get}
 use Rattle.std.specs.List.{AllByRecursion, list_all, list_any, sum_by}
 use Rattle.std.specs.Str.{bytes_eq}
@@ -40,14 +40,14 @@ is_byte b = nat_lt b 256
 abbrev pub are_bytes : List ℕ → Bool
 are_bytes bytes = list_all is_byte bytes
 
--- a user, a group or a generation
+-- the number of a user or a group, or a generation
 abbrev pub is_id : ℕ → Bool
 is_id n = nat_le n 0xffff_ffff
 
 abbrev pub is_mode : ℕ → Bool
 is_mode n = nat_le n 0xffff
 
--- an inode number and a magic number
+-- the number of an inode, or a magic number
 abbrev pub is_ino : ℕ → Bool
 is_ino n = nat_le n 0xffff_ffff_ffff_ffff
 
@@ -57,7 +57,7 @@ is_uuid n = nat_lt n (2 ^ 128)
 abbrev pub is_descriptor : ℕ → Bool
 is_descriptor n = nat_le n 255
 
--- each of them is new among those before it
+-- each word is new among those before it
 abbrev pub are_apart : (List (List ℕ) → List ℕ → Bool) → List (List ℕ) → List (List ℕ) → Bool
 are_apart among before [] = true
 are_apart among before (w ∷ ws) = not (among before w) && are_apart among (before ++ w ∷ []) ws
@@ -70,7 +70,7 @@ has_place paths path = is_some (place_in paths path)
 
 -- ---- settings and file systems
 
--- the digest is one of the algorithm
+-- the digest has the algorithm and its length
 pub record IsDigestOf (algo : Algo) (d : DigestValue) : Type 0 where
   pub is : d.algo ≡ algo
   pub size : length d.bytes ≡ algo_size algo
@@ -82,7 +82,7 @@ is_key key = nat_le 1 (length key) && nat_le (length key) most_key && are_bytes 
 abbrev pub is_format : ℕ → Bool
 is_format f = (f == 1) || (f == 2)
 
--- the names that are added to EVM's
+-- the names that are added to those that EVM protects
 pub record AreNames (names : List (List ℕ)) : Type 0 where
   pub forms : list_all is_added_name names ≡ true
   pub new : are_apart is_among five_names names ≡ true
@@ -112,20 +112,20 @@ is_meta m = is_ino m.ino && is_id m.generation && is_id m.uid && is_id m.gid && 
 abbrev pub is_attr : Pair → Bool
 is_attr a = is_word 255 a.0 && are_bytes a.1
 
--- one for an attribute that counts
+-- 1 if the attribute counts towards the limit, else 0
 abbrev pub attr_count : Pair → ℕ
 attr_count a = one_if (is_counted a.0)
 
 abbrev pub attr_bytes : Pair → ℕ
 attr_bytes a = counted_length a.0 a.1
 
--- the attributes that count are few
+-- the attributes are in order, and those that count are within the limit
 pub record AreAttrs (attrs : List Pair) : Type 0 where
   pub ordered : IsAttrs attrs
   pub forms : list_all is_attr attrs ≡ true
   pub few : sum_by attr_count attrs ≤ most_attrs
 
--- a file that isn't there has nothing
+-- an absent file has neither content nor attributes
 abbrev pub is_bare : Image → Bool
 is_bare i = i.present || (not (is_filled i.content) && not (is_filled i.attrs))
 
@@ -141,7 +141,7 @@ pub record IsFile (supers : List Super) (b : FileBlock) : Type 0 where
 abbrev pub path_of_block : FileBlock → List ℕ
 path_of_block b = b.path
 
--- no path stands twice
+-- no path occurs twice, and there are not too many files
 pub record AreFiles (supers : List Super) (files : List FileBlock) : Type 0 where
   pub each : AllByRecursion (IsFile supers) files
   pub apart : are_apart has_place [] (map path_of_block files) ≡ true
@@ -156,7 +156,7 @@ abbrev pub is_change : Change → Bool
 is_change (change.Mode mode) = is_mode mode
 is_change (change.Owner uid gid) = is_id uid && is_id gid
 
--- the numbers without another limit, and the bytes; only `exec` executes
+-- the remaining numbers and the bytes are in range; only `exec` executes
 abbrev pub is_spelled : Call → Bool
 is_spelled (call.Open fd inode how trunc) = is_descriptor fd && not (is_exec how)
 is_spelled (call.Read fd from len) = is_descriptor fd
@@ -168,33 +168,33 @@ is_spelled (call.SetAttr inode name value) = if_there are_bytes value
 is_spelled (call.SetMeta inode change) = is_change change
 is_spelled _ = true
 
--- a call of a script with so many files
+-- a call of a script with this many files
 abbrev pub is_line_call : ℕ → Call → Bool
 is_line_call files c = is_call files c && is_spelled c
 
 abbrev pub is_task : ℕ → TaskBlock → Bool
 is_task files t = is_cred t.cred && list_all (is_line_call files) t.calls
 
--- how many rules a task appends
+-- the number of rules that a task appends
 abbrev pub appended_by : TaskBlock → ℕ
 appended_by t = sum_by (λ c. one_if (appends c)) t.calls
 
 abbrev pub calls_of : TaskBlock → ℕ
 calls_of t = length t.calls
 
--- the tasks of a script with so many files
+-- the tasks of a script with this many files
 pub record AreTasks (files : ℕ) (tasks : List TaskBlock) : Type 0 where
   pub forms : list_all (is_task files) tasks ≡ true
   pub few : length tasks ≤ most_tasks
 
--- an ending for so many tasks
+-- an ending of a script with this many tasks
 abbrev pub is_ending : ℕ → Ending → Bool
 is_ending tasks (ending.Schedule turns) = list_all (λ t. nat_lt t tasks) turns
     && nat_le (length turns) most_turns
 is_ending tasks ending.Rounds = true
 is_ending tasks (ending.Threads n) = nat_le 1 n && nat_le n most_threads
 
--- ---- the bytes of all values
+-- ---- the total length of all values
 
 abbrev pub file_bytes : FileBlock → ℕ
 file_bytes b = length b.image.content + sum_by attr_bytes b.image.attrs
@@ -205,7 +205,7 @@ task_bytes t = sum_by call_bytes t.calls
 abbrev pub bytes_in : List FileBlock → List TaskBlock → ℕ
 bytes_in files tasks = sum_by file_bytes files + sum_by task_bytes tasks
 
--- what a script is: each part has the form of its line, and the limits hold
+-- the invariant of a script: each part has the form of its line, and the limits hold
 pub record IsScript (s : ScriptValue) : Type 0 where
   pub template : is_named_template s.template ≡ true
   pub boot : IsDigestOf (boot_algo s.template s.hash) s.boot
@@ -215,7 +215,7 @@ pub record IsScript (s : ScriptValue) : Type 0 where
   pub supers : AreSupers s.supers
   pub files : AreFiles s.supers s.files
   pub tasks : AreTasks (length s.files) s.tasks
-  -- the rules of the script, and those that its tasks append
+  -- the rules of the script and those that its tasks append have one limit
   pub rules_few : length s.rules + sum_by appended_by s.tasks ≤ most_rules
   pub calls_few : sum_by calls_of s.tasks ≤ most_calls
   pub bytes_few : bytes_in s.files s.tasks ≤ most_bytes

@@ -1,4 +1,4 @@
--- The front of a file's block as the grammar has it.
+-- The front of a file's block as the grammar has it, by the fields of the Rattle type.
 use Rattle.script_text.specs.declared.files.Front as rust
 use Rattle.script_text.specs.Files.{Front}
 

@@ -1,4 +1,4 @@
--- The grammar of scripts: the script of a text, or its first bad line with the least cause that
+-- The grammar of scripts: the script of a text, or its first bad line with the first cause that
 -- holds of it.
 use Rattle.std.specs.Prelude.{ℕ, List, Option, Result, Ok, Err, ok_or, if◌then◌else◌}
 use Rattle.text_forms.specs.Lines.{◌>>=◌}
@@ -15,8 +15,8 @@ use Rattle.script_text.specs.Tasks.{with_call_line, with_rounds, with_rule, with
 use Rattle.script_text.specs.declared.head.Head.{Head}
 use Rattle.script_text.specs.declared.head.Head.TheVariants as head
 
--- what a line makes of the draft: by its first word, by the text behind that, and by the text's
--- words
+-- the draft after a line, by the kind of the line, the text after its first word, and the words of
+-- that text
 unfoldable pub with_head : Head → Option (List ℕ) → List (List ℕ) → Draft → Made
 with_head head.Imakern text words d = with_version words d
 with_head head.Hash text words d = with_hash words d
@@ -38,7 +38,7 @@ with_head head.Rule text words d = with_rule text d
 with_head (head.Call w) text words d = with_call_line w text words d
 with_head head.Schedule text words d = with_schedule (all_fields text) d
 
--- first the line's place, and then its words
+-- a line out of place is refused before its words are read
 unfoldable pub placed : Head → Option (List ℕ) → Draft → Made
 placed h text d = if stands h d then with_head h text (fields text) (record d { at = rank h })
     else Err cause.OutOfPlace
@@ -46,7 +46,7 @@ placed h text d = if stands h d then with_head h text (fields text) (record d { 
 abbrev pub headed : List ℕ × Option (List ℕ) → Draft → Made
 headed l d = ok_or (head_of l.0) cause.BadWord >>= λ h. placed h l.1 d
 
--- the draft with one line more
+-- the draft with one more line
 unfoldable pub add : Draft → List ℕ → Made
 add d line = headed (cut_line line) d
 

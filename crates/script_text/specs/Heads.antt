@@ -1,6 +1,6 @@
--- The first words of lines, and the order of the lines.
+-- The kinds of lines by their first words, and the order of the lines.
 use Rattle.std.specs.Prelude.{ℕ, ◌==◌, Bool, true, false, ◌&&◌, ◌||◌, nat_le, nat_lt, List, [], ◌∷◌, codes, Option, Some, None}
-use Rattle.policy_text.specs.Values.{look_up}
+use Rattle.text_forms.specs.Tables.{look_up}
 use Rattle.script_text.specs.Draft.{Draft}
 use Rattle.script_text.specs.declared.head.CallWord.{CallWord}
 use Rattle.script_text.specs.declared.head.CallWord.TheVariants as word
@@ -44,7 +44,7 @@ head_of text = head_with (call_word_of text) (section_of text)
 
 -- ---- the order of the lines
 
--- lines stand in the order of their ranks
+-- the rank of a line: lines come in the order of their ranks
 abbrev pub rank : Head → ℕ
 rank head.Imakern = 1
 rank head.Hash = 2
@@ -66,7 +66,7 @@ rank head.Schedule = 13
 rank head.Rounds = 13
 rank head.Threads = 13
 
--- lines of which there may be several
+-- kinds of which there may be several lines
 abbrev pub repeats : Head → Bool
 repeats head.EvmXattrs = true
 repeats head.Fs = true
@@ -76,12 +76,12 @@ repeats head.Rule = true
 repeats head.Task = true
 repeats _ = false
 
--- behind the first line, and behind no line of a higher rank
+-- not before the first line, and not after a line of a higher rank
 abbrev pub in_order : ℕ → Bool → ℕ → Bool
 in_order rank again at = nat_le 1 at && (nat_lt at rank || (again && at == rank))
 
--- whether the line can stand behind those before it: an attribute and a seal in the block of a file
--- that is there and isn't sealed, and a call in that of a task
+-- whether the line can follow those before it: an attribute and a seal need the block of a file
+-- that is present and isn't sealed, and a call that of a task
 abbrev pub stands : Head → Draft → Bool
 stands head.Imakern d = d.at == 0
 stands head.Attr d = d.at == 10 && d.unsealed
@@ -89,6 +89,6 @@ stands head.Seal d = d.at == 10 && d.unsealed
 stands (head.Call w) d = d.at == 12
 stands h d = in_order (rank h) (repeats h) d.at
 
--- an ending line has come
+-- an ending line has been read
 abbrev pub is_over : Draft → Bool
 is_over d = d.at == 13

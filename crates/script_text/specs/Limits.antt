@@ -1,6 +1,7 @@
--- How many of each a script may have.
+-- The limits on the parts of a script.
 use Rattle.std.specs.Prelude.{ℕ}
 use Rattle.inode_pages.specs.Content as content
+use Rattle.policy_text.specs.Limits as policy
 use Rattle.xattr_store.specs.Attrs as attrs
 
 abbrev pub most_supers : ℕ
@@ -9,22 +10,22 @@ most_supers = 16
 abbrev pub most_files : ℕ
 most_files = 256
 
--- attributes of a file, beside `security.ima` and `security.evm`
+-- the attributes of a file besides `security.ima` and `security.evm`
 abbrev pub most_attrs : ℕ
 most_attrs = 16
 
--- names that are added to EVM's
+-- the names that are added to those that EVM protects
 abbrev pub most_added : ℕ
 most_added = 16
 
--- lines `rule` and `addrule` together
+-- the lines `rule` and `addrule` together
 abbrev pub most_rules : ℕ
-most_rules = 1024
+most_rules = policy.most_rules
 
 abbrev pub most_tasks : ℕ
 most_tasks = 64
 
--- calls of all tasks
+-- the calls of all tasks together
 abbrev pub most_calls : ℕ
 most_calls = 32768
 
@@ -34,7 +35,7 @@ most_turns = 1048576
 abbrev pub most_threads : ℕ
 most_threads = 16
 
--- bytes of all values that are counted
+-- the total length of all values that count
 abbrev pub most_bytes : ℕ
 most_bytes = 33554432
 
@@ -44,7 +45,7 @@ most_content = content.most_bytes
 abbrev pub most_value : ℕ
 most_value = attrs.most_value
 
--- an attribute may be set to more bytes than it can have
+-- the bytes of a `setxattr`, which may be more than an attribute can have
 abbrev pub most_set : ℕ
 most_set = 8192
 

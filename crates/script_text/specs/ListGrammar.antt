@@ -1,7 +1,7 @@
 -- The grammar of list texts: paths and contents.
 use Rattle.std.specs.Prelude.{ℕ, ◌+◌, ◌==◌, Bool, not, nat_lt, List, [], ◌∷◌, ◌++◌, length, codes, Option, Result, Ok, Err, ok_or, if◌then◌else◌}
 use Rattle.std.specs.Str.{bytes_eq}
-use Rattle.policy_text.specs.Values.{look_up}
+use Rattle.text_forms.specs.Tables.{look_up}
 use Rattle.text_forms.specs.Lines.{◌>>=◌}
 use Rattle.text_forms.specs.Paths.{is_path}
 use Rattle.script_words.specs.declared.fault.Fault.{Fault}
@@ -21,7 +21,7 @@ Listed = List ℕ × List ℕ
 
 pub record ListDraft : Type 0 where
   pub files : List Listed
-  -- 0 before the first line, 1 behind it, 2 behind the last
+  -- 0 before the first line, 1 after it, 2 after the last
   pub at : ℕ
   pub sum : ℕ
 
@@ -35,7 +35,7 @@ abbrev pub head_of : List ℕ → Option ListHead
 head_of text = look_up ((codes "file", head.File) ∷ (codes "imalist", head.Imalist)
     ∷ (codes "end", head.End) ∷ []) text
 
--- `imalist` first, and then the others up to `end`
+-- `imalist` comes first, then the other lines up to `end`
 abbrev pub stands : ListHead → ListDraft → Bool
 stands head.Imalist d = d.at == 0
 stands _ d = d.at == 1
@@ -52,7 +52,7 @@ listed f d =
     else if nat_lt most_bytes (d.sum + length f.1) then Err cause.TooLarge
     else Ok (record d { files = d.files ++ f ∷ []; sum = d.sum + length f.1 })
 
--- `file PATH VALUE`; a path may stand twice
+-- `file PATH VALUE`; the same path may occur twice
 abbrev pub with_file : List (List ℕ) → ListDraft → Made
 with_file words d =
     field (two words) λ w.

@@ -1,4 +1,4 @@
--- A script's fields as contracts see them.
+-- The value of a script that contracts see, by its fields.
 use Rattle.script_text.specs.declared.script.Script.TheInside.{Inside}
 use Rattle.script_text.specs.ScriptValue.{ScriptValue}
 

@@ -1,4 +1,4 @@
--- What contracts see of a script.
+-- The value of a script that contracts see.
 use Rattle.std.specs.Prelude.{ℕ, Bool, List, Option}
 use Rattle.call_steps.specs.declared.ending.Ending.{Ending}
 use Rattle.hash_algos.specs.DigestValue.{DigestValue}

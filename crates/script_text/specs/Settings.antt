@@ -13,7 +13,8 @@ use Rattle.inode_meta.specs.declared.appraisal.Mode.TheVariants as mode
 use Rattle.inode_meta.specs.declared.measurement.Template.{Template}
 use Rattle.inode_meta.specs.declared.measurement.Template.TheVariants as template
 use Rattle.policy_text.specs.Key.{starts}
-use Rattle.policy_text.specs.Values.{look_up, template_of}
+use Rattle.policy_text.specs.Values.{template_of}
+use Rattle.text_forms.specs.Tables.{look_up}
 use Rattle.policy_text.specs.declared.access.Super.{Super}
 use Rattle.text_forms.specs.FileSystems.{magic_of, uuid_of}
 use Rattle.text_forms.specs.Lines.{◌>>=◌}
@@ -29,7 +30,7 @@ use Rattle.script_text.specs.Limits.{most_added, most_key, most_supers}
 abbrev pub one_if : Bool → ℕ
 one_if b = if b then 1 else 0
 
--- what a line makes of a draft
+-- the draft after a line, or the cause for which the line is refused
 abbrev pub Made : Type 0
 Made = Result Draft LineCause
 
@@ -38,7 +39,7 @@ unfoldable pub with_version : List (List ℕ) → Draft → Made
 with_version (w ∷ []) d = if bytes_eq w (codes "1") then Ok d else Err cause.BadField
 with_version _ d = Err cause.BadField
 
--- the algorithm of the first entry's digest: under `ima` SHA-1, whatever the default is
+-- the algorithm of the first entry's digest: SHA-1 under `ima`, else the default
 abbrev pub boot_algo : Template → Algo → Algo
 boot_algo template.Ima a = Sha1
 boot_algo _ a = a
@@ -70,7 +71,7 @@ abbrev pub digest_sized : Algo → List ℕ → Result DigestValue LineCause
 digest_sized a bytes = if length bytes == algo_size a then Ok (record { algo = a; bytes = bytes })
     else Err cause.BadField
 
--- a digest of as many bytes as the algorithm has, which are 64 at most
+-- a digest of as many bytes as the algorithm has, which is at most 64
 abbrev pub digest_in : Algo → List ℕ → Result DigestValue LineCause
 digest_in a w = field (value_of 0 64 w) λ bytes. digest_sized a bytes
 
@@ -99,9 +100,9 @@ with_key (w ∷ []) d = ok_or (value_of 1 most_key w) cause.BadField >>= λ k. O
     (record d { script = record d.script { key = Some k } })
 with_key _ d = Err cause.BadField
 
--- ---- the names that EVM protects beside the five
+-- ---- the names that EVM protects besides the five
 
--- a name of 10 to 255 bytes that begins with `security.`, but for that of the HMAC itself
+-- a name of 10 to 255 bytes that begins with `security.`, except that of the HMAC itself
 abbrev pub is_added_name : List ℕ → Bool
 is_added_name w = is_word 255 w && nat_le 10 (length w) && starts w (codes "security.")
     && not (bytes_eq w evm_name)
@@ -109,7 +110,7 @@ is_added_name w = is_word 255 w && nat_le 10 (length w) && starts w (codes "secu
 abbrev pub is_protected : List ℕ → Draft → Bool
 is_protected w d = evm.is_protected d.script.added w
 
--- `.` locks the list
+-- `.` as the name locks the list of names
 unfoldable pub locked : Draft → Made
 locked d = if d.script.locked then Err cause.Locked
     else Ok (record d { script = record d.script { locked = true } })
@@ -155,7 +156,7 @@ super_of m u n v =
     super_with (behind_by magic_of (codes "magic=") m) (behind_by uuid_of (codes "uuid=") u)
     (behind_by name_of (codes "name=") n) (versions_of v)
 
--- `fs magic=MAGIC uuid=UUID name=WORD versions`, or `noversions`
+-- `fs magic=MAGIC uuid=UUID name=WORD versions`, or `noversions` as the last word
 abbrev pub super_in : List (List ℕ) → Option Super
 super_in (m ∷ u ∷ n ∷ v ∷ more) = if is_filled more then None else super_of m u n v
 super_in _ = None

@@ -23,7 +23,7 @@ use Rattle.script_text.specs.declared.head.CallWord.{CallWord}
 
 -- ---- rules
 
--- there is room for one rule more, of the script's or a task's
+-- there is room for one more rule, of the script or of a task
 abbrev pub has_room : Draft → Bool
 has_room d = nat_lt (length d.script.rules + d.appended) most_rules
 
@@ -42,7 +42,7 @@ cred_with (Some u) (Some e) (Some g) (Some f) (Some admin) =
     Some (record { uid = u; euid = e; gid = g; egid = f; admin = admin })
 cred_with _ _ _ _ _ = None
 
--- `admin` or nothing
+-- the word `admin`, or none
 abbrev pub admin_of : List (List ℕ) → Option Bool
 admin_of [] = Some false
 admin_of (a ∷ []) = if bytes_eq a (codes "admin") then Some true else None
@@ -62,7 +62,7 @@ with_cred c d =
     })
     else Err cause.TooMany
 
--- `task uid=NUM euid=NUM gid=NUM egid=NUM`, and `admin` behind it or not
+-- `task uid=NUM euid=NUM gid=NUM egid=NUM`, optionally followed by `admin`
 abbrev pub cred_in : List (List ℕ) → Option Cred
 cred_in (u ∷ e ∷ g ∷ f ∷ more) = cred_of u e g f more
 cred_in _ = None
@@ -76,7 +76,7 @@ abbrev pub value_length : Option (List ℕ) → ℕ
 value_length None = 0
 value_length (Some bytes) = length bytes
 
--- the bytes of a call that count in the sum
+-- the number of bytes of a call that count in the sum
 abbrev pub call_bytes : Call → ℕ
 call_bytes (call.Write fd from bytes) = length bytes
 call_bytes (call.SetAttr inode name value) = value_length value
@@ -86,7 +86,7 @@ abbrev pub appends : Call → Bool
 appends (call.AddRule rule) = true
 appends _ = false
 
--- the task's calls and one more
+-- the task with a call appended
 abbrev pub task_with : Call → TaskBlock → TaskBlock
 task_with c t = record t { calls = t.calls ++ c ∷ [] }
 
@@ -114,7 +114,7 @@ with_call_line w text words d = call_of w text words d.paths >>= λ c. with_call
 abbrev pub ended : Ending → Draft → Draft
 ended e d = record d { script = record d.script { ending = e } }
 
--- the number of a task that is there
+-- the number of an existing task
 abbrev pub turn_of : ℕ → List ℕ → Result ℕ LineCause
 turn_of tasks w = ok_or (place_among tasks w) cause.Unknown
 
@@ -122,7 +122,7 @@ abbrev pub turns_from : ℕ → List (List ℕ) → Result (List ℕ) LineCause
 turns_from tasks [] = Ok []
 turns_from tasks (w ∷ ws) = turn_of tasks w >>= λ t. turns_from tasks ws >>= λ ts. Ok (t ∷ ts)
 
--- at most so many of them
+-- the turns, if they are within the limit
 abbrev pub few_turns : List ℕ → Result (List ℕ) LineCause
 few_turns ts = if nat_lt most_turns (length ts) then Err cause.TooMany else Ok ts
 
@@ -140,7 +140,7 @@ unfoldable pub with_rounds : List (List ℕ) → Draft → Made
 with_rounds [] d = Ok (ended ending.Rounds d)
 with_rounds _ d = Err cause.BadField
 
--- 1 to 16
+-- the number of threads, 1 to 16
 abbrev pub threads_of : List ℕ → Option ℕ
 threads_of text = if_any (short_number_of 10 most_threads text)
 

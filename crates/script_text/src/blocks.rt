@@ -10,9 +10,9 @@ use xattr_store::Bytes;
 /// A file of a script.
 #[derive(Drop)]
 pub struct FileBlock {
-    /// Its path.
+    /// The path of the file.
     pub path: Bytes,
-    /// The number of its file system.
+    /// The number of the file's file system.
     pub fs: u32,
     /// The inode as the run begins.
     pub image: Image,
@@ -34,21 +34,21 @@ impl Model for Calls {
 }
 
 impl Calls {
-    /// These calls, by a vector that is taken over.
+    /// The calls in the vector, which is consumed.
     pub fn from_vec(calls: Vec<Call>) -> Calls
         ensures { result ≡ calls.items }
     {
         Calls { calls }
     }
 
-    /// The vector of the calls, taken over.
+    /// The calls as a vector.
     pub fn into_vec(self) -> Vec<Call>
         ensures { result.items ≡ self }
     {
         self.calls
     }
 
-    /// The calls, and behind them one more.
+    /// The calls with one more at the end.
     pub fn with(self, call: Call) -> Result<Calls, OutOfMemory>
         ensures { IfOk result (λ calls. calls ≡ self ++ call ∷ []) }
     {
@@ -57,7 +57,7 @@ impl Calls {
         Ok(calls)
     }
 
-    /// The calls.
+    /// The calls as a slice, in order.
     pub fn as_slice(&self) -> &[Call]
         ensures { result.now ≡ self.now }
     {
@@ -68,8 +68,8 @@ impl Calls {
 /// A task of a script.
 #[derive(Drop)]
 pub struct TaskBlock {
-    /// Its credentials.
+    /// The credentials of the task.
     pub cred: Cred,
-    /// Its calls.
+    /// The calls of the task, in order.
     pub calls: Calls,
 }

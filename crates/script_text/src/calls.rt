@@ -19,12 +19,12 @@ use script_words::{
 use std::alloc::Global;
 use text_forms::{is_path, is_word};
 
-// The most bytes that are written at once, and that an attribute is set to.
+// The most bytes that one call writes, and the most to which an attribute is set.
 const WRITE: usize = MOST_BYTES as usize;
 
 const SET: usize = 8192;
 
-/// The call of a line, by its first word, the text behind it, and the words of that.
+/// The call of a line, by its first word, the text after it, and the words of that text.
 #[tactic(auto, unfolding(crate::specs::Calls::call_of))]
 pub fn call_of(
     alloc: Global,
@@ -36,7 +36,7 @@ pub fn call_of(
     ensures { LineGives result
         (call_of word (option_copied text.entry) (map (λ w. w.now) fields.now) paths.now) }
 {
-    if word == CallWord::AddRule {
+    if let CallWord::AddRule = word {
         let rule = BoxedRule::new(alloc, rule_of(alloc, text)?)?;
         return Ok(Call::AddRule { rule });
     }
@@ -111,7 +111,7 @@ fn flags_of(flags: &[&[u8]]) -> Option<(bool, bool)>
     }
 }
 
-// Only a file open for writing is cut.
+// How the file is opened, and whether it is truncated. Only a file open for writing can be.
 fn opened(way: &[u8], create: bool, trunc: bool) -> Option<(How, bool)>
     ensures { result ≡ opened way.now create trunc }
 {
@@ -241,7 +241,7 @@ fn mread_of(fields: &[&[u8]]) -> Result<Call, LineErr>
     Ok(Call::Mread { map, from, len })
 }
 
-// The number of a map, a run or a semaphore, which is the line's only word.
+// The number of a map, a run or a semaphore, which is the only word after the first.
 fn small_in(fields: &[&[u8]]) -> Result<u8, LineErr>
     ensures { LineGives result (small_in (map (λ w. w.now) fields.now)) }
 {
@@ -251,7 +251,7 @@ fn small_in(fields: &[&[u8]]) -> Result<u8, LineErr>
     Ok(small_of(number).ok_or(LineCause::BadField)?)
 }
 
-// The number of the file of a path, which is the line's only word.
+// The number of the file of a path, which is the only word after the first.
 fn inode_in(fields: &[&[u8]], paths: &Paths) -> Result<u32, LineErr>
     ensures { LineGives result (inode_in (map (λ w. w.now) fields.now) paths.now) }
 {

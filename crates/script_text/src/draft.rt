@@ -17,7 +17,7 @@ use std::alloc::Global;
 use std::marker::Model;
 use xattr_store::Bytes;
 
-// The ranks behind which attributes, and calls, stand.
+// The ranks of the blocks of files and of tasks, in which attributes and calls follow.
 const FILES: u8 = 10;
 
 const TASKS: u8 = 12;
@@ -25,7 +25,7 @@ const TASKS: u8 = 12;
 // The rank of an ending line.
 const OVER: u8 = 13;
 
-/// A script so far, with what its next line needs to know.
+/// A script so far, with the state that its next line depends on.
 #[derive(Drop)]
 pub struct Draft {
     pub hash: Algo,
@@ -43,17 +43,17 @@ pub struct Draft {
     pub ending: Ending,
     /// The rank of the last line.
     pub at: u8,
-    /// Whether the last file is there, and no seal stands behind it.
+    /// Whether the last file is present and has no `seal` line yet.
     pub unsealed: bool,
-    /// How many of its attribute lines count.
+    /// How many of the last file's attribute lines count towards the limit.
     pub counted: usize,
-    /// How many calls the tasks have.
+    /// The number of calls of all tasks.
     pub calls: usize,
-    /// How many rules they append.
+    /// The number of rules that the tasks append.
     pub appended: usize,
-    /// The lengths of the values that are counted, in sum.
+    /// The total length of the values that count towards the limit.
     pub sum: usize,
-    /// The paths of the files.
+    /// The paths of the files, in order.
     pub paths: Paths,
 }
 
@@ -72,7 +72,7 @@ impl Model for Draft {
 }
 
 impl Draft {
-    /// A script before its first line.
+    /// The script before its first line.
     pub fn new(alloc: Global) -> Draft
         ensures { result ≡ start }
     {
@@ -100,7 +100,7 @@ impl Draft {
         }
     }
 
-    /// Whether a line of this kind can stand behind those before it.
+    /// Whether a line of this kind can follow the lines before it.
     pub fn stands(&self, head: Head) -> bool
         ensures { result ≡ stands head self.now }
     {
@@ -112,14 +112,14 @@ impl Draft {
         }
     }
 
-    /// Whether an ending line has come.
+    /// Whether an ending line has been read.
     pub fn is_over(&self) -> bool
         ensures { result ≡ is_over self.now }
     {
         self.at == OVER
     }
 
-    /// The script.
+    /// The script, once its text has ended.
     pub fn finish(self) -> Script
         requires { IsScript self.script }
         ensures { result ≡ self.script }

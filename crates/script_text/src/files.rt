@@ -13,6 +13,7 @@ ghost use Rattle.script_text.specs.Draft.{change_last, last_of};
 ghost use Rattle.script_text.specs.Settings.{name_of};
 ghost use Rattle.script_text.specs.Files.{attrs_put, block_of, content_of, counted_length, file_in, front_in, front_of, has_attr, is_counted, numeral_of, path_of, sealed, setup_of, two, with_absent, with_attr, with_block, with_file, with_front, with_pair, with_seal, within_sum};
 ghost use Rattle.script_text.specs.FrontView.{front_view};
+ghost use Rattle.script_text.specs.Limits.{most_value};
 
 use crate::blocks::FileBlock;
 use crate::draft::Draft;
@@ -31,15 +32,15 @@ use std::mem;
 use text_forms::{is_path, is_short_numeral, is_word};
 use xattr_store::{Attrs, Bytes, EVM_NAME, IMA_NAME, MAX_VALUE};
 
-// How many files a script may have, and attributes a file.
+// The most files of a script, and the most attributes of a file.
 const FILES: usize = 256;
 
 const ATTRS: usize = 16;
 
-// The most bytes that all values that are counted may have.
+// The limit on the total length of all values that count.
 const BYTES: usize = 33_554_432;
 
-/// The words that `file` and `absent` share. The number of the file system may be of any length.
+/// The words that `file` and `absent` share. The number of the file system may have any length.
 #[derive(Drop)]
 pub struct Front<'a> {
     pub path: &'a [u8],
@@ -52,7 +53,7 @@ pub struct Front<'a> {
 }
 
 impl Draft {
-    /// `file PATH fs=NUM ino=NUM gen=NUM uid=NUM gid=NUM mode=MODE content=VALUE`
+    /// Reads `file PATH fs=NUM ino=NUM gen=NUM uid=NUM gid=NUM mode=MODE content=VALUE`.
     #[tactic(auto, unfolding(crate::specs::Files::with_file))]
     pub fn with_file(&mut self, alloc: Global, fields: &[&[u8]]) -> Result<(), LineErr>
         ensures { LineMakes result (with_file (map (λ w. w.now) fields.now) self.old) self.new }
@@ -62,7 +63,7 @@ impl Draft {
         self.with_front(alloc, &front, true, content)
     }
 
-    /// `absent PATH fs=NUM ino=NUM gen=NUM uid=NUM gid=NUM mode=MODE`
+    /// Reads `absent PATH fs=NUM ino=NUM gen=NUM uid=NUM gid=NUM mode=MODE`.
     #[tactic(auto, unfolding(crate::specs::Files::with_absent))]
     pub fn with_absent(&mut self, alloc: Global, fields: &[&[u8]]) -> Result<(), LineErr>
         ensures { LineMakes result (with_absent (map (λ w. w.now) fields.now) self.old) self.new }
@@ -71,7 +72,7 @@ impl Draft {
         self.with_front(alloc, &front, false, Content::new(alloc))
     }
 
-    // On the file system of the front's number, if it is there.
+    // Adds a file on the file system that the front names, if there is one.
     fn with_front(
         &mut self,
         alloc: Global,
@@ -108,7 +109,7 @@ impl Draft {
         Ok(())
     }
 
-    /// `attr NAME VALUE`, in the block of the last file
+    /// Reads the line `attr NAME VALUE` in the block of the last file.
     #[tactic(auto, unfolding(crate::specs::Files::with_attr))]
     pub fn with_attr(&mut self, alloc: Global, fields: &[&[u8]]) -> Result<(), LineErr>
         ensures { LineMakes result (with_attr (map (λ w. w.now) fields.now) self.old) self.new }
@@ -120,7 +121,7 @@ impl Draft {
     }
 
     fn with_pair(&mut self, name: &[u8], value: &[u8]) -> Result<(), LineErr>
-        requires { length value.now ≤ MAX_VALUE }
+        requires { length value.now ≤ most_value }
         ensures { LineMakes result (with_pair name.now value.now self.old) self.new }
     {
         if self.has_attr(name) {
@@ -149,7 +150,8 @@ impl Draft {
         }
     }
 
-    /// `seal`: the label of the content by the default algorithm, and the HMAC where there is a key
+    /// Reads the line `seal`, which sets the last file's label by the default algorithm, and its
+    /// HMAC if there is a key.
     #[tactic(auto, unfolding(crate::specs::Files::with_seal))]
     pub fn with_seal(&mut self, alloc: Global, fields: &[&[u8]]) -> Result<(), LineErr>
         ensures { LineMakes result (with_seal (map (λ w. w.now) fields.now) self.old) self.new }
@@ -163,7 +165,7 @@ impl Draft {
         Ok(())
     }
 
-    // EVM as the settings have it.
+    // EVM as the settings configure it.
     fn evm(&self, alloc: Global) -> Result<Evm, OutOfMemory>
         ensures { IfOk result (λ evm. evm ≡ setup_of self.now.script) }
     {
@@ -211,7 +213,7 @@ fn file_in<'a>(fields: &[&'a [u8]]) -> Option<(Front<'a>, &'a [u8])>
     Some((front, content))
 }
 
-/// Whether there are words.
+/// Whether there are any words.
 pub fn is_filled(words: &[&[u8]]) -> bool
     ensures { result ≡ is_filled (map (λ w. w.now) words.now) }
 {
@@ -221,7 +223,7 @@ pub fn is_filled(words: &[&[u8]]) -> bool
     }
 }
 
-/// Two words.
+/// The two words, if there are exactly two.
 pub fn two<'a>(fields: &[&'a [u8]]) -> Option<(&'a [u8], &'a [u8])>
     ensures { option_map (λ w. (w.0.now, w.1.now)) result ≡ two (map (λ w. w.now) fields.now) }
 {
@@ -237,7 +239,7 @@ fn name_of(text: &[u8]) -> Option<&[u8]>
     if is_word(text, 255) { Some(text) } else { None }
 }
 
-/// Takes the last of a list off.
+/// Removes and returns the last element of a list.
 pub fn pop_last<T>(items: &mut Vec<T>) -> Option<T>
     ensures last { result ≡ last_of items.old.items }
     ensures rest { items.new.items ≡ take (length items.old.items - 1) items.old.items }
@@ -247,10 +249,10 @@ pub fn pop_last<T>(items: &mut Vec<T>) -> Option<T>
     items.pop()
 }
 
-// The last file has one attribute more.
+// Sets an attribute of the last file.
 #[tactic(auto, unfolding(crate::specs::Draft::change_last))]
 fn put_on_last(files: &mut Vec<FileBlock>, name: &[u8], value: &[u8]) -> Result<(), LineErr>
-    requires { length value.now ≤ MAX_VALUE }
+    requires { length value.now ≤ most_value }
     ensures ok { OnOk result (files.new.items
         ≡ change_last (attrs_put name.now value.now) files.old.items) }
     ensures err { IfErr result (λ e. e ≡ LineErr.OutOfMemory) }
@@ -265,7 +267,7 @@ fn put_on_last(files: &mut Vec<FileBlock>, name: &[u8], value: &[u8]) -> Result<
     }
 }
 
-// The last file is sealed.
+// Seals the last file.
 #[tactic(auto, unfolding(crate::specs::Draft::change_last))]
 fn seal_last(files: &mut Vec<FileBlock>, evm: &Evm, hash: Algo) -> Result<(), LineErr>
     ensures ok { OnOk result (files.new.items ≡ change_last (sealed evm.now hash) files.old.items) }
@@ -334,7 +336,7 @@ fn ino_behind(text: &[u8]) -> Option<u64>
     ino_of(text.strip_prefix(b"ino=")?)
 }
 
-/// The number of a user or a group, or a generation, behind its key.
+/// The number of a user or a group, or a generation, after its key.
 pub fn id_behind(key: &[u8], text: &[u8]) -> Option<u32>
     ensures { result ≡ behind_by id_of key.now text.now }
 {
@@ -386,7 +388,7 @@ fn block_of(
     Ok(FileBlock { path, fs, image })
 }
 
-/// The sum with the length of one value more, where it is within its limit.
+/// The sum with the length of one more value, if it is within its limit.
 pub fn sum_of(sum: usize, len: usize) -> Option<usize>
     ensures { result ≡ within_sum (sum + len) }
 {
@@ -409,9 +411,9 @@ fn is_counted(name: &[u8]) -> bool
     !(name == IMA_NAME || name == EVM_NAME)
 }
 
-// The file with one attribute more.
+// The file with the attribute set.
 fn attrs_put(file: FileBlock, name: &[u8], value: &[u8]) -> Result<FileBlock, LineErr>
-    requires { length value.now ≤ MAX_VALUE }
+    requires { length value.now ≤ most_value }
     ensures ok { IfOk result (λ b. b ≡ attrs_put name.now value.now file) }
     ensures err { IfErr result (λ e. e ≡ LineErr.OutOfMemory) }
 {

@@ -1,8 +1,8 @@
 ghost use Rattle.std.specs.Prelude.{◌≡◌};
 ghost use Rattle.script_text.specs.Heads.{call_word_of, head_of, in_order, rank, repeats, section_of};
 
-/// The first word of a line.
-#[derive(Clone, Copy, Debug, PartialEq, Eq)]
+/// The kind of a line of a script, by its first word.
+#[derive(Clone, Copy)]
 pub enum Head {
     Imakern,
     Hash,
@@ -25,8 +25,8 @@ pub enum Head {
     Threads,
 }
 
-/// The first word of a call's line.
-#[derive(Clone, Copy, Debug, PartialEq, Eq)]
+/// The kind of a call's line, by its first word.
+#[derive(Clone, Copy)]
 pub enum CallWord {
     Open,
     Read,
@@ -150,7 +150,7 @@ fn section_of(word: &[u8]) -> Option<Head>
 }
 
 impl Head {
-    /// Lines stand in the order of their ranks.
+    /// The rank of the line. Lines come in the order of their ranks.
     pub fn rank(self) -> u8
         ensures { result ≡ rank self }
     {
@@ -171,7 +171,7 @@ impl Head {
         }
     }
 
-    /// Whether there may be several lines of the kind.
+    /// Whether there may be several lines of this kind.
     pub fn repeats(self) -> bool
         ensures { result ≡ repeats self }
     {
@@ -184,7 +184,7 @@ impl Head {
     }
 }
 
-/// Whether a line of the rank can stand behind lines whose last had the rank `at`.
+/// Whether a line of this rank can follow lines of which the last had the rank `at`.
 pub fn in_order(rank: u8, again: bool, at: u8) -> bool
     ensures { result ≡ in_order rank again at }
 {

@@ -1,8 +1,8 @@
-//! Scripts as text, and list texts: what is read of them.
+//! Reading scripts and list texts.
 //!
 //! A script has settings, file systems, files, rules and tasks, and says how its tasks are run. The
-//! grammar stands in `specs/`, apart from the reader: what each line makes of the script so far, or
-//! the least cause for which it is refused.
+//! grammar is in `specs/`, apart from the reader: how each line changes the script so far, or the
+//! first cause for which it is refused.
 #![tactic(auto)]
 
 mod blocks;
@@ -21,7 +21,7 @@ mod tasks;
 
 pub use blocks::{Calls, FileBlock, TaskBlock};
 pub use call_steps as steps;
-pub use call_steps::{events, registers, templates};
+pub use call_steps::{Ending, events, registers, templates};
 pub use evm_verify as evm;
 pub use hash_algos as hashes;
 pub use inode_hashing as hashing;

@@ -14,7 +14,7 @@ use std::marker::Model;
 use text_forms::is_path;
 use xattr_store::Bytes;
 
-// How many files a list may have, and bytes a content.
+// The most files of a list, and the most bytes of a content.
 const FILES: usize = 256;
 
 const CONTENT: usize = MOST_BYTES as usize;
@@ -22,7 +22,7 @@ const CONTENT: usize = MOST_BYTES as usize;
 /// The files of a list text, each with its path and its content. Contracts see the list of pairs.
 #[derive(Drop)]
 pub struct ListText {
-    /// The files, in order. A path may stand twice.
+    /// The files, in order. The same path may occur twice.
     pub files: Vec<(Bytes, Bytes)>,
 }
 
@@ -35,10 +35,10 @@ impl Model for ListText {
     ghost view = { λ l. l.files.items };
 }
 
-/// The files of a list text.
+/// Reads the files of a list text.
 ///
-/// `Refused` comes exactly where the text isn't in the grammar, with the first bad line and the
-/// first of the causes that hold of it.
+/// The result is `Refused` exactly if the text isn't in the grammar, with the first bad line and
+/// the first of the causes that hold of it.
 pub fn parse_list(alloc: Global, text: &[u8]) -> Result<ListText, ScriptErr>
     requires { length text.now < 2 ^ 32 - 1 }
     ensures { Gives result (list_of text.now) }
@@ -121,7 +121,7 @@ impl ListDraft {
         }
     }
 
-    // `imalist 1`
+    // Reads the line `imalist 1`, the version of list texts.
     fn with_version(&mut self, fields: &[&[u8]]) -> Result<(), LineErr>
         ensures { LineMakes result (with_version (map (λ w. w.now) fields.now) self.old) self.new }
     {
@@ -135,7 +135,7 @@ impl ListDraft {
         Ok(())
     }
 
-    // `file PATH VALUE`
+    // Reads the line `file PATH VALUE`, which adds a file.
     fn with_file(&mut self, alloc: Global, fields: &[&[u8]]) -> Result<(), LineErr>
         ensures { LineMakes result (with_file (map (λ w. w.now) fields.now) self.old) self.new }
     {
@@ -159,7 +159,7 @@ impl ListDraft {
         Ok(())
     }
 
-    // `end`
+    // Reads the line `end`, which ends the list.
     fn with_end(&mut self, fields: &[&[u8]]) -> Result<(), LineErr>
         ensures { LineMakes result (with_end (map (λ w. w.now) fields.now) self.old) self.new }
     {

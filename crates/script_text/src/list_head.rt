@@ -1,8 +1,8 @@
 ghost use Rattle.std.specs.Prelude.{◌≡◌};
 ghost use Rattle.script_text.specs.ListGrammar.{head_of};
 
-/// The first word of a line of a list text.
-#[derive(Clone, Copy, Debug, PartialEq, Eq)]
+/// The kind of a line of a list text, by its first word.
+#[derive(Clone, Copy)]
 pub enum ListHead {
     Imalist,
     File,

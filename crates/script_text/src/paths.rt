@@ -26,7 +26,7 @@ impl Model for Paths {
 }
 
 impl Paths {
-    /// No paths.
+    /// The empty list of paths.
     pub fn new(alloc: Global) -> Paths
         ensures { result ≡ [] }
     {
@@ -36,21 +36,21 @@ impl Paths {
         }
     }
 
-    /// How many there are.
+    /// The number of paths.
     pub fn len(&self) -> usize
         ensures { result ≡ length self.now }
     {
         self.paths.len()
     }
 
-    /// The number of the path, counted from 0.
+    /// The index of the path, counted from 0.
     pub fn place(&self, path: &[u8]) -> Option<u32>
         ensures { result ≡ place_in self.now path.now }
     {
         self.places.get(path).copied()
     }
 
-    /// The paths, and behind them one that isn't among them.
+    /// The paths with one more at the end, which isn't among them.
     pub fn with(self, alloc: Global, path: &[u8]) -> Result<Paths, OutOfMemory>
         requires few { length self < 256 }
         requires absent { place_in self path.now ≡ None }

@@ -12,10 +12,10 @@ use crate::script::Script;
 use script_words::{Grammar, LineCause, LineErr, ScriptErr, cut_line, fields, read_text};
 use std::alloc::Global;
 
-/// The script of a text.
+/// Reads the script of a text.
 ///
-/// `Refused` comes exactly where the text isn't in the grammar, with the first bad line and the
-/// first of the causes that hold of it.
+/// The result is `Refused` exactly if the text isn't in the grammar, with the first bad line and
+/// the first of the causes that hold of it.
 pub fn parse(alloc: Global, text: &[u8]) -> Result<Script, ScriptErr>
     requires { length text.now < 2 ^ 32 - 1 }
     ensures text { Gives result (script_of text.now) }

@@ -15,11 +15,11 @@ use script_words::{LineCause, LineErr, cut, place_among};
 use std::alloc::Global;
 use text_forms::is_short_numeral;
 
-// How many turns a schedule may have.
+// The most turns of a schedule.
 const TURNS: usize = 1_048_576;
 
 impl Draft {
-    /// `schedule` and the numbers of tasks
+    /// Reads the line `schedule` with the numbers of tasks, which ends the script.
     #[tactic(auto, unfolding(crate::specs::Tasks::with_schedule))]
     pub fn with_schedule(&mut self, alloc: Global, text: Option<&[u8]>) -> Result<(), LineErr>
         ensures { LineMakes result (with_schedule (all_fields (option_copied text.entry)) self.old)
@@ -34,8 +34,7 @@ impl Draft {
     }
 }
 
-// The forms of all words come first, then whether the tasks are there, then how many turns they
-// are.
+// Refuses a word of the wrong form first, then a task that isn't there, then too many turns.
 fn turns_of(alloc: Global, tasks: usize, numbers: &[u8]) -> Result<Turns, LineErr>
     requires { tasks ≤ 64 }
     ensures { LineGives result (turns_of tasks (words numbers.now)) }

@@ -10,8 +10,9 @@ use xattr_store::Bytes;
 
 /// A script: settings, file systems, files, rules, tasks, and how the tasks are run.
 ///
-/// Contracts see a record of these fields. Its invariant `IsScript` keeps the form of each part,
-/// the lengths and the limits, and that `place` and `versions` of each image are its file system's.
+/// Contracts see a record of these fields. The invariant `IsScript` covers the form of each part,
+/// the lengths and the limits, and that the `place` and `versions` of each image are those of its
+/// file system.
 #[derive(Drop)]
 pub struct Script {
     /// The default algorithm of labels and entries (`hash`).
@@ -22,24 +23,24 @@ pub struct Script {
     pub boot: Digest,
     /// The appraisal mode (`appraise`).
     pub mode: Mode,
-    /// EVM's key, of 1 to 128 bytes, where there is one (`evm`). The kernel pads its own with zeros
-    /// to 128 bytes before the HMAC.
+    /// EVM's key of 1 to 128 bytes, if there is one (`evm`). The kernel pads its own with zeros to
+    /// 128 bytes before the HMAC.
     pub key: Option<Bytes>,
-    /// The names that EVM protects beside the five, in the order of their lines (`evm_xattrs`).
+    /// The names that EVM protects besides the five, in the order of their lines (`evm_xattrs`).
     pub added: Vec<Bytes>,
     /// Whether the list of names is locked (`evm_xattrs .`).
     pub locked: bool,
     /// The format of the HMAC's message, 1 or 2 (`evm_format`).
     pub format: u8,
-    /// The file systems (`fs`).
+    /// The file systems, in the order of their lines (`fs`).
     pub supers: Vec<Super>,
-    /// The files (`file` and `absent`).
+    /// The files, in the order of their blocks (`file` and `absent`).
     pub files: Vec<FileBlock>,
     /// The rules in force as the run begins (`rule`).
     pub rules: Policy,
-    /// The tasks (`task`).
+    /// The tasks, in the order of their blocks (`task`).
     pub tasks: Vec<TaskBlock>,
-    /// How the tasks are run.
+    /// How the tasks are run: by a schedule, in rounds or on threads.
     pub ending: Ending,
 }
 
@@ -57,7 +58,7 @@ impl Model for Script {
 }
 
 impl Script {
-    /// What every script keeps.
+    /// The invariant of every script.
     pub fn keeps(&self)
         ensures { IsScript self.now }
     {

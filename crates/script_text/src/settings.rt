@@ -20,7 +20,7 @@ use std::alloc::Global;
 use text_forms::{is_word, magic_of, uuid_of};
 use xattr_store::{Bytes, EVM_NAME};
 
-// The most bytes of a key, names that are added, and file systems.
+// The most bytes of a key, the most names that are added, and the most file systems.
 const KEY: usize = 128;
 
 // The bytes of the longest digest.
@@ -31,7 +31,7 @@ const ADDED: usize = 16;
 const SUPERS: usize = 16;
 
 impl Draft {
-    /// `imakern 1`
+    /// Reads the line `imakern 1`, the version of the script language.
     #[tactic(auto, unfolding(crate::specs::Settings::with_version))]
     pub fn with_version(&mut self, fields: &[&[u8]]) -> Result<(), LineErr>
         ensures { LineMakes result (with_version (map (λ w. w.now) fields.now) self.old) self.new }
@@ -46,7 +46,7 @@ impl Draft {
         }
     }
 
-    /// `hash ALGO`
+    /// Reads the line `hash ALGO`, which sets the default algorithm of labels and entries.
     #[tactic(auto, unfolding(crate::specs::Settings::with_hash))]
     pub fn with_hash(&mut self, fields: &[&[u8]]) -> Result<(), LineErr>
         ensures { LineMakes result (with_hash (map (λ w. w.now) fields.now) self.old) self.new }
@@ -60,7 +60,7 @@ impl Draft {
         Ok(())
     }
 
-    /// `template ima`, `ima-ng` or `ima-sig`
+    /// Reads the line `template ima`, `template ima-ng` or `template ima-sig`.
     #[tactic(auto, unfolding(crate::specs::Settings::with_template))]
     pub fn with_template(&mut self, fields: &[&[u8]]) -> Result<(), LineErr>
         ensures { LineMakes result (with_template (map (λ w. w.now) fields.now) self.old) self.new }
@@ -74,7 +74,7 @@ impl Draft {
         Ok(())
     }
 
-    /// `boot VALUE`
+    /// Reads the line `boot VALUE`, which sets the digest of the first entry.
     #[tactic(auto, unfolding(crate::specs::Settings::with_boot))]
     pub fn with_boot(&mut self, alloc: Global, fields: &[&[u8]]) -> Result<(), LineErr>
         ensures { LineMakes result (with_boot (map (λ w. w.now) fields.now) self.old) self.new }
@@ -84,7 +84,7 @@ impl Draft {
         Ok(())
     }
 
-    /// `appraise enforce`, `log`, `fix` or `off`
+    /// Reads the line `appraise enforce`, `appraise log`, `appraise fix` or `appraise off`.
     #[tactic(auto, unfolding(crate::specs::Settings::with_mode))]
     pub fn with_mode(&mut self, fields: &[&[u8]]) -> Result<(), LineErr>
         ensures { LineMakes result (with_mode (map (λ w. w.now) fields.now) self.old) self.new }
@@ -96,7 +96,7 @@ impl Draft {
         Ok(())
     }
 
-    /// `evm VALUE`
+    /// Reads the line `evm VALUE`, which sets EVM's key.
     #[tactic(auto, unfolding(crate::specs::Settings::with_key))]
     pub fn with_key(&mut self, alloc: Global, fields: &[&[u8]]) -> Result<(), LineErr>
         ensures { LineMakes result (with_key (map (λ w. w.now) fields.now) self.old) self.new }
@@ -108,7 +108,8 @@ impl Draft {
         Ok(())
     }
 
-    /// `evm_xattrs NAME`, or `.` for the name
+    /// Reads the line `evm_xattrs NAME`, which adds a name, or `evm_xattrs .`, which locks the
+    /// names.
     #[tactic(auto, unfolding(crate::specs::Settings::with_name))]
     pub fn with_name(&mut self, alloc: Global, fields: &[&[u8]]) -> Result<(), LineErr>
         ensures { LineMakes result (with_name (map (λ w. w.now) fields.now) self.old) self.new }
@@ -158,7 +159,7 @@ impl Draft {
         is_protected(name, self.added.as_slice())
     }
 
-    /// `evm_format 1` or `evm_format 2`
+    /// Reads the line `evm_format 1` or `evm_format 2`.
     #[tactic(auto, unfolding(crate::specs::Settings::with_format))]
     pub fn with_format(&mut self, fields: &[&[u8]]) -> Result<(), LineErr>
         ensures { LineMakes result (with_format (map (λ w. w.now) fields.now) self.old) self.new }
@@ -170,7 +171,7 @@ impl Draft {
         Ok(())
     }
 
-    /// `fs magic=MAGIC uuid=UUID name=WORD versions`, or `noversions`
+    /// Reads the line `fs magic=MAGIC uuid=UUID name=WORD versions`, or the same with `noversions`.
     #[tactic(auto, unfolding(crate::specs::Settings::with_super))]
     pub fn with_super(&mut self, alloc: Global, fields: &[&[u8]]) -> Result<(), LineErr>
         ensures { LineMakes result (with_super (map (λ w. w.now) fields.now) self.old) self.new }
@@ -184,7 +185,7 @@ impl Draft {
     }
 }
 
-// The algorithm of the first entry's digest: under `ima` SHA-1, whatever the default is.
+// The algorithm of the first entry's digest: SHA-1 under `ima`, else the default.
 fn boot_algo(template: Template, hash: Algo) -> Algo
     ensures { result ≡ boot_algo template hash }
 {
@@ -242,7 +243,7 @@ fn is_added_name(name: &[u8]) -> bool
     is_word(name, 255) && 10 <= name.len() && starts(name, b"security.") && name != EVM_NAME
 }
 
-// As `starts_with`, whose clause says it case by case.
+// The same as `starts_with`, with a contract by cases.
 fn starts(name: &[u8], front: &[u8]) -> bool
     ensures { result ≡ starts name.now front.now }
 {

@@ -20,23 +20,23 @@ use std::alloc::{AllocError as OutOfMemory, Global};
 use text_forms::short_number_of;
 use xattr_store::Bytes;
 
-// How many tasks a script may have, and calls all tasks.
+// The most tasks of a script, and the most calls of all tasks.
 const TASKS: usize = 64;
 
 const CALLS: usize = 32_768;
 
-// How many threads a run may have.
+// The most threads of a run.
 const THREADS: u64 = 16;
 
 impl Draft {
-    // There is room for one rule more, of the script's or a task's.
+    // Whether there is room for one more rule, of the script or of a task.
     fn has_room(&self) -> bool
         ensures { result ≡ has_room self.now }
     {
         self.appended < RULES - self.rules.rules().len()
     }
 
-    /// `rule TEXT`
+    /// Reads the line `rule TEXT`, which adds a rule.
     #[tactic(auto, unfolding(crate::specs::Tasks::with_rule))]
     pub fn with_rule(&mut self, alloc: Global, text: Option<&[u8]>) -> Result<(), LineErr>
         ensures { LineMakes result (with_rule (option_copied text.entry) self.old) self.new }
@@ -49,7 +49,7 @@ impl Draft {
         Ok(())
     }
 
-    /// `task uid=NUM euid=NUM gid=NUM egid=NUM`, and `admin` behind it or not
+    /// Reads the line `task uid=NUM euid=NUM gid=NUM egid=NUM`, optionally followed by `admin`.
     #[tactic(auto, unfolding(crate::specs::Tasks::with_task))]
     pub fn with_task(&mut self, alloc: Global, fields: &[&[u8]]) -> Result<(), LineErr>
         ensures { LineMakes result (with_task (map (λ w. w.now) fields.now) self.old) self.new }
@@ -70,7 +70,7 @@ impl Draft {
         Ok(())
     }
 
-    /// The line of a call
+    /// Reads the line of a call, in the block of the last task.
     #[tactic(auto, unfolding(crate::specs::Tasks::with_call_line))]
     pub fn with_call_line(
         &mut self,
@@ -108,14 +108,14 @@ impl Draft {
         Ok(())
     }
 
-    /// The ending is this one.
+    /// Sets how the tasks are run.
     pub fn end_with(&mut self, ending: Ending)
         ensures { self.new ≡ ended ending self.old }
     {
         self.ending = ending;
     }
 
-    /// `rounds`
+    /// Reads the line `rounds`, which ends the script.
     #[tactic(auto, unfolding(crate::specs::Tasks::with_rounds))]
     pub fn with_rounds(&mut self, fields: &[&[u8]]) -> Result<(), LineErr>
         ensures { LineMakes result (with_rounds (map (λ w. w.now) fields.now) self.old) self.new }
@@ -127,7 +127,7 @@ impl Draft {
         Ok(())
     }
 
-    /// `threads NUM`
+    /// Reads the line `threads NUM`, which ends the script.
     #[tactic(auto, unfolding(crate::specs::Tasks::with_threads))]
     pub fn with_threads(&mut self, fields: &[&[u8]]) -> Result<(), LineErr>
         ensures { LineMakes result (with_threads (map (λ w. w.now) fields.now) self.old) self.new }
@@ -141,7 +141,7 @@ impl Draft {
     }
 }
 
-// The last task makes one call more.
+// Appends a call to those of the last task.
 #[tactic(auto, unfolding(crate::specs::Draft::change_last))]
 fn call_on_last(tasks: &mut Vec<TaskBlock>, call: Call) -> Result<(), OutOfMemory>
     ensures ok { OnOk result (tasks.new.items ≡ change_last (task_with call) tasks.old.items) }
@@ -208,7 +208,7 @@ fn value_length(value: &Option<Bytes>) -> usize
     }
 }
 
-// The bytes of a call that count in the sum.
+// The number of bytes of a call that count in the sum.
 fn call_bytes(call: &Call) -> usize
     ensures { result ≡ call_bytes call.now }
 {

@@ -29,7 +29,7 @@ cut_first c (x ∷ xs) (suc n) lt before passes =
           passes,
     ) refl
 
--- what `memchr` finds is where the text is cut
+-- without a separator, as `memchr` reports, the text isn't cut
 pub cut_missed : (c : ℕ) (xs : List ℕ) → IsFirstByte (is_byte c) xs None → cut c xs ≡ None
 cut_missed c xs h = cut_nowhere c xs (λ k lt. h k (omega arith) lt)
 
@@ -58,7 +58,7 @@ module _ (c : ℕ) where
   split_step x xs true h = refl
   split_step x xs false h = parts_onto x xs (slice_split (λ y. y == c) xs) (cut c xs) h
 
-  -- a text is one part, or the part before the separator and the parts of what stands behind it
+  -- a text is one part, or the part before the separator followed by the parts of the text after it
   pub split_at_cut : (xs : List ℕ) → Parts xs (slice_split (λ b. b == c) xs) (cut c xs)
   split_at_cut [] = refl
   split_at_cut (x ∷ xs) = split_step x xs (x == c) (split_at_cut xs)

@@ -1,4 +1,4 @@
--- Words and texts, each with what it is.
+-- Examples of words and texts, each with its value.
 use Rattle.std.proofs.Common.{◌≡◌, ℕ, ◌+◌, Bool, true, false, ◌==◌, List, [], ◌∷◌, codes, Result, Ok, Err, Some, None, refl, if◌then◌else◌}
 use Rattle.std.specs.Prelude.{replicate}
 use Rattle.std.specs.Str.{bytes_eq}
@@ -23,7 +23,7 @@ modes : (mode_of (codes "100644") ≡ Some 0o100644) × (mode_of (codes "177777"
     × (mode_of (codes "648") ≡ None) × (mode_of (codes "0") ≡ Some 0)
 modes = (refl, refl, refl, refl, refl, refl)
 
--- a number of any length is a place, or none
+-- a number of any length is either a place or none
 places : (place_among 2 (codes "1") ≡ Some 1) × (place_among 2 (codes "2") ≡ None)
     × (place_among 0 (codes "0") ≡ None) × (place_among 2 (replicate 40 57) ≡ None)
 places = (refl, refl, refl, refl)
@@ -49,7 +49,7 @@ lines_cut : (cut_line (codes "close 0 x") ≡ (codes "close", Some (codes "0 x")
     × (is_skipped [] ≡ true) × (is_skipped (codes "# c") ≡ true) × (is_skipped (codes " #") ≡ false)
 lines_cut = (refl, refl, refl, refl, refl, refl, refl)
 
--- ---- a grammar whose lines are `a`, at least two of them
+-- ---- a grammar whose lines are `a`, and whose texts have at least two of them
 
 abbrev counts : ℕ → List ℕ → Result ℕ LineCause
 counts n line = if bytes_eq line (codes "a") then Ok (n + 1) else Err cause.BadWord

@@ -1,4 +1,4 @@
--- One line after the other is taken off a text.
+-- One line after another is taken from a text.
 use Rattle.std.proofs.Common.{◌≡◌, ℕ, ◌+◌, ◌==◌, Bool, true, false, List, [], ◌∷◌, length, Result, Ok, refl, sym, arith}
 use Rattle.std.proofs.lemmas.List.Splits.{length-slice_split}
 use Rattle.text_forms.specs.Lines.{◌>>=◌, at_line, lines}
@@ -20,7 +20,7 @@ pub some_line : (text : List ℕ) → is_filled (lines text) ≡ true
 some_line text = long_filled _ _ (length-slice_split (λ b. b == 10) text)
 
 module _ {S : Type 0} (step : S → List ℕ → Result S LineCause) (ends : S → Bool) where
-  -- a line that isn't the last makes a state, from which the others go on
+  -- a line that isn't the last makes a state, from which the other lines go on
   pub one_more : (n : ℕ) (s : S) (line : List ℕ) (others : List (List ℕ)) → is_filled others ≡ true
       → from_ended step ends n s (line ∷ others)
       ≡ (at_line fault_at n (step_over step s line) >>= λ t. from_ended step ends (n + 1) t others)
@@ -34,7 +34,7 @@ module _ {S : Type 0} (step : S → List ℕ → Result S LineCause) (ends : S �
         (lines after)) ≡ whole
     here = rw (cut_off, one_more n s line (lines after) (some_line after)) at so_far
 
-    -- over a skipped line, and over one that makes the state t
+    -- reading goes on after a skipped line, and after one that makes the state t
     pub goes_over : is_skipped line ≡ true → from_ended step ends (n + 1) s (lines after) ≡ whole
     goes_over skipped = rw skipped at here
 

@@ -16,7 +16,7 @@ cause_word cause.TooLarge = codes "too-large"
 cause_word cause.NoEnd = codes "no-end"
 cause_word cause.Locked = codes "locked"
 
--- the word, and behind that of a bad rule the rule's own
+-- the word of the cause, followed for a bad rule by the word of the rule's own cause
 abbrev pub cause_text : LineCause → List ℕ
 cause_text (cause.BadRule c) = codes "bad-rule " ++ rules.cause_word c
 cause_text c = cause_word c

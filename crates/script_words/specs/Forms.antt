@@ -10,7 +10,7 @@ use Rattle.text_forms.specs.Numbers.{short_number_of}
 use Rattle.script_words.specs.declared.fault.LineCause.{LineCause}
 use Rattle.script_words.specs.declared.fault.LineCause.TheVariants as cause
 
--- what stands behind a key, read by its form
+-- the text after a key, if it begins with that key
 abbrev pub behind : List ℕ → List ℕ → Option (List ℕ)
 behind key text = if starts text key then Some (drop (length key) text) else None
 
@@ -24,11 +24,11 @@ behind_by form key text = read_by form (behind key text)
 abbrev pub descriptor_of : List ℕ → Option ℕ
 descriptor_of text = short_number_of 10 255 text
 
--- of a map, a run or a semaphore
+-- the number of a map, a run or a semaphore
 abbrev pub small_of : List ℕ → Option ℕ
 small_of text = short_number_of 10 63 text
 
--- of a user or a group, and a generation
+-- the number of a user or a group, or a generation
 abbrev pub id_of : List ℕ → Option ℕ
 id_of text = short_number_of 10 0xffff_ffff text
 
@@ -38,7 +38,7 @@ ino_of text = short_number_of 10 0xffff_ffff_ffff_ffff text
 abbrev pub offset_of : List ℕ → Option ℕ
 offset_of text = short_number_of 10 0xffff_ffff text
 
--- the form of a word is tested before what is there
+-- a word of the wrong form is refused before it is asked whether the thing that it names exists
 abbrev pub field : {A B : Type 0} → Option A → (A → Result B LineCause) → Result B LineCause
 field value f = ok_or value cause.BadField >>= f
 
@@ -46,15 +46,15 @@ abbrev pub if_any : Option ℕ → Option ℕ
 if_any None = None
 if_any (Some n) = if n == 0 then None else Some n
 
--- one byte or more, and no more than a content has
+-- the length of one read: at least one byte, and at most as many as a content may have
 abbrev pub portion_of : List ℕ → Option ℕ
 portion_of text = if_any (short_number_of 10 most_bytes text)
 
--- octal digits, at most 177777
+-- a mode: octal digits, at most 177777
 abbrev pub mode_of : List ℕ → Option ℕ
 mode_of text = short_number_of 8 0xffff text
 
--- the number, where it is below the count
+-- the number, if it is below the count
 abbrev pub place_among : ℕ → List ℕ → Option ℕ
 place_among count text = if count == 0 then None else short_number_of 10 (count - 1) text
 
@@ -62,7 +62,7 @@ abbrev pub bad_rule : {A : Type 0} → Result A RuleCause → Result A LineCause
 bad_rule (Ok rule) = Ok rule
 bad_rule (Err c) = Err (cause.BadRule c)
 
--- the rule of the text behind the first space
+-- the rule of the text after the first space
 abbrev pub rule_of : Option (List ℕ) → Result RuleValue LineCause
 rule_of None = Err cause.BadField
 rule_of (Some text) = bad_rule (policy.rule_of text)

@@ -1,4 +1,4 @@
--- A function gives what a definition says, unless memory runs out.
+-- A function returns the value that a definition gives, unless memory runs out.
 use Rattle.std.specs.Prelude.{◌≡◌, ℕ, List, Result, Ok, Err, Vec}
 use Rattle.script_words.specs.declared.fault.Fault.{Fault}
 use Rattle.script_words.specs.declared.fault.LineCause.{LineCause}
@@ -15,17 +15,18 @@ abbrev pub LineFails : {X : Type 0} → LineErr → Result X LineCause → Type 
 LineFails line.OutOfMemory said = Unit {0}
 LineFails (line.Refused c) said = said ≡ Err c
 
--- what a line makes
+-- the result of reading a line
 abbrev pub LineGives : {X : Type 0} → Result X LineErr → Result X LineCause → Type 0
 LineGives (Ok x) said = said ≡ Ok x
 LineGives (Err e) said = LineFails e said
 
--- the same where the line changes a state: it is new after an `Ok`, and left open after an `Err`
+-- the result of a line that changes a state: `new` is the state after an `Ok`, and open after an
+-- `Err`
 abbrev pub LineMakes : {X : Type 0} → Result (Unit {0}) LineErr → Result X LineCause → X → Type 0
 LineMakes (Ok u) said new = said ≡ Ok new
 LineMakes (Err e) said new = LineFails e said
 
--- the same of numbers in a vector
+-- the result of reading a line of numbers into a vector
 abbrev pub VecGives : {A : Type 0} → Result (Vec ℕ A) LineErr → Result (List ℕ) LineCause → Type 0
 VecGives (Ok v) said = said ≡ Ok v.items
 VecGives (Err e) said = LineFails e said
@@ -34,7 +35,7 @@ abbrev pub Fails : {X : Type 0} → ScriptErr → Result X Fault → Type 0
 Fails script.OutOfMemory said = Unit {0}
 Fails (script.Refused f) said = said ≡ Err f
 
--- what a text makes
+-- the result of reading a text
 abbrev pub Gives : {X : Type 0} → Result X ScriptErr → Result X Fault → Type 0
 Gives (Ok x) said = said ≡ Ok x
 Gives (Err e) said = Fails e said

@@ -10,17 +10,17 @@ use Rattle.script_words.specs.Line.{is_skipped}
 abbrev pub fault_at : ℕ → LineCause → Fault
 fault_at n c = record { line = n; cause = c }
 
--- empty lines and comments change nothing
+-- empty lines and comments leave the state as it was
 abbrev pub step_over : {S : Type 0} → (S → List ℕ → Result S LineCause) → S → List ℕ
     → Result S LineCause
 step_over step s line = if is_skipped line then Ok s else step s line
 
--- the state at the end, where it may end and nothing stands behind the last newline
+-- the state at the end, if the text may end in it and nothing follows the last newline
 abbrev pub at_end : {S : Type 0} → (S → Bool) → ℕ → S → List ℕ → Result S Fault
 at_end ends n s rest = if ends s && not (is_filled rest) then Ok s else Err (fault_at n cause.NoEnd)
 
--- what the lines make of the state s, where the first of them has the number n. The last isn't
--- ended by a newline
+-- the state that lines make of s, if the first of them has number n and the last isn't ended by a
+-- newline
 abbrev pub from_ended : {S : Type 0} → (S → List ℕ → Result S LineCause) → (S → Bool) → ℕ → S
     → List (List ℕ) → Result S Fault
 from_ended step ends n s [] = Ok s
@@ -28,7 +28,8 @@ from_ended step ends n s (rest ∷ []) = at_end ends n s rest
 from_ended step ends n s (line ∷ next ∷ ls) =
     at_line fault_at n (step_over step s line) >>= λ t. from_ended step ends (n + 1) t (next ∷ ls)
 
--- what a text makes of the state, or its first bad line with the least cause that holds of it
+-- the state that a text makes of `start`, or its first bad line with the first cause that holds of
+-- it
 abbrev pub text_of : {S : Type 0} → (S → List ℕ → Result S LineCause) → (S → Bool) → S → List ℕ
     → Result S Fault
 text_of step ends start text = from_ended step ends 1 start (lines text)

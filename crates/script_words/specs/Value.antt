@@ -9,11 +9,11 @@ use Rattle.text_forms.specs.Options.{◌>>=◌}
 use Rattle.text_forms.specs.Numbers.{short_number_of}
 use Rattle.text_forms.specs.Words.{is_visible}
 
--- two hexadecimal digits a byte, in either case
+-- a value after `hex:`, two hexadecimal digits for each byte, in either case
 abbrev pub hex_value : List ℕ → Option (List ℕ)
 hex_value digits = result_ok (decode_of digits)
 
--- the bytes themselves
+-- a value after `txt:`, which is the visible bytes themselves
 abbrev pub text_value : List ℕ → Option (List ℕ)
 text_value bytes = if list_all is_visible bytes then Some bytes else None
 
@@ -21,7 +21,7 @@ abbrev pub byte_of : ℕ → ℕ → Option ℕ
 byte_of high low = if is_digit high 16
     && is_digit low 16 then Some (16 * digit_value high + digit_value low) else None
 
--- a colon and two hexadecimal digits
+-- the end of a value after `fill:`, a colon and two hexadecimal digits
 abbrev pub end_byte : List ℕ → Option ℕ
 end_byte (c ∷ high ∷ low ∷ []) = if c == 58 then byte_of high low else None
 end_byte _ = None
@@ -29,7 +29,8 @@ end_byte _ = None
 abbrev pub fill_at : ℕ → List ℕ → List ℕ → Option (ℕ × ℕ)
 fill_at most digits end = end_byte end >>= λ b. short_number_of 10 most digits >>= λ n. Some (n, b)
 
--- a number, a colon, and the two digits of a byte: how often, and which
+-- a value after `fill:`, as the number of bytes, a colon and the two digits of the byte: the count
+-- and the byte
 abbrev pub fill_of : ℕ → List ℕ → Option (ℕ × ℕ)
 fill_of most fill =
     if nat_le 3 (length fill) then fill_at most (take (length fill - 3) fill)
@@ -45,7 +46,7 @@ any_value most text =
     else if starts text (codes "fill:") then fill_value most (drop 5 text)
     else None
 
--- at least so many bytes, and at most so many
+-- the bytes, if there are at least `least` and at most `most`
 abbrev pub within : ℕ → ℕ → List ℕ → Option (List ℕ)
 within least most bytes = if nat_le least (length bytes) && nat_le (length bytes) most
     then Some bytes else None
@@ -53,10 +54,10 @@ within least most bytes = if nat_le least (length bytes) && nat_le (length bytes
 abbrev pub value_of : ℕ → ℕ → List ℕ → Option (List ℕ)
 value_of least most text = any_value most text >>= within least most
 
--- what `txt:` gives, where it has at most so many bytes
+-- a value after `txt:` of at most this many bytes
 abbrev pub text_within : ℕ → List ℕ → Option (List ℕ)
 text_within most bytes = text_value bytes >>= within 0 most
 
--- what `fill:` gives, where it has at most so many bytes
+-- a value after `fill:` of at most this many bytes
 abbrev pub fill_within : ℕ → List ℕ → Option (List ℕ)
 fill_within most fill = fill_value most fill >>= within 0 most

@@ -8,33 +8,33 @@ use policy_text::RuleCause;
 use std::alloc::{AllocError as OutOfMemory, AllocFailed};
 use std::fmt::{self, Display};
 
-/// Why a line is refused. Where several causes hold of a line, it is the first in this order.
+/// Why a line is refused. If several causes hold of a line, the first in this order is reported.
 #[derive(Clone, Copy, Debug, PartialEq, Eq)]
 pub enum LineCause {
     /// The first word is none of the grammar's.
     BadWord,
-    /// The line can't stand behind the lines before it.
+    /// A line of this kind can't follow the lines before it.
     OutOfPlace,
-    /// Number or form of the words isn't the line's.
+    /// The line has the wrong number of words, or a word of the wrong form.
     BadField,
-    /// A path, a file system or a task that isn't there.
+    /// There is no such path, file system or task.
     Unknown,
-    /// A path, or a name within a file's block, a second time.
+    /// A path, or a name within a file's block, occurs a second time.
     Twice,
-    /// The text behind the word isn't a rule.
+    /// The text after the first word isn't a rule.
     BadRule(RuleCause),
-    /// A count passes its limit at this line.
+    /// A count exceeds its limit at this line.
     TooMany,
-    /// The lengths of the values up to this line pass their limit in sum.
+    /// The total length of the values up to this line exceeds its limit.
     TooLarge,
-    /// There are bytes behind the last newline, or no line ends the text.
+    /// There are bytes after the last newline, or no line ends the text.
     NoEnd,
-    /// The list of EVM's names was locked before.
+    /// The list of EVM's names was locked by an earlier line.
     Locked,
 }
 
 impl LineCause {
-    /// The word of the cause, behind which that of a rule stands.
+    /// The word of the cause. A rule's own cause has a word of its own, which is printed after it.
     pub fn word(self) -> &'static str
         ensures { result.now ≡ cause_word self }
     {
@@ -64,16 +64,16 @@ impl Display for LineCause {
     }
 }
 
-/// The first bad line of a text.
+/// The first bad line of a text, and why it is refused.
 #[derive(Clone, Copy, Debug, PartialEq, Eq)]
 pub struct Fault {
-    /// Its number, counted from 1, skipped lines among them.
+    /// The number of the line, counted from 1; skipped lines count too.
     pub line: u32,
-    /// Its cause.
+    /// Why the line is refused.
     pub cause: LineCause,
 }
 
-/// Why a text gave nothing.
+/// Why reading a text failed.
 #[derive(Clone, Copy, Debug, PartialEq, Eq)]
 pub enum ScriptErr {
     /// The text isn't in the grammar.
@@ -90,7 +90,7 @@ impl From<OutOfMemory> for ScriptErr {
     }
 }
 
-/// Why a line gave nothing, before its number is known.
+/// Why reading a line failed, before the line's number is known.
 #[derive(Clone, Copy, Debug, PartialEq, Eq)]
 pub enum LineErr {
     /// The line isn't in the grammar.
@@ -100,7 +100,7 @@ pub enum LineErr {
 }
 
 impl LineErr {
-    /// The same of the line with this number.
+    /// The error of a text whose line of this number has this error.
     pub fn at(self, line: u32) -> ScriptErr
         ensures { result ≡ err_at line self }
     {

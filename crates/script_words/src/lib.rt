@@ -1,9 +1,9 @@
-//! What the texts of lines of words share: scripts and lists, and the causes for which a line is
-//! refused.
+//! What all texts made of lines of words share, scripts and list texts alike: reading them, and the
+//! causes for which a line is refused.
 //!
-//! A text is lines, each ended by a newline; empty ones and those that begin with `#` are skipped.
-//! A line is words parted by one space each. [`read_text`] reads a text by any [`Grammar`], which
-//! says what a line makes of the state before it.
+//! A text is lines, each ended by a newline; empty lines and lines that begin with `#` are skipped.
+//! A line is words separated by single spaces. [`read_text`] reads a text by any [`Grammar`], which
+//! says how a line changes the state before it.
 #![tactic(auto)]
 
 mod fault;

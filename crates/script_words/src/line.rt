@@ -6,7 +6,7 @@ ghost use Rattle.script_words.specs.Line.{cut, cut_line, fields, is_skipped};
 use memchr::memchr;
 use std::alloc::{AllocError as OutOfMemory, Global};
 
-/// What stands before the first separator, and what stands behind it.
+/// The text before the first separator, and the text after it; `None` without a separator.
 pub fn cut(text: &[u8], separator: u8) -> Option<(&[u8], &[u8])>
     ensures value { option_map (λ p. (p.0.now, p.1.now)) result ≡ cut separator text.now }
     ensures parts { MatchOption result (slice_split (λ b. b == separator) text.now ≡ text.now ∷ [])
@@ -28,7 +28,7 @@ pub fn is_skipped(line: &[u8]) -> bool
     }
 }
 
-/// The first word of a line, and what stands behind the first space, where there is one.
+/// The first word of a line, and the text after the first space, if there is one.
 pub fn cut_line(line: &[u8]) -> (&[u8], Option<&[u8]>)
     ensures { (result.0.now, option_copied result.1) ≡ cut_line line.now }
 {
@@ -38,8 +38,8 @@ pub fn cut_line(line: &[u8]) -> (&[u8], Option<&[u8]>)
     }
 }
 
-/// The words behind the first, at most nine of them: no line has more, but for those that read all
-/// their words by themselves.
+/// The words after the first, at most nine of them: no line has more, except those whose words are
+/// read separately.
 pub fn fields<'a>(alloc: Global, text: Option<&'a [u8]>) -> Result<Vec<&'a [u8]>, OutOfMemory>
     ensures { IfOk result (λ v. map (λ w. w.now) v.items ≡ fields (option_copied text.entry)) }
 {

@@ -4,7 +4,7 @@ ghost use Rattle.script_words.specs.Forms.{descriptor_of, id_of, ino_of, mode_of
 use inode_pages::MOST_BYTES;
 use text_forms::short_number_of;
 
-/// The number of a descriptor, at most 255.
+/// The number of a descriptor, in decimal, at most 255.
 pub fn descriptor_of(text: &[u8]) -> Option<u8>
     ensures { result ≡ descriptor_of text.now }
 {
@@ -12,7 +12,7 @@ pub fn descriptor_of(text: &[u8]) -> Option<u8>
     Some(number as u8)
 }
 
-/// The number of a map, a run or a semaphore, at most 63.
+/// The number of a map, a run or a semaphore, in decimal, at most 63.
 pub fn small_of(text: &[u8]) -> Option<u8>
     ensures { result ≡ small_of text.now }
 {
@@ -20,7 +20,7 @@ pub fn small_of(text: &[u8]) -> Option<u8>
     Some(number as u8)
 }
 
-/// The number of a user or a group, or a generation, below 2^32.
+/// The number of a user or a group, or a generation, in decimal, below 2^32.
 pub fn id_of(text: &[u8]) -> Option<u32>
     ensures { result ≡ id_of text.now }
 {
@@ -28,21 +28,21 @@ pub fn id_of(text: &[u8]) -> Option<u32>
     Some(number as u32)
 }
 
-/// The number of an inode, below 2^64.
+/// The number of an inode, in decimal, below 2^64.
 pub fn ino_of(text: &[u8]) -> Option<u64>
     ensures { result ≡ ino_of text.now }
 {
     short_number_of(text, 10, u64::MAX)
 }
 
-/// An offset or a length, below 2^32.
+/// An offset or a length in bytes, in decimal, below 2^32.
 pub fn offset_of(text: &[u8]) -> Option<u64>
     ensures { result ≡ offset_of text.now }
 {
     short_number_of(text, 10, u64::from(u32::MAX))
 }
 
-/// How many bytes are read at once: 1 to [`MOST_BYTES`].
+/// The length in bytes of one read, in decimal, 1 to [`MOST_BYTES`].
 pub fn portion_of(text: &[u8]) -> Option<u64>
     ensures { result ≡ portion_of text.now }
 {
@@ -52,7 +52,7 @@ pub fn portion_of(text: &[u8]) -> Option<u64>
     }
 }
 
-/// A mode of 1 to 6 octal digits.
+/// A mode of 1 to 6 octal digits, at most 0o177777.
 pub fn mode_of(text: &[u8]) -> Option<u16>
     ensures { result ≡ mode_of text.now }
 {
@@ -60,7 +60,7 @@ pub fn mode_of(text: &[u8]) -> Option<u16>
     Some(mode as u16)
 }
 
-/// The number, where it is below `count`, however long its digits are.
+/// A decimal number below `count`, of any number of digits.
 pub fn place_among(count: usize, text: &[u8]) -> Option<usize>
     ensures { result ≡ place_among count text.now }
 {

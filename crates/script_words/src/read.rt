@@ -6,19 +6,19 @@ use crate::fault::{Fault, LineCause, LineErr, ScriptErr};
 use crate::line::{cut, is_skipped};
 use std::alloc::Global;
 
-/// A state that lines make, one after the other.
+/// A state that is built line by line.
 pub trait Grammar: Drop {
     ghost use Rattle.std.specs.Prelude.{ℕ, Bool, List, Result};
     ghost use Rattle.script_words.specs.declared.fault.LineCause.{LineCause};
 
-    /// What a line that isn't skipped makes of a state, or its least cause.
+    /// The state after a line that isn't skipped, or the first cause for which it is refused.
     ghost step: { Self → List ℕ → Result Self LineCause };
 
-    /// Whether the text may end here.
+    /// Whether the text may end in this state.
     ghost ends: { Self → Bool };
 
-    /// Takes one line more, which is neither empty nor a comment. A state that refused a line is of
-    /// no further use.
+    /// Takes one more line, which is neither empty nor a comment. A state that refused a line must
+    /// not be used any further.
     fn add_line(&mut self, alloc: Global, line: &[u8]) -> Result<(), LineErr>
         ensures { LineMakes result (step self.old line.now) self.new };
 
@@ -27,10 +27,11 @@ pub trait Grammar: Drop {
         ensures { result ≡ ends self.now };
 }
 
-/// What a text makes of the state `start`, or its first bad line with that line's least cause.
+/// The state that a text makes of `start`, or its first bad line with the first cause that holds of
+/// it.
 ///
-/// Each line ends in a newline. A text that doesn't end in one, or whose lines don't end it, is
-/// refused at the number of its newlines plus one.
+/// Each line ends in a newline. A text that doesn't end in one, or that may not end after its last
+/// line, is refused at the number of its newlines plus one.
 pub fn read_text<T: Grammar>(alloc: Global, start: T, text: &[u8]) -> Result<T, ScriptErr>
     requires { length text.now < 2 ^ 32 - 1 }
     ensures { Gives result (text_of T.step T.ends start text.now) }

@@ -6,8 +6,8 @@ use crate::fault::{LineCause, LineErr};
 use policy_text::{PolicyErr, Rule, parse_rule};
 use std::alloc::Global;
 
-/// The rule of the text behind the first space, by the grammar of policies. Without a space there
-/// is none.
+/// The rule in the text after the first space, by the grammar of policies. Without a space the line
+/// is refused.
 pub fn rule_of(alloc: Global, text: Option<&[u8]>) -> Result<Rule, LineErr>
     ensures { LineGives result (rule_of (option_copied text.entry)) }
 {

@@ -16,8 +16,8 @@ use text_forms::short_number_of;
 // The most bytes of a content.
 const CONTENT: usize = MOST_BYTES as usize;
 
-/// The bytes of a value, of which there are `least` to `most`: `hex:` and hexadecimal digits, two a
-/// byte; `txt:` and the bytes themselves, 0x21 to 0x7e; or `fill:NUM:BB`, so many times one byte.
+/// The bytes of a value, from `least` to `most` of them: `hex:` and two hexadecimal digits for each
+/// byte; `txt:` and the bytes themselves, 0x21 to 0x7e; or `fill:NUM:BB`, NUM times the byte BB.
 pub fn value_of(alloc: Global, text: &[u8], least: usize, most: usize) -> Result<Bytes, LineErr>
     ensures value { LineGives result (ok_or (value_of least most text.now) cause.BadField) }
     ensures sized { IfOk result (λ v. (least ≤ length v) × (length v ≤ most)) }
@@ -29,8 +29,8 @@ pub fn value_of(alloc: Global, text: &[u8], least: usize, most: usize) -> Result
     Ok(Bytes::from_vec(bytes))
 }
 
-/// The content of a value, of at most as many bytes as a file may have. Those of `fill:` are never
-/// put one behind the other.
+/// The content of a value, of at most as many bytes as a file may have. The bytes of `fill:` are
+/// never laid out one after another.
 pub fn content_of(alloc: Global, text: &[u8]) -> Result<Content, LineErr>
     ensures { LineGives result (ok_or (value_of 0 most_bytes text.now) cause.BadField) }
 {
@@ -47,7 +47,7 @@ pub fn content_of(alloc: Global, text: &[u8]) -> Result<Content, LineErr>
     Err(LineErr::Refused(LineCause::BadField))
 }
 
-// The content of these bytes, where they aren't too many.
+// The content of these bytes, if it is within the limit.
 fn paged(alloc: Global, bytes: &[u8]) -> Result<Content, LineErr>
     ensures { LineGives result (ok_or (within 0 most_bytes bytes.now) cause.BadField) }
 {

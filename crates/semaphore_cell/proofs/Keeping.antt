@@ -1,4 +1,4 @@
--- What the cell keeps, at its start and with one event more.
+-- The invariant of a semaphore cell, at its start and after one more event.
 use Rattle.std.proofs.Common.{◌≡◌, ℕ, ◌+◌, ◌-◌, ◌<◌, ◌≤◌, ◌==◌, Bool, true, false, cond, List, [], ◌∷◌, ◌++◌, length, map, All, get_or, set, Some, refl, ap, subst, sym, ◌∙◌, arith, ◌⊎◌, inl, inr, eq-eqb, ne_eqb}
 use Rattle.std.proofs.lemmas.Bool.{cases_eq}
 use Rattle.std.proofs.lemmas.List.{get_or-replicate, get_or-set_other, get_or-set_same, length-reverse, map-append}
@@ -19,7 +19,7 @@ use Rattle.semaphore_cell.specs.declared.cell.SemaphoreCell.TheInside.{Inside}
 abbrev pub done : Who → Deed → Event
 done w d = record { who = w; deed = d; told = told.Done }
 
--- a post is an event
+-- there are at most as many posts as events
 pub posts_within : (sem : ℕ) (before : List Event) → posts sem before ≤ length before
 posts_within sem [] = omega arith
 posts_within sem (e ∷ before) = at (is_post sem e.deed) (posts_within sem before) where
@@ -28,12 +28,12 @@ posts_within sem (e ∷ before) = at (is_post sem e.deed) (posts_within sem befo
   at true within = omega arith
   at false within = omega arith
 
--- the two orders of a journal are as long
+-- reversing a journal keeps its length
 pub past_length : (journal : List Event) → length (past journal) ≡ length journal
 unfolding past
 past_length journal = length-reverse journal
 
--- a post leaves one more of its semaphore
+-- a post adds one to its semaphore and leaves the others
 pub left_post : (sem other : ℕ) (w : Who) (before : List Event) → LegalSemaphores before
     → left sem (done w (deed.Post other) ∷ before)
     ≡ cond (other == sem) (left sem before + 1) (left sem before)
@@ -44,7 +44,7 @@ left_post sem other w before legal = at (other == sem) (paid sem before legal) w
   at true within = omega arith
   at false within = refl
 
--- and a wait one less
+-- a wait subtracts one from its semaphore and leaves the others
 pub left_wait : (sem other : ℕ) (w : Who) (before : List Event)
     → left sem (done w (deed.Wait other) ∷ before)
     ≡ cond (other == sem) (left sem before - 1) (left sem before)
@@ -54,7 +54,7 @@ left_wait sem other w before = at (other == sem) where
   at true = omega arith
   at false = refl
 
--- a table of counts of which one is changed
+-- a table of counts with one entry changed
 pub counts_set : (counts : List ℕ) (f g change : ℕ → ℕ) (at new : ℕ) → at < length counts → at < 256
     → ((s : ℕ) → s < 256 → get_or counts s 0 ≡ f s)
     → ((s : ℕ) → g s ≡ cond (at == s) (change (f s)) (f s))
@@ -71,7 +71,7 @@ counts_set counts f g change at new within small before after is s below = by (c
       get_or-set_other counts at s new 0 (λ e. other (sym e)) ∙ before s below
       ∙ sym (after s ∙ ap (λ b. cond b (change (f s)) (f s)) (ne_eqb at s other))
 
--- a cell with one event more, by the pass of its task
+-- the invariant holds after one more event, by the pass of its task
 pub IsSemaphores-more : (c d : Inside) (w : Who) (deed : Deed) (number : ℕ) → IsSemaphores c
     → semaphore_says (past c.journal.list) deed ≡ Some told.Done → caller_in w.task deed
     ≡ w.task + 1
@@ -108,7 +108,7 @@ IsSemaphores-more c d w deed number kept says caller is below counts list number
           });
     }
 
--- at the start
+-- the invariant holds at the start
 pub IsSemaphores-start : (c : Inside) → c.left ≡ replicate 256 0 → c.journal.list ≡ []
     → c.journal.numbers ≡ [] → c.own.name ≡ c.journal.name → c.own.number ≡ 0 → c.own.mine ≡ []
     → IsSemaphores c

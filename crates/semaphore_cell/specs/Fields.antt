@@ -1,4 +1,4 @@
--- What the fields of a semaphore cell keep.
+-- The invariant of a semaphore cell's fields.
 use Rattle.std.specs.Prelude.{◌≡◌, ℕ, ◌<◌, [], map, All, get_or}
 use Rattle.grow_list.specs.Shown.{Grown, Passed}
 use Rattle.inode_events.specs.Callers.{caller_of}

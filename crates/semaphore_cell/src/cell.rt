@@ -15,8 +15,8 @@ use std::alloc::{AllocError as OutOfMemory, Global};
 use std::marker::Model;
 
 /// The semaphores, each of which starts at 0, with the journal of the posts and waits on them.
-/// Contracts see the growing list of these events. What each semaphore has left is at all times the
-/// posts less the waits of the journal, which is legal, and in which the task n is caller n + 1.
+/// Contracts see the growing list of these events. The value of a semaphore is always its posts
+/// minus its waits in the journal. The journal is legal, and task n is its caller n + 1.
 #[derive(Drop)]
 pub struct SemaphoreCell {
     journal: Grow<Event>,
@@ -38,8 +38,8 @@ impl Model for SemaphoreCell {
 }
 
 impl SemaphoreCell {
-    /// The semaphores at 0, and a pass for each task. The cell keeps the pass of the number 0 for
-    /// itself, and the others are answered in the order of their numbers.
+    /// Creates the semaphores at 0, with a pass for each task. The cell keeps pass 0 for itself and
+    /// returns the others in the order of their numbers.
     pub fn start(
         alloc: Global,
         callers: u32,
@@ -62,7 +62,7 @@ impl SemaphoreCell {
         Ok((cell, passes))
     }
 
-    /// Makes room for the next event. The journal stays, also where there is no memory.
+    /// Makes room for the next event. The journal is unchanged, even if memory runs out.
     pub fn reserve(&mut self) -> Result<(), OutOfMemory>
         ensures room { OnOk result (1 ≤ self.new.spare) }
         ensures kept { self.old.spare ≤ self.new.spare }
@@ -71,10 +71,10 @@ impl SemaphoreCell {
         self.journal.reserve(1)
     }
 
-    /// Posts to a semaphore or waits for one, by the pass of the step's task, in room that was
-    /// reserved, and answers the place of its event, from 0 on. None is blocked: a wait for a
-    /// semaphore of which nothing is left, or a deed that is on no semaphore. The pass has then
-    /// seen the journal.
+    /// Posts to a semaphore or waits for one, through the pass of the step's task, in room that was
+    /// reserved. Returns the place of the event, counted from 0. `None` means blocked: the
+    /// semaphore to wait for is at 0, or the deed isn't on a semaphore. The pass has seen the
+    /// journal in either case.
     pub fn signal(&mut self, pass: &mut Pass<Event>, who: Who, deed: Deed) -> Option<u64>
         requires room { 1 ≤ self.old.spare }
         requires name { pass.old.name ≡ self.old.name }
@@ -108,7 +108,7 @@ impl SemaphoreCell {
                         told: Told::Done,
                     },
                 );
-                // A semaphore has at most the length of the journal, which is a u64.
+                // The value of a semaphore is at most the length of the journal, which is a u64.
                 let _len = self.journal.len();
                 self.left[sem as usize] += 1;
                 Some(place)
@@ -133,14 +133,14 @@ impl SemaphoreCell {
         }
     }
 
-    /// What the semaphore has left: its posts less its waits.
+    /// The value of the semaphore: its posts minus its waits.
     pub fn left(&self, sem: u8) -> u64
         ensures { result ≡ left sem (past self.now.list) }
     {
         self.left[sem as usize]
     }
 
-    /// A pass of this cell sees the journal.
+    /// Shows the journal to one of this cell's passes.
     pub fn look(&mut self, pass: &mut Pass<Event>)
         requires { pass.old.name ≡ self.old.name }
 
@@ -162,9 +162,9 @@ impl SemaphoreCell {
         self.journal.look(pass);
     }
 
-    /// Hands out the journal, and takes back the passes that `start` answered. What each pass saw
-    /// begins the journal, the journal's events of its number are its own, and each place of the
-    /// journal is one pass's.
+    /// Returns the journal, and consumes the passes that `start` returned. What each pass saw is a
+    /// prefix of the journal, the events with its number are its own, and each place belongs to
+    /// exactly one pass.
     pub fn close(self, passes: Vec<Pass<Event>>) -> Vec<Event>
         requires { HasOthers self passes.items }
         ensures list { result.items ≡ self.list }
@@ -185,7 +185,7 @@ impl SemaphoreCell {
     }
 }
 
-// Nothing is left of any semaphore.
+// The values at the start, one for each of the 256 semaphores.
 fn zeros() -> [u64; 256]
     ensures { result ≡ replicate 256 0 }
 {

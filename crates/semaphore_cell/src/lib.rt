@@ -1,4 +1,4 @@
-//! The semaphores of a run: what each has left, with the journal of the posts and waits on them.
+//! The semaphores of a run: the value of each, and the journal of the posts and waits on them.
 #![tactic(auto)]
 
 mod cell;

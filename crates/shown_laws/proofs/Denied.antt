@@ -44,35 +44,35 @@ use Rattle.shown_laws.specs.Places.{Stood}
 
 -- ---- lists
 
--- what the front has, the whole has there
+-- an element of the front is at the same place of the whole list
 get_left : {A : Type 0} (xs ys : List A) (k : ℕ) (x : A) → slice_get xs k ≡ Some x
     → slice_get (xs ++ ys) k ≡ Some x
 get_left [] ys k x h = absurd (cc)
 get_left (y ∷ xs) ys zero x h = h
 get_left (y ∷ xs) ys (suc k) x h = get_left xs ys k x h
 
--- in the front, or behind it
+-- an element of the whole list is in the front or in the rest
 get_parts : {A : Type 0} (xs ys : List A) (k : ℕ) (x : A) → slice_get (xs ++ ys) k ≡ Some x
     → (slice_get xs k ≡ Some x) ⊎ ((j : ℕ) × (slice_get ys j ≡ Some x))
 get_parts [] ys k x h = inr (k, h)
 get_parts (y ∷ xs) ys zero x h = inl h
 get_parts (y ∷ xs) ys (suc k) x h = get_parts xs ys k x h
 
--- below its length a list has something
+-- a list has an element at each place below its length
 get_within : {A : Type 0} (xs : List A) (k : ℕ) → k < length xs
     → (x : A) × (slice_get xs k ≡ Some x)
 get_within [] k l = absurd (omega arith)
 get_within (x ∷ xs) zero l = (x, refl)
 get_within (x ∷ xs) (suc k) l = get_within xs k (omega arith)
 
--- a map has it there
+-- the map of a list has the image of an element at the same place
 map_get : {A B : Type 0} (f : A → B) (xs : List A) (k : ℕ) (x : A) → slice_get xs k ≡ Some x
     → slice_get (map f xs) k ≡ Some (f x)
 map_get f [] k x h = absurd (cc)
 map_get f (y ∷ xs) zero x h = λ i. Some (f (same_Some y x h i))
 map_get f (y ∷ xs) (suc k) x h = map_get f xs k x h
 
--- ---- the replies stand as far as the calls are answered
+-- ---- there is a reply to each answered call, and to no other
 
 abbrev IsEven : Thought → Type 0
 IsEven t = length t.replies ≡ t.mind.at
@@ -94,7 +94,7 @@ even mode p [] = refl
 even mode p (a ∷ h) =
     even_step mode p (thought mode p h) a (call_at p (thought mode p h).mind) (even mode p h)
 
--- ---- a call that is being closed with this reply
+-- ---- a call that is closing its file with this reply
 
 abbrev is_closing : Ask → Bool
 is_closing ask.Close = true
@@ -103,7 +103,7 @@ is_closing ask.CloseChunk = true
 is_closing ask.CloseFinish = true
 is_closing _ = false
 
--- what comes next closes the file, or answers so
+-- the next ask closes the file with this reply, or the call ends with it
 abbrev Closes : Reply → Next → Type 0
 Closes r (On s) = (is_closing s.ask ≡ true) × (s.reply ≡ r)
 Closes r (Over x) = x ≡ r
@@ -125,7 +125,7 @@ closing_next mode c ask.CloseChunk r t action e = closing_chunk r t
 closing_next mode c ask.CloseFinish r t action e = refl
 closing_next mode c k r t action e = absurd (cc)
 
--- the call k is being closed
+-- the task is at call k, which is closing its file with this reply
 record IsClosing (k : ℕ) (r : Reply) (t : Thought) : Type 0 where
   pub at : t.mind.at ≡ k
   pub progress : Progress
@@ -133,7 +133,7 @@ record IsClosing (k : ℕ) (r : Reply) (t : Thought) : Type 0 where
   pub closing : is_closing progress.due.ask ≡ true
   pub reply : progress.due.reply ≡ r
 
--- or it has the reply
+-- call k is closing its file with this reply, or has been answered with it
 abbrev Answers : ℕ → Reply → Thought → Type 0
 Answers k r t = IsClosing k r t ⊎ (slice_get t.replies k ≡ Some r)
 
@@ -155,7 +155,7 @@ next_answers c t g place (Over x) k r closes at even =
     inr (ap (slice_get (t.replies ++ x ∷ [])) (sym (even ∙ at))
     ∙ slice_get-push t.replies x ∙ ap (λ (y : Reply). Some y) closes)
 
--- a reply stays
+-- a call's reply remains while the task goes on
 stays : (c : Call) (t : Thought) (g : Progress) (place : ℕ) (n : Next) (k : ℕ) (r : Reply)
     → slice_get t.replies k ≡ Some r
     → slice_get (thought_with t (moved c t.mind g place n)).replies k ≡ Some r
@@ -250,7 +250,7 @@ step_grants admin c g ask.Plain file h =
     absurd (none-some file (sym (plain_grants admin c) ∙ h))
 step_grants admin c g k file h = absurd (none-some file h)
 
--- the event of a step that is granted something is that step's deed
+-- a step whose event grants something does the deed of that event
 record IsDeedOf (who : Who) (o : Option Step) (a : Answer) (x : ℕ × Event) : Type 0 where
   pub step : Step
   pub is : o ≡ Some step
@@ -277,7 +277,7 @@ deed_made i who (Some (Checks inode f func mask)) a j x file h g =
 deed_made i who (Some (Signals d)) a j x file h g = absurd (cc)
 deed_made i who (Some (Appends rule)) a j x file h g = absurd (cc)
 
--- an own event is made by a step of the history
+-- an event of a task is made by a step of the task's history
 record IsMade (mode : Mode) (n : ℕ) (p : Program) (i : ℕ) (h : List Answer) (x : ℕ × Event)
     : Type 0 where
   pub later : List Answer
@@ -343,14 +343,14 @@ refusal mode p n t a (Some c) g cause file s is grants said barred verdict even 
           (ap (λ (y : Step). granted_file (deed_in y))
           (same_Some (ask_of p.cred.admin c t.mind) s is) ∙ grants)
 
--- the call of a Who
+-- the call that a `Who` names is the one at which the task's mind is
 who_call : (n : ℕ) (p : Program) (m : Mind) → (who_at n p m).call ≡ m.at
 who_call n p m = at (call_at p m) where
   at : (o : Option Call) → (who_in n p o m).call ≡ m.at
   at None = refl
   at (Some c) = refl
 
--- a served task's answered call of a refused file is denied
+-- if a served task's call of a refused file is answered, its reply is a denial
 denied_by : (scene : Scene) (run : Run) (n : ℕ) (p : Program) (t : Thought) (i k : ℕ)
     (journal : List Event) (who : Who) (d : Deed) (g : Grant) (file : ℕ) (cause : Cause)
     (r : Reply) → IsServed scene run n p t → slice_get run.journals i ≡ Some journal
@@ -411,7 +411,7 @@ denied_by scene run n p t i k journal who d g file cause r s at here caller gran
               (subst IsEven s.stands (even (mode_of scene) p s.history))
               (subst (λ (u : Thought). Answers before.mind.at (reply.Denied cause) u) stands later)
 
--- where the event stands in the journal
+-- an event of the past is at some place of the journal
 place_of : (journal later p : List Event) (e : Event) → past journal ≡ later ++ e ∷ p
     → (k : ℕ) × (slice_get journal k ≡ Some e)
 unfolding past
@@ -424,14 +424,14 @@ place_of journal later p e is = (
       (slice_get-push (reverse p) e),
 )
 
--- a deed that is granted something is a task's
+-- a deed that may be granted is a task's
 granted_caller : (d : Deed) (file task : ℕ) → granted_file d ≡ Some file
     → caller_in task d ≡ task + 1
 granted_caller (deed.Take f) file task h = refl
 granted_caller (deed.Finish f) file task h = refl
 granted_caller d file task h = absurd (none-some file h)
 
--- the law
+-- proof of `ShownIsDenied`
 pub denied_there : ShownIsDenied
 denied_there scene ending run shown inode p who d grant file cause t r s grants barred verdict at
     replied = by (place_of s.journal s.later p e s.is) where

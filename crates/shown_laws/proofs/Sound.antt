@@ -3,7 +3,6 @@ use Rattle.std.proofs.Common.{◌≡◌, ℕ, zero, suc, List, [], ◌∷◌, �
 use Rattle.std.specs.Prelude.{All, slice_get}
 use Rattle.std.proofs.lemmas.List.Elements.{All-contains, All-head, All-tail}
 use Rattle.std.proofs.lemmas.Option.{get_or_from_slice_get, same_Some, slice_get_within}
-use Rattle.ima_templates.specs.IsEntry.{IsEntry}
 use Rattle.ima_templates.specs.Path.{IsMeasuredPath}
 use Rattle.ima_templates.specs.declared.entry.Entry.{Entry}
 use Rattle.inode_meta.specs.declared.measurement.Template.TheVariants.{Ima}
@@ -32,11 +31,13 @@ use Rattle.call_steps.specs.declared.ending.Ending.{Ending}
 use Rattle.run_model.specs.Scene.{Scene, Station, inode_of}
 use Rattle.run_model.specs.Served.{Run}
 use Rattle.run_model.specs.Shown.{IsShown, journals_of}
-use Rattle.shown_laws.specs.Laws.{ShownIsAdmitted, ShownIsCovered, ShownIsFresh, ShownIsLabelled, ShownIsRarelyHashed}
+use Rattle.shown_laws.proofs.Denied.{denied_there}
+use Rattle.shown_laws.proofs.Named.{list_named}
+use Rattle.shown_laws.specs.Laws.{ShownIsAdmitted, ShownIsCovered, ShownIsFresh, ShownIsLabelled, ShownIsRarelyHashed, ShownIsSound}
 use Rattle.shown_laws.specs.Places.{HasForms, Stood}
 
--- what holds of all journals holds of this one
-journal_has : (P : Journal → Type 0) (scene : Scene) (stations : List Station)
+-- a property of all journals of the scene holds of this one
+pub journal_has : (P : Journal → Type 0) (scene : Scene) (stations : List Station)
     (journals : List (List Event)) (n : ℕ) (s : Station) (j : List Event)
     → All P (journals_of scene stations journals) → slice_get stations n ≡ Some s
     → slice_get journals n ≡ Some j → P (record { inode = inode_of scene s; events = past j })
@@ -52,7 +53,7 @@ journal_has P scene (x ∷ stations) (y ∷ journals) (suc n) s j all e f =
     (All-tail P (record { inode = inode_of scene x; events = past y })
     (journals_of scene stations journals) all) e f
 
--- what lay before a place of a shown run's journal is legal
+-- the events before any place of a shown run's journal are legal
 pub legal_there : (scene : Scene) (ending : Ending) (run : Run) (inode : Inode) (p : List Event)
     → IsShown scene ending run → Stood scene run inode p → Legal inode p
 legal_there scene ending run inode p shown s = (
@@ -63,7 +64,7 @@ legal_there scene ending run inode p shown s = (
       s.number s.station s.journal shown.legal s.at s.journal_at).1)),
 )
 
--- what is listed is so from each place on
+-- if all events are listed, so are those before any place
 listed_before : (inode : Inode) (list : List Entry) (later p : List Event)
     → IsListed inode list (later ++ p) → IsListed inode list p
 listed_before inode list [] p listed = listed
@@ -78,9 +79,9 @@ listed_there scene ending run inode p shown s =
     (journal_has (λ (j : Journal). IsListed j.inode run.list j.events) scene scene.stations
     run.journals s.number s.station s.journal shown.merged.listed s.at s.journal_at)))
 
--- its path is one of the scene's
+-- the path of the inode is one of the scene's, and so has their form
 pub path_there : (scene : Scene) (run : Run) (inode : Inode) (p : List Event)
-    → HasForms scene run → Stood scene run inode p → IsMeasuredPath Ima inode.path
+    → HasForms scene → Stood scene run inode p → IsMeasuredPath Ima inode.path
 path_there scene run inode p forms s =
     subst (λ (i : Inode). IsMeasuredPath Ima i.path) s.inode_is
     (All-contains (λ (x : Station). IsMeasuredPath Ima x.path) scene.stations s.station
@@ -92,12 +93,12 @@ path_there scene run inode p forms s =
 
 -- ---- the laws
 
--- freshness
+-- proof of `ShownIsFresh`
 pub fresh_there : ShownIsFresh
 fresh_there scene ending run shown inode p s none =
     fresh_at inode p (freshness_lem inode p (legal_there scene ending run inode p shown s).1) none
 
--- coverage
+-- proof of `ShownIsCovered`
 pub covered_there : ShownIsCovered
 covered_there scene ending run shown forms inode p who file from len t s reads =
     let legal = legal_there scene ending run inode
@@ -106,9 +107,9 @@ covered_there scene ending run shown forms inode p who file from len t s reads =
     (record { who = who; deed = deed.Read file from len; told = t } ∷ p) shown s in
     covered inode run.list p file legal.1.1 legal.1.0.1.0 reads listed.2
     (path_there scene run inode (record { who = who; deed = deed.Read file from len; told = t } ∷ p)
-    forms s) forms.entries
+    forms s) (list_named scene ending run forms shown)
 
--- admission
+-- proof of `ShownIsAdmitted`
 pub admitted_there : ShownIsAdmitted
 admitted_there scene ending run shown inode p who d grant file s e mode appraises =
     let legal = legal_there scene ending run inode
@@ -116,7 +117,7 @@ admitted_there scene ending run shown inode p who d grant file s e mode appraise
     admits_lem inode p who d grant file legal.1.0 legal.1.1 e
     (ap (λ (i : Inode). i.settings.mode) (sym s.inode_is) ∙ mode) appraises
 
--- the label of a close
+-- proof of `ShownIsLabelled`
 pub labelled_there : ShownIsLabelled
 labelled_there scene ending run shown inode p who file s =
     let legal = legal_there scene ending run inode (labelled_close who file p) shown s in
@@ -131,7 +132,18 @@ labelled_there scene ending run shown inode p who file s =
           (label_of (digest_of inode.settings.hash (content p))) (metadata p),
     )
 
--- few collections
+-- proof of `ShownIsRarelyHashed`
 pub rare_there : ShownIsRarelyHashed
 rare_there scene ending run shown inode p s =
     few_takes inode p (legal_there scene ending run inode p shown s).1
+
+-- proof of `ShownIsSound`
+pub sound_there : ShownIsSound
+sound_there scene ending run shown forms = record {
+  fresh = fresh_there scene ending run shown;
+  covered = covered_there scene ending run shown forms;
+  admitted = admitted_there scene ending run shown;
+  denied = denied_there scene ending run shown;
+  labelled = labelled_there scene ending run shown;
+  rarely_hashed = rare_there scene ending run shown;
+}

@@ -30,21 +30,22 @@ use Rattle.run_model.specs.Served.{Run}
 use Rattle.run_model.specs.Shown.{IsShown}
 use Rattle.shown_laws.specs.Places.{HasForms, Stood}
 
--- ---- of a run
+-- ---- a shown run
 
--- whenever no writer holds an inode, its digest and its verdicts in force are those computed anew
+-- whenever no writer holds an inode, its digest and its verdicts in force equal those computed
+-- again
 abbrev pub IsFresh : Scene → Run → Type 0
 IsFresh scene run = (inode : Inode) (p : List Event) → Stood scene run inode p → writers p ≡ 0
     → IsDigestFresh inode p × AreVerdictsFresh inode p
 
--- each read of a read-only file is covered by the list
+-- each read through a read-only file is covered by the measurement list, or by a violation
 abbrev pub AreReadsCovered : Scene → Run → Type 0
 AreReadsCovered scene run =
     (inode : Inode) (p : List Event) (who : Who) (file from len : ℕ) (t : Told)
     → Stood scene run inode (record { who = who; deed = deed.Read file from len; told = t } ∷ p)
     → holds is_reader (held file p) ≡ true → IsCovered inode run.list file p
 
--- each grant of mode enforce that appraises admits an unmodified file exactly where it fits
+-- in mode enforce, each grant that appraises admits an unmodified file exactly if it matches
 abbrev pub AreAdmitted : Scene → Run → Type 0
 AreAdmitted scene run =
     (inode : Inode) (p : List Event) (who : Who) (d : Deed) (grant : Grant) (file : ℕ)
@@ -52,7 +53,7 @@ AreAdmitted scene run =
     → granted_file d ≡ Some file → scene.settings.mode ≡ Enforce
     → (last_check file p).action.appraise ≡ true → IsAdmitted inode p d grant file
 
--- the call of a file that was refused, where it is answered, is denied with the verdict's cause
+-- if the call of a refused file is answered, its reply is a denial with the cause of the verdict
 abbrev pub AreDenied : Scene → Run → Type 0
 AreDenied scene run =
     (inode : Inode) (p : List Event) (who : Who) (d : Deed) (grant : Grant) (file : ℕ)
@@ -62,8 +63,8 @@ AreDenied scene run =
     → slice_get run.thoughts who.task ≡ Some t → slice_get t.replies who.call ≡ Some r
     → r ≡ reply.Denied cause
 
--- the label that a close writes is that of the digest of the content at that step, by the script's
--- algorithm; the HMAC is renewed, and no other attribute changes
+-- the label that a close writes holds the digest, by the script's algorithm, of the content at that
+-- step; the HMAC is renewed, and no other attribute changes
 abbrev pub AreLabelled : Scene → Run → Type 0
 AreLabelled scene run = (inode : Inode) (p : List Event) (who : Who) (file : ℕ)
     → Stood scene run inode (labelled_close who file p)
@@ -72,8 +73,8 @@ AreLabelled scene run = (inode : Inode) (p : List Event) (who : Who) (file : ℕ
     × (label inode (labelled_close who file p)
     ≡ Some (label_of (digest_of scene.settings.hash (content p))))
 
--- the collections that takes began are at most one more than the events that voided a digest
--- before the last of them
+-- takes have begun at most one collection more than there are events before the last take that
+-- voided a digest
 abbrev pub IsRarelyHashed : Scene → Run → Type 0
 IsRarelyHashed scene run = (inode : Inode) (p : List Event) → Stood scene run inode p
     → takes_begun p ≤ times_voided_before_last inode p + 1
@@ -94,7 +95,7 @@ ShownIsFresh = (scene : Scene) (ending : Ending) (run : Run) → IsShown scene e
 
 abbrev pub ShownIsCovered : Type 0
 ShownIsCovered = (scene : Scene) (ending : Ending) (run : Run) → IsShown scene ending run
-    → HasForms scene run → AreReadsCovered scene run
+    → HasForms scene → AreReadsCovered scene run
 
 abbrev pub ShownIsAdmitted : Type 0
 ShownIsAdmitted = (scene : Scene) (ending : Ending) (run : Run) → IsShown scene ending run
@@ -114,4 +115,4 @@ ShownIsRarelyHashed = (scene : Scene) (ending : Ending) (run : Run) → IsShown 
 
 abbrev pub ShownIsSound : Type 0
 ShownIsSound = (scene : Scene) (ending : Ending) (run : Run) → IsShown scene ending run
-    → HasForms scene run → IsSound scene run
+    → HasForms scene → IsSound scene run

@@ -10,7 +10,7 @@ use Rattle.inode_events.specs.declared.told.Event.{Event}
 use Rattle.run_model.specs.Scene.{Scene, Station, inode_of}
 use Rattle.run_model.specs.Served.{Run}
 
--- at some place of the inode's journal, these events lay before it, newest first
+-- at some place of the inode's journal these are the events before it, newest first
 pub record Stood (scene : Scene) (run : Run) (inode : Inode) (p : List Event) : Type 0 where
   pub number : ℕ
   pub station : Station
@@ -22,7 +22,8 @@ pub record Stood (scene : Scene) (run : Run) (inode : Inode) (p : List Event) : 
   pub is : past journal ≡ later ++ p
   pub born : IsBorn p
 
--- what the types of a script's paths and of a list's entries keep
-pub record HasForms (scene : Scene) (run : Run) : Type 0 where
+-- the forms of a scene that each script has: its paths can be shown by each template, and the boot
+-- aggregate is an entry
+pub record HasForms (scene : Scene) : Type 0 where
   pub paths : All (λ (s : Station). IsMeasuredPath Ima s.path) scene.stations
-  pub entries : All IsEntry run.list
+  pub boot : IsEntry scene.boot

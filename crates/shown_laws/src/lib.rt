@@ -1,43 +1,44 @@
 //! What holds of every shown run, at each place of each of its journals.
 //!
-//! Each law is the contract of a function that does nothing.
+//! Each law is the contract of a function with an empty body.
 #![tactic(auto)]
 
 ghost use Rattle.shown_laws.specs.Laws.{ShownIsAdmitted, ShownIsCovered, ShownIsDenied, ShownIsFresh, ShownIsLabelled, ShownIsRarelyHashed, ShownIsSound};
 
-/// Freshness: whenever no writer holds an inode, its digest and its verdicts in force are those
-/// computed anew.
+/// Freshness: whenever no writer holds an inode, its digest and its verdicts in force equal freshly
+/// computed ones.
 pub fn shown_is_fresh()
     ensures { ShownIsFresh }
 {}
 
-/// Coverage: what is read through a read-only file that a rule measures has its digest in the
-/// list, or the inode's violation.
+/// Coverage: whatever is read through a read-only file that a rule measures has its digest in the
+/// measurement list, or the inode has a violation there.
 pub fn shown_is_covered()
     ensures { ShownIsCovered }
 {}
 
-/// Admission: enforcing appraisal admits an unmodified file exactly where digest and HMAC fit.
+/// Admission: enforcing appraisal admits an unmodified file exactly if its digest and HMAC match.
 pub fn shown_is_admitted()
     ensures { ShownIsAdmitted }
 {}
 
-/// The call of a file that was refused, where it is answered, is denied with the verdict's cause.
+/// If the call of a refused file has been answered, its reply is a denial with the cause of the
+/// verdict.
 pub fn shown_is_denied()
     ensures { ShownIsDenied }
 {}
 
-/// The label that a last writer's close writes is that of the content at that step.
+/// The label written when the last writer closes is the one of the content at that step.
 pub fn shown_is_labelled()
     ensures { ShownIsLabelled }
 {}
 
-/// The collections that takes began are at most one more than the events that voided a digest.
+/// Takes begin at most one collection more than there are events that voided a digest.
 pub fn shown_is_rarely_hashed()
     ensures { ShownIsRarelyHashed }
 {}
 
-/// All of these at once.
+/// The conjunction of all laws of this crate.
 pub fn shown_is_sound()
     ensures { ShownIsSound }
 {}

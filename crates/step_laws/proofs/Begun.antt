@@ -34,7 +34,7 @@ each_find P n (x ∷ hs) h e f = at (same_name n x.name) f (each_find P n hs h e
   at true q ih = subst P (same_Some x h q) e.0
   at false q ih = ih q
 
--- a file with one name has none without it
+-- if the file has no name left, no handle names it
 no_names : (gi gf i : ℕ) (hs : List Handle) → names_of gi gf hs ≤ 0 → Each (NoName gi gf i) hs
 no_names gi gf i [] l = tt
 no_names gi gf i (x ∷ hs) l = at (same_file gi gf x) refl l (no_names gi gf i hs) where

@@ -1,4 +1,4 @@
--- Along a history, what has to hold of a task's files holds.
+-- The conditions on a task's files hold along a history.
 use Rattle.std.proofs.Common.{◌≡◌, ℕ, Bool, true, false, cond, List, [], ◌∷◌, ◌++◌, Option, Some, None, refl, sym, ◌∙◌, ap, subst}
 use Rattle.std.specs.Prelude.{◌==◌, reverse, slice_get, unwrap_or}
 use Rattle.std.proofs.lemmas.Bool.{eq-eqb}
@@ -39,7 +39,7 @@ use Rattle.call_steps.specs.declared.due.Next.TheVariants.{On, Over}
 
 -- ---- one step
 
--- what a step makes of the stage and of the How of the file f in the journal i
+-- the stage of file f in journal i after a step, and how the file was opened
 abbrev pub after_step : Inode → ℕ → ℕ → Step → Answer → Stage → Stage
 after_step inode i f (Does j d) a l = cond (j == i) (next_stage inode f a.place d a.told l) l
 after_step inode i f (Checks j file func mask) a l =

@@ -1,4 +1,4 @@
--- What holds of a task's files is the condition of its next step.
+-- The conditions on a task's files imply that its next step may be made.
 use Rattle.std.proofs.Common.{◌≡◌, ℕ, ◌+◌, Bool, true, false, List, Option, Some, None, refl, sym, ◌∙◌, ap, subst}
 use Rattle.std.specs.Prelude.{reverse}
 use Rattle.inode_events.specs.Files.{can_read, held, holds, is_writer}

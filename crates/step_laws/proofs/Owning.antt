@@ -1,4 +1,4 @@
--- What a task's own entries tell of its files.
+-- What a task's own entries say of its files.
 use Rattle.std.proofs.Common.{◌≡◌, ℕ, suc, ◌<◌, ◌≤◌, Bool, true, false, cond, List, [], ◌∷◌, length, Option, Some, None, refl, sym, ◌∙◌, ap, subst, arith}
 use Rattle.std.specs.Prelude.{◌==◌, option_map}
 use Rattle.std.proofs.lemmas.Bool.{eqb-true, ne_eqb, cond-true, cond-false}
@@ -37,7 +37,7 @@ abbrev pub how_in : ℕ → List (ℕ × Event) → Option How
 how_in f [] = None
 how_in f (x ∷ xs) = how_with f x.0 x.1.deed x.1.told (how_in f xs)
 
--- each entry was told what fits it, and stands at a place where no file was counted before
+-- each outcome fits its deed, and no file was counted before at the place of an entry
 abbrev pub AreGood : List (ℕ × Event) → Type 0
 AreGood [] = Unit {0}
 AreGood (x ∷ xs) = (told_fits x.1.deed x.1.told ≡ true) × (how_in x.0 xs ≡ None) × AreGood xs
@@ -137,7 +137,7 @@ own_counter_with n f place m (deed.Count how) told.Held old h c e l ih g = at (p
 own_counter_with n f place m d t old h c e l ih g =
     cond-false (place == f) (Some m) c (below f place (l g)) ∙ ih g
 
--- who added the event at a place, behind one event more
+-- who added the event at a place, after one more event
 counter_at : (f : ℕ) (x : Event) (p : List Event) (b : Bool)
     → option_map caller_of (cond b (Some x) (event_at f p))
     ≡ cond b (Some (caller_of x)) (counter f p)

@@ -1,5 +1,5 @@
--- What has to hold of a task's files where its next step is due. L and W are the stage and the How
--- of the files in the journal i.
+-- The conditions on a task's files under which its next step is due. L gives the stage of the files
+-- in journal i, and W says how they were opened.
 use Rattle.std.proofs.Common.{◌≡◌, ℕ, Bool, true, false, ◌&&◌, cond, List, [], ◌∷◌, ◌++◌, Option, Some, None, refl, sym, ◌∙◌, ap}
 use Rattle.std.specs.Prelude.{◌==◌}
 use Rattle.std.proofs.lemmas.Bool.{eqb-true, eq-eqb, cond-true}
@@ -47,11 +47,11 @@ IsAttr (call.SetAttr inode name value) = Unit {0}
 IsAttr (call.SetMeta inode change) = Unit {0}
 IsAttr _ = ⊥
 
--- a handle on the inode i names a settled file
+-- a handle on inode i names a settled file
 abbrev pub Strong : ℕ → (ℕ → Stage) → (ℕ → Option How) → Handle → Type 0
 Strong i L W h = h.inode ≡ i → (W h.file ≡ Some h.how) × (L h.file ≡ Settled)
 
--- so it does unless its file is this one
+-- a handle on inode i names a settled file, unless its file is this one
 abbrev pub But : ℕ → ℕ → ℕ → (ℕ → Stage) → (ℕ → Option How) → Handle → Type 0
 But gi gf i L W h =
     h.inode ≡ i → (W h.file ≡ Some h.how) × (same_file gi gf h ≡ false → L h.file ≡ Settled)
@@ -63,7 +63,7 @@ abbrev pub mk : Ask → Reply → ℕ → ℕ → ℕ → How → Progress
 mk k r step gi gf hw =
     record { due = record { ask = k; reply = r }; step = step; inode = gi; file = gf; how = hw }
 
--- the handles after the call; only the file is read
+-- the handles after the call; of its progress only the file matters
 abbrev pub left : Call → Reply → ℕ → ℕ → How → List Handle → List Handle
 left c r gi gf hw hs = handles_after c (mk ask.Plain r 0 gi gf hw) r hs
 
@@ -110,7 +110,7 @@ Ready c ask.CloseFinish r gi gf hw hs i L W =
     Mine c gi gf hw hs i L W × Closes c r gi gf hw hs i × At gi gf i L CloseCollected
 Ready c ask.Plain r gi gf hw hs i L W = Each (Strong i L W) (left c r gi gf hw hs)
 
--- a further step is of the file `go`
+-- the conditions after a step; a further step is on the file `go`
 abbrev pub NextTo : Call → ℕ → ℕ → ℕ → How → List Handle → ℕ → (ℕ → Stage) → (ℕ → Option How)
     → Next → Type 0
 NextTo c gi gf go hw hs i L W (On p) = Ready c p.ask p.reply gi go hw hs i L W
@@ -145,7 +145,7 @@ each_without P n (h ∷ hs) e = at (each_without P n hs e.1) (same_name n h.name
   at ih true = e.1
   at ih false = (e.0, ih)
 
--- what holds of the handles and of the call's file holds of the handles after the call
+-- a property of the handles and of the call's file holds of the handles after the call
 pub each_left : (P : Handle → Type 0) (c : Call) (r : Reply) (gi gf : ℕ) (hw : How)
     (hs : List Handle) → Each P hs
     → ((n : Name) → P (record { name = n; inode = gi; file = gf; how = hw }))
@@ -215,7 +215,7 @@ strong_if gi gf i L W s h b e = ((b e).0, at (same_file gi gf h) refl) where
       let ps = and_parts (h.inode == gi) (h.file == gf) q in
       ap L (eqb-true h.file gf ps.1) ∙ s (sym (eqb-true h.inode gi ps.0) ∙ e)
 
--- the call is over, and its file is settled
+-- if the call is over and its file is settled, the conditions hold
 pub over_settled : (c : Call) (r : Reply) (gi gf : ℕ) (hw : How) (hs : List Handle) (i : ℕ)
     (L : ℕ → Stage) (W : ℕ → Option How)
     → Mine c gi gf hw hs i L W → At gi gf i L Settled → Each (Strong i L W) (left c r gi gf hw hs)
@@ -223,7 +223,7 @@ over_settled c r gi gf hw hs i L W m s =
     each_left (Strong i L W) c r gi gf hw hs (each_map (But gi gf i L W) (Strong i L W)
     (strong_if gi gf i L W s) hs m.1) (λ n e. (m.0 e, s e))
 
--- the call is over, and no handle names its file
+-- if the call is over and no handle names its file, the conditions hold
 pub over_gone : (c : Call) (r : Reply) (gi gf : ℕ) (hw : How) (hs : List Handle) (i : ℕ)
     (L : ℕ → Stage) (W : ℕ → Option How)
     → Mine c gi gf hw hs i L W → Closes c r gi gf hw hs i

@@ -1,4 +1,4 @@
--- A task at rest.
+-- A task with a history is at rest.
 use Rattle.std.proofs.Common.{subst}
 use Rattle.ending_laws.specs.model.History.{Thought, step_at}
 use Rattle.ending_laws.specs.Resting.{MayStep}

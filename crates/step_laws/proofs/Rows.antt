@@ -1,4 +1,4 @@
--- A step's outcome keeps what has to hold.
+-- The conditions on a task's files hold after each step's outcome.
 use Rattle.std.proofs.Common.{◌≡◌, ℕ, Bool, true, false, ◌&&◌, cond, List, [], ◌++◌, Option, Some, None, refl, sym, ◌∙◌, ap, subst}
 use Rattle.std.specs.Prelude.{◌==◌}
 use Rattle.std.proofs.lemmas.Bool.{eqb-true, eq-eqb, cond-true, cond-false}
@@ -32,7 +32,7 @@ use Rattle.step_laws.proofs.Ready.{At, But, Closes, Each, IsAttr, Mine, NextFits
 use Rattle.inode_events.specs.Stage.{Asked, CloseCollected, CloseCollecting, Collected, Collecting, Counted, Settled, Stage, may_check, stage_after}
 use Rattle.call_steps.specs.declared.due.Next.TheVariants.{On}
 
--- what a legal event was told
+-- whether the outcome is one that a legal event has
 abbrev pub told_fits : Deed → Told → Bool
 told_fits (deed.Count how) told.Held = true
 told_fits (deed.Count how) told.NotFound = true
@@ -56,7 +56,7 @@ bad e = absurd (cc)
 
 module _ (gi gf : ℕ) (hw : How) (hs : List Handle) (i : ℕ) (L : ℕ → Stage)
     (W : ℕ → Option How) where
-  -- the call closes the file that it counted
+  -- a call that closes the file that it counted is ready to
   close_ready : (c : Call) (r : Reply) (b : Bool) → is_writer hw ≡ b → Mine c gi gf hw hs i L W
       → Closes c r gi gf hw hs i → At gi gf i L Settled
       → Ready c (cond b ask.CloseTake ask.Close) r gi gf hw hs i L W
@@ -192,7 +192,7 @@ module _ (inode : Inode) (c : Call) (fit : IsFit c) (r : Reply) (gi gf : ℕ) (h
       over_settled c (reply_of u) gi gf hw hs i (with_life gi gf i (λ l. l) L) W
       (moved_on (λ l. l) a.0) (settle gi gf i L (λ l. l) Settled a.2)
 
-  -- a write, of whatever bytes
+  -- a write keeps the conditions, whatever its bytes
   pub write_row : (u : Told) (action : Action) → Ready c ask.Write r gi gf hw hs i L W
       → NextFits c gi gf hw hs i (with_life gi gf i (λ l. l) L) W
       (next_by inode.settings.mode (course_of c) ask.Write r u action)
@@ -233,7 +233,7 @@ module _ (inode : Inode) (c : Call) (fit : IsFit c) (r : Reply) (gi gf : ℕ) (h
       (stage_after inode (deed.CloseFinish gf) u) L) W
       (moved_on (stage_after inode (deed.CloseFinish gf) u) a.0) a.1
 
-  -- a step that touches no file
+  -- a step that touches no file keeps the conditions
   pub attr_row : (r : Reply) → IsAttr c → Each (Strong i L W) hs
       → Each (Strong i L W) (left c r gi gf hw hs)
   attr_row r a e = attr_left gi gf hw hs i L W c r a e
@@ -249,7 +249,7 @@ with_how gi place i hw W f = cond (gi == i) (cond (place == f) (Some hw) (W f)) 
 
 module _ (inode : Inode) (c : Call) (r : Reply) (gi place : ℕ) (hw : How) (hs : List Handle)
     (i : ℕ) (L : ℕ → Stage) (W : ℕ → Option How) (new : gi ≡ i → W place ≡ None) where
-  -- a handle is of an older file
+  -- a handle is of a file that was counted earlier
   older : (h : Handle) → h.inode ≡ i → W h.file ≡ Some h.how → (gi ≡ i → (place == h.file) ≡ false)
   older h e w q = at (place == h.file) refl where
     at : (b : Bool) → (place == h.file) ≡ b → b ≡ false

@@ -16,13 +16,13 @@ use Rattle.ending_laws.specs.model.History.{Answer, own, step_at, thought}
 use Rattle.ending_laws.specs.model.Scene.{Program}
 use Rattle.ending_laws.specs.model.Served.{events_of}
 
--- a call of a script: an open that cuts the file writes, and a write writes something
+-- a call of a script: an open that truncates is for writing, and a write has at least one byte
 abbrev pub IsFit : Call → Type 0
 IsFit (call.Open fd inode how true) = is_writer how ≡ true
 IsFit (call.Write fd from bytes) = 0 < length bytes
 IsFit _ = Unit {0}
 
--- a step on this inode may be made
+-- the step may be made, if it is on this inode
 abbrev pub MayMake : Inode → ℕ → List Event → Option Step → Type 0
 MayMake inode i before (Some (Does j d)) = j ≡ i → May inode before d
 MayMake inode i before (Some (Checks j file func mask)) =

@@ -1,4 +1,4 @@
--- A task at rest: its own record needs no word of its next step.
+-- A task at rest, without a premise about its next step.
 use Rattle.std.specs.Prelude.{◌≡◌, ℕ, List, length, Some, slice_get}
 use Rattle.inode_events.specs.declared.told.Event.{Event}
 use Rattle.call_steps.specs.declared.call.Call.{Call}
@@ -10,7 +10,7 @@ use Rattle.ending_laws.specs.Resting.{AreLegal, Resting}
 use Rattle.step_laws.specs.NextSteps.{IsFit}
 use Rattle.step_laws.specs.Stations.{IsWithin}
 
--- the calls of each program are those of a script
+-- the calls of each program are valid in a script, and the inodes that they name exist
 abbrev pub AreFit : Scene → Type 0
 AreFit scene =
     (n : ℕ) (p : Program) → slice_get scene.programs n ≡ Some p → (k : ℕ) (c : Call)

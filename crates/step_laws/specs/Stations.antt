@@ -13,7 +13,7 @@ use Rattle.ending_laws.specs.model.Turns.{State}
 use Rattle.ending_laws.specs.Resting.{MayStep}
 use Rattle.step_laws.specs.NextSteps.{IsFit}
 
--- the inode that the call names is there
+-- the inode that the call names exists
 abbrev pub IsWithin : ℕ → Call → Type 0
 IsWithin count (call.Open fd inode how trunc) = inode < count
 IsWithin count (call.Exec run inode) = inode < count

@@ -1,4 +1,4 @@
--- A check on one inode of a world, behind two looks at the appended rules.
+-- A check on one inode of a world, after two looks at the appended rules.
 use Rattle.std.proofs.Common.{◌≡◌, ℕ, zero, suc, ◌+◌, ◌<◌, List, [], ◌∷◌, ◌++◌, length, get_or, Option, Some, refl, sym, ◌∙◌, ap, subst}
 use Rattle.std.specs.Prelude.{Result, slice_get, slice_set}
 use Rattle.std.proofs.lemmas.Option.{get_or_from_slice_get}
@@ -38,20 +38,20 @@ use Rattle.world_locks.specs.acts.Checking.{CheckIn, IsChecked, check_by}
 use Rattle.world_locks.specs.acts.Parts.{AreParts, frame_by, state_by}
 use Rattle.world_locks.specs.acts.declared.answers.Answered.{Answered}
 
--- of two elements that are put at one place the second stands there
+-- of two elements written at the same place the second is found there
 set_set : {A : Type 0} (xs : List A) (i : ℕ) (a b : A)
     → slice_set (slice_set xs i a) i b ≡ slice_set xs i b
 set_set [] i a b = refl
 set_set (x ∷ xs) zero a b = refl
 set_set (x ∷ xs) (suc i) a b = ap (λ ys. x ∷ ys) (set_set xs i a b)
 
--- what the file system of a place is
+-- the file system that was read at a place is the one of that number
 super_is : (supers : List Super) (k : ℕ) (x : Super) → k < length supers → x ≡ get_or supers k x
     → x ≡ get_or supers k no_super
 super_is supers k x l e =
     sym (get_or_from_slice_get supers k x no_super (at_index supers k x x l e))
 
--- a look of a pass at the appended rules, which leaves the others as they were
+-- a look of a pass at the appended rules, which leaves the rules as they were
 pub record RulesLooked (rules rules2 : PolicyValue) (q q2 : Passed RuleEntry) : Type 0 where
   pub base : rules2.base ≡ rules.base
   pub look : PassSees rules.appended rules2.appended q q2
@@ -86,14 +86,14 @@ module _ {E : Type 0} (settings : Settings) (stations : List StationValue) (supe
   more : IsPrefix st.rules.seen q.seen
   more = sees_more rules.appended between.appended st.rules q first.look
 
-  -- behind the looks
+  -- the inode and the lists after the looks
   abbrev st1 : StationValue
   st1 = record st { rules = q }
 
   abbrev stations1 : List StationValue
   stations1 = slice_set stations i st1
 
-  -- the inode stands in its place, and the world is one with these constants and lists
+  -- the inode is at its place, and the world has the same constants and lists
   there1 : slice_get stations1 i ≡ Some st1
   there1 = get_set stations i st1 st there
 
@@ -116,13 +116,13 @@ module _ {E : Type 0} (settings : Settings) (stations : List StationValue) (supe
   abbrev found : Deed
   found = check_by index cred place (metadata (past st.cell.list)) asked
 
-  -- the check counts all rules that the pass of the inode has seen
+  -- the check counts all rules that the inode's pass has seen
   counts : CountsAll (length rules2.base + length q.seen) found
   counts =
       ap length index_is ∙ force_count rules2
       ∙ ap (λ (xs : List RuleEntry). length rules2.base + length xs) (sym seen)
 
-  -- behind the check
+  -- the inodes after the check
   abbrev stations2 : List StationValue
   stations2 = slice_set stations i st2
 
@@ -130,7 +130,7 @@ module _ {E : Type 0} (settings : Settings) (stations : List StationValue) (supe
   twice : slice_set stations1 i st2 ≡ stations2
   twice = set_set stations i st1 st2
 
-  -- the constants stay, each part is one of them, and the passes of nobody stay idle
+  -- the constants stay the same, each part belongs to them, and the spare passes stay unused
   pub check_frame : Gathered → frame_by settings stations2 supers book2 sems rules2 tasks ≡ F
   check_frame g =
       ap (λ (xs : List StationValue). frame_by settings xs supers book2 sems rules2 tasks)
@@ -151,13 +151,13 @@ module _ {E : Type 0} (settings : Settings) (stations : List StationValue) (supe
       → AreIdle (frame_by settings stations2 supers book2 sems rules2 tasks) idle
   check_idle g idle h = subst (λ (x : Frame). AreIdle x idle) (sym (check_frame g)) h
 
-  -- the rules are all that are in force
+  -- these are all rules in force
   all_rules : index ≡ rules_with (scene_of F []) S.added
   all_rules =
       index_is ∙ ap (λ (xs : List RuleValue). xs ++ rules_in rules2.appended.list) base
       ∙ ap (λ (xs : List RuleEntry). rules.base ++ rules_in xs) list.list
 
-  -- by the file system of the inode
+  -- the file system is the inode's
   its_super : place ≡ super_at F st.place
   its_super = super_is supers st.place place (parts.stations i st there).place place_is
 
@@ -178,7 +178,7 @@ module _ {E : Type 0} (settings : Settings) (stations : List StationValue) (supe
       (semaphores : passes2.sems ≡ passes.sems) (rules_before : passes.rules ≡ own)
       (rules_after : passes2.rules ≡ own2) (before : passes.book ≡ listed)
       (after : passes2.book ≡ listed2) (number_is : pass.number ≡ who.task + 1) where
-    -- what the check leaves of the lists behind the looks
+    -- the effect of the check on the lists after the looks
     found_on : (g : Gathered) → EventOn
         (frame_by settings stations1 supers book sems rules2 tasks) i (site_of st) who found
         (state_by stations1 book sems rules2) (state_by (slice_set stations1 i st2) book2 sems
@@ -194,13 +194,13 @@ module _ {E : Type 0} (settings : Settings) (stations : List StationValue) (supe
         (sees_more between.appended rules2.appended own own2 second.look)))
         before after number_is
 
-    -- the same of the frame and the lists before the looks, by all rules in force
+    -- the check by all rules in force, of the frame and the lists before the looks
     abbrev by_all : Deed
     by_all =
         check_by (rules_with (scene_of F []) S.added) cred (super_at F st.place)
         (metadata (past st.cell.list)) asked
 
-    -- the check that was found is that one
+    -- the check that was found is the one by all rules in force
     is_by_all : found ≡ by_all
     is_by_all =
         ap (λ (xs : List RuleValue). check_by xs cred place (metadata (past st.cell.list)) asked)
@@ -208,7 +208,7 @@ module _ {E : Type 0} (settings : Settings) (stations : List StationValue) (supe
         ∙ ap (λ (x : Super). check_by (rules_with (scene_of F []) S.added) cred x
         (metadata (past st.cell.list)) asked) its_super
 
-    -- what it leaves of the lists before the looks
+    -- the effect of the check on the lists before the looks
     event_found : (g : Gathered) → EventOn F i (site_of st) who by_all S New passes passes2 g g
         (told_in r)
     event_found g =
@@ -223,7 +223,7 @@ module _ {E : Type 0} (settings : Settings) (stations : List StationValue) (supe
         (state_by stations1 book sems rules2) (state_by xs book2 sems rules2) passes passes2 g g
         (told_in r)) twice (found_on g))))
 
-    -- and what it was told
+    -- the answer to the check by all rules in force
     told_by_all : IsChecked (inode_in F (site_of st)) st.cell.list S.list
         (rules_with (scene_of F []) S.added) cred (super_at F st.place) asked r
     told_by_all =
@@ -234,7 +234,7 @@ module _ {E : Type 0} (settings : Settings) (stations : List StationValue) (supe
         (subst (λ (xs : List RuleValue). IsChecked st.cell.inode st.cell.list S.list xs cred place
         asked r) all_rules told))
 
-    -- together, at the inode of the number
+    -- effect and answer together, at the inode of the number
     pub check_in : (g : Gathered) → CheckIn F i (slice_get F.sites i) who cred asked S New passes
         passes2 g r
     check_in g =

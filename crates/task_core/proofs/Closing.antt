@@ -1,4 +1,4 @@
--- What the end of a world takes apart.
+-- A world is taken apart at its end.
 use Rattle.std.proofs.Common.{◌≡◌, ℕ, ◌-◌, ◌&&◌, Bool, false, List, length, ap, sym, ◌∙◌, subst, arith, Some}
 use Rattle.std.specs.Prelude.{map, not, slice_get}
 use Rattle.std.specs.List.{list_any}
@@ -30,7 +30,7 @@ use Rattle.world_ended.specs.Settled.{HasEnded}
 module _ (settings : Settings) (stations : List StationValue) (supers : List Super)
     (book : Grown Entry) (sems : Grown Event) (rules : PolicyValue) (count : ℕ) (frame : Frame)
     (is : frame_by settings stations supers book sems rules count ≡ frame) where
-  -- the parts are those of the frame
+  -- the parts belong to the frame
   module _ (parts : AreParts (frame_by settings stations supers book sems rules count) stations
       book sems rules) where
     pub are_stations : AreStations frame stations
@@ -48,7 +48,7 @@ module _ (settings : Settings) (stations : List StationValue) (supers : List Sup
     pub are_rules : AreRulesOf frame rules
     are_rules = subst (λ (f : Frame). AreRulesOf f rules) is parts.rules
 
-    -- what is left of them and of their tasks is what the run leaves
+    -- the final state of the closed lists and the tasks is the final state of the run
     pub ended_by : (tasks : List Tasked) (state : State) (e : EndedValue)
         → state_by stations book sems rules ≡ state → AreTasks frame tasks
         → length tasks ≡ frame.tasks → HaveMade frame state tasks
@@ -80,14 +80,14 @@ module _ (settings : Settings) (stations : List StationValue) (supers : List Sup
         }) ∙ ap (λ (f : Frame). left_by f stations book.list sems.list rules.appended.list
         tasks) is))
 
--- so many rules are the script's
+-- the number of the script's rules is that of all in force less the appended ones
 pub base_is : (p : PolicyValue) (n m : ℕ) → n ≡ length (in_force p)
     → m ≡ length p.appended.list → n - m ≡ length p.base
 base_is p n m all own = omega (arith, all, own, force_count p)
 
 -- ---- the tasks
 
--- their passes are those of the frame
+-- the tasks' passes belong to the frame
 pub passes_are : (frame : Frame) (tasks : List Tasked) (passes : List PassesValue)
     → AreTasks frame tasks → passes ≡ map (λ (t : Tasked). t.passes) tasks → (n : ℕ)
     → (p : PassesValue) → slice_get passes n ≡ Some p → ArePassesOf frame n p
@@ -100,7 +100,7 @@ passes_are frame tasks passes are all n p at =
           subst (λ (x : ℕ × PassesValue). ArePassesOf frame x.0 x.1)
           (λ i. (nth.number i, t.1.1 i)) nth.task.played.passes
 
--- some isn't done, so the run is stuck where none can go on
+-- if some task isn't done, the run is stuck exactly if none can go on
 pub stuck_when : (done rest d r : Bool) → done ≡ false → done ≡ d → rest ≡ r
     → rest ≡ (not d && r)
 stuck_when done rest d r open_yet is e =

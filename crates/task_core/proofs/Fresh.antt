@@ -11,7 +11,7 @@ use Rattle.task_frame.specs.declared.gathered.Gathered.TheVariants as gathered
 use Rattle.world_locks.proofs.laws_of_tasks.Playing.{fresh_is_task}
 use Rattle.task_mind.specs.Value.{TaskValue}
 
--- it is a task of each world whose passes it has
+-- a task that has made no step is a task of every world whose passes it has
 pub new_task : (number : ℕ) (mind : TaskValue) (passes : PassesValue) (cred : Cred)
     (calls : List Call) → mind.program ≡ record { cred = cred; calls = calls }
     → mind.thought ≡ start → mind.checked ≡ no_action → (frame : Frame)

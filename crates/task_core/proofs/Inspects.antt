@@ -1,4 +1,4 @@
--- A world and the passes of a task, opened at the inode of a number that is to be checked.
+-- A world and the passes of a task, unpacked at the inode of a number that is to be checked.
 use Rattle.std.proofs.Common.{◌≡◌, ℕ, ◌+◌, ◌<◌, List, length, get_or, Option, Some, refl, sym, ◌∙◌, ap, subst}
 use Rattle.std.specs.Prelude.{Result, slice_get, slice_set}
 use Rattle.grow_list.specs.Shown.{Grown, Passed}
@@ -48,18 +48,18 @@ module _ (settings : Settings) (stations : List StationValue) (supers : List Sup
   abbrev st : StationValue
   st = record { cell = cell; rules = seen; place = place }
 
-  -- the opened inode stands in its place
+  -- the unpacked inode is at its place
   st_is : st ≡ get_or stations i st
   st_is = subst (λ (x : StationValue). x ≡ get_or stations i x) (sym station_view) opened_is
 
   there : slice_get stations i ≡ Some st
   there = at_index stations i st st within st_is
 
-  -- the inode's pass is one of the rules
+  -- the inode's pass of the rules belongs to the rules
   pub inspect_rules : seen.name ≡ rules.appended.name
   inspect_rules = found_rules settings stations supers book sems rules tasks i st parts there
 
-  -- there is a file system of its number
+  -- the number of the inode's file system is within bounds
   pub inspect_place : place < length supers
   inspect_place = found_place settings stations supers book sems rules tasks i st parts there
 
@@ -76,13 +76,13 @@ module _ (settings : Settings) (stations : List StationValue) (supers : List Sup
         rules = own;
       }) p) (n : ℕ) (are : ArePassesOf w.frame n p) (pass : Passed Event)
       (pass_is : pass ≡ get_or inodes i pass) where
-    -- the pass is one of the inode's journal, and has the task's number
+    -- the task's pass is of the inode's journal, and has the task's number
     pub inspect_found : (pass.name ≡ cell.journal) × (pass.number ≡ n + 1)
     inspect_found =
         open_found settings stations supers book sems rules tasks parts w view inodes signals lists
         own p passes_view n are i st pass within st_is pass_is
 
-    -- its journal goes to the measurement list
+    -- the inode's journal belongs to the measurement list
     pub inspect_book : cell.book ≡ book.name
     inspect_book =
         open_book settings stations supers book sems rules tasks parts w view inodes signals lists
@@ -98,7 +98,7 @@ module _ (settings : Settings) (stations : List StationValue) (supers : List Sup
         own p passes_view n are i st pass within st_is pass_is gathered.Nothing action slot d
         (ready gathered.Nothing)
 
-    -- behind the check
+    -- the world after the check
     module _ {E : Type 0} (between rules2 : PolicyValue) (q own2 : Passed RuleEntry)
         (first : RulesLooked rules between seen q) (second : RulesLooked between rules2 own own2)
         (st2 : StationValue) (book2 : Grown Entry) (pass2 : Passed Event) (lists2 : Passed Entry)
@@ -113,7 +113,7 @@ module _ (settings : Settings) (stations : List StationValue) (supers : List Sup
       abbrev stations2 : List StationValue
       stations2 = slice_set stations i st2
 
-      -- the constants stay
+      -- the constants stay the same
       pub inspected_frame : frame_by settings stations2 supers book2 sems rules2 tasks ≡ w.frame
       inspected_frame =
           check_frame settings stations supers book book2 sems rules between rules2 tasks i st st2 q
@@ -121,7 +121,7 @@ module _ (settings : Settings) (stations : List StationValue) (supers : List Sup
           second index_is place_is did told gathered.Nothing
           ∙ ap (λ (x : WorldValue). x.frame) view
 
-      -- each part is one of them
+      -- each part belongs to the constants
       pub inspected_parts : AreParts (frame_by settings stations2 supers book2 sems rules2 tasks)
           stations2 book2 sems rules2
       inspected_parts =
@@ -129,7 +129,7 @@ module _ (settings : Settings) (stations : List StationValue) (supers : List Sup
           pass pass2 lists lists2 own own2 who cred asked file_system index r parts there first
           second index_is place_is did told gathered.Nothing
 
-      -- the passes of nobody stay idle
+      -- the spare passes stay unused
       pub inspected_idle : (idle : List (Passed RuleEntry)) → AreIdle F idle
           → AreIdle (frame_by settings stations2 supers book2 sems rules2 tasks) idle
       inspected_idle idle h =
@@ -137,7 +137,7 @@ module _ (settings : Settings) (stations : List StationValue) (supers : List Sup
           pass pass2 lists lists2 own own2 who cred asked file_system index r parts there first
           second index_is place_is did told gathered.Nothing idle h
 
-      -- and the check is one of the task on this world
+      -- the check is one of the task on this world
       pub inspected_check : (g : Gathered) → CheckIn w.frame i (slice_get w.frame.sites i) who cred
           asked w.state (state_by stations2 book2 sems rules2) p
           (record {

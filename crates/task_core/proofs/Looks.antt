@@ -43,7 +43,7 @@ module _ (settings : Settings) (stations stations2 : List StationValue) (supers 
   abbrev Later : Frame
   Later = frame_by settings stations2 supers book2 sems2 rules2 tasks
 
-  -- the constants stay
+  -- the constants stay the same
   pub frame_looked : Later ≡ F
   frame_looked =
       ap (λ (xs : List Site). record Later { sites = xs }) (sites_kept stations stations2 kept)
@@ -54,7 +54,7 @@ module _ (settings : Settings) (stations stations2 : List StationValue) (supers 
       ∙ ap (λ (xs : List RuleValue). record F { base = xs; rules = Later.rules }) base
       ∙ ap (λ (x : ListName). record F { rules = x }) added.name
 
-  -- so do the lists
+  -- the lists stay the same
   pub state_looked : state_by stations2 book2 sems2 rules2 ≡ state_by stations book sems rules
   state_looked =
       ap (λ (js : List (List Event)). record {
@@ -82,7 +82,7 @@ module _ (settings : Settings) (stations stations2 : List StationValue) (supers 
         added = xs;
       }) added.list
 
-  -- each part is one of the constants
+  -- each part belongs to the constants
   parts_at : AreParts F stations book sems rules → AreParts F stations2 book2 sems2 rules2
   parts_at parts = record {
     stations = stations_kept F stations stations2 kept parts.stations;
@@ -110,11 +110,11 @@ module _ (settings : Settings) (stations stations2 : List StationValue) (supers 
       subst (λ (x : Frame). AreParts x stations2 book2 sems2 rules2) (sym frame_looked)
       (parts_at parts)
 
-  -- the passes of nobody stay idle
+  -- the spare passes stay unused
   pub idle_looked : (idle : List (Passed RuleEntry)) → AreIdle F idle → AreIdle Later idle
   idle_looked idle h = subst (λ (x : Frame). AreIdle x idle) (sym frame_looked) h
 
-  -- what the looks are to the task
+  -- the effect of the looks on the task
   module _ (t : Tasked) (passes : PassesValue)
       (parts : AreParts F stations book sems rules)
       (is : IsTask F t)
@@ -129,7 +129,7 @@ module _ (settings : Settings) (stations stations2 : List StationValue) (supers 
     own : ArePassesOf F t.number t.passes
     own = is.played.passes
 
-    -- each pass of a journal has seen it
+    -- each pass of a journal has seen the journal
     inode_looked : (i : ℕ) (q : Passed Event) → slice_get passes.inodes i ≡ Some q
         → InodeLooked F (t.number + 1) i S.journals t.passes.inodes q
     inode_looked i q h =
@@ -193,7 +193,7 @@ module _ (settings : Settings) (stations stations2 : List StationValue) (supers 
           ∙ rule_look.own;
     }
 
-    -- in each list the entries of its number are those that it has made
+    -- in each list the entries of the task's number are exactly those that the task has made
     pub looked_made : HasMade Later (state_by stations2 book2 sems2 rules2)
         (task_left t passes t.gathered)
     looked_made =
@@ -202,7 +202,7 @@ module _ (settings : Settings) (stations stations2 : List StationValue) (supers 
         (subst (λ (x : State). HasMade F x (task_left t passes t.gathered)) (sym state_looked)
         (look_is_made F t S passes is looked_at_all))
 
-    -- the task is one of its world still
+    -- the task is still one of its world
     pub looked_still : IsTask Later (task_left t passes t.gathered)
     looked_still =
         subst (λ (x : Frame). IsTask x (task_left t passes t.gathered)) (sym frame_looked)
@@ -221,7 +221,7 @@ pub look_names : (settings : Settings) (stations : List StationValue) (supers : 
 look_names settings stations supers book sems rules tasks n passes own i s q at here =
     (own.inodes i (site_of s) q (get_map site_of stations i s at) here).0
 
--- the task of an opened world, with its passes opened
+-- the task of an unpacked world, with its passes unpacked
 pub look_opens : (w0 w : WorldValue) (t : Tasked) (n : ℕ) (mind : TaskValue) (g : Gathered)
     (passes q : PassesValue) → w0 ≡ w
     → ◌≡◌ {A = Tasked} (record { number = n; mind = mind; gathered = g; passes = q }) t

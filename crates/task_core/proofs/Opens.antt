@@ -1,4 +1,4 @@
--- A world and the passes of a task, opened at the inode of a number.
+-- A world and the passes of a task, unpacked at the inode of a number.
 use Rattle.std.proofs.Common.{◌≡◌, ℕ, ◌+◌, ◌<◌, List, length, get_or, Option, Some, refl, sym, ◌∙◌, ap, subst, arith}
 use Rattle.std.specs.Prelude.{IfOk, Result, slice_get, slice_set}
 use Rattle.std.proofs.lemmas.List.{length-map}
@@ -62,7 +62,7 @@ module _ (settings : Settings) (stations : List StationValue) (supers : List Sup
       subst (λ (x : WorldValue). ArePassesOf x.frame n P) (sym view)
       (subst (λ (q : PassesValue). ArePassesOf w.frame n q) (sym passes_view) are)
 
-  -- the inode and the pass of its journal stand in their places
+  -- the inode and the pass of its journal are at their places
   pub open_there : slice_get stations i ≡ Some st
   open_there = at_index stations i st st within st_is
 
@@ -75,13 +75,13 @@ module _ (settings : Settings) (stations : List StationValue) (supers : List Sup
   pub open_pass : slice_get inodes i ≡ Some pass
   open_pass = at_index inodes i pass pass open_within pass_is
 
-  -- the pass is one of the journal, and has the number of the task
+  -- the task's pass is of the inode's journal, and has the task's number
   pub open_found : (pass.name ≡ st.cell.journal) × (pass.number ≡ n + 1)
   open_found =
       found_pass settings stations supers book sems rules tasks i st parts open_there n P pass
       open_passes open_pass
 
-  -- the journal goes to the measurement list
+  -- the inode's journal belongs to the measurement list
   pub open_book : st.cell.book ≡ book.name
   open_book = (parts.stations i st open_there).book
 
@@ -109,7 +109,7 @@ module _ (settings : Settings) (stations : List StationValue) (supers : List Sup
       found_may settings stations supers book sems rules tasks i st parts open_there n inodes pass
       g action slot d open_pass open_found.1 (open_ready_at g action slot d ready)
 
-  -- behind the deed
+  -- the world after the deed
   module _ (st2 : StationValue) (book2 : Grown Entry) (pass2 : Passed Event)
       (lists2 : Passed Entry) (who : Who) (d : Deed) (g g2 : Gathered) (o : Option Told)
       (counts : CountsAll (length F.base + length st.rules.seen) d) (task : n ≡ who.task)
@@ -117,7 +117,7 @@ module _ (settings : Settings) (stations : List StationValue) (supers : List Sup
     abbrev stations2 : List StationValue
     stations2 = slice_set stations i st2
 
-    -- the constants stay
+    -- the constants stay the same
     pub done_frame : frame_by settings stations2 supers book2 sems rules tasks ≡ F
     done_frame =
         frame_same settings stations supers book book2 sems rules tasks i st st2 pass pass2 lists
@@ -126,14 +126,14 @@ module _ (settings : Settings) (stations : List StationValue) (supers : List Sup
     pub done_view : frame_by settings stations2 supers book2 sems rules tasks ≡ w.frame
     done_view = done_frame ∙ ap (λ (x : WorldValue). x.frame) view
 
-    -- each part is one of them
+    -- each part belongs to the constants
     pub done_parts : AreParts (frame_by settings stations2 supers book2 sems rules tasks) stations2
         book2 sems rules
     done_parts =
         world_same settings stations supers book book2 sems rules tasks i st st2 pass pass2 lists
         lists2 who d g g2 o parts open_there did counts
 
-    -- the passes of nobody stay idle
+    -- the spare passes stay unused
     pub done_idle : (idle : List (Passed RuleEntry)) → AreIdle F idle
         → AreIdle (frame_by settings stations2 supers book2 sems rules tasks) idle
     done_idle idle h = subst (λ (x : Frame). AreIdle x idle) (sym done_frame) h
@@ -156,7 +156,7 @@ module _ (settings : Settings) (stations : List StationValue) (supers : List Sup
         (adds_none own own refl) (prefix_refl own.seen) refl refl
         (open_found.1 ∙ ap (λ (k : ℕ). k + 1) task)))
 
-  -- what it was told is its outcome
+  -- the outcome in the answer is the deed's
   pub done_said : {E : Type 0} (r : Result (Option Answered) E) (d : Deed)
       → IfOk r (λ o. told_of o ≡ outcome st.cell.inode book.list d (past st.cell.list))
       → IfOk r (λ o. IsPlacedAt (length st.cell.list) o)

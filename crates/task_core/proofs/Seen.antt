@@ -1,4 +1,4 @@
--- A look of a pass at a growing list, as it leaves list and pass.
+-- The effect of a look on a growing list and on the pass that looks.
 use Rattle.std.proofs.Common.{◌≡◌, List, [], sym, ◌∙◌, subst}
 use Rattle.std.proofs.lemmas.List.{append-nil}
 use mathlib.Core.List.{IsPrefix}
@@ -14,7 +14,7 @@ pub record PassSees {E : Type 0} (g g2 : Grown E) (q q2 : Passed E) : Type 0 whe
   pub own : HasItsOwn g2 q2
   pub pass : (q2.name ≡ q.name) × (q2.number ≡ q.number)
 
--- it has added nothing
+-- a look adds nothing
 pub sees_alone : {E : Type 0} (g g2 : Grown E) (q q2 : Passed E) → PassSees g g2 q q2
     → Adds q q2 []
 sees_alone g g2 q q2 x = record {
@@ -23,13 +23,13 @@ sees_alone g g2 q q2 x = record {
   mine = x.mine ∙ sym (append-nil q.mine);
 }
 
--- it has seen no less
+-- after a look the pass has seen at least as much as before
 pub sees_more : {E : Type 0} (g g2 : Grown E) (q q2 : Passed E) → PassSees g g2 q q2
     → IsPrefix q.seen q2.seen
 sees_more {E} g g2 q q2 x =
     subst (λ (xs : List E). IsPrefix q.seen xs) (sym (x.seen ∙ x.same.list)) x.before
 
--- two looks leave the same list
+-- two looks leave the list as one does
 pub same_twice : {E : Type 0} (a b c : Grown E) → IsSameList a b → IsSameList b c
     → IsSameList a c
 same_twice a b c x y = record {

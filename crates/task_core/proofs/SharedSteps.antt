@@ -1,4 +1,4 @@
--- What became of a turn on a world that threads share.
+-- How a turn ends on a world that threads share.
 use Rattle.std.proofs.Common.{◌≡◌, ℕ, Option, Some, None, refl, sym, ◌∙◌, ap, subst}
 use Rattle.std.specs.Prelude.{IfOk, OnErr, Result, Ok, Err}
 use Rattle.call_steps.specs.Mind.{Step}
@@ -32,7 +32,7 @@ use Rattle.world_locks.specs.acts.declared.answers.Reached.TheVariants as reache
 use Rattle.world_locks.proofs.Idle.{check_idle, event_idle, signals_idle}
 use Rattle.world_locks.specs.Met.{AppendsMet, CheckMet, EventMet, SignalsMet, mines_of, state_seen}
 
--- a turn that was told nothing had no answer
+-- a turn without an answer had no outcome
 idle_told : {E : Type 0} (r : Result (Option Answered) E) (x : Result Reached E)
     → x ≡ reached_by r → IsIdle x → told_in r ≡ None
 idle_told {E} r x is idle = at r (subst (λ (z : Result Reached E). IsIdle z) is idle) where
@@ -46,7 +46,7 @@ module _ (frame : Frame) (t : Tasked) (passes : PassesValue) (w : Who)
   abbrev asks : Option Step
   asks = step_at t.mind.program t.mind.thought.mind
 
-  -- a deed on an inode
+  -- a turn with a deed on an inode
   pub does_met : {E : Type 0} (i : ℕ) (d : Deed) (g : Gathered) (r : Result (Option Answered) E)
       (x : Result Reached E) → asks ≡ Some (Does i d)
       → EventMet frame i w d t.passes passes t.gathered g r → x ≡ reached_by r
@@ -58,7 +58,7 @@ module _ (frame : Frame) (t : Tasked) (passes : PassesValue) (w : Who)
     idle = λ idle. event_idle frame i w d t.passes passes t.gathered g r m (idle_told r x is idle);
   }
 
-  -- a check
+  -- a turn with a check
   pub checks_met : {E : Type 0} (i : ℕ) (asked : Asked) (cred : Cred)
       (r : Result (Option Answered) E) (x : Result Reached E)
       → asks ≡ Some (Checks i asked.file asked.func asked.mask) → cred ≡ t.mind.program.cred
@@ -71,7 +71,7 @@ module _ (frame : Frame) (t : Tasked) (passes : PassesValue) (w : Who)
     idle = λ idle. check_idle frame i w cred asked t.passes passes r m (idle_told r x is idle);
   }
 
-  -- a post or a wait
+  -- a turn with a post or a wait
   pub signals_met : {E : Type 0} (d : Deed) (r : Result (Option Answered) E)
       (x : Result Reached E) → asks ≡ Some (Signals d)
       → SignalsMet t.passes passes w d r → x ≡ reached_by r
@@ -83,7 +83,7 @@ module _ (frame : Frame) (t : Tasked) (passes : PassesValue) (w : Who)
     idle = λ idle. signals_idle t.passes passes w d r m (idle_told r x is idle);
   }
 
-  -- a rule that was appended
+  -- a turn with an appended rule
   pub appends_told : {E : Type 0} (rule : RuleValue) (a : Answered) → asks ≡ Some (Appends rule)
       → AppendsMet t.passes passes (record { who = w; rule = rule }) a
       → ReachesMet {E = E} frame t passes t.gathered (Ok (reached.Told a))
@@ -94,7 +94,7 @@ module _ (frame : Frame) (t : Tasked) (passes : PassesValue) (w : Who)
     idle = λ idle. absurd idle;
   }
 
-  -- one that ran out of memory
+  -- a turn with an appended rule that ran out of memory
   pub appends_failed : {E : Type 0} (e : E) → passes ≡ t.passes
       → ReachesMet frame t passes t.gathered (Err e)
   appends_failed e same = record {
@@ -104,7 +104,7 @@ module _ (frame : Frame) (t : Tasked) (passes : PassesValue) (w : Who)
     idle = λ idle. ap (λ (p : PassesValue). mines_of p) same;
   }
 
--- a step that does nothing
+-- a turn with a step that does nothing
 pub nothing_met : {E : Type 0} (frame : Frame) (t : Tasked) (a : Answered)
     → step_at t.mind.program t.mind.thought.mind ≡ Some Nothing → a.place ≡ 0
     → a.told ≡ told.Nothing → a.action ≡ None
@@ -115,7 +115,7 @@ nothing_met frame t a st e k f = record {
   idle = λ idle. absurd idle;
 }
 
--- a program that is over
+-- a turn of a program that is over
 pub over_met : {E : Type 0} (frame : Frame) (t : Tasked)
     → None ≡ step_at t.mind.program t.mind.thought.mind
     → ReachesMet {E = E} frame t t.passes t.gathered (Ok reached.Over)
@@ -129,10 +129,10 @@ over_met frame t st = record {
   idle = λ idle. refl;
 }
 
--- ---- behind the turn
+-- ---- the task after the turn
 
 module _ (frame : Frame) (t t2 : Tasked) (passes : PassesValue) (g : Gathered) where
-  -- its program was over
+  -- the task after a turn for which its program was over
   pub over_steps : {E : Type 0} (r : Result Reached E) (x : Reached) → r ≡ Ok x
       → x ≡ reached.Over → ReachesMet frame t passes g r → t2 ≡ task_left t passes g
       → StepsTo frame t t2 turns.Done
@@ -146,7 +146,7 @@ module _ (frame : Frame) (t t2 : Tasked) (passes : PassesValue) (g : Gathered) w
             (turned_to (state_seen z.passes) z.mind.thought turns.Done)) (sym k) stops.goes;
       }
 
-  -- it was blocked
+  -- the task after a turn that was blocked
   pub blocked_steps : {E : Type 0} (r : Result Reached E) (x : Reached) → r ≡ Ok x
       → x ≡ reached.Blocked → ReachesMet frame t passes g r → t2 ≡ task_left t passes g
       → StepsTo frame t t2 turns.Blocked
@@ -160,7 +160,7 @@ module _ (frame : Frame) (t t2 : Tasked) (passes : PassesValue) (g : Gathered) w
             (turned_to (state_seen z.passes) z.mind.thought turns.Blocked)) (sym k) stops.goes;
       }
 
-  -- it moved
+  -- the task after a turn that moved it
   pub moved_steps : {E : Type 0} (r : Result Reached E) (x : Reached) (a : Answered) (mode : Mode)
       (action : Option ActionValue) (mind : TaskValue) → r ≡ Ok x → x ≡ reached.Told a
       → ReachesMet frame t passes g r → t2 ≡ task_after t mind passes g → mode ≡ mode_in frame
@@ -189,9 +189,9 @@ module _ (frame : Frame) (t t2 : Tasked) (passes : PassesValue) (g : Gathered) w
             heard tells.goes);
       }
 
--- ---- the task whose step it is
+-- ---- the task before room was made for its replies
 
--- the task with another room for its replies
+-- the task with more room for its replies
 pub record HasRoom (t0 t : Tasked) : Type 0 where
   pub number : t.number ≡ t0.number
   pub program : t.mind.program ≡ t0.mind.program
@@ -199,7 +199,7 @@ pub record HasRoom (t0 t : Tasked) : Type 0 where
   pub passes : t.passes ≡ t0.passes
 
 module _ (frame : Frame) (t0 t t2 : Tasked) (room : HasRoom t0 t) where
-  -- it makes the turn that it would have made with the room that it had
+  -- the task makes the same turn as without the additional room
   pub steps_with : (turn : Turn) → StepsTo frame t t2 turn → StepsTo frame t0 t2 turn
   steps_with turn s = record {
     old = s.old;
@@ -211,7 +211,7 @@ module _ (frame : Frame) (t0 t t2 : Tasked) (room : HasRoom t0 t) where
         same ∙ s.goes programs;
   }
 
-  -- where it made none its passes have no entry more
+  -- if the task made no step, its passes have no new entries
   pub idle_adds : {E : Type 0} (passes : PassesValue) (g : Gathered) (y : Result Reached E)
       (x : Reached) → y ≡ Ok x → ReachesMet frame t passes g y → IsIdle {E = E} (Ok x)
       → t2 ≡ task_left t passes g → mines_of t2.passes ≡ mines_of t0.passes
@@ -220,7 +220,7 @@ module _ (frame : Frame) (t0 t t2 : Tasked) (room : HasRoom t0 t) where
       ∙ m.idle (subst (λ (z : Result Reached E). IsIdle z) (sym f) i)
       ∙ ap (λ (p : PassesValue). mines_of p) room.passes
 
--- what holds anyhow holds of a refusal
+-- a proposition that holds in any case holds of an error
 pub on_err : {A E : Type 0} (r : Result A E) (P : Type 0) → P → OnErr r P
 on_err (Ok x) P p = tt
 on_err (Err e) P p = p

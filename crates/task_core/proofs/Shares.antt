@@ -22,7 +22,7 @@ module _ (settings : Settings) (stations : List StationValue) (supers : List Sup
   abbrev F : Frame
   F = frame_by settings stations supers book sems rules tasks
 
-  -- the constants stay, and each part is one of them
+  -- the constants stay the same, and each part belongs to them
   with_both : frame_by settings stations supers book sems2 rules2 tasks ≡ F
       → AreSignalsOf F sems2 → AreRulesOf F rules2
       → AreParts (frame_by settings stations supers book sems2 rules2 tasks) stations book sems2
@@ -42,7 +42,7 @@ module _ (settings : Settings) (stations : List StationValue) (supers : List Sup
   abbrev G : Frame
   G = frame_by settings stations supers book sems rules tasks
 
-  -- the semaphores keep their name and their callers
+  -- the semaphores with the same name and callers still belong to the constants
   pub with_sems : (sems2 : Grown Event) → sems2.name ≡ sems.name → sems2.callers ≡ sems.callers
       → AreParts (frame_by settings stations supers book sems2 rules tasks) stations book sems2
       rules
@@ -52,7 +52,7 @@ module _ (settings : Settings) (stations : List StationValue) (supers : List Sup
       (ap (λ (x : ListName). record G { signals = x }) name)
       (record { name = name; callers = callers ∙ parts.sems.callers }) parts.rules
 
-  -- so are rules with the same base, name and callers
+  -- the rules with the same base, name and callers still belong to the constants
   with_rules : (rules2 : PolicyValue) → rules2.base ≡ rules.base
       → rules2.appended.name ≡ rules.appended.name
       → rules2.appended.callers ≡ rules.appended.callers
@@ -71,7 +71,7 @@ module _ (settings : Settings) (stations : List StationValue) (supers : List Sup
         numbers = numbers;
       })
 
-  -- the rules are as they were
+  -- the rules stay the same after a look
   pub with_same_rules : (rules2 : PolicyValue) → rules2.base ≡ rules.base
       → IsSameList rules.appended rules2.appended
       → AreParts (frame_by settings stations supers book sems rules2 tasks) stations book sems
@@ -82,7 +82,7 @@ module _ (settings : Settings) (stations : List StationValue) (supers : List Sup
       (list.numbers ∙ parts.rules.numbers
       ∙ ap (λ (xs : List RuleEntry). map (λ (r : RuleEntry). r.who.task) xs) (sym list.list))
 
-  -- a rule was appended by the task of its Who
+  -- the rules still belong to the constants after the task of its `Who` appended one
   pub with_rule : (rules2 : PolicyValue) (e : RuleEntry) (n : ℕ)
       → (rules2.base ≡ rules.base) × (rules2.appended.name ≡ rules.appended.name)
       × (rules2.appended.callers ≡ rules.appended.callers)

@@ -1,4 +1,4 @@
--- What a task finds at its turn, and what it is behind it.
+-- What a task can rely on at its turn, and its state after the turn.
 use Rattle.std.proofs.Common.{◌≡◌, ℕ, ◌+◌, List, ◌∷◌, length, Option, Some, None, refl, sym, ◌∙◌, ap, subst}
 use Rattle.std.specs.Prelude.{IfOk, Result, Ok, slice_get, unwrap_or}
 use Rattle.call_steps.specs.Mind.{Step}
@@ -45,7 +45,7 @@ use Rattle.world_locks.specs.acts.declared.answers.Reached.{Reached}
 use Rattle.world_locks.specs.acts.declared.answers.Reached.TheVariants as reached
 
 module _ (frame : Frame) (n room : ℕ) (g : Gathered) (passes : PassesValue) (h : List Answer) where
-  -- the task with this of its own words has played the history
+  -- the task with these parts of its mind has played the history
   abbrev PlayedWith : Program → Thought → ActionValue → Type 0
   PlayedWith p t c = HasPlayed frame (record {
     number = n;
@@ -54,7 +54,7 @@ module _ (frame : Frame) (n room : ℕ) (g : Gathered) (passes : PassesValue) (h
     passes = passes;
   }) h
 
-  -- equal words have played as much
+  -- a mind with equal parts has played the same history
   with_words : (a : TaskValue) (p : Program) (t : Thought) (c : ActionValue) → a.program ≡ p
       → a.thought ≡ t → a.checked ≡ c
       → HasPlayed frame (record { number = n; mind = a; gathered = g; passes = passes }) h
@@ -78,7 +78,7 @@ module _ (frame : Frame) (n room : ℕ) (g : Gathered) (passes : PassesValue) (h
         hashed = x.hashed;
       })))
 
--- a task with another room has played as much
+-- a task with other spare capacity has played the same history
 played_same : (frame : Frame) (n : ℕ) (a b : TaskValue) (g : Gathered) (passes : PassesValue)
     (h : List Answer) → IsSameTask a b
     → HasPlayed frame (record { number = n; mind = a; gathered = g; passes = passes }) h
@@ -87,7 +87,7 @@ played_same frame n a b g passes h s x =
     with_words frame n b.spare g passes h a b.program b.thought b.checked (sym s.program)
     (sym s.thought) (sym s.checked) x
 
--- and is one of the same worlds
+-- a task with other spare capacity is a task of the same worlds
 pub task_same : (frame : Frame) (n : ℕ) (a b : TaskValue) (g : Gathered) (passes : PassesValue)
     → IsSameTask a b
     → IsTask frame (record { number = n; mind = a; gathered = g; passes = passes })
@@ -104,7 +104,7 @@ module _ (frame : Frame) (t : Tasked) (is : IsTask frame t) where
   abbrev who : Who
   who = who_at t.number t.mind.program t.mind.thought.mind
 
-  -- after a look its step is ready
+  -- after a look the task's step is ready
   pub turn_ready : (i : ℕ) (d : Deed) → IsStepOn i d due
       → ReadyAt frame i t.passes.inodes who.task t.gathered t.mind.checked
       (slot_in (due_at t.mind.program t.mind.thought.mind)) d
@@ -116,7 +116,7 @@ module _ (frame : Frame) (t : Tasked) (is : IsTask frame t) where
       (subst (λ (n : ℕ). HasLooked (inode_in frame s) (n + 1) q.seen list q.mine) number looked)
       on)
 
-  -- the same of whoever asks so
+  -- the step is ready for any `Who`, action and slot that equal the task's
   ready_by : (w : Who) (action : ActionValue) (slot : Slot) (i : ℕ) (d : Deed) → w ≡ who
       → action ≡ t.mind.checked → slot ≡ slot_in (due_at t.mind.program t.mind.thought.mind)
       → IsStepOn i d due
@@ -136,7 +136,7 @@ module _ (frame : Frame) (t : Tasked) (is : IsTask frame t) where
       ready_by w action slot i d e f k
       (subst (λ (o : Option Step). IsStepOn i d o) (sym st) (refl, refl))
 
-  -- a check needs nothing that is hashed
+  -- a check needs nothing hashed
   pub checks_ready : (w : Who) (action : ActionValue) (slot : Slot) (i file : ℕ) (func : Func)
       (mask : ℕ) → w ≡ who → action ≡ t.mind.checked
       → slot ≡ slot_in (due_at t.mind.program t.mind.thought.mind)
@@ -150,19 +150,19 @@ module _ (frame : Frame) (t : Tasked) (is : IsTask frame t) where
       (subst (λ (o : Option Step). IsStepOn i d o) (sym st) (refl, refl)) s q list here at looked in
       record { may = is.may; by = is.by; hashes = tt; asks = tt }
 
--- the step that is named is the due one
+-- the named step is the one that is due
 pub due_is : (o : Option Step) (s x : Named) → s ≡ x → Some (step_in s) ≡ o
     → o ≡ Some (step_in x)
 due_is o s x e f = sym f ∙ ap (λ (z : Named). Some (step_in z)) e
 
--- ---- what became of the turn
+-- ---- how the turn ends
 
 module _ (frame : Frame) (t : Tasked) (old new : State) (passes : PassesValue) (w : Who)
     (w_is : w ≡ who_at t.number t.mind.program t.mind.thought.mind) where
   abbrev asks : Option Step
   asks = step_at t.mind.program t.mind.thought.mind
 
-  -- a deed on an inode
+  -- a turn with a deed on an inode
   pub does_turn : {E : Type 0} (i : ℕ) (d : Deed) (g : Gathered) (r : Result (Option Answered) E)
       (x : Result Reached E) → asks ≡ Some (Does i d)
       → EventIn frame i (slice_get frame.sites i) w d old new t.passes passes t.gathered g
@@ -175,7 +175,7 @@ module _ (frame : Frame) (t : Tasked) (old new : State) (passes : PassesValue) (
       (subst (λ (y : Who). EventIn frame i (slice_get frame.sites i) y d old new t.passes passes
       t.gathered g (told_in r)) w_is e) said)
 
-  -- a check
+  -- a turn with a check
   pub check_turn : {E : Type 0} (i : ℕ) (asked : Asked) (cred : Cred)
       (r : Result (Option Answered) E) (x : Result Reached E)
       → asks ≡ Some (Checks i asked.file asked.func asked.mask)
@@ -191,7 +191,7 @@ module _ (frame : Frame) (t : Tasked) (old new : State) (passes : PassesValue) (
       (subst (λ (k : Cred). CheckIn frame i (slice_get frame.sites i) w k asked old new t.passes
       passes t.gathered r) c (e t.gathered))))
 
-  -- a post or a wait
+  -- a turn with a post or a wait
   pub signals_turn : {E : Type 0} (d : Deed) (r : Result (Option Answered) E)
       (x : Result Reached E) → asks ≡ Some (Signals d)
       → SignalsOn old new t.passes passes w d (told_in r)
@@ -203,7 +203,7 @@ module _ (frame : Frame) (t : Tasked) (old new : State) (passes : PassesValue) (
       (signals_reach frame t d old new passes st r
       (subst (λ (y : Who). SignalsOn old new t.passes passes y d (told_in r)) w_is e) said)
 
-  -- a rule that was appended, and one that ran out of memory
+  -- a turn with an appended rule, or one that ran out of memory
   pub appends_turn : (rule : RuleValue) (a : Answered) → asks ≡ Some (Appends rule)
       → AppendsTo old new t.passes passes (record { who = w; rule = rule })
       → (a.place ≡ length old.added) × (a.told ≡ told.Done) × (a.action ≡ None)
@@ -218,10 +218,10 @@ module _ (frame : Frame) (t : Tasked) (old new : State) (passes : PassesValue) (
   appends_fail e =
       record { plays = same_left frame t passes t.gathered e.1 refl; state = e.0 }
 
--- ---- behind the turn
+-- ---- the task after the turn
 
 module _ (frame : Frame) (t : Tasked) (old new : State) (passes : PassesValue) (g : Gathered) where
-  -- the task heard what it was told
+  -- the task after it heard the answer
   pub heard_task : (a : Answered) (mind : TaskValue) (x : Tells frame t old new passes g a)
       → IsTask frame t → mind.program ≡ t.mind.program
       → mind.thought ≡ hear (mode_in frame) t.mind.program t.mind.thought (answer_of a x.rules)
@@ -236,10 +236,10 @@ module _ (frame : Frame) (t : Tasked) (old new : State) (passes : PassesValue) (
     });
   }
 
--- the same of its world behind the turn, whose constants are as before
+-- the task in its world after the turn, with the same constants
 module _ (frame after : Frame) (t : Tasked) (old new : State) (passes : PassesValue)
     (g : Gathered) (same : after ≡ frame) (is : IsTask frame t) where
-  -- it heard what it was told
+  -- the task after it heard the answer is still one of its world
   told_still : (a : Answered) (mode : Mode) (action : Option ActionValue) (mind : TaskValue)
       → Tells frame t old new passes g a → mode ≡ mode_in frame → action ≡ a.action
       → mind.program ≡ t.mind.program
@@ -257,13 +257,13 @@ module _ (frame after : Frame) (t : Tasked) (old new : State) (passes : PassesVa
       (record { place = a.place; told = a.told; action = given y; rules = x.rules })) k)
       (checked ∙ ap (λ (y : Option ActionValue). unwrap_or y t.mind.checked) k))
 
-  -- it made no step
+  -- the task that made no step is still one of its world
   pub left_still : StillPlays frame t passes g → IsTask after (task_left t passes g)
   left_still x =
       subst (λ (y : Frame). IsTask y (task_left t passes g)) (sym same)
       (record { history = is.history; played = x is.history is.played })
 
-  -- its program was over, it was blocked, or it moved
+  -- the task is still one of its world if its program was over, it was blocked, or it moved
   pub over_still : {E : Type 0} (r : Result Reached E) (x : Reached) (after_turn : Tasked)
       → r ≡ Ok x → x ≡ reached.Over → Reaches frame t old new passes g r
       → after_turn ≡ task_left t passes g → IsTask after after_turn

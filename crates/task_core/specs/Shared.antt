@@ -1,4 +1,4 @@
--- What a step on a world that threads share leaves of its task.
+-- The effect of a step on a task, in a world that threads share.
 use Rattle.std.specs.Prelude.{◌≡◌, Option, Result, Ok, Err}
 use Rattle.run_model.specs.Turns.{State}
 use Rattle.run_model.specs.declared.turn.Turn.{Turn}
@@ -10,19 +10,19 @@ use Rattle.world_locks.specs.acts.declared.answers.Reached.{Reached}
 use Rattle.world_locks.specs.acts.declared.answers.Reached.TheVariants as reached
 use Rattle.world_locks.specs.Met.{mines_of, state_seen}
 
--- it was told nothing
+-- the turn had no answer
 abbrev pub IsIdle : {E : Type 0} → Result Reached E → Type 0
 IsIdle (Ok (reached.Told a)) = ⊥
 IsIdle _ = Unit {0}
 
--- what became of its turn, which met some lists, and left what the passes have seen
+-- the turn met some lists, and the passes have seen these lists as the turn left them
 pub record ReachesMet {E : Type 0} (frame : Frame) (t : Tasked) (passes : PassesValue)
     (g : Gathered) (r : Result Reached E) : Type 0 where
   pub old : State
   pub reaches : Reaches frame t old (state_seen passes) passes g r
   pub idle : IsIdle r → mines_of passes ≡ mines_of t.passes
 
--- it made its turn on some lists, and its passes have seen what the turn left of these
+-- the task made its turn on some lists, and its passes have seen these lists as the turn left them
 pub record StepsTo (frame : Frame) (t t2 : Tasked) (r : Turn) : Type 0 where
   pub old : State
   pub goes : Goes frame t old (turned_to (state_seen t2.passes) t2.mind.thought r)

@@ -1,4 +1,4 @@
--- What contracts see of a task.
+-- The value of a task that contracts see.
 use Rattle.std.specs.Prelude.{Option, option_map}
 use Rattle.call_steps.specs.declared.call.Call.{Call}
 use Rattle.inode_meta.specs.declared.step.Who.{Who}
@@ -10,7 +10,7 @@ abbrev pub tasked_of : Inside → Tasked
 tasked_of t =
     record { number = t.number; mind = t.mind; gathered = t.gathered; passes = t.passes }
 
--- the Who of the step that comes next, if the program isn't over
+-- the place (`Who`) of the step that comes next, if the program isn't over
 abbrev pub who_of : Tasked → Option Who
 who_of t = option_map (λ (c : Call). who_at t.number t.mind.program t.mind.thought.mind)
     (call_at t.mind.program t.mind.thought.mind)

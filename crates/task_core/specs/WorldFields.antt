@@ -1,4 +1,4 @@
--- What the fields of a world keep.
+-- The value of a world that contracts see, and the invariant of its fields.
 use Rattle.task_core.specs.declared.world.World.TheInside.{Inside}
 use Rattle.task_frame.specs.Frame.{Frame}
 use Rattle.task_frame.specs.World.{WorldValue}

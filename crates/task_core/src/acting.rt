@@ -17,7 +17,8 @@ use world_locks::acts::{Answered, act_at, check_at};
 use world_locks::deeds::{Actor, Checks};
 
 impl World {
-    /// Does the deed on the inode of this number, by the task's passes. `None` is blocked.
+    /// Does the deed on the inode of this number, through the task's passes. `None` means that it
+    /// is blocked.
     pub(crate) fn does(
         &mut self,
         i: u32,
@@ -50,8 +51,8 @@ impl World {
         )
     }
 
-    /// Checks the inode of this number by all rules in force, by the task's passes. `None` is
-    /// blocked: the inode isn't there.
+    /// Checks the inode of this number by all rules in force, through the task's passes. `None`
+    /// means that it is blocked because there is no such inode.
     pub(crate) fn checks(
         &mut self,
         i: u32,

@@ -28,8 +28,8 @@ use world_ended::closes::{Lists, close_lists};
 use world_ended::rests;
 use world_ended::semaphores::SemaphoreCell;
 
-/// Each task looks at all lists of the world. Afterwards the entries of its number in each list are
-/// those that it has made.
+/// Lets each task look at all lists of the world. Afterwards the entries of its number in each list
+/// are exactly those that it has made.
 pub fn settle(world: &mut World, tasks: &mut Vec<Task>)
     requires { AreTasks world.old.frame tasks.old.items }
     ensures frame { world.new.frame ≡ world.old.frame }
@@ -49,7 +49,7 @@ fn are_done(tasks: &[Task]) -> bool
     tasks.iter().all(|task| task.mind.is_done())
 }
 
-// Whether none can go on.
+// Whether no task can go on.
 fn all_rest(tasks: &[Task], sems: &SemaphoreCell) -> bool
     ensures { result ≡ list_all (rests (λ sem. left sem (past sems.now.list))) tasks.now }
 {
@@ -71,7 +71,7 @@ fn may_grow(tasks: &[Task]) -> bool
 }
 
 impl Task {
-    // Its passes, and what it leaves.
+    // Splits the task into its passes and its final state.
     fn into_parts(self) -> (Passes, EndedTask)
         ensures passes { result.0 ≡ self.passes }
         ensures ended { result.1 ≡ task_left self }
@@ -86,7 +86,7 @@ impl Task {
     }
 }
 
-// The passes of all tasks, and what they leave.
+// Splits all tasks into their passes and their final states.
 fn part(alloc: Global, tasks: Vec<Task>) -> Result<(Vec<Passes>, Vec<EndedTask>), OutOfMemory>
     ensures passes { IfOk result (λ r. r.0.items ≡ map (λ (t : Tasked). t.passes) tasks.items) }
     ensures ended { IfOk result (λ r. r.1.items ≡ map task_left tasks.items) }
@@ -101,7 +101,7 @@ fn part(alloc: Global, tasks: Vec<Task>) -> Result<(Vec<Passes>, Vec<EndedTask>)
     Ok((passes, ended))
 }
 
-// Closes the lists of a world at all of which its tasks have looked.
+// Closes the lists of a world whose tasks have looked at all of them.
 fn end(world: World, tasks: Vec<Task>) -> Result<Ended, OutOfMemory>
     ghost frame: { Frame }
     requires frame { world.frame ≡ frame }
@@ -148,9 +148,10 @@ fn end(world: World, tasks: Vec<Task>) -> Result<Ended, OutOfMemory>
 }
 
 impl World {
-    /// Closes the world of these tasks, and tells what their run leaves. Each journal is legal, the
-    /// list is merged with them, and the run is served. Where no task could move, each is done or
-    /// the run is stuck. A run that has gone on as long as its ending asks may be shown.
+    /// Closes the world of these tasks, and returns the final state of their run. Each journal is
+    /// legal, the measurement list is merged with them, and the run is served. If no task can move,
+    /// each is done or the run is stuck. A run that has gone on as long as its ending asks may be
+    /// shown.
     pub fn close(self, tasks: Vec<Task>) -> Result<Ended, OutOfMemory>
         requires count { length tasks.items ≡ self.frame.tasks }
         requires tasks { AreTasks self.frame tasks.items }

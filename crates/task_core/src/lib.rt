@@ -14,7 +14,7 @@ mod world;
 
 pub use close::settle;
 pub use live::Live;
-pub use run_model::Turn;
+pub use run_model::{Ended, EndedTask, Turn};
 pub use std::alloc::AllocError as OutOfMemory;
 pub use task::Task;
 pub use task_frame as frames;

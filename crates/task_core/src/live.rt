@@ -7,15 +7,15 @@ use std::alloc::AllocError as OutOfMemory;
 use std::sync::Wait;
 use world_locks::{Locks, Name, Parts};
 
-/// A world that threads share: each inode lies under a lock of its own, and one lock each keeps the
-/// measurement list, the semaphores and the rules. Its constants are those that `N` names.
+/// A world that threads share: a lock for each inode, and one lock each for the measurement list,
+/// the semaphores and the rules. Its constants are those that `N` names.
 #[derive(Drop)]
 pub struct Live<N: Name> {
     pub(crate) locks: Locks<N>,
 }
 
 impl World {
-    /// The same world, whose lists lie under locks.
+    /// Puts the lists of the world under locks, so that threads can share it.
     pub fn share<N: Name>(self) -> Result<Live<N>, OutOfMemory>
         requires { self.frame ≡ N.frame }
     {
@@ -46,7 +46,7 @@ impl World {
 }
 
 impl<N: Name> Live<N> {
-    /// The world, which has the same constants.
+    /// Takes the lists out of their locks. The world has the same constants.
     pub fn back(self) -> Result<World, OutOfMemory>
         ensures { IfOk result (λ world. world.frame ≡ N.frame) }
     {
@@ -77,7 +77,7 @@ impl<N: Name> Live<N> {
         Ok(world)
     }
 
-    /// Takes the lock of the inode of this number, calls `f` once, and lets go.
+    /// Takes the lock of the inode of this number, calls `f` once, and releases the lock.
     pub fn hold<R: Wait, F: FnOnce()>(&self, rt: &R, inode: u32, f: F)
         requires below { inode < length N.frame.sites }
         requires call { F.IsAlwaysCallable f }

@@ -1,4 +1,4 @@
-//! A task looks at all lists of its world.
+//! The look of a task at all lists of its world.
 
 ghost use Rattle.std.specs.Prelude.{◌≡◌};
 ghost use Rattle.task_frame.specs.Runs.{HasMade};
@@ -10,7 +10,7 @@ use world_locks::acts::look_at_inodes;
 
 impl Task {
     /// Looks at each list of the world. Afterwards the entries of the task's number in each list
-    /// are those that the task has made.
+    /// are exactly those that the task has made.
     pub fn look(&mut self, world: &mut World)
         requires { IsTask world.old.frame self.old }
         ensures made { HasMade world.new.frame world.new.state self.new }

@@ -20,7 +20,7 @@ use world_locks::acts::{Answered, Reached, became};
 use world_locks::deeds::{Actor, Checks};
 
 impl<N: Name> Live<N> {
-    /// The step that is due for the task, whose passes and hashes these are.
+    /// Makes the step that is due for the task with these passes and hashes.
     fn reach<R: Wait>(
         &self,
         rt: &R,
@@ -79,10 +79,10 @@ impl<N: Name> Live<N> {
 }
 
 impl Task {
-    /// One step of the task on a world that threads share. It is a turn on the lists that the step
-    /// met, and what the task's passes have seen behind it is what the turn left of these. After
-    /// `Blocked`, and where memory ran out, no entry of the task was added, and the task is as
-    /// before, but for what its passes have seen.
+    /// Makes one step of the task on a world that threads share. The step is a turn on the lists
+    /// that it found, and after it the task's passes have seen these lists as the turn left them.
+    /// After `Blocked`, or if memory runs out, no entry of the task was added, and the task is
+    /// unchanged except for what its passes have seen.
     pub fn step_shared<N: Name, R: Wait>(
         &mut self,
         rt: &R,

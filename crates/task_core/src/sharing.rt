@@ -1,4 +1,4 @@
-//! The steps of a task on what all tasks share beside the inodes: the semaphores and the rules.
+//! The steps of a task on what all tasks share besides the inodes: the semaphores and the rules.
 
 ghost use Rattle.std.specs.Prelude.{◌≡◌, ◌+◌, [], ◌∷◌, ◌++◌, length, None, IfOk, OnErr, OnOk};
 ghost use Rattle.inode_events.specs.Asked.{entered, made};
@@ -17,7 +17,7 @@ use task_frame::Passes;
 use world_locks::acts::Answered;
 
 impl World {
-    /// Posts to a semaphore or waits for one. `None` is blocked.
+    /// Posts to a semaphore or waits for one. `None` means that it is blocked.
     pub(crate) fn signals(
         &mut self,
         passes: &mut Passes,

@@ -14,8 +14,9 @@ use task_frame::Passes;
 use world_start::{Start, start_lists};
 
 impl World {
-    /// The world of these inodes, each on the file system that its place names, with these rules,
-    /// and for each task its passes, in order. Its lists are those with which a run begins.
+    /// Starts a world of these inodes, each on the file system that its place names, with these
+    /// rules. Returns it with the passes of each task, in order. Its lists are those with which a
+    /// run begins.
     pub fn start(
         alloc: Global,
         settings: Settings,

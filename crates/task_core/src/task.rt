@@ -11,7 +11,7 @@ use std::marker::Model;
 use task_frame::{Gathered, Passes};
 use task_mind::TaskMind;
 
-/// A task. Contracts see its number, what it knows of its own calls, what it has hashed, and its
+/// A task. Contracts see its number, its knowledge of its own calls, what it has hashed, and its
 /// passes.
 #[derive(Drop)]
 pub struct Task {
@@ -32,9 +32,9 @@ impl Model for Task {
 }
 
 impl Task {
-    /// A task before its first call. It is a task of each world that gave it these passes, none of
+    /// A task before its first call. It is a task of each world that issued these passes, none of
     /// which has an entry of its own, if each call has the form of a script's. A program of more
-    /// than 4,294,967,295 calls is refused like one for which memory is out.
+    /// than 4,294,967,295 calls fails as if memory had run out.
     pub fn new(
         alloc: Global,
         number: u32,
@@ -62,7 +62,8 @@ impl Task {
         })
     }
 
-    /// The Who of the step that the next turn is to make. `None` exactly where the program is over.
+    /// The place (`Who`) of the step that the next turn is to make; `None` exactly if the program
+    /// is over.
     pub fn who(&self) -> Option<Who>
         ensures { result ≡ who_of self.now }
     {

@@ -21,7 +21,7 @@ use task_mind::{Step, TaskMind};
 use world_locks::acts::{Answered, Reached, became};
 use world_locks::deeds::{Actor, Checks};
 
-// The slot of a take that is due.
+// The slot of a take, if one is due.
 pub(crate) fn slot_due(mind: &TaskMind) -> Slot
     ensures { result ≡ slot_in (due_at mind.now.program mind.now.thought.mind) }
 {
@@ -32,7 +32,7 @@ pub(crate) fn slot_due(mind: &TaskMind) -> Slot
 }
 
 impl World {
-    /// The step that is due for the task, whose passes and hashes these are.
+    /// Makes the step that is due for the task with these passes and hashes.
     fn reach(
         &mut self,
         mind: &TaskMind,
@@ -90,8 +90,8 @@ impl World {
 }
 
 impl Task {
-    /// One step of the task, as a turn on plain lists has it. After `Blocked`, and where memory ran
-    /// out, the lists and the task are as before, but for what its passes have seen.
+    /// Makes one step of the task, which is a turn on plain lists. After `Blocked`, or if memory
+    /// runs out, the lists and the task are unchanged except for what the task's passes have seen.
     pub fn step(&mut self, world: &mut World) -> Result<Turn, OutOfMemory>
         requires { IsTask world.old.frame self.old }
         ensures go { IfOk result (λ r. (programs : List Program)

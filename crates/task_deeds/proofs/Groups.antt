@@ -1,4 +1,4 @@
--- The groups of deeds.
+-- The groups of deeds, by whether they consult the measurement list and belong to a collection.
 use Rattle.std.proofs.Common.{◌≡◌, ℕ, true, false, Option, Some, None, refl}
 use Rattle.inode_events.specs.Inode.{Inode}
 use Rattle.inode_events.specs.declared.deed.Deed.{Deed}
@@ -30,14 +30,14 @@ is_plain (deed.Take file) e a = a
 is_plain (deed.Finish file) e a = a
 is_plain d e a = tt
 
--- a deed that neither takes nor finishes asks nothing of the list
+-- a deed that is neither a take nor its finish doesn't consult the measurement list
 pub alone_unless : (x : Doing) → ((file : ℕ) → x ≡ doing.Take file → ⊥)
     → ((file : ℕ) → x ≡ doing.Finish file → ⊥) → IsAloneDeed (deed_in x)
 alone_unless (doing.Take file) t f = absurd (t file refl)
 alone_unless (doing.Finish file) t f = absurd (f file refl)
 alone_unless x t f = tt
 
--- a plain deed hashes nothing
+-- a plain deed leaves what is hashed as it was
 pub plain_told : (inode : Inode) (list : List Event) (g : Gathered) (d : Deed) (o : Option Told)
     → IsPlainDeed d → HashesTold inode list g g d o
 plain_told inode list g d None p = refl

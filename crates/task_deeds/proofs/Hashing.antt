@@ -1,4 +1,4 @@
--- What a deed leaves of what its task has hashed.
+-- How a deed changes what its task has hashed.
 use Rattle.std.proofs.Common.{◌≡◌, ℕ, ◌+◌, Bool, true, false, length, List, [], ◌∷◌, ◌++◌, Some, refl, sym, ◌∙◌, ap, subst}
 use Rattle.std.proofs.lemmas.Option.{same_Some}
 use Rattle.hash_algos.specs.Digest.{digest_of}
@@ -29,7 +29,7 @@ use Rattle.task_laws.specs.frames.declared.gathered.Gathered.{Gathered}
 use Rattle.task_laws.specs.frames.declared.gathered.Gathered.TheVariants as gathered
 use Rattle.task_laws.specs.Due.{HashesAfter}
 
--- what was hashed depends on the algorithm and the bytes alone
+-- what was hashed depends only on the algorithm and the bytes
 taken_same : (g : Gathered) (a b : Collection) → a.algo ≡ b.algo → a.bytes ≡ b.bytes
     → HasTakenIn g a → HasTakenIn g b
 taken_same gathered.Nothing a b x y h = h
@@ -47,7 +47,7 @@ summed_same (gathered.Sums chosen sha1) a b x y h = (
   h.1 ∙ ap (λ (m : List ℕ). digest_of Sha1 m) y,
 )
 
--- the journal behind one event more
+-- the journal after one more event
 behind : (list list2 : List Event) (who : Who) (d : Deed) (t : Told)
     → list2 ≡ list ++ made who d (Some t)
     → past list2 ≡ record { who = who; deed = d; told = t } ∷ past list
@@ -138,7 +138,7 @@ close_left inode list list2 file who h algo e a x = record {
 
 -- ---- a collection ends
 
--- the digests are those of the bytes that it took
+-- the digests are those of the bytes that the collection took
 pub sums_of : (inode : Inode) (p : List Event) (g : Gathered) (sums : Digest × Digest)
     → Collects inode p (HasSummed g)
     → ((c : Collection) → HasSummed g c → Some sums ≡ Some (digest_from c, digest_of Sha1 c.bytes))

@@ -1,4 +1,4 @@
--- What a deed leaves of what its task has hashed.
+-- How a deed changes what its task has hashed.
 use Rattle.std.specs.Prelude.{Bool, true, false, Option, None, Some}
 use Rattle.hash_algos.specs.DigestValue.{DigestValue}
 use Rattle.task_laws.specs.inodes.declared.answers.Piece.{Piece}
@@ -10,17 +10,17 @@ use Rattle.task_laws.specs.frames.Tasks.{HasSummed, HasTakenIn}
 use Rattle.task_laws.specs.frames.declared.gathered.Gathered.{Gathered}
 use Rattle.task_laws.specs.frames.declared.gathered.Gathered.TheVariants as gathered
 
--- the piece is taken: after the last one the digests are there
+-- the piece is hashed, and after the last piece the digests are computed
 abbrev pub HasGathered : Piece → Gathered → Collection → Type 0
 HasGathered piece.More g c = HasTakenIn g c
 HasGathered piece.Last g c = HasSummed g c
 
--- the digests, where all pieces are hashed
+-- the digests, if all pieces are hashed
 abbrev pub sums_in : Gathered → Option (DigestValue × DigestValue)
 sums_in (gathered.Sums chosen sha1) = Some (chosen, sha1)
 sums_in _ = None
 
--- the deed asks nothing of the measurement list, and goes on with no collection
+-- the deed neither consults the measurement list nor belongs to a collection
 abbrev pub IsPlainDeed : Deed → Type 0
 IsPlainDeed (deed.Check file func action rules) = ⊥
 IsPlainDeed (deed.Take file) = ⊥
@@ -31,7 +31,7 @@ IsPlainDeed (deed.CloseChunk file) = ⊥
 IsPlainDeed (deed.CloseFinish file) = ⊥
 IsPlainDeed _ = Unit {0}
 
--- the deed asks nothing of the measurement list, and begins, goes on with or ends a collection
+-- the deed begins, continues or ends a collection, and doesn't consult the measurement list
 abbrev pub IsCollectingDeed : Deed → Type 0
 IsCollectingDeed (deed.Chunk file) = Unit {0}
 IsCollectingDeed (deed.CloseTake file) = Unit {0}
@@ -46,7 +46,14 @@ goes_on (deed.CloseChunk file) = true
 goes_on (deed.CloseFinish file) = true
 goes_on _ = false
 
--- the deed asks nothing of the measurement list
+-- the deed may add to the measurement list
+abbrev pub IsListedDeed : Deed → Type 0
+IsListedDeed (deed.Check file func action rules) = Unit {0}
+IsListedDeed (deed.Take file) = Unit {0}
+IsListedDeed (deed.Finish file) = Unit {0}
+IsListedDeed _ = ⊥
+
+-- the deed doesn't consult the measurement list
 abbrev pub IsAloneDeed : Deed → Type 0
 IsAloneDeed (deed.Check file func action rules) = ⊥
 IsAloneDeed (deed.Take file) = ⊥

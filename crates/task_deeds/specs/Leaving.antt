@@ -1,4 +1,5 @@
--- What a deed leaves, whatever it was told: blocked or out of memory, it leaves the lists.
+-- The lists after a deed, whatever its outcome: if it was blocked or ran out of memory they are
+-- unchanged.
 use Rattle.std.specs.Prelude.{◌≡◌, ◌++◌, List, length, Option, Some, None, Result, Ok, Err}
 use Rattle.grow_list.specs.Shown.{Passed}
 use Rattle.ima_templates.specs.declared.entry.Entry.{Entry}
@@ -10,17 +11,17 @@ use Rattle.inode_events.specs.declared.told.Event.{Event}
 use Rattle.inode_events.specs.declared.told.Told.{Told}
 use Rattle.inode_meta.specs.declared.step.Who.{Who}
 
--- what the task was told, if anything
+-- the outcome of the deed, if there is one
 abbrev pub told_in : {E : Type 0} → Result (Option Told) E → Option Told
 told_in (Ok o) = o
 told_in (Err e) = None
 
--- the same of an answer with more in it
+-- the outcome in a richer answer, if there is one
 abbrev pub told_by : {A E : Type 0} → (A → Told) → Result A E → Option Told
 told_by f (Ok a) = Some (f a)
 told_by f (Err e) = None
 
--- journal, pass and list have what this leaves, and nothing else
+-- journal, measurement list and pass have exactly the entries that a deed with this outcome adds
 pub record Leaves (old new : CellValue) (list list2 : List Entry) (pass pass2 : Passed Event)
     (who : Who) (d : Deed) (o : Option Told) : Type 0 where
   pub journal : new.list ≡ old.list ++ made who d o

@@ -1,4 +1,4 @@
-//! Deeds that begin, go on with or end a collection, and ask nothing of the measurement list.
+//! Deeds that begin, continue or end a collection and don't consult the measurement list.
 
 ghost use Rattle.inode_events.specs.declared.deed.Deed.TheVariants as Deed;
 ghost use Rattle.std.specs.Prelude.{◌≡◌, ℕ, ◌+◌, List, Some, IfOk, OnErr};
@@ -20,7 +20,7 @@ use task_laws::frames::Gathered;
 use task_laws::inodes::{CloseTaken, InodeCell};
 use task_mind::Doing;
 
-// The next piece of a take's collection.
+// Reads and hashes the next piece of a take's collection.
 fn chunk(
     cell: &mut InodeCell,
     pass: &mut Pass<Event>,
@@ -44,7 +44,7 @@ fn chunk(
     Ok(piece_told(piece))
 }
 
-// The next piece of a close's collection.
+// Reads and hashes the next piece of a close's collection.
 fn close_chunk(
     cell: &mut InodeCell,
     pass: &mut Pass<Event>,
@@ -69,7 +69,7 @@ fn close_chunk(
     Ok(piece_told(piece))
 }
 
-// A writer's close begins. `None` is blocked.
+// Begins a writer's close. `None` means that it is blocked.
 fn close_take(
     cell: &mut InodeCell,
     pass: &mut Pass<Event>,
@@ -97,7 +97,7 @@ fn close_take(
     }
 }
 
-// A writer's close ends.
+// Ends a writer's close.
 fn close_finish(
     cell: &mut InodeCell,
     pass: &mut Pass<Event>,
@@ -120,7 +120,7 @@ fn close_finish(
     Ok(finished_told(cell.close_finish(pass, who, file, sums)?))
 }
 
-/// Does the deed. `None` is blocked.
+/// Does a deed that begins, continues or ends a collection. `None` means that it is blocked.
 pub fn collect(
     cell: &mut InodeCell,
     pass: &mut Pass<Event>,

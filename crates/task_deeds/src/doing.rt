@@ -30,20 +30,20 @@ use task_laws::inodes::InodeCell;
 use task_mind::Doing;
 use task_mind::matching::Index;
 
-/// What a task knows of itself as it does a deed.
+/// What a task knows about itself when it does a deed.
 #[derive(Clone, Copy, Drop)]
 pub struct Actor<'a> {
-    /// The place of the step.
+    /// The place of the step: its task, its call, and its number within the call.
     pub who: Who,
     /// The task's credentials.
     pub cred: &'a Cred,
-    /// The action of its last check.
+    /// The action of the task's last check.
     pub action: Action,
-    /// The slot that a take which is due takes.
+    /// The slot of a take, if one is due.
     pub slot: Slot,
 }
 
-// The deed, which is ready, and asks nothing of the measurement list.
+// Does a deed that is ready and doesn't consult the measurement list.
 fn perform_alone(
     cell: &mut InodeCell,
     pass: &mut Pass<Event>,
@@ -71,7 +71,7 @@ fn perform_alone(
     }
 }
 
-// Whether the deed begins, goes on with or ends a collection, and asks nothing of the measurement
+// Whether the deed begins, continues or ends a collection, and doesn't consult the measurement
 // list.
 fn goes_on(doing: &Doing<'_>) -> bool
     ensures { result ≡ goes_on (deed_in doing.now) }
@@ -82,7 +82,7 @@ fn goes_on(doing: &Doing<'_>) -> bool
     )
 }
 
-// The deed, which is ready.
+// Does a deed that is ready.
 fn perform(
     cell: &mut InodeCell,
     pass: &mut Pass<Event>,
@@ -127,7 +127,7 @@ fn perform(
     }
 }
 
-/// Looks at the journal, and does the deed. `None` is blocked.
+/// Looks at the journal, then does the deed. `None` means that it is blocked.
 pub fn does(
     cell: &mut InodeCell,
     pass: &mut Pass<Event>,
@@ -157,7 +157,36 @@ pub fn does(
     perform(cell, pass, actor, doing, book, gathered)
 }
 
-// The check, which is ready.
+/// Looks at the journal, then does a deed that doesn't consult the measurement list, whatever that
+/// list holds. `None` means that it is blocked.
+pub fn does_alone(
+    cell: &mut InodeCell,
+    pass: &mut Pass<Event>,
+    actor: &Actor<'_>,
+    doing: Doing<'_>,
+    gathered: &mut Gathered,
+) -> Result<Option<Told>, OutOfMemory>
+    requires name { pass.old.name ≡ cell.old.journal }
+    requires number { pass.old.number ≡ actor.now.who.task + 1 }
+    requires ready { HasLooked cell.old.inode pass.old.number pass.old.seen cell.old.list
+        pass.old.mine
+        → IsReady cell.old.inode pass.old.number cell.old.list gathered.old actor.now.action
+        actor.now.slot (deed_in doing) }
+    requires alone { IsAloneDeed (deed_in doing) }
+    ensures looked { HasLooked cell.old.inode pass.old.number pass.old.seen cell.old.list
+        pass.old.mine }
+    ensures leaves { (list : List AnyEntry) → Leaves cell.old cell.new list list pass.old pass.new
+        actor.now.who (deed_in doing.entry) (told_in result) }
+    ensures told { IfOk result (λ o. (list : List AnyEntry)
+        → o ≡ outcome cell.old.inode list (deed_in doing.entry) (past cell.old.list)) }
+    ensures hashes { HashesTold cell.old.inode cell.new.list gathered.old gathered.new
+        (deed_in doing.entry) (told_in result) }
+{
+    cell.look(pass);
+    perform_alone(cell, pass, actor, doing, gathered)
+}
+
+// Makes a check that is ready.
 fn ask(
     cell: &mut InodeCell,
     pass: &mut Pass<Event>,
@@ -187,7 +216,7 @@ fn ask(
     listed::check(cell, pass, actor.who, asked, rules, actor.cred, place, book)
 }
 
-/// Looks at the journal, and checks by these rules: what it was told, and the action.
+/// Looks at the journal, then checks by these rules. Returns the outcome and the action.
 pub fn checks(
     cell: &mut InodeCell,
     pass: &mut Pass<Event>,

@@ -1,4 +1,4 @@
-//! What a task hashes of its collection.
+//! The hashing of a task's collection.
 
 ghost use Rattle.std.specs.Prelude.{◌≡◌, ◌++◌, Some};
 ghost use Rattle.hash_algos.specs.Digest.{digest_of};
@@ -14,7 +14,7 @@ use std::mem;
 use task_laws::frames::Gathered;
 use task_laws::inodes::Piece;
 
-// The piece is hashed; after the last one the digests are computed.
+// Hashes the piece, and computes the digests after the last one.
 fn hashed(mut hashing: Hashing, piece: Piece, page: &Page) -> Gathered
     ensures { (c : Collection) → HasTakenIn (Gathered.Running hashing) c
         → HasGathered piece result (record c { bytes = c.bytes ++ page.now }) }
@@ -39,7 +39,7 @@ pub fn gather(gathered: &mut Gathered, piece: Piece, page: &Page)
     }
 }
 
-/// The digests of the collection, none where it hasn't taken its last piece.
+/// The digests of the collection; `None` if its last piece hasn't been taken.
 pub fn sums(gathered: &Gathered) -> Option<(Digest, Digest)>
     ensures of { (c : Collection) → HasSummed gathered.now c
         → result ≡ Some (digest_from c, digest_of Sha1 c.bytes) }

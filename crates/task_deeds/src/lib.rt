@@ -1,4 +1,4 @@
-//! One deed of a task on one inode, which is lent with what else the deed needs.
+//! One deed of a task on one inode, which is borrowed together with whatever else the deed needs.
 #![tactic(auto)]
 
 mod collecting;
@@ -8,7 +8,7 @@ mod listed;
 mod plain;
 mod told;
 
-pub use doing::{Actor, checks, does};
+pub use doing::{Actor, checks, does, does_alone};
 pub use gathering::gather;
 pub use listed::Checks;
 pub use std::alloc::AllocError as OutOfMemory;

@@ -24,7 +24,8 @@ use task_laws::frames::Gathered;
 use task_laws::inodes::{InodeCell, Taken};
 use task_mind::matching::Index;
 
-/// A take: a digest in force grants the file, or a collection begins. `None` is blocked.
+/// A take: grants the file if a digest is in force, else begins a collection. `None` means that it
+/// is blocked.
 pub fn take(
     cell: &mut InodeCell,
     pass: &mut Pass<Event>,
@@ -59,7 +60,7 @@ pub fn take(
     }
 }
 
-/// The end of a take's collection.
+/// Ends a take's collection.
 pub fn finish(
     cell: &mut InodeCell,
     pass: &mut Pass<Event>,
@@ -85,18 +86,18 @@ pub fn finish(
     Ok(Told::Grant(cell.finish(pass, who, file, sums, book)?))
 }
 
-/// What a check asks.
+/// The arguments of a check.
 #[derive(Clone, Copy)]
 pub struct Checks {
-    /// The file.
+    /// The number of the file.
     pub file: u64,
-    /// The function of the rules.
+    /// The function by which rules are matched.
     pub func: Func,
-    /// The access.
+    /// The bits of the requested access.
     pub mask: u8,
 }
 
-/// A check by these rules: what it was told, and the action.
+/// Makes a check by these rules. Returns the outcome and the action.
 pub fn check(
     cell: &mut InodeCell,
     pass: &mut Pass<Event>,

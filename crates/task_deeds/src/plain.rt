@@ -1,4 +1,4 @@
-//! Deeds that ask nothing of the measurement list, and go on with no collection.
+//! Deeds that neither consult the measurement list nor belong to a collection.
 
 ghost use Rattle.inode_events.specs.declared.deed.Deed.TheVariants as Deed;
 ghost use Rattle.std.specs.Prelude.{◌≡◌, ℕ, ◌+◌, List, Some, IfOk, OnErr};
@@ -15,7 +15,7 @@ use std::alloc::AllocError as OutOfMemory;
 use task_laws::inodes::InodeCell;
 use task_mind::Doing;
 
-// An attribute is set, or removed.
+// Sets or removes an attribute.
 fn set_attr(
     cell: &mut InodeCell,
     pass: &mut Pass<Event>,
@@ -37,7 +37,7 @@ fn set_attr(
     Ok(set_told(cell.set_attr(pass, who, &cred, name.as_slice(), value)?))
 }
 
-/// Does the deed. `None` is blocked.
+/// Does the deed. `None` means that it is blocked.
 pub fn act(
     cell: &mut InodeCell,
     pass: &mut Pass<Event>,

@@ -1,4 +1,4 @@
-//! What the answers of an inode are told as.
+//! The outcomes (`Told`) for the answers of an inode.
 
 ghost use Rattle.std.specs.Prelude.{◌≡◌};
 ghost use Rattle.task_laws.specs.inodes.Answers.{counted_told, finished_told, found_told, piece_told, set_told, wrote_told};
@@ -6,7 +6,7 @@ ghost use Rattle.task_laws.specs.inodes.Answers.{counted_told, finished_told, fo
 use inode_events::Told;
 use task_laws::inodes::{Counted, Found, Piece, Set, Wrote};
 
-/// Of a count.
+/// The outcome of counting the opens of a file.
 pub fn counted_told(answer: Counted) -> Told
     ensures { result ≡ counted_told answer }
 {
@@ -17,7 +17,7 @@ pub fn counted_told(answer: Counted) -> Told
     }
 }
 
-/// Of a change of attributes or metadata. `None` is blocked.
+/// The outcome of a change of attributes or metadata. `None` means that it is blocked.
 pub fn set_told(answer: Set) -> Option<Told>
     ensures { result ≡ set_told answer }
 {
@@ -34,7 +34,7 @@ pub fn set_told(answer: Set) -> Option<Told>
     })
 }
 
-/// Of a write or truncation.
+/// The outcome of a write or truncation.
 pub fn wrote_told(answer: Wrote) -> Told
     ensures { result ≡ wrote_told answer }
 {
@@ -44,7 +44,7 @@ pub fn wrote_told(answer: Wrote) -> Told
     }
 }
 
-/// Of a piece.
+/// The outcome of reading a piece of a collection.
 pub fn piece_told(answer: Piece) -> Told
     ensures { result ≡ piece_told answer }
 {
@@ -54,7 +54,7 @@ pub fn piece_told(answer: Piece) -> Told
     }
 }
 
-/// Of what a check found.
+/// The outcome of a check.
 pub fn found_told(answer: Found) -> Told
     ensures { result ≡ found_told answer }
 {
@@ -65,7 +65,7 @@ pub fn found_told(answer: Found) -> Told
     }
 }
 
-/// Of the end of a close.
+/// The outcome of the end of a close.
 pub fn finished_told(labelled: bool) -> Told
     ensures { result ≡ finished_told labelled }
 {

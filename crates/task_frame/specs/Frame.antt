@@ -13,8 +13,8 @@ use Rattle.rule_laws.specs.policy.RuleValue.{RuleValue}
 use Rattle.rule_laws.specs.policy.declared.access.Super.{Super}
 use Rattle.rule_laws.specs.model.Scene.{Program, Scene, Station, no_super}
 
--- of an inode: its path, the image with which it came into being, the number of its file system,
--- and the name of its journal
+-- the constants of an inode: its path, its initial image, the number of its file system, and the
+-- name of its journal
 pub record Site : Type 0 where
   pub path : List ℕ
   pub birth : Image
@@ -26,7 +26,7 @@ pub record Frame : Type 0 where
   -- the first entry of the measurement list
   pub boot : Entry
   pub sites : List Site
-  -- the file systems
+  -- the file systems, in order
   pub supers : List Super
   -- the rules of the script
   pub base : List RuleValue
@@ -34,7 +34,7 @@ pub record Frame : Type 0 where
   pub book : ListName
   pub signals : ListName
   pub rules : ListName
-  -- how many tasks there are
+  -- the number of tasks
   pub tasks : ℕ
 
 -- ---- the scene of a run
@@ -46,7 +46,7 @@ abbrev pub station_of : Frame → Site → Station
 station_of frame s =
     record { path = s.path; birth = s.birth; place = super_at frame s.place }
 
--- what a script sets up that has these constants and these programs
+-- the scene with these constants and these programs
 abbrev pub scene_of : Frame → List Program → Scene
 scene_of frame programs = record {
   settings = frame.settings;
@@ -64,7 +64,7 @@ inode_in frame s = record { path = s.path; settings = frame.settings; birth = s.
 
 -- ---- the first entry of a list
 
--- the entry of no list
+-- a placeholder: the first entry of an empty measurement list
 abbrev pub no_entry : Entry
 no_entry = record {
   pcr = 0;

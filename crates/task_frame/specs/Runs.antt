@@ -1,4 +1,4 @@
--- The tasks of a world together, and what each has of the world's lists.
+-- The tasks of a world together, and the invariant of each with the world's lists.
 use Rattle.std.specs.Prelude.{◌≡◌, ℕ, List, map, Some, slice_get}
 use Rattle.rule_laws.specs.events.declared.told.Event.{Event}
 use Rattle.step_laws.specs.laws_of_merging.Logs.{log}
@@ -18,7 +18,7 @@ pub record IsNth (frame : Frame) (k : ℕ) (t : Tasked) : Type 0 where
   pub number : t.number ≡ k
   pub task : IsTask frame t
 
--- the tasks of the numbers from 0 on, in order
+-- the tasks are numbered from 0 on, in order
 pub record AreTasks (frame : Frame) (tasks : List Tasked) : Type 0 where
   pub each : (k : ℕ) (t : Tasked) → slice_get tasks k ≡ Some t → IsNth frame k t
 
@@ -35,10 +35,10 @@ programs_of tasks = map program_of tasks
 abbrev pub moment_of : State → List Tasked → Moment
 moment_of state tasks = record { state = state; thoughts = map thought_of tasks }
 
--- ---- what a task has of the lists when it has looked at them all
+-- ---- a task that has looked at all lists
 
--- there is a history of its steps, and in each list the entries of its number are those of the
--- history
+-- some history of the task's steps accounts for the task's thought, and for exactly the entries of
+-- its number in each list
 pub record HasMade (frame : Frame) (s : State) (t : Tasked) : Type 0 where
   pub history : List Answer
   pub stands : thought (mode_in frame) t.mind.program history ≡ t.mind.thought

@@ -1,4 +1,4 @@
--- What contracts see of a world, and what its parts keep of its constants.
+-- The value of a world that contracts see, and the invariants between its parts and its constants.
 use Rattle.std.specs.Prelude.{◌≡◌, ℕ, ◌+◌, ◌<◌, List, [], length, map, max, Some, slice_get}
 use Rattle.grow_list.specs.Shown.{Grown, Passed}
 use Rattle.rule_laws.specs.templates.declared.entry.Entry.{Entry}
@@ -10,7 +10,7 @@ use Rattle.rule_laws.specs.Stations.{StationRules}
 use Rattle.rule_laws.specs.model.Turns.{State}
 use Rattle.task_frame.specs.Frame.{Frame, Site}
 
--- its constants and its lists
+-- a world as contracts see it: its constants and its lists
 pub record WorldValue : Type 0 where
   pub frame : Frame
   pub state : State
@@ -32,11 +32,11 @@ site_of s = record {
 abbrev pub journal_of : StationValue → List Event
 journal_of s = s.cell.list
 
--- ---- what the parts keep
+-- ---- the invariants of the parts
 
--- The inode of the number i is that of the frame, with its passes: of the measurement list that
--- behind the list's own, and of the appended rules that behind the tasks'. Along its journal the
--- rules that its checks count rise, up to those that its pass has seen.
+-- The inode is number i of the frame. Its pass of the measurement list is caller i + 1, after the
+-- list's own, and its pass of the appended rules comes after those of the tasks. Along its journal
+-- the rules that its checks count never decrease, and stay within those that its pass has seen.
 pub record IsStation (frame : Frame) (i : ℕ) (s : StationValue) : Type 0 where
   pub site : slice_get frame.sites i ≡ Some (site_of s)
   pub settings : s.cell.inode.settings ≡ frame.settings
@@ -49,19 +49,19 @@ pub record IsStation (frame : Frame) (i : ℕ) (s : StationValue) : Type 0 where
   pub rules_mine : s.rules.mine ≡ []
   pub rise : StationRules (length frame.base) s.cell.list s.rules.seen
 
--- the measurement list, whose callers are its own, the inodes and the tasks
+-- the measurement list, whose callers are itself, the inodes and the tasks
 pub record IsBookOf (frame : Frame) (book : Grown Entry) : Type 0 where
   pub name : book.name ≡ frame.book
   pub boot : slice_get book.list 0 ≡ Some frame.boot
   pub callers : book.callers ≡ 1 + length frame.sites + frame.tasks
 
--- the journal of the semaphores, whose callers are its own and the tasks
+-- the journal of the semaphores, whose callers are itself and the tasks
 pub record AreSignalsOf (frame : Frame) (signals : Grown Event) : Type 0 where
   pub name : signals.name ≡ frame.signals
   pub callers : signals.callers ≡ frame.tasks + 1
 
--- the rules, whose callers are the tasks and the inodes, and where there are none, one that is
--- nobody. Each appended rule has the number of its task
+-- The rules, whose callers are the tasks and the inodes, or one spare caller if there are none.
+-- Each appended rule has the number of its task.
 pub record AreRulesOf (frame : Frame) (p : PolicyValue) : Type 0 where
   pub name : p.appended.name ≡ frame.rules
   pub base : p.base ≡ frame.base

@@ -1,5 +1,5 @@
-//! What never changes while tasks run, what contracts see of a world and of a task, and what a task
-//! keeps of the steps that it has made.
+//! The constants of a world, which never change while tasks run; the values of worlds and tasks
+//! that contracts see; and the invariant between a task and the steps it has made.
 #![tactic(auto)]
 
 mod gathered;

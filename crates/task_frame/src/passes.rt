@@ -4,16 +4,16 @@ use rule_laws::rules::RuleEntry;
 use rule_laws::templates::Entry;
 use std::marker::Model;
 
-/// The passes of one task. Contracts see the record of its fields, the vector as a list.
+/// The passes of one task. Contracts see a record of the fields, with the vector as a list.
 #[derive(Drop)]
 pub struct Passes {
-    /// Of each inode's journal, in order.
+    /// One pass for each inode's journal, in the order of the inodes.
     pub inodes: Vec<Pass<Event>>,
-    /// Of the journal of the semaphores.
+    /// The pass of the journal of the semaphores.
     pub sems: Pass<Event>,
-    /// Of the measurement list. The task adds nothing through it.
+    /// The pass of the measurement list. The task adds nothing through it.
     pub book: Pass<Entry>,
-    /// Of the appended rules.
+    /// The pass of the appended rules.
     pub rules: Pass<RuleEntry>,
 }
 

@@ -3,14 +3,14 @@ use inode_cell::InodeCell;
 use rule_laws::rules::RuleEntry;
 use std::marker::Model;
 
-/// An inode of a world. Contracts see the record of its fields.
+/// An inode of a world. Contracts see a record of the fields.
 #[derive(Drop)]
 pub struct Station {
     /// The inode with its journal.
     pub cell: InodeCell,
-    /// Its pass of the appended rules, through which it adds nothing.
+    /// The inode's pass of the appended rules, through which it adds nothing.
     pub rules: Pass<RuleEntry>,
-    /// The number of its file system.
+    /// The number of the inode's file system.
     pub place: u32,
 }
 

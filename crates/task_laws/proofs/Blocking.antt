@@ -1,4 +1,4 @@
--- A deed that was blocked or ran out of memory leaves its task's history.
+-- A deed that was blocked or ran out of memory leaves its task's history as it was.
 use Rattle.std.proofs.Common.{◌≡◌, ◌≢◌, ℕ, ◌+◌, ◌<◌, ◌≤◌, List, length, Option, Some, None, refl, sym, ◌∙◌, ap, subst, arith, inl, inr}
 use Rattle.std.specs.Prelude.{◌⊎◌, All, slice_get}
 use Rattle.std.proofs.lemmas.List.{append-nil, length-set}
@@ -33,7 +33,7 @@ use Rattle.task_laws.proofs.Readying.{ready_by_look}
 use Rattle.task_laws.specs.Due.{slot_in}
 use Rattle.task_frame.specs.minds.Value.{due_at}
 
--- the Who of a step has the number of its task
+-- the `Who` of a step has the number of its task
 task_in : (n : ℕ) (p : Program) (m : Mind) (o : Option Call) → (who_in n p o m).task ≡ n
 task_in n p m None = refl
 task_in n p m (Some c) = refl
@@ -41,7 +41,7 @@ task_in n p m (Some c) = refl
 pub task_of_who : (n : ℕ) (p : Program) (m : Mind) → (who_at n p m).task ≡ n
 task_of_who n p m = task_in n p m (call_at p m)
 
--- the pass of a journal, which has seen more
+-- the pass of a journal before it was brought up to date
 record Looked (j : ℕ) (old : List (Passed Event)) (q : Passed Event) : Type 0 where
   before : Passed Event
   at : slice_get old j ≡ Some before
@@ -125,7 +125,7 @@ module _ (frame : Frame) (t : Tasked) (h : List Answer) (i : ℕ) (s : Site) (d 
     rules = (e.rules.name ∙ x.passes.rules.0, e.rules.number ∙ x.passes.rules.1);
   }
 
-  -- what is hashed before the step, which comes again
+  -- what was hashed before the step suits it again, since it will be tried again
   hashes_left : (o : Option Step) → step_at t.mind.program t.mind.thought.mind ≡ o
       → IsStepFor i d o → HashesFor frame passes.inodes g o
   hashes_left (Some (Does j y)) st f = λ s2 q a b.

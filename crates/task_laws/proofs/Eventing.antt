@@ -45,7 +45,7 @@ use Rattle.task_frame.specs.minds.Value.{TaskValue}
 
 -- ---- lists
 
--- the element that was put at a place stands there
+-- an element that was put at a place of a list is found there
 pub get_set : {A : Type 0} (xs : List A) (i : ℕ) (x y : A) → slice_get xs i ≡ Some y
     → slice_get (slice_set xs i x) i ≡ Some x
 get_set [] i x y h = absurd (cc)
@@ -59,7 +59,7 @@ adds_none old new e = record {
   mine = ap (λ q. q.mine) e ∙ sym (append-nil old.mine);
 }
 
--- own places lie in what the pass has seen
+-- the places of own events are within what the pass has seen
 placed_on : (seen list : List Event) (mine : List (ℕ × Event)) (e : Event) → IsPrefix seen list
     → All (λ x. x.0 < length seen) mine
     → All (λ x. x.0 < length (list ++ e ∷ [])) (mine ++ (length list, e) ∷ [])
@@ -79,7 +79,7 @@ module _ (frame : Frame) (i : ℕ) (s : Site) (who : Who) (d : Deed) (old new : 
   within : i < length passes.inodes
   within = slice_get_within passes.inodes i e.pass e.pass_at
 
-  -- of the step that does this deed with this answer
+  -- the passes of all journals after the step that does this deed with this answer
   pub inodes_on : (step : Option Step) (a : Answer)
       → ((j : ℕ) → event_in j who step a
       ≡ cond (i == j) ((length e.journal, event who d told) ∷ []) [])
@@ -121,7 +121,7 @@ module _ (frame : Frame) (i : ℕ) (s : Site) (who : Who) (d : Deed) (old new : 
   even_on : length passes2.inodes ≡ length passes.inodes
   even_on = ap length e.inodes ∙ length-set passes.inodes i e.pass2
 
-  -- what the task's passes see more
+  -- the task's passes have seen at least what they had seen
   sees_on : SeesMore (seen_by passes.inodes passes.rules) (seen_by passes2.inodes passes2.rules)
   sees_on =
       subst (λ (xs : List (Passed Event)). SeesMore (seen_by passes.inodes passes.rules)
@@ -142,7 +142,7 @@ module _ (frame : Frame) (i : ℕ) (s : Site) (who : Who) (d : Deed) (old new : 
       ∙ ap (λ (xs : List Event). list_after old.list (asked (inode_in frame s) d (past xs))
       (Some told)) journal_is
 
-  -- the places of the list that the task was told
+  -- the places of the measurement list in the task's answers increase
   rises_on : Some told ≡ outcome (inode_in frame s) old.list d (past e.journal)
       → (steps : List Made) → RisesWithin steps passes.book.seen
       → RisesWithin (made_of i (length e.journal) who d told ∷ steps) passes2.book.seen
@@ -152,7 +152,7 @@ module _ (frame : Frame) (i : ℕ) (s : Site) (who : Who) (d : Deed) (old new : 
       (rises_event steps passes.book.seen old.list (inode_in frame s) (past e.journal) i
       (length e.journal) who d told e.book_before r (sym tells))
 
-  -- what the task has hashed
+  -- what the task has hashed suits the step's outcome
   hashes_on : slice_get frame.sites i ≡ Some s → HashesAfterStep frame passes2.inodes g2 (Does i d)
       told
   hashes_on there s2 q x y =
@@ -165,7 +165,7 @@ module _ (frame : Frame) (i : ℕ) (s : Site) (who : Who) (d : Deed) (old new : 
       (subst (λ (xs : List Event). HashesAfter (inode_in frame s) xs g2 d told) (sym e.seen)
       e.hashes))
 
-  -- the journal as it was is seen now
+  -- the passes have now seen the journal as it was before the event
   stands_on : Longer (seen_by passes2.inodes passes2.rules).journals i e.journal
   stands_on =
       subst (λ (xs : List (Passed Event)). Longer (seen_by xs passes2.rules).journals i e.journal)
@@ -186,7 +186,7 @@ get_map f [] k x h = absurd (cc)
 get_map f (y ∷ ys) zero x h = ap (λ z. Some (f z)) (same_Some y x h)
 get_map f (y ∷ ys) (suc k) x h = get_map f ys k x h
 
--- ---- an event that was told
+-- ---- an event with the outcome told to the task
 
 event_stepped : (frame : Frame) (t : Tasked) (i : ℕ) (s : Site) (d : Deed)
     (told : Told) (old new : State) (passes : PassesValue) (g : Gathered) (mind : TaskValue)

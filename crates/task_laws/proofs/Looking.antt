@@ -1,4 +1,4 @@
--- A look at all lists.
+-- A look of a task at all lists preserves its history.
 use Rattle.std.proofs.Common.{◌≡◌, ℕ, zero, suc, ◌+◌, ◌<◌, ◌≤◌, List, [], ◌∷◌, length, map, Option, Some, None, refl, sym, ◌∙◌, ap, subst, arith}
 use Rattle.std.specs.Prelude.{All, slice_get}
 use Rattle.std.proofs.lemmas.List.{append-nil}
@@ -30,14 +30,14 @@ use Rattle.task_laws.specs.Due.{slot_in}
 use Rattle.task_laws.proofs.Readying.{ready_by_look}
 use Rattle.task_frame.specs.minds.Value.{due_at}
 
--- a place within a list has an element
+-- a list has an element at each place below its length
 pub get_within : {A : Type 0} (xs : List A) (k : ℕ) → k < length xs
     → (x : A) × (slice_get xs k ≡ Some x)
 get_within [] k l = absurd (omega arith)
 get_within (x ∷ xs) zero l = (x, refl)
 get_within (x ∷ xs) (suc k) l = get_within xs k (omega arith)
 
--- what a pass has seen
+-- the journal seen at place k was seen by the pass at place k
 seen_at : (passes : List (Passed Event)) (k : ℕ) (j : List Event)
     → slice_get (map (λ (q : Passed Event). q.seen) passes) k ≡ Some j
     → (q : Passed Event) × ((slice_get passes k ≡ Some q) × (q.seen ≡ j))
@@ -56,7 +56,7 @@ module _ (frame : Frame) (t : Tasked) (h : List Answer) (s : State) (passes : Pa
   abbrev Behind : ℕ → Passed Event → Type 0
   Behind k q = InodeLooked frame (t.number + 1) k s.journals t.passes.inodes q
 
-  -- the pass of the number k, behind the look
+  -- the pass of journal k after the look
   behind : (k : ℕ) (q : Passed Event) → slice_get t.passes.inodes k ≡ Some q
       → (q2 : Passed Event) × ((slice_get passes.inodes k ≡ Some q2) × Behind k q2)
   behind k q g =
@@ -65,7 +65,7 @@ module _ (frame : Frame) (t : Tasked) (h : List Answer) (s : State) (passes : Pa
       let y = get_within passes.inodes k (omega arith) in
       (y.0, (y.1, l.inodes k y.0 y.1))
 
-  -- it has seen more
+  -- a look never makes a pass forget an entry
   seen_more : (k : ℕ) (q : Passed Event) (e : Behind k q) → IsPrefix e.before.seen q.seen
   seen_more k q e =
       let lt : k < length t.passes.inodes = slice_get_within t.passes.inodes k e.before e.at in
@@ -163,7 +163,7 @@ look_is_played frame t h s passes x l = record {
   hashed = hashes_left frame t h s passes x l (step_at t.mind.program t.mind.thought.mind) refl;
 }
 
--- ---- by the lists
+-- ---- what the lists themselves have
 
 module _ (frame : Frame) (t : Tasked) (h : List Answer) (s : State) (passes : PassesValue)
     (y : HasPlayed frame (task_left t passes t.gathered) h)

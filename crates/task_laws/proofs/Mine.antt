@@ -1,4 +1,4 @@
--- The step that is due is on a file of the task's own, at the stage that its deed asks for.
+-- The step that is due is on a file of the task's own, in the state that its deed requires.
 use Rattle.std.proofs.Common.{◌≡◌, ℕ, ◌+◌, Bool, true, false, List, Option, Some, None, refl, sym, ◌∙◌, ap, subst}
 use Rattle.std.specs.Prelude.{◌==◌, reverse, slice_get}
 use Rattle.std.proofs.lemmas.Bool.{eqb-true}
@@ -97,7 +97,7 @@ module _ (inode : Inode) (n : ℕ) (p : List Event) where
       (progress_of prog.cred.admin c m).file (progress_of prog.cred.admin c m).how m.handles i
       (progress_of prog.cred.admin c m).due.ask (ready_now prog m i Lives Hows c e f)
 
--- what holds of the task's files, by the journal
+-- the journal has the task's files in the states that its history gives them
 pub files_fit : (inode : Inode) (n : ℕ) (p : Program) (h : List Answer) (i : ℕ)
     (journal : List Event) → ((k : ℕ) (c : Call) → slice_get p.calls k ≡ Some c → IsFit c)
     → EachFollows inode (past journal)

@@ -1,4 +1,4 @@
--- What a task keeps beside the step that is due next.
+-- What a task must have hashed for the step that is due next.
 use Rattle.std.proofs.Common.{◌≡◌, ℕ, Bool, true, false, List, Option, Some, None, refl, sym, subst}
 use Rattle.std.specs.Prelude.{slice_get}
 use Rattle.std.proofs.lemmas.Option.{same_Some}
@@ -39,7 +39,7 @@ Sums inode list g = Collects inode (past list) (HasSummed g)
 abbrev Hashes : Inode → List Event → Gathered → Ask → Type 0
 Hashes inode list g k = HashesAsk (Takes inode list g) (Sums inode list g) k
 
--- the write and the changes of attributes hash nothing
+-- writes and changes of attributes hash nothing
 plain_deed : (frame : Frame) (passes : List (Passed Event)) (g : Gathered) (admin : Bool)
     (i file : ℕ) (c : Call) → HashesFor frame passes g (Some (Does i (deed_of admin c file)))
 plain_deed frame passes g admin i file (call.Write fd from bytes) = λ s q a b. tt
@@ -85,7 +85,7 @@ idle_ask frame s q g ask.CloseChunk x = absurd x
 idle_ask frame s q g ask.CloseFinish x = absurd x
 idle_ask frame s q g k x = tt
 
--- what the step left is what its ask left
+-- the hashing that a step leaves is the one that its ask leaves
 after_ask : (frame : Frame) (passes : List (Passed Event)) (g : Gathered) (admin : Bool) (c : Call)
     (p : Progress) (t : Told) (k : Ask) → HashesAfterStep frame passes g (step_by admin c p k) t
     → (s : Site) (q : Passed Event) → slice_get frame.sites p.inode ≡ Some s
@@ -120,7 +120,7 @@ after_ask frame passes g admin c p t k x s q a b = tt
 -- ---- the mind after a step
 
 module _ (frame : Frame) (passes : List (Passed Event)) (g : Gathered) (p : Program) where
-  -- a call that begins
+  -- a call that begins needs no hashing
   pub begins : (m : Mind) (o : Option Call)
       → HashesFor frame passes g (step_in p o (record m { progress = None }))
   begins m None = tt
@@ -145,7 +145,7 @@ module _ (frame : Frame) (passes : List (Passed Event)) (g : Gathered) (p : Prog
       (by_ask frame passes g p.cred.admin c (progress_of p.cred.admin c after) d.ask
       (λ s q a b. (x s q a b).hashes))
 
-  -- what is hashed before the step that comes next
+  -- what is hashed suits the step that comes next
   hashes_next : (mode : Mode) (c : Call) (m : Mind) (a : Answer) → call_at p m ≡ Some c
       → HashesAfterStep frame passes g (ask_of p.cred.admin c m) a.told
       → HashesFor frame passes g

@@ -1,4 +1,4 @@
--- A task keeps what it has of its history, step by step.
+-- A task preserves the invariant with its history, step by step.
 use Rattle.std.proofs.Common.{◌≡◌, ℕ, zero, suc, ◌<◌, List, [], ◌∷◌, ◌++◌, length, Some, sym, ◌∙◌, ap, subst}
 use Rattle.std.specs.Prelude.{All, slice_get}
 use Rattle.std.proofs.lemmas.List.Elements.{All-head, All-nil, All-tail}
@@ -21,7 +21,7 @@ use Rattle.task_frame.specs.Tasks.{ArePassesOf, HashesFor, HasPlayed, Tasked, ac
 use Rattle.task_laws.specs.Steps.{FreshIsTask, HasStepped, InodeStepped, StepIsPlayed}
 use Rattle.task_laws.proofs.Next.{begins}
 
--- what holds of all holds of one
+-- a property of all elements holds of the one at a place
 pub all_at : {A : Type 0} (P : A → Type 0) (xs : List A) (k : ℕ) (x : A) → All P xs
     → slice_get xs k ≡ Some x → P x
 all_at P [] k x a h = absurd (cc)
@@ -65,7 +65,7 @@ module _ (frame : Frame) (t t2 : Tasked) (h : List Answer) (a : Answer) (x : Has
   abbrev n : ℕ
   n = t.number
 
-  -- where the history leads
+  -- the mind to which the history leads
   abbrev at : Mind
   at = (thought (mode_in frame) p h).mind
 

@@ -1,4 +1,4 @@
--- A step that isn't an event on an inode.
+-- Steps that aren't events on an inode make the history longer, or leave it as it was.
 use Rattle.std.proofs.Common.{◌≡◌, ℕ, List, [], ◌++◌, length, Option, Some, None, refl, sym, ◌∙◌, ap, subst}
 use Rattle.std.specs.Prelude.{slice_get}
 use Rattle.std.proofs.lemmas.List.{append-nil}
@@ -82,7 +82,7 @@ module _ (frame : Frame) (t : Tasked) (a : Answer) (passes : PassesValue) (mind 
       (hashes_heard frame passes.inodes t.gathered t.mind.program (mode_in frame) t.mind.thought a
       step st k)
 
-  -- whatever the quiet step is, it hashes nothing
+  -- a quiet step needs and leaves no hashing, whichever it is
   hashes_quiet : (o : Option Step) → due ≡ o → IsQuiet o
       → HashesFor frame passes.inodes t.gathered (step_at t.mind.program mind.thought.mind)
   hashes_quiet (Some Nothing) st q = heard Nothing st tt
@@ -121,7 +121,7 @@ quiet_is_played frame t h a passes mind x quiet y hd =
     step_is_played frame t (task_after t mind passes t.gathered) h a x
     (quiet_stepped frame t a passes mind quiet y hd)
 
--- nothing was done
+-- proof of `QuietIsLeft`
 pub quiet_is_left : QuietIsLeft
 quiet_is_left frame t h passes x l =
     subst (λ (qs : List (Passed Event)). HasPlayed frame

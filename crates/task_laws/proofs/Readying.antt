@@ -72,7 +72,7 @@ hashes_of frame passes g i s q d (Some (Appends rule)) a b x e = absurd e
 
 module _ (inode : Inode) (n : ℕ) (seen list : List Event) (mine : List (ℕ × Event))
     (l : HasLooked inode n seen list mine) where
-  -- the stage of a file of the caller, by its own events
+  -- the task's own events determine the stage of a file that it opened
   own_stage : (f : ℕ) → counter f (past list) ≡ Some n
       → stage_in inode f (reverse mine) ≡ stage inode f (past list)
   own_stage f c =
@@ -103,9 +103,9 @@ module _ (inode : Inode) (n : ℕ) (seen list : List Event) (mine : List (ℕ ×
       stays_open f CloseCollected refl m (b f (eq-eqb f f refl)) below (HasSummed g) x
   hashes_still g d m b below x = tt
 
--- ---- what a take asks
+-- ---- the slot and the action of a take
 
--- the action and the function of the last check, by the history
+-- the action and the function of the last check of a file, by the history
 pub record LastCheck (mode : Mode) (n : ℕ) (p : Program) (i : ℕ) (h : List Answer) (file : ℕ)
     (slot : Slot) : Type 0 where
   pub slot_is : slot ≡ slot_of (check_in file (reverse (own mode n p i h))).func
@@ -246,7 +246,7 @@ module _ (inode : Inode) (n : ℕ) (p : Program) (h : List Answer) (i : ℕ) (se
         asks_row p.cred.admin c (progress_of p.cred.admin c m) d
         (progress_of p.cred.admin c m).due.ask a b e (r c refl)
 
--- ---- all of it
+-- ---- all parts of readiness together
 
 ready_at : (frame : Frame) (t : Tasked) (h : List Answer) (i : ℕ) (s : Site) (q : Passed Event)
     (list : List Event) (d : Deed) (m : Mind) → HasPlayed frame t h

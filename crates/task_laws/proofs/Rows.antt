@@ -1,5 +1,5 @@
--- The table of steps, row by row: what is due next, and what the task has hashed and checked by
--- then.
+-- The table of steps, row by row: the step that is due next, and what the task has hashed and
+-- checked by then.
 use Rattle.std.proofs.Common.{◌≡◌, Bool, true, false, cond, Option, Some, None, refl}
 use Rattle.inode_meta.specs.declared.appraisal.Mode.{Mode}
 use Rattle.inode_meta.specs.declared.appraisal.Slot.{Slot}
@@ -28,9 +28,9 @@ use Rattle.call_steps.specs.declared.held.Held.{Held}
 use Rattle.call_steps.specs.declared.reply.Reply.{Reply}
 use Rattle.call_steps.specs.declared.reply.Reply.TheVariants as reply
 
--- ---- what is said of an ask
+-- ---- properties of an ask
 
--- it isn't a take, and goes on with no collection
+-- the ask isn't a take, and doesn't belong to a collection
 abbrev pub IsIdle : Ask → Type 0
 IsIdle (ask.Take slot) = ⊥
 IsIdle ask.Chunk = ⊥
@@ -39,7 +39,7 @@ IsIdle ask.CloseChunk = ⊥
 IsIdle ask.CloseFinish = ⊥
 IsIdle _ = Unit {0}
 
--- a check is of the function of its call
+-- if the ask is a check, it is of the function of its call
 abbrev pub IsFor : Course → Ask → Type 0
 IsFor c (ask.Check func mask) = func ≡ func_of_purpose (purpose_of c)
 IsFor c _ = Unit {0}
@@ -48,12 +48,12 @@ abbrev pub IsCheck : Ask → Type 0
 IsCheck (ask.Check func mask) = Unit {0}
 IsCheck _ = ⊥
 
--- a take comes after a check, and takes the slot of the call's function
+-- if the ask is a take, it comes after a check, and takes the slot of the call's function
 abbrev pub ComesAfter : Course → Ask → Ask → Type 0
 ComesAfter c k (ask.Take slot) = IsCheck k × (slot ≡ slot_of (func_of_purpose (purpose_of c)))
 ComesAfter c k _ = Unit {0}
 
--- what the task has hashed before the ask: P while a collection goes on, and Q where it ends
+-- what the task has hashed before the ask: P while a collection goes on, and Q when it ends
 abbrev pub HashesAsk : Type 0 → Type 0 → Ask → Type 0
 HashesAsk P Q ask.Chunk = P
 HashesAsk P Q ask.CloseChunk = P
@@ -61,7 +61,7 @@ HashesAsk P Q ask.Finish = Q
 HashesAsk P Q ask.CloseFinish = Q
 HashesAsk P Q _ = Unit {0}
 
--- and after it
+-- what the task has hashed after the ask: P while a collection goes on, and Q when it ends
 abbrev pub HashesAfterAsk : Type 0 → Type 0 → Ask → Told → Type 0
 HashesAfterAsk P Q (ask.Take slot) (told.Grant grant) = Unit {0}
 HashesAfterAsk P Q (ask.Take slot) t = P
@@ -73,7 +73,7 @@ HashesAfterAsk P Q ask.CloseChunk told.More = P
 HashesAfterAsk P Q ask.CloseChunk t = Q
 HashesAfterAsk P Q _ t = Unit {0}
 
--- where P and Q say nothing
+-- with nothing to say for P and Q, `HashesAfterAsk` holds
 pub nothing_after : (k : Ask) (t : Told) → HashesAfterAsk (Unit {0}) (Unit {0}) k t
 nothing_after (ask.Take slot) (told.Grant grant) = tt
 nothing_after (ask.Take slot) t = tt
@@ -85,7 +85,7 @@ nothing_after ask.CloseChunk told.More = tt
 nothing_after ask.CloseChunk t = tt
 nothing_after k t = tt
 
--- ---- the first step
+-- ---- the first ask of a call
 
 abbrev pub Begins : Course → Ask → Type 0
 Begins c k = IsIdle k × IsFor c k
@@ -145,9 +145,9 @@ first_begins (call.Exec run inode) hand =
 first_begins (call.Endexec run) hand = close_begins course.Other hand.held
 first_begins c hand = (tt, tt)
 
--- ---- the steps after it
+-- ---- the asks after the first
 
--- what is said of the next ask, after the ask k
+-- the next ask, after ask k, has all these properties
 pub record Comes (c : Course) (k a : Ask) (P Q : Type 0)
     : Type 0 where
   pub check : IsFor c a

@@ -46,11 +46,11 @@ module _ (mode : Mode) (p : Program) where
   abbrev due_of : Call → Mind → Ask
   due_of c m = (progress_of p.cred.admin c m).due.ask
 
-  -- at the beginning of a call
+  -- the properties of the first ask of a call
   begun_for : (c : Call) (m : Mind) → Begins (course_of c) (begun p.cred.admin m.handles c).due.ask
   begun_for c m = first_begins c (hand_of p.cred.admin m.handles c)
 
-  -- what is said of the next ask
+  -- the properties of the ask that comes next
   abbrev Said : Call → Ask → Next → Type 0
   Said c k n = Follows (course_of c) k (Unit {0}) (Unit {0}) n
 
@@ -93,7 +93,7 @@ module _ (mode : Mode) (p : Program) where
   idle_take h inode file (ask.Take slot) x = absurd x
   idle_take h inode file k x = tt
 
-  -- the ask k was a check
+  -- the step of ask k was a check
   check_step : (c : Call) (m : Mind) (k : Ask) → IsCheck k → due_of c m ≡ k
       → IsFor (course_of c) k → call_at p m ≡ Some c → (func : Func) × ((mask : ℕ)
       × ((step_at p m ≡ Some (Checks (progress_of p.cred.admin c m).inode

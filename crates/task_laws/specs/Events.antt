@@ -1,4 +1,4 @@
--- What a step on an inode leaves of the lists and of its task's passes.
+-- How a step on an inode changes the lists and its task's passes.
 use Rattle.std.specs.Prelude.{◌≡◌, ℕ, ◌+◌, ◌++◌, List, [], length, Option, Some, slice_get, slice_set}
 use mathlib.Core.List.{IsPrefix}
 use Rattle.grow_list.specs.Shown.{Passed}
@@ -15,7 +15,7 @@ use Rattle.task_laws.specs.Due.{HashesTold}
 use Rattle.task_laws.specs.Ready.{HasLooked}
 use Rattle.task_laws.specs.Steps.{Adds}
 
--- the deed on this inode, which was told so: None where it was blocked or ran out of memory
+-- the deed on this inode, with this outcome: None if it was blocked or ran out of memory
 pub record EventOn (frame : Frame) (i : ℕ) (s : Site) (who : Who) (d : Deed) (old new : State)
     (passes passes2 : PassesValue) (g g2 : Gathered) (o : Option Told) : Type 0 where
   pub journal : List Event

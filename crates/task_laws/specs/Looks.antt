@@ -1,4 +1,4 @@
--- What a look at all lists gives a task.
+-- What a task learns from a look at all lists.
 use Rattle.std.specs.Prelude.{◌≡◌, ℕ, ◌+◌, List, [], length, Some, slice_get}
 use mathlib.Core.List.{IsPrefix}
 use Rattle.grow_list.specs.Shown.{Passed}
@@ -13,7 +13,7 @@ use Rattle.task_laws.specs.Plays.{task_left}
 use Rattle.task_laws.specs.Ready.{HasLooked}
 use Rattle.task_laws.specs.Steps.{Adds}
 
--- the pass of the journal i, which has seen the journal
+-- the task's pass of journal i, brought up to date with the journal
 pub record InodeLooked (frame : Frame) (n i : ℕ) (journals : List (List Event))
     (old : List (Passed Event)) (new : Passed Event) : Type 0 where
   pub before : Passed Event
@@ -27,7 +27,7 @@ pub record InodeLooked (frame : Frame) (n i : ℕ) (journals : List (List Event)
   pub looked : (s : Site) → slice_get frame.sites i ≡ Some s
       → HasLooked (inode_in frame s) n before.seen journal before.mine
 
--- the passes of the task have seen all lists
+-- the task's passes, brought up to date with all lists
 pub record HasLookedAtAll (frame : Frame) (t : Tasked) (s : State) (passes : PassesValue)
     : Type 0 where
   pub even : length passes.inodes ≡ length t.passes.inodes
@@ -44,13 +44,13 @@ pub record HasLookedAtAll (frame : Frame) (t : Tasked) (s : State) (passes : Pas
   pub rules_seen : passes.rules.seen ≡ s.added
   pub appended : rules_of t.number s.added ≡ passes.rules.mine
 
--- the task keeps what it has of its history
+-- a look at all lists preserves the task's history
 abbrev pub LookIsPlayed : Type 0
 LookIsPlayed = (frame : Frame) (t : Tasked) (h : List Answer) (s : State) (passes : PassesValue)
     → HasPlayed frame t h → HasLookedAtAll frame t s passes
     → HasPlayed frame (task_left t passes t.gathered) h
 
--- and in each list the entries of its number are those of the history
+-- after a look at all lists the entries of the task's number in each list are those of its history
 abbrev pub LookIsMade : Type 0
 LookIsMade = (frame : Frame) (t : Tasked) (s : State) (passes : PassesValue)
     → IsTask frame t → HasLookedAtAll frame t s passes

@@ -1,4 +1,4 @@
--- What an event on an inode makes of its task.
+-- How an event on an inode changes its task.
 use Rattle.std.specs.Prelude.{◌≡◌, ℕ, length, List, [], ◌∷◌, Option, Some, None, slice_get}
 use Rattle.inode_events.specs.Asked.{outcome}
 use Rattle.inode_events.specs.Past.{past}
@@ -19,11 +19,11 @@ use Rattle.task_frame.specs.declared.gathered.Gathered.{Gathered}
 use Rattle.task_laws.specs.Events.{EventOn}
 use Rattle.task_frame.specs.minds.Value.{TaskValue}
 
--- the task as it was, with these passes and what it has hashed now
+-- the task unchanged but for its passes and what it has hashed
 abbrev pub task_left : Tasked → PassesValue → Gathered → Tasked
 task_left t passes g = record t { gathered = g; passes = passes }
 
--- the task's own words after the answer
+-- the task's mind after the answer
 pub record HasHeard (frame : Frame) (t : Tasked) (a : Answer) (mind : TaskValue) : Type 0 where
   pub program : mind.program ≡ t.mind.program
   pub thought : mind.thought ≡ hear (mode_in frame) t.mind.program t.mind.thought a
@@ -33,7 +33,7 @@ pub record HasHeard (frame : Frame) (t : Tasked) (a : Answer) (mind : TaskValue)
 abbrev pub task_after : Tasked → TaskValue → PassesValue → Gathered → Tasked
 task_after t mind passes g = record t { mind = mind; gathered = g; passes = passes }
 
--- an event that was told makes the history longer
+-- an event on an inode, with the outcome told to the task, makes the history longer
 abbrev pub EventIsPlayed : Type 0
 EventIsPlayed = (frame : Frame) (t : Tasked) (h : List Answer) (i : ℕ) (s : Site) (d : Deed)
     (told : Told) (old new : State) (passes : PassesValue) (g : Gathered) (mind : TaskValue)
@@ -50,7 +50,7 @@ abbrev pub check_answer : ℕ → Told → Action → ℕ → Answer
 check_answer place t action rules =
     record { place = place; told = t; action = action; rules = rules }
 
--- so does a check by all rules
+-- a check that is decided by all rules in force makes the history longer
 abbrev pub CheckIsPlayed : Type 0
 CheckIsPlayed = (frame : Frame) (t : Tasked) (h : List Answer) (i : ℕ) (s : Site) (file : ℕ)
     (func : Func) (mask : ℕ) (action : Action) (rules : ℕ) (told : Told) (old new : State)
@@ -70,14 +70,13 @@ CheckIsPlayed = (frame : Frame) (t : Tasked) (h : List Answer) (i : ℕ) (s : Si
     → HasPlayed frame (task_after t mind passes g)
     (check_answer (length e.journal) told action rules ∷ h)
 
--- the step does this deed on the inode of this number; of a check the action is one that the rules
--- gave
+-- the step does this deed on the inode of this number; a check has an action that the rules gave
 abbrev pub IsStepFor : ℕ → Deed → Option Step → Type 0
 IsStepFor i d (Some (Does j e)) = (j ≡ i) × (e ≡ d)
 IsStepFor i d (Some (Checks j file func mask)) = j ≡ i
 IsStepFor i d _ = ⊥
 
--- a deed that was blocked or ran out of memory leaves the history
+-- a deed that was blocked or ran out of memory leaves the history as it was
 abbrev pub NoneIsPlayed : Type 0
 NoneIsPlayed = (frame : Frame) (t : Tasked) (h : List Answer) (i : ℕ) (s : Site) (d : Deed)
     (old new : State) (passes : PassesValue) (g : Gathered) → HasPlayed frame t h

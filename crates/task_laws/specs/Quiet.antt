@@ -1,4 +1,4 @@
--- A step that isn't an event on an inode: a post or a wait, a rule that is appended, or nothing.
+-- Steps that aren't events on an inode: a post or a wait, an appended rule, or nothing.
 use Rattle.std.specs.Prelude.{◌≡◌, List, [], ◌∷◌, Option, Some}
 use mathlib.Core.List.{IsPrefix}
 use Rattle.call_steps.specs.Mind.{Step}
@@ -18,7 +18,7 @@ IsQuiet (Some (Signals d)) = Unit {0}
 IsQuiet (Some (Appends rule)) = Unit {0}
 IsQuiet _ = ⊥
 
--- the passes behind it
+-- the task's passes after a quiet step
 pub record QuietPasses (frame : Frame) (t : Tasked) (passes : PassesValue) (a : Answer)
     : Type 0 where
   pub inodes : passes.inodes ≡ t.passes.inodes
@@ -40,7 +40,8 @@ QuietIsPlayed = (frame : Frame) (t : Tasked) (h : List Answer) (a : Answer) (pas
     → HasHeard frame t a mind
     → HasPlayed frame (task_after t mind passes t.gathered) (a ∷ h)
 
--- where it was blocked, or memory ran out, the passes have perhaps seen more
+-- the task's passes after a quiet step that was blocked or ran out of memory: they may have seen
+-- more
 pub record QuietLeft (t : Tasked) (passes : PassesValue) : Type 0 where
   pub inodes : passes.inodes ≡ t.passes.inodes
   pub book : passes.book ≡ t.passes.book

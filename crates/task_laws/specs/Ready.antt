@@ -1,4 +1,4 @@
--- When a step on an inode may be done, and what a look at the inode's journal gives of it.
+-- When a step on an inode may be done, and what a look at the inode's journal tells about that.
 use Rattle.std.specs.Prelude.{◌≡◌, ℕ, ◌+◌, List, map, Option, Some, slice_get}
 use mathlib.Core.List.{IsPrefix}
 use Rattle.grow_list.specs.Entries.{entries_of}
@@ -24,7 +24,7 @@ use Rattle.task_frame.specs.declared.gathered.Gathered.{Gathered}
 use Rattle.task_laws.specs.Due.{slot_in}
 use Rattle.task_frame.specs.minds.Value.{due_at}
 
--- a take asks by what its file's last check asked for
+-- a take has the slot and the action of the last check of its file
 abbrev pub AsksBy : List Event → ActionValue → Slot → Deed → Type 0
 AsksBy list checked slot (deed.Take file) =
     (slot ≡ slot_of (last_check file (past list)).func)
@@ -39,7 +39,7 @@ pub record IsReady (inode : Inode) (number : ℕ) (list : List Event) (g : Gathe
   pub hashes : HashesBefore inode list g d
   pub asks : AsksBy list checked slot d
 
--- what a look of a pass of this number gives, which had seen and added this
+-- what a look tells the pass of this number, which before had seen `seen` and added `mine`
 pub record HasLooked (inode : Inode) (number : ℕ) (seen list : List Event)
     (mine : List (ℕ × Event)) : Type 0 where
   pub before : IsPrefix seen list
@@ -48,14 +48,14 @@ pub record HasLooked (inode : Inode) (number : ℕ) (seen list : List Event)
   pub owned : IsOwned (past list)
   pub tells : TellsByMine inode number seen list mine
 
--- the step does this deed on the inode of this number; of a check the action comes later
+-- the step does this deed on the inode of this number; the action of a check is still unknown
 abbrev pub IsStepOn : ℕ → Deed → Option Step → Type 0
 IsStepOn i d (Some (Does j e)) = (j ≡ i) × (e ≡ d)
 IsStepOn i d (Some (Checks j file func mask)) =
     (j ≡ i) × (deed.Check file func no_action 0 ≡ d)
 IsStepOn i d _ = ⊥
 
--- after a look the next step of the task is ready
+-- after a look the task's next step is ready
 abbrev pub ReadyByLook : Type 0
 ReadyByLook =
     (frame : Frame) (t : Tasked) (h : List Answer) (i : ℕ) (s : Site) (q : Passed Event)

@@ -1,4 +1,4 @@
--- What one step leaves of its task.
+-- How one step changes its task.
 use Rattle.std.specs.Prelude.{◌≡◌, ℕ, ◌<◌, ◌++◌, All, List, [], ◌∷◌, length, Option, Some, slice_get}
 use Rattle.grow_list.specs.Shown.{Passed}
 use Rattle.inode_meta.specs.declared.step.Who.{Who}
@@ -13,7 +13,7 @@ use Rattle.run_model.specs.Scene.{Program}
 use Rattle.task_frame.specs.Frame.{Frame, mode_in, scene_of}
 use Rattle.task_frame.specs.Tasks.{AreCallsOf, ArePassesOf, AreUnused, HashesFor, HasPlayed, Tasked, action_by}
 
--- the pass of the journal i behind the step
+-- the task's pass of journal i after the step
 pub record InodeStepped (who : Who) (step : Option Step) (a : Answer) (i : ℕ)
     (old : List (Passed Event)) (new : Passed Event) : Type 0 where
   pub before : Passed Event
@@ -24,13 +24,13 @@ pub record InodeStepped (who : Who) (step : Option Step) (a : Answer) (i : ℕ)
   pub placed : All (λ x. x.0 < length before.seen) before.mine
       → All (λ x. x.0 < length new.seen) new.mine
 
--- the same pass, to which the step adds these entries
+-- the pass after the step, which adds these entries to it
 pub record Adds {E : Type 0} (old new : Passed E) (entries : List (ℕ × E)) : Type 0 where
   pub name : new.name ≡ old.name
   pub number : new.number ≡ old.number
   pub mine : new.mine ≡ old.mine ++ entries
 
--- the task behind the step that was answered so
+-- the task after a step with this answer
 pub record HasStepped (frame : Frame) (t t2 : Tasked) (a : Answer) : Type 0 where
   pub number : t2.number ≡ t.number
   pub program : t2.mind.program ≡ t.mind.program
@@ -62,13 +62,13 @@ pub record HasStepped (frame : Frame) (t t2 : Tasked) (a : Answer) : Type 0 wher
 
 -- ---- the laws
 
--- a task that has made no step is one of each world whose passes it has
+-- a task that has made no step is a task of every world whose passes it has
 abbrev pub FreshIsTask : Type 0
 FreshIsTask = (frame : Frame) (t : Tasked) → AreCallsOf (length frame.sites) t.mind.program.calls
     → t.mind.thought ≡ start → t.mind.checked ≡ no_action → ArePassesOf frame t.number t.passes
     → AreUnused t.passes → HasPlayed frame t []
 
--- a step makes a history with its answer
+-- a step and its answer make the history longer
 abbrev pub StepIsPlayed : Type 0
 StepIsPlayed = (frame : Frame) (t t2 : Tasked) (h : List Answer) (a : Answer)
     → HasPlayed frame t h → HasStepped frame t t2 a → HasPlayed frame t2 (a ∷ h)

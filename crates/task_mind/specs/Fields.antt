@@ -1,9 +1,9 @@
--- What the fields of a task's mind keep.
+-- The invariant and the contract view of a task's fields.
 use Rattle.std.specs.Prelude.{◌-◌, ◌<◌, ◌^◌, length, min, option_map, vec_capacity, vec_len}
 use Rattle.task_mind.specs.Value.{TaskValue, progress_in, step_of}
 use Rattle.task_mind.specs.declared.mind.TaskMind.TheInside.{Inside}
 
--- a step takes room for a reply and for a handle, and a number
+-- each step needs room for a reply and for a handle, and a step number
 abbrev pub task_of : Inside → TaskValue
 task_of i = record {
   program = record { cred = i.cred; calls = i.calls.items };
@@ -21,6 +21,6 @@ task_of i = record {
       (0xffff_ffff - step_of (option_map progress_in i.progress)));
 }
 
--- calls are numbered by 32 bits
+-- calls are numbered in 32 bits
 pub record IsTaskMind (i : Inside) : Type 0 where
   pub small : length i.calls.items < 2 ^ 32

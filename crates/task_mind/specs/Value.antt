@@ -1,4 +1,4 @@
--- What contracts see of what a task knows.
+-- The contract view of a task's knowledge.
 use Rattle.std.specs.Prelude.{◌≡◌, ℕ, Bool, Option, None, Some, is_none, option_map}
 use Rattle.run_model.specs.policy.ActionValue.{ActionValue}
 use Rattle.run_model.specs.steps.Mind as minds
@@ -10,15 +10,15 @@ use Rattle.run_model.specs.History.{Thought, call_at}
 use Rattle.run_model.specs.Scene.{Program}
 use Rattle.task_mind.specs.declared.progress.Progress.{Progress}
 
--- its program, where it stands with its replies, the action of its last check, and for how many
--- steps more it has room
+-- the program, the position and replies, the action of the last check, and the number of further
+-- steps for which there is room
 pub record TaskValue : Type 0 where
   pub program : Program
   pub thought : Thought
   pub checked : ActionValue
   pub spare : ℕ
 
--- the same task, with perhaps another room
+-- the same task; only its room may differ
 pub record IsSameTask (old new : TaskValue) : Type 0 where
   pub program : new.program ≡ old.program
   pub thought : new.thought ≡ old.thought
@@ -31,16 +31,16 @@ progress_in g = record { due = g.due; step = g.step; inode = g.inode; file = g.f
 abbrev pub due_at : Program → Mind → Option Ask
 due_at p m = option_map (λ (c : Call). (progress_of p.cred.admin c m).due.ask) (call_at p m)
 
--- no step is to come
+-- whether the program has no further step
 abbrev pub is_over : Program → Mind → Bool
 is_over p m = is_none (call_at p m)
 
--- the number of the next step of a call in progress, and of one that is to begin
+-- the number of the next step within its call; 0 if the call is to begin
 abbrev pub step_of : Option minds.Progress → ℕ
 step_of None = 0
 step_of (Some g) = g.step
 
--- the semaphore for which the call waits
+-- the semaphore that the call waits for
 abbrev pub awaited_by : Option Call → Option ℕ
 awaited_by (Some (call.Wait sem)) = Some sem
 awaited_by _ = None

@@ -17,7 +17,7 @@ fn same_name(a: Name, b: Name) -> bool
     }
 }
 
-/// The handle of this name.
+/// The handle with this name, if the task has one.
 pub fn handle_of(name: Name, handles: &[Handle]) -> Option<Handle>
     ensures { result ≡ handle_of name handles.now }
 {
@@ -29,7 +29,7 @@ pub fn handle_of(name: Name, handles: &[Handle]) -> Option<Handle>
     None
 }
 
-// How many names the file has.
+// The number of names that the file has.
 fn names_of(inode: u32, file: u64, handles: &[Handle]) -> usize
     ensures { result ≡ names_of inode file handles.now }
 {
@@ -42,7 +42,7 @@ fn names_of(inode: u32, file: u64, handles: &[Handle]) -> usize
     count
 }
 
-// The first handle of this name.
+// The index of the first handle with this name.
 fn place_of(name: Name, handles: &[Handle]) -> Option<usize>
     ensures { MatchOption result (without name handles.now ≡ handles.now)
         (λ place. (place < length handles.now)
@@ -56,7 +56,7 @@ fn place_of(name: Name, handles: &[Handle]) -> Option<usize>
     None
 }
 
-/// Removes the handle of this name.
+/// Removes the handle with this name, if there is one.
 pub fn remove(name: Name, handles: &mut Vec<Handle>)
     ensures items { handles.new.items ≡ without name handles.old.items }
     ensures len { vec_len handles.new ≤ vec_len handles.old }
@@ -83,7 +83,7 @@ fn name_used(call: &Call) -> Option<Name>
     }
 }
 
-/// The name that the call makes where it is done.
+/// The name that the call makes if it is done.
 pub fn name_made(call: &Call) -> Option<Name>
     ensures { result ≡ name_made call.now }
 {
@@ -95,7 +95,7 @@ pub fn name_made(call: &Call) -> Option<Name>
     }
 }
 
-/// The name that the call ends where it is done.
+/// The name that the call ends if it is done.
 pub fn name_ended(call: &Call) -> Option<Name>
     ensures { result ≡ name_ended call.now }
 {
@@ -127,7 +127,7 @@ fn is_free_for(name: Option<Name>, handles: &[Handle]) -> bool
     }
 }
 
-// The file that the call uses, where the task has it.
+// The file that the call uses, if the task has it.
 fn held_for(name: Option<Name>, handles: &[Handle]) -> Option<Held>
     ensures { result ≡ option_map (held_by handles.now)
         (option_and_then (λ n. handle_of n handles.now) name) }
@@ -141,7 +141,7 @@ fn held_for(name: Option<Name>, handles: &[Handle]) -> Option<Held>
     }
 }
 
-/// What the call meets in a task with these handles and this right to administer.
+/// What the task holds, as far as the call depends on it. `admin` is the right to administer.
 pub fn hand_of(admin: bool, handles: &[Handle], call: &Call) -> Hand
     ensures { result ≡ hand_of admin handles.now call.now }
 {

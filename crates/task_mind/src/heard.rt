@@ -1,4 +1,4 @@
-//! What an outcome makes of the call in progress.
+//! The effect of an outcome on the call in progress.
 
 ghost use Rattle.std.specs.Prelude.{◌≡◌, ◌+◌, ◌<◌, ◌^◌, option_to_list, vec_capacity, vec_len};
 ghost use Rattle.std.specs.Option.{option_copied};
@@ -14,27 +14,27 @@ use run_model::meta::Mode;
 use run_model::policy::Action;
 use run_model::steps::{Ask, Call, Course, Handle, Name, Next, Reply, next_by};
 
-/// How a call is answered.
+/// The answer to a call, with its effect on the task's names.
 #[derive(Clone, Copy)]
 pub struct Answer {
-    /// The reply.
+    /// The reply to the call.
     pub reply: Reply,
-    /// The name that the call ends where it was done.
+    /// The name that the call ends if it was done.
     pub ended: Option<Name>,
-    /// The handle that it makes.
+    /// The handle that the call makes if it was done.
     pub made: Option<Handle>,
 }
 
-/// What an outcome makes of the call in progress.
+/// The effect of a step's outcome on its call.
 #[derive(Clone, Copy)]
 pub enum Heard {
-    /// A further step comes.
+    /// The call makes another step.
     On(Progress),
     /// The call is answered.
     Over(Answer),
 }
 
-// The place of a count names the file that was counted.
+// The file that the steps act on. A count names it by the place of its event.
 fn file_after(ask: Ask, place: u64, earlier: u64) -> u64
     ensures { result ≡ file_after ask place earlier }
 {
@@ -58,8 +58,8 @@ fn handle_made(name: Option<Name>, progress: Progress) -> Option<Handle>
     }
 }
 
-/// What the outcome of a step makes of its call, after a check by its action. `place` is where the
-/// event of the step stands.
+/// The effect of a step's outcome on its call; for a check, `action` is its action. `place` is the
+/// place of the step's event.
 pub fn heard_of(
     call: &Call,
     progress: Progress,
@@ -89,14 +89,14 @@ pub fn heard_of(
     }
 }
 
-// Whether the call was done.
+// Whether the call was done, rather than refused.
 fn is_done(reply: Reply) -> bool
     ensures { result ≡ is_done reply }
 {
     matches!(reply, Reply::Done | Reply::Bytes { .. })
 }
 
-/// The files after an answered call: where it was done, it ends one name and makes another.
+/// Updates the names after an answered call. If it was done, it ends a name or makes one.
 pub fn settle(handles: &mut Vec<Handle>, answer: &Answer)
     requires { vec_len handles.old < vec_capacity handles.old }
     ensures { handles.new.items ≡ handles_settled answer.now handles.old.items }

@@ -1,7 +1,7 @@
-//! What a task knows of its own calls: its program, the place among its calls, how far the call in
-//! progress is, the files that it holds, and the replies so far.
+//! What a task knows of its own calls: its program, its position among the calls, the progress of
+//! the present one, the files that it holds, and the replies so far.
 //!
-//! From these alone a [`TaskMind`] names the step that is due, and it takes what the step was told.
+//! From these alone a [`TaskMind`] names the step that is due, and takes the outcome of that step.
 #![tactic(auto)]
 
 mod handles;

@@ -24,8 +24,8 @@ use run_model::steps::{Ask, Call, Handle, Name, Reply};
 use std::alloc::{AllocError as OutOfMemory, Global};
 use std::marker::Model;
 
-/// A task as it knows itself. Contracts see its program, where it stands with its replies, the
-/// action of its last check, and for how many steps more it has room.
+/// A task's knowledge of itself. Contracts see its program, its position and replies, the action of
+/// its last check, and the number of further steps for which it has room.
 #[derive(Drop)]
 pub struct TaskMind {
     cred: Cred,
@@ -50,8 +50,8 @@ impl Model for TaskMind {
 }
 
 impl TaskMind {
-    /// A task before its first call. A program of more than 4,294,967,295 calls is refused like
-    /// one for which memory is out.
+    /// A task before its first call. A program of more than 4,294,967,295 calls is refused as if
+    /// memory had run out.
     pub fn new(alloc: Global, cred: Cred, calls: Vec<Call>) -> Result<TaskMind, OutOfMemory>
         ensures program { IfOk result (λ t. t.program ≡ record {
           cred = cred;
@@ -63,7 +63,7 @@ impl TaskMind {
         if calls.len() > u32::MAX as usize {
             return Err(OutOfMemory);
         }
-        // A reply a call, and what `reserve` asks for once all are answered.
+        // One reply for each call, and the one for which `reserve` makes room after the last.
         let replies = Vec::with_capacity(alloc, calls.len() + 1)?;
         Ok(TaskMind {
             cred,
@@ -76,29 +76,29 @@ impl TaskMind {
         })
     }
 
-    /// The credentials.
+    /// The user and group IDs, and the right to administer.
     pub fn cred(&self) -> &Cred
         ensures { result.now ≡ self.now.program.cred }
     {
         &self.cred
     }
 
-    /// Whether each call is answered.
+    /// Whether all calls are answered.
     pub fn is_done(&self) -> bool
         ensures { result ≡ is_done self.now.program self.now.thought }
     {
         self.replies.len() == self.calls.len()
     }
 
-    /// The action of the last check.
+    /// The action of the task's last check.
     pub fn checked(&self) -> Action
         ensures { result ≡ self.now.checked }
     {
         self.checked
     }
 
-    /// The semaphore for which its first unanswered call waits. `None` where that isn't a
-    /// wait, or all calls are answered.
+    /// The semaphore that the first unanswered call waits for. `None` if that call isn't a wait, or
+    /// all calls are answered.
     pub fn awaited(&self) -> Option<u8>
         ensures { result ≡ awaited_by
             (slice_get self.now.program.calls (length self.now.thought.replies)) }
@@ -109,7 +109,7 @@ impl TaskMind {
         }
     }
 
-    /// Whether some call of its program appends a rule.
+    /// Whether any call of the program appends a rule.
     pub fn appends(&self) -> bool
         ensures { result ≡ list_any appends self.now.program.calls }
     {
@@ -118,7 +118,7 @@ impl TaskMind {
             .any(|call| matches!(call, Call::AddRule { .. }))
     }
 
-    // How far the call is.
+    // The progress of the call, or of its start if it hasn't begun.
     fn progress_of(&self, call: &Call) -> Progress
         ensures progress { progress_in result
             ≡ progress_of self.now.program.cred.admin call.now self.now.thought.mind }
@@ -130,7 +130,7 @@ impl TaskMind {
         }
     }
 
-    /// What the next step asks for. `None` exactly where the program is over.
+    /// What the next step asks for. `None` exactly if the program is over.
     pub fn due(&self) -> Option<Ask>
         ensures { result ≡ due_at self.now.program self.now.thought.mind }
     {
@@ -140,7 +140,7 @@ impl TaskMind {
         }
     }
 
-    /// The next step. `None` exactly where the program is over.
+    /// The next step. `None` exactly if the program is over.
     pub fn next(&self) -> Option<Step<'_>>
         ensures { option_map step_in result ≡ step_at self.now.program self.now.thought.mind }
     {
@@ -150,7 +150,7 @@ impl TaskMind {
         }
     }
 
-    /// Whether no step is to come.
+    /// Whether the program has no further step.
     pub fn is_over(&self) -> bool
         ensures { result ≡ is_over self.now.program self.now.thought.mind }
     {
@@ -170,7 +170,7 @@ impl TaskMind {
         }
     }
 
-    /// The place of the next step, for the task of this number.
+    /// The task, call and step number of the next step, for the task with this number.
     #[tactic(auto, using(crate::proofs::Numbers::number_is))]
     pub fn who(&self, task: u32) -> Who
         ensures { result ≡ who_at task self.now.program self.now.thought.mind }
@@ -186,15 +186,15 @@ impl TaskMind {
         }
     }
 
-    /// The handle of this name.
+    /// The handle with this name, if the task has one.
     pub fn handle_of(&self, name: Name) -> Option<Handle>
         ensures { result ≡ handle_of name self.now.thought.mind.handles }
     {
         handle_of(name, self.handles.as_slice())
     }
 
-    /// Makes room for the next step. A call of more than 4,294,967,295 steps is refused like
-    /// memory. The task stays, also where there is no memory.
+    /// Makes room for the next step. A call of more than 4,294,967,295 steps is refused as if
+    /// memory had run out. The task is unchanged, even if memory runs out.
     pub fn reserve(&mut self) -> Result<(), OutOfMemory>
         ensures room { OnOk result (1 ≤ self.new.spare) }
         ensures same { IsSameTask self.old self.new }
@@ -210,9 +210,9 @@ impl TaskMind {
         self.handles.reserve(1)
     }
 
-    /// Hears what the due step was told, and of a check the action, in room that was reserved.
-    /// `place` is where its event or its rule stands. The reply comes with the last step of a call.
-    /// A task whose program is over hears nothing.
+    /// Takes the outcome of the due step, and for a check its action, in room that was reserved.
+    /// `place` is the place of the step's event or rule. The last step of a call gives the reply. A
+    /// task whose program is over is unchanged.
     pub fn hear(&mut self, mode: Mode, told: &Told, place: u64, action: Option<&Action>)
         requires { 1 ≤ self.old.spare }
         ensures program { self.new.program ≡ self.old.program }
@@ -241,7 +241,7 @@ impl TaskMind {
         }
     }
 
-    // What the outcome of the due step makes of its call.
+    // The effect of the due step's outcome on its call. `None` if the program is over.
     fn heard(&self, mode: Mode, told: &Told, place: u64, action: Option<&Action>) -> Option<Heard>
         requires { 1 ≤ self.now.spare }
         ensures due { OnSome result (self.now.thought.mind.at < length self.now.program.calls) }
@@ -259,7 +259,7 @@ impl TaskMind {
         }
     }
 
-    /// The task at the end of a run.
+    /// Turns the task into its record for the end of a run.
     pub fn end(self) -> EndedTask
         ensures done { result.done ≡ is_done self.program self.thought }
         ensures replies { result.replies ≡ self.thought.replies }
@@ -272,7 +272,7 @@ impl TaskMind {
     }
 }
 
-// The action of the check that was last.
+// The action of the last check, this step included.
 fn latest(action: Option<&Action>, earlier: Action) -> Action
     ensures { result ≡ unwrap_or (option_copied action.entry) earlier }
 {

@@ -9,19 +9,19 @@ use run_model::events::How;
 use run_model::meta::Mode;
 use run_model::steps::{Call, Course, Due, Handle, Held, Plan};
 
-/// A call in progress.
+/// The progress of a call between two steps.
 #[derive(Clone, Copy, Debug, PartialEq, Eq)]
 pub struct Progress {
-    /// The next step, and the reply that comes with the last one unless a step to come decides
+    /// The next step, and the reply that comes with the last one unless a later step decides
     /// another.
     pub due: Due,
-    /// The number of the next step within the call.
+    /// The number of the next step within the call, counted from 0.
     pub step: u32,
     /// The inode of the file that the steps act on.
     pub inode: u32,
-    /// The file, named by the place of its count.
+    /// The file that the steps act on, named by the place of its count.
     pub file: u64,
-    /// How it is counted.
+    /// How the file is counted.
     pub how: How,
 }
 
@@ -60,7 +60,7 @@ fn how_held(call: &Call, held: Option<Held>) -> How
     }
 }
 
-/// The call before its first step.
+/// The progress of a call before its first step.
 pub fn begun(admin: bool, handles: &[Handle], call: &Call) -> Progress
     ensures { progress_in result ≡ begun admin handles.now call.now }
 {

@@ -1,4 +1,4 @@
-//! The step that is due, with what the call says of it.
+//! The step that is due, with the arguments that the call gives it.
 
 ghost use Rattle.std.specs.Prelude.{◌≡◌};
 ghost use Rattle.run_model.specs.steps.Mind.{deed_of, plain_step, step_by};
@@ -10,76 +10,76 @@ use run_model::events::{BoxedBytes, BoxedValue, Change, Deed, How};
 use run_model::policy::{Func, Rule};
 use run_model::steps::{Ask, Call};
 
-/// An event on an inode, before it has happened. Bytes are the call's, and none is copied.
+/// An event on an inode, before it has happened. Bytes are borrowed from the call.
 #[derive(Clone, Copy, Drop)]
 pub enum Doing<'a> {
-    /// The inode comes into being. It isn't a step of a call.
+    /// Create the inode. This isn't a step of any call.
     Birth,
-    /// A file is counted.
+    /// Count a file, for an open or an execution.
     Count(How),
-    /// The digest in force is asked for.
+    /// Ask for the digest in force.
     Take(u64),
-    /// A collection takes its next piece.
+    /// Take the next piece into the collection of a take.
     Chunk(u64),
-    /// A collection ends.
+    /// End the collection of a take.
     Finish(u64),
-    /// Bytes are read.
+    /// Read at most `len` bytes, starting at the byte `from`.
     Read {
         file: u64,
         from: u64,
         len: u64,
     },
-    /// Bytes are written.
+    /// Write `bytes`, starting at the byte `from`.
     Write {
         file: u64,
         from: u64,
         bytes: &'a BoxedBytes,
     },
-    /// The content is cut, or lengthened by zeros.
+    /// Set the length of the content, adding zeros if it was shorter.
     Trunc {
         file: u64,
         len: u64,
     },
-    /// An attribute is set, or with no value removed.
+    /// Set an attribute, or remove it if there is no value.
     SetAttr {
         name: &'a BoxedBytes,
         value: &'a BoxedValue,
         admin: bool,
     },
-    /// The mode or the owner is changed.
+    /// Change the mode, or the owner and group.
     SetMeta(Change),
-    /// A file that isn't open for writing is dropped.
+    /// Drop a file that isn't open for writing.
     Close(u64),
-    /// A writer's close begins.
+    /// Begin the close of a file that is open for writing.
     CloseTake(u64),
-    /// The collection of a close takes its next piece.
+    /// Take the next piece into the collection of a close.
     CloseChunk(u64),
-    /// The collection of a close ends.
+    /// End the collection of a close, and drop the file.
     CloseFinish(u64),
 }
 
-/// A step of a task.
+/// A step of a task's call.
 #[derive(Clone, Copy, Drop)]
 pub enum Step<'a> {
-    /// Nothing happens.
+    /// Do nothing.
     Nothing,
-    /// An event on an inode.
+    /// Make an event on an inode.
     Does {
         inode: u32,
         doing: Doing<'a>,
     },
-    /// A check, whose action the rules are to give.
+    /// Check an access to an inode. The rules are to give the action.
     Checks {
         inode: u32,
         file: u64,
         func: Func,
         mask: u8,
     },
-    /// A semaphore is posted.
+    /// Post to a semaphore.
     Posts(u8),
-    /// A semaphore is waited for.
+    /// Wait for a semaphore.
     Waits(u8),
-    /// A rule is appended to those in force.
+    /// Append a rule to those in force.
     Appends(&'a Rule),
 }
 
@@ -99,7 +99,7 @@ fn doing_of<'a>(admin: bool, call: &'a Call, file: u64) -> Doing<'a>
     }
 }
 
-// What a step does that isn't an event on an inode.
+// The step of a call that needs no event on an inode.
 fn plain_step<'a>(admin: bool, call: &'a Call) -> Step<'a>
     ensures { step_in result ≡ plain_step admin call.now }
 {

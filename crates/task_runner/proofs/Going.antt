@@ -1,26 +1,25 @@
--- Tasks that went on are those of their world.
+-- Tasks that have gone on still belong to their world.
 use Rattle.std.proofs.Common.{◌≡◌, ℕ, zero, suc, ◌<◌, ◌⊎◌, inl, inr, List, [], ◌∷◌, ◌++◌, length, map, get_or, take, Some, refl, sym, ◌∙◌, ap, subst, arith}
 use Rattle.std.specs.Prelude.{All, slice_get, slice_set}
 use Rattle.std.proofs.lemmas.List.{length-set, take-append-le, take_all}
 use Rattle.std.proofs.lemmas.List.Elements.{All-head, All-tail}
 use Rattle.std.proofs.lemmas.Option.{same_Some, slice_get_within}
-use Rattle.run_model.specs.Scene.{Program}
 use Rattle.task_core.specs.frames.Frame.{Frame}
-use Rattle.task_core.specs.frames.Runs.{AreTasks, program_of, programs_of}
+use Rattle.task_core.specs.frames.Runs.{AreTasks, program_of}
 use Rattle.task_core.specs.frames.Tasks.{IsTask, Tasked}
 use Rattle.task_core.specs.frames.World.{WorldValue}
 use Rattle.task_runner.specs.Parts.{AreStill, GoneFrom, HaveGone}
 use Rattle.task_core.specs.laws_of_turns.Runs.{StillRuns}
 use Rattle.task_core.proofs.about_closes.Gets.{all_by_get, get_set, got}
 
--- what holds of all holds of the one at a place
+-- a property of all elements holds of the one at a place
 all_at : {A : Type 0} (P : A → Type 0) (xs : List A) (k : ℕ) (x : A) → All P xs
     → slice_get xs k ≡ Some x → P x
 all_at P [] k x all h = absurd (cc)
 all_at P (y ∷ xs) zero x all h = subst P (same_Some y x h) (All-head P y xs all)
 all_at P (y ∷ xs) (suc k) x all h = all_at P xs k x (All-tail P y xs all) h
 
--- those that stay have gone on
+-- `HaveGone` is reflexive
 pub gone_none : (frame : Frame) (tasks : List Tasked) → All (IsTask frame) tasks
     → HaveGone frame tasks tasks
 gone_none frame tasks all = record {
@@ -34,13 +33,13 @@ gone_none frame tasks all = record {
   };
 }
 
--- all of them are tasks of the world
+-- tasks that have gone on are all tasks of the world
 pub gone_all : (frame : Frame) (old new : List Tasked) → HaveGone frame old new
     → All (IsTask frame) new
 gone_all frame old new g =
     all_by_get (IsTask frame) new (λ k t at. (g.each k t at).task)
 
--- and go on
+-- `HaveGone` is transitive
 pub gone_more : (frame : Frame) (a b c : List Tasked) → HaveGone frame a b → HaveGone frame b c
     → HaveGone frame a c
 gone_more frame a b c x y = record {
@@ -57,7 +56,7 @@ gone_more frame a b c x y = record {
       };
 }
 
--- one of them made a step
+-- one of the tasks made a step
 pub gone_step : (frame : Frame) (tasks : List Tasked) (k : ℕ) (t t2 : Tasked)
     → All (IsTask frame) tasks → slice_get tasks k ≡ Some t → t2.number ≡ t.number
     → t2.mind.program ≡ t.mind.program → IsTask frame t2
@@ -80,9 +79,9 @@ gone_step frame tasks k t t2 all there number program task = record {
     task = all_at (IsTask frame) tasks j x all w.1;
   }
 
--- ---- parts of them
+-- ---- parts of the tasks
 
--- the task of this place stands in a part that went on
+-- the task at this place is in a part that has gone on
 pub record InPart (frame : Frame) (old new : List Tasked) (i : ℕ) (d : Tasked) : Type 0 where
   pub part : List Tasked
   pub after : List Tasked
@@ -92,7 +91,7 @@ pub record InPart (frame : Frame) (old new : List Tasked) (i : ℕ) (d : Tasked)
   pub was : get_or part offset d ≡ get_or old i d
   pub is : get_or after offset d ≡ get_or new i d
 
--- where each part of them went on, they have gone on
+-- if each part has gone on, all tasks have
 pub gone_parts : (frame : Frame) (old new : List Tasked) → length new ≡ length old
     → ((i : ℕ) (d : Tasked) → i < length old → InPart frame old new i d)
     → HaveGone frame old new
@@ -119,7 +118,7 @@ gone_parts frame old new even parts = record {
       };
 }
 
--- ---- all of them
+-- ---- all tasks
 
 -- the tasks of a world, in order, are tasks of it
 pub all_tasks : (frame frame2 : Frame) (tasks : List Tasked) → frame ≡ frame2
@@ -128,7 +127,7 @@ all_tasks frame frame2 tasks same are =
     subst (λ (f : Frame). All (IsTask f) tasks) same
     (all_by_get (IsTask frame) tasks (λ k t at. (are.each k t at).task))
 
--- two lists of one length, of which a map makes the same at each place
+-- lists of the same length with the same image at each place have the same map
 maps_same : {A B : Type 0} (f : A → B) (xs ys : List A) → length ys ≡ length xs
     → ((k : ℕ) (y : A) → slice_get ys k ≡ Some y
     → (x : A) × ((slice_get xs k ≡ Some x) × (f y ≡ f x)))
@@ -143,7 +142,7 @@ maps_same f (x ∷ xs) (y ∷ ys) e each =
     maps_same f xs ys (omega arith) (λ k z h. each (suc k) z h) in
     λ i. head i ∷ rest i
 
--- those that have gone on are all tasks of the world, with the same programs
+-- tasks that have gone on all belong to the world, with the same programs
 pub gone_still : (frame : Frame) (old new : List Tasked) → AreTasks frame old
     → HaveGone frame old new → AreStill frame old new
 gone_still frame old new are gone = record {
@@ -159,7 +158,7 @@ gone_still frame old new are gone = record {
   };
 }
 
--- and run on in another world of the same constants
+-- tasks that still belong to a world run on in another one with the same constants
 pub still_runs : (world after : WorldValue) (old new : List Tasked) → after.frame ≡ world.frame
     → AreStill world.frame old new → StillRuns world after old new
 still_runs world after old new same still = record {
@@ -168,7 +167,7 @@ still_runs world after old new same still = record {
   each = subst (λ (f : Frame). AreTasks f new) (sym same) still.each;
 }
 
--- those that run on are all tasks of the world
+-- tasks that run on all belong to the world
 pub runs_still : (world after : WorldValue) (old new : List Tasked)
     → StillRuns world after old new → AreStill world.frame old new
 runs_still world after old new runs = record {
@@ -176,11 +175,12 @@ runs_still world after old new runs = record {
   each = subst (λ (f : Frame). AreTasks f new) runs.frame runs.each;
 }
 
--- a part of so many elements is the front of the whole
+-- the first n elements of a list are its part of length n
 pub front_is : {A : Type 0} (xs ys : List A) (n : ℕ) → length xs ≡ n → take n (xs ++ ys) ≡ xs
 front_is xs ys n e = take-append-le n xs ys (omega arith) ∙ take_all n xs (omega arith)
 
--- the same of constants that a name has, and of tasks that were lent and are back
+-- the tasks still belong to the world, with the constants under a name and the tasks lent and
+-- returned
 pub gone_named : (frame frame2 : Frame) (old lent new back : List Tasked) → frame ≡ frame2
     → lent ≡ old → back ≡ new → AreTasks frame old → HaveGone frame2 lent new
     → AreStill frame old back

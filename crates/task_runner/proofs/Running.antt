@@ -1,6 +1,6 @@
--- What a run keeps of its tasks.
-use Rattle.std.proofs.Common.{◌≡◌, ◌<◌, ℕ, Bool, true, false, List, [], length, Some, refl, sym, ◌∙◌, ap, subst}
-use Rattle.std.specs.Prelude.{◌||◌, slice_get, slice_index_or}
+-- The invariants of the tasks during a run.
+use Rattle.std.proofs.Common.{◌≡◌, ◌<◌, ℕ, false, List, [], length, Some, refl, sym, ◌∙◌, ap, subst}
+use Rattle.std.specs.Prelude.{slice_get, slice_index_or}
 use Rattle.std.proofs.lemmas.List.{length-map}
 use Rattle.std.proofs.lemmas.Option.{slice_get-get_or}
 use Rattle.task_core.proofs.laws_of_endings.Rounds.{still as still_at_rest}
@@ -12,7 +12,7 @@ use Rattle.task_core.specs.frames.Tasks.{Tasked}
 use Rattle.task_core.specs.frames.World.{WorldValue}
 use Rattle.task_core.specs.laws_of_turns.Runs.{HasTurned, StillRuns, scene_in}
 
--- the task of this number is there
+-- there is a task of this number
 pub task_there : (tasks : List Tasked) (k : ℕ) (t : Tasked) → k < length tasks
     → t ≡ slice_index_or tasks k t → slice_get tasks k ≡ Some t
 task_there tasks k t h e =
@@ -25,24 +25,17 @@ still_even world w1 tasks t1 s =
     sym (length-map t1 program_of) ∙ ap (λ (ps : List Program). length ps) s.programs
     ∙ length-map tasks program_of
 
--- before the first turn
+-- `StillRuns` holds before the first turn
 pub still_here : (world : WorldValue) (tasks : List Tasked) → AreTasks world.frame tasks
     → StillRuns world world tasks tasks
 still_here world tasks all = record { frame = refl; programs = refl; each = all }
 
--- no turns
+-- `HasTurned` holds for no turns
 pub no_turns : (world : WorldValue) (tasks : List Tasked) → AreTasks world.frame tasks
     → HasTurned world world tasks tasks []
 no_turns world tasks all = record { still = still_here world tasks all; run = refl }
 
--- one or the other
-pub or_swap : (a b : Bool) → (a || b) ≡ (b || a)
-or_swap true true = refl
-or_swap true false = refl
-or_swap false true = refl
-or_swap false false = refl
-
--- where rounds end no task moves
+-- no task moves at the moment at which rounds end
 pub none_moves : (world : WorldValue) (tasks : List Tasked) (start end : Moment)
     → RoundsTo (scene_in world tasks) start end → (k : ℕ) → k < length tasks
     → moves (scene_in world tasks) end k ≡ false

@@ -1,4 +1,4 @@
--- What the end of a run tells of its start.
+-- What the end of a run says about its start.
 use Rattle.std.proofs.Common.{◌≡◌, ◌<◌, ℕ, false, List, length, map, sym, ◌∙◌, ap, subst}
 use mathlib.Core.List.{map-map}
 use Rattle.run_model.specs.Rounds.{moves}
@@ -23,7 +23,7 @@ none_stirs world after old new m runs stops k below =
     subst (λ (x : Scene). moves x m k ≡ false) (scene_same world after old new runs)
     (stops k (subst (λ (n : ℕ). k < n) (sym (still_even world after old new runs)) below))
 
--- the tasks that looked at all lists are those of the same world
+-- the tasks that looked at all lists still belong to the same world
 pub settled_runs : (world after : WorldValue) (old new : List Tasked)
     → after.frame ≡ world.frame → AreTasks world.frame new → HaveSameMinds old new
     → StillRuns world after old new

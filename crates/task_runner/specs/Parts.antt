@@ -1,11 +1,10 @@
--- What threads leave of the tasks that they run.
+-- How threads change the tasks that they run.
 use Rattle.std.specs.Prelude.{◌≡◌, ℕ, List, length, Some, slice_get}
-use Rattle.run_model.specs.Scene.{Program}
 use Rattle.task_core.specs.frames.Frame.{Frame}
 use Rattle.task_core.specs.frames.Runs.{AreTasks, programs_of}
 use Rattle.task_core.specs.frames.Tasks.{IsTask, Tasked}
 
--- the task was one of the world, and still is, with its number and its program
+-- the task was one of the world, and still is, with the same number and program
 pub record GoneFrom (frame : Frame) (old : List Tasked) (k : ℕ) (t : Tasked) : Type 0 where
   pub before : Tasked
   pub at : slice_get old k ≡ Some before
@@ -17,7 +16,7 @@ pub record HaveGone (frame : Frame) (old new : List Tasked) : Type 0 where
   pub even : length new ≡ length old
   pub each : (k : ℕ) (t : Tasked) → slice_get new k ≡ Some t → GoneFrom frame old k t
 
--- they are all tasks of the world, with the same programs
+-- the tasks still belong to the world, with the same programs
 pub record AreStill (frame : Frame) (old new : List Tasked) : Type 0 where
   pub programs : programs_of new ≡ programs_of old
   pub each : AreTasks frame new

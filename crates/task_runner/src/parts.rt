@@ -1,10 +1,11 @@
-//! The tasks of one thread, and the threads of all of them.
+//! The tasks of one thread, and the threads that run all tasks.
 
-ghost use Rattle.std.specs.Prelude.{◌≡◌, ◌<◌, ◌≤◌, All, length};
-ghost use Rattle.run_model.specs.Rounds.{is_moved};
+ghost use Rattle.std.specs.Prelude.{◌≡◌, ◌*◌, ◌<◌, ◌≤◌, None, Some, All, IfOk, OnErr, OnOk, length};
 ghost use Rattle.task_core.specs.frames.Tasks.{IsTask};
 ghost use Rattle.task_runner.specs.Parts.{HaveGone};
+ghost use Rattle.task_runner.specs.Passes.{HaveRunInParts, IsInPass, IsPartOver, IsPartStopped, IsPass, PartEnds, StepsAt};
 
+use crate::rounds::has_moved;
 use ima_io::{Gate, Who};
 use std::alloc::AllocError as OutOfMemory;
 use std::sync::Wait;
@@ -13,18 +14,7 @@ use std::thread;
 use std::thread::Threads;
 use task_core::{Live, Name, Task, Turn};
 
-// Whether the turn moved its task.
-fn has_moved(turn: Turn) -> bool
-    ensures { result ≡ is_moved turn }
-{
-    match turn {
-        Turn::Moved => true,
-        Turn::Blocked => false,
-        Turn::Done => false,
-    }
-}
-
-// One step of the task of this place, behind the gate unless its program is over.
+// Makes one step of the task at this place; passes the gate first unless its program is over.
 fn step_at<N: Name, G: Gate, R: Wait>(
     rt: &R,
     world: &Live<N>,
@@ -34,7 +24,9 @@ fn step_at<N: Name, G: Gate, R: Wait>(
 ) -> Result<Turn, OutOfMemory>
     requires within { k < length tasks.old }
     requires tasks { All (IsTask N.frame) tasks.old }
-    ensures { HaveGone N.frame tasks.old tasks.new }
+    ensures gone { HaveGone N.frame tasks.old tasks.new }
+    ensures step { IfOk result (λ r. StepsAt N.frame tasks.old tasks.new k (Some r)) }
+    ensures err { OnErr result (StepsAt N.frame tasks.old tasks.new k None) }
 {
     let task = &mut tasks[k];
     if let Some(who) = task.who() {
@@ -47,7 +39,7 @@ fn step_at<N: Name, G: Gate, R: Wait>(
     task.step_shared(rt, world)
 }
 
-// One step of each task. Answers whether one moved.
+// Makes one step of each task. Returns whether one moved.
 fn pass_over<N: Name, G: Gate, R: Wait>(
     rt: &R,
     world: &Live<N>,
@@ -55,39 +47,40 @@ fn pass_over<N: Name, G: Gate, R: Wait>(
     gate: &G,
 ) -> Result<bool, OutOfMemory>
     requires { All (IsTask N.frame) tasks.old }
-    ensures { HaveGone N.frame tasks.old tasks.new }
+    ensures gone { HaveGone N.frame tasks.old tasks.new }
+    ensures pass { IfOk result (λ moved. IsPass N.frame tasks.old tasks.new
+        (length tasks.old) moved) }
+    ensures err { OnErr result (IsInPass N.frame tasks.old tasks.new) }
 {
     let mut moved = false;
     for k in 0..tasks.len() {
-        if has_moved(step_at(rt, world, tasks, k, gate)?) {
-            moved = true;
-        }
+        moved = has_moved(moved, step_at(rt, world, tasks, k, gate)?);
     }
     Ok(moved)
 }
 
-// One step of each task. Answers whether to go on: one moved, and memory didn't run out.
-fn goes_on<N: Name, G: Gate, R: Wait>(
+// Makes passes over the tasks until one moves none. A part of 2^64 passes counts as out of memory.
+fn run_part<N: Name, G: Gate, R: Wait>(
     rt: &R,
     world: &Live<N>,
     tasks: &mut [Task],
     gate: &G,
-    failed: &AtomicBool,
-) -> bool
+) -> Result<(), OutOfMemory>
     requires { All (IsTask N.frame) tasks.old }
-    ensures { HaveGone N.frame tasks.old tasks.new }
+    ensures gone { HaveGone N.frame tasks.old tasks.new }
+    ensures over { OnOk result (IsPartOver N.frame tasks.old tasks.new) }
+    ensures err { OnErr result (IsPartStopped N.frame tasks.old tasks.new) }
 {
-    match pass_over(rt, world, tasks, gate) {
-        Ok(moved) => moved,
-        Err(_) => {
-            failed.store(true, Ordering::SeqCst);
-            false
+    for _ in 0..u64::MAX {
+        if !pass_over(rt, world, tasks, gate)? {
+            return Ok(());
         }
     }
+    Err(OutOfMemory)
 }
 
-// Steps of the tasks in turn, until a pass over them moves none or memory runs out.
-fn run_part<N: Name, G: Gate, R: Wait>(
+// Runs a part, and notes whether memory ran out.
+fn run_noted<N: Name, G: Gate, R: Wait>(
     rt: &R,
     world: &Live<N>,
     tasks: &mut [Task],
@@ -95,17 +88,25 @@ fn run_part<N: Name, G: Gate, R: Wait>(
     failed: &AtomicBool,
 )
     requires { All (IsTask N.frame) tasks.old }
-    ensures { HaveGone N.frame tasks.old tasks.new }
+    ensures gone { HaveGone N.frame tasks.old tasks.new }
+    ensures part { PartEnds N.frame tasks.old tasks.new }
 {
-    for _ in rt.forever() {
-        if !goes_on(rt, world, tasks, gate, failed) {
-            return;
-        }
+    if run_part(rt, world, tasks, gate).is_err() {
+        failed.store(true, Ordering::SeqCst);
     }
 }
 
-/// Cuts the tasks into at most `n` parts, each of which runs in a thread of its own, until a pass
-/// over its tasks moves none. Where no thread can be made, the parts run one after another. Answers
+// The size of the parts if so many tasks are cut into at most `n` of them.
+fn part_size(count: usize, n: usize) -> usize
+    requires { 1 ≤ n }
+    ensures some { 1 ≤ result }
+    ensures few { count ≤ n * result }
+{
+    count.div_ceil(n).max(1)
+}
+
+/// Cuts the tasks into at most `n` parts, each of which runs in a thread of its own until a pass
+/// over its tasks moves none. If no thread can be created, the parts run one after another. Returns
 /// whether memory ran out.
 pub(crate) fn run_parts<N: Name, G: Gate + Sync, R: Threads + Wait + Sync>(
     rt: &R,
@@ -116,18 +117,19 @@ pub(crate) fn run_parts<N: Name, G: Gate + Sync, R: Threads + Wait + Sync>(
 ) -> bool
     requires threads { 1 ≤ n }
     requires tasks { All (IsTask N.frame) tasks.old }
-    ensures { HaveGone N.frame tasks.old tasks.new }
+    ensures gone { HaveGone N.frame tasks.old tasks.new }
+    ensures parts { HaveRunInParts N.frame n tasks.old tasks.new }
 {
     let failed = AtomicBool::new(false);
-    let size = tasks.len().div_ceil(n as usize).max(1);
+    let size = part_size(tasks.len(), n as usize);
     thread::for_each_chunk_mut(
         rt,
         tasks,
         size,
         &|_: usize, part: &mut [Task]|
             requires { All (IsTask N.frame) part.old }
-            ensures { HaveGone N.frame part.old part.new }
-        { run_part(rt, world, part, gate, &failed) },
+            ensures { HaveGone N.frame part.old part.new × PartEnds N.frame part.old part.new }
+        { run_noted(rt, world, part, gate, &failed) },
     );
     failed.load(Ordering::SeqCst)
 }

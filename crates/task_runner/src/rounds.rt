@@ -1,9 +1,10 @@
 //! Rounds of all tasks.
 
-ghost use Rattle.std.specs.Prelude.{◌≡◌, ℕ, ◌<◌, ◌||◌, false, IfOk, OnOk, length};
-ghost use Rattle.run_model.specs.Rounds.{RoundsTo, is_moved, moves};
+ghost use Rattle.std.specs.Prelude.{◌≡◌, ℕ, ◌<◌, ◌||◌, false, IfOk, OnErr, OnOk, length};
+ghost use Rattle.run_model.specs.Rounds.{RoundsTo, all_tasks, is_moved, moves};
 ghost use Rattle.task_core.specs.frames.Runs.{AreTasks};
 ghost use Rattle.task_core.specs.laws_of_turns.Runs.{IsRound, StillRuns, moment_in, scene_in};
+ghost use Rattle.task_runner.specs.Stops.{StopsIn, StopsInRounds};
 
 use crate::turns::turn_at;
 use ima_io::Gate;
@@ -11,7 +12,7 @@ use std::alloc::AllocError as OutOfMemory;
 use task_core::{Task, Turn, World};
 
 // Whether a task has moved, before or by this turn.
-fn has_moved(before: bool, turn: Turn) -> bool
+pub(crate) fn has_moved(before: bool, turn: Turn) -> bool
     ensures { result ≡ (is_moved turn || before) }
 {
     match turn {
@@ -21,11 +22,14 @@ fn has_moved(before: bool, turn: Turn) -> bool
     }
 }
 
-// One turn of each task. Answers whether one has moved.
+// Makes one turn of each task. Returns whether one has moved.
 fn round<G: Gate>(world: &mut World, tasks: &mut Vec<Task>, gate: &G) -> Result<bool, OutOfMemory>
     requires { AreTasks world.old.frame tasks.old.items }
     ensures round { IfOk result (λ moved. IsRound world.old world.new tasks.old.items
         tasks.new.items moved) }
+    ensures err { OnErr result (StopsIn (scene_in world.old tasks.old.items)
+        (moment_in world.old tasks.old.items) (all_tasks (scene_in world.old tasks.old.items))
+        (moment_in world.new tasks.new.items)) }
     ensures still { StillRuns world.old world.new tasks.old.items tasks.new.items }
 {
     let mut moved = false;
@@ -35,8 +39,9 @@ fn round<G: Gate>(world: &mut World, tasks: &mut Vec<Task>, gate: &G) -> Result<
     Ok(moved)
 }
 
-/// Rounds of all tasks, until one moves none. Where memory runs out, the tasks have made some
-/// of their turns. A run of 2^64 rounds counts as out of memory.
+/// Runs rounds of all tasks, until one moves none. If memory runs out, the tasks have made some
+/// rounds, each of which moved a task, and then some first turns of the next round, and the world is
+/// that of these turns. A run of 2^64 rounds counts as out of memory.
 pub fn run_rounds<G: Gate>(
     world: &mut World,
     tasks: &mut Vec<Task>,
@@ -48,6 +53,8 @@ pub fn run_rounds<G: Gate>(
     ensures stops { OnOk result ((k : ℕ) → k < length tasks.old.items
         → moves (scene_in world.old tasks.old.items) (moment_in world.new tasks.new.items) k
         ≡ false) }
+    ensures err { OnErr result (StopsInRounds (scene_in world.old tasks.old.items)
+        (moment_in world.old tasks.old.items) (moment_in world.new tasks.new.items)) }
     ensures still { StillRuns world.old world.new tasks.old.items tasks.new.items }
 {
     for _ in 0..u64::MAX {

@@ -1,9 +1,10 @@
 //! A run on several threads, and its end on one.
 
-ghost use Rattle.std.specs.Prelude.{◌≡◌, ℕ, ◌<◌, ◌≤◌, false, IfOk, length};
+ghost use Rattle.std.specs.Prelude.{◌≡◌, ℕ, ◌<◌, ◌≤◌, false, IfOk, OnOk, length};
 ghost use Rattle.run_model.specs.Rounds.{moves};
 ghost use Rattle.task_core.specs.frames.Runs.{AreTasks};
 ghost use Rattle.task_runner.specs.Parts.{AreStill};
+ghost use Rattle.task_runner.specs.Passes.{HasRunOnThreads, HaveRunInParts};
 ghost use Rattle.task_core.specs.laws_of_turns.Runs.{StillRuns, moment_in, scene_in};
 
 use crate::parts::run_parts;
@@ -26,6 +27,7 @@ fn run_shared<N: Name, G: Gate + Sync, R: Threads + Wait + Sync>(
     requires frame { world.frame ≡ N.frame }
     requires tasks { AreTasks world.frame tasks.old.items }
     ensures still { IfOk result (λ w. StillRuns world w tasks.old.items tasks.new.items) }
+    ensures parts { OnOk result (HaveRunInParts world.frame n tasks.old.items tasks.new.items) }
     ensures tasks { AreStill world.frame tasks.old.items tasks.new.items }
 {
     let live = world.share::<N>()?;
@@ -39,8 +41,8 @@ fn run_shared<N: Name, G: Gate + Sync, R: Threads + Wait + Sync>(
 /// Runs the tasks on at most `n` threads. The world is shared, and the tasks are cut into
 /// contiguous parts, each of which makes steps of its tasks in turn until a pass over them moves
 /// none. Then the world is taken back, each task looks at it, and rounds of all tasks go on until
-/// one moves none. Where memory runs out, the tasks have made some of their steps, and the world is
-/// given up.
+/// one moves none. If memory runs out, the tasks have made some of their steps, and the world is
+/// dropped. A part of 2^64 passes counts as out of memory, as a run of 2^64 rounds does.
 pub fn run_threads<N: Name, G: Gate + Sync, R: Threads + Wait + Sync>(
     rt: &R,
     world: World,
@@ -54,6 +56,7 @@ pub fn run_threads<N: Name, G: Gate + Sync, R: Threads + Wait + Sync>(
     ensures still { IfOk result (λ w. StillRuns world w tasks.old.items tasks.new.items) }
     ensures stops { IfOk result (λ w. (k : ℕ) → k < length tasks.old.items
         → moves (scene_in world tasks.old.items) (moment_in w tasks.new.items) k ≡ false) }
+    ensures parts { IfOk result (λ w. HasRunOnThreads world w n tasks.old.items tasks.new.items) }
     ensures tasks { AreStill world.frame tasks.old.items tasks.new.items }
 {
     let mut after = run_shared::<N, G, R>(rt, world, tasks, n, gate)?;

@@ -1,15 +1,17 @@
 //! One turn of a task, and schedules of turns.
 
-ghost use Rattle.std.specs.Prelude.{◌≡◌, ◌<◌, All, IfOk, OnOk, length};
+ghost use Rattle.std.specs.Prelude.{◌≡◌, ◌<◌, All, IfOk, OnErr, OnOk, length};
 ghost use Rattle.run_model.specs.Turns.{turns_of};
 ghost use Rattle.task_core.specs.frames.Runs.{AreTasks};
 ghost use Rattle.task_core.specs.laws_of_turns.Runs.{IsTurn, StillRuns, moment_in, scene_in};
+ghost use Rattle.task_runner.specs.Stops.{StopsIn};
 
 use ima_io::{Gate, Who};
 use std::alloc::AllocError as OutOfMemory;
 use task_core::{Task, Turn, World};
 
-/// One turn of the task of this number, behind the gate unless its program is over.
+/// Makes one turn of the task of this number; passes the gate first unless its program is over. If
+/// memory runs out, no turn was made.
 pub fn turn_at<G: Gate>(
     world: &mut World,
     tasks: &mut Vec<Task>,
@@ -20,6 +22,8 @@ pub fn turn_at<G: Gate>(
     requires within { k < length tasks.old.items }
     ensures turned { IfOk result (λ r. IsTurn world.old world.new tasks.old.items tasks.new.items
         k r) }
+    ensures err { OnErr result (moment_in world.new tasks.new.items
+        ≡ moment_in world.old tasks.old.items) }
     ensures still { StillRuns world.old world.new tasks.old.items tasks.new.items }
 {
     let task = &mut tasks[k];
@@ -33,8 +37,8 @@ pub fn turn_at<G: Gate>(
     task.step(world)
 }
 
-/// One turn of each task that is named, in order. Where memory runs out, the tasks have
-/// made some of their turns.
+/// Makes one turn of each task that is named, in order. If memory runs out, some first turns of the
+/// schedule were made, and the world is that of these turns.
 pub fn run_schedule<G: Gate>(
     world: &mut World,
     tasks: &mut Vec<Task>,
@@ -46,6 +50,8 @@ pub fn run_schedule<G: Gate>(
     ensures run { OnOk result (moment_in world.new tasks.new.items
         ≡ turns_of (scene_in world.old tasks.old.items) (moment_in world.old tasks.old.items)
         turns.now) }
+    ensures err { OnErr result (StopsIn (scene_in world.old tasks.old.items)
+        (moment_in world.old tasks.old.items) turns.now (moment_in world.new tasks.new.items)) }
     ensures still { StillRuns world.old world.new tasks.old.items tasks.new.items }
 {
     for k in turns {

@@ -1,4 +1,4 @@
--- Cutting a list at the first element that passes a test, and a line at its blanks.
+-- Cutting a list before the first element that passes a test, and a line at its blanks.
 use Rattle.std.proofs.Common.{◌≡◌, ◌≢◌, ℕ, zero, suc, ◌+◌, Bool, true, not, List, [], ◌∷◌, ◌++◌, length, take, drop, refl, sym, ap, ◌∙◌, inl, inr, one-add, unwrap_or, arith}
 use Rattle.std.specs.List.{slice_split, filter, list_all, position_or_len, position}
 use Rattle.std.proofs.lemmas.Bool.{cases_Bool, false≢true}
@@ -13,7 +13,7 @@ begins p [] = true
 begins p (x ∷ xs) = p x
 
 module _ {X : Type 0} (p : X → Bool) where
-  -- what stands before the first element that passes
+  -- no element before the cut passes
   pub before_cut : (xs : List X) → list_all (λ x. not (p x)) (take (position_or_len p xs) xs) ≡ true
   before_cut [] = refl
   before_cut (x ∷ xs) = elim (cases_Bool (p x)) [
@@ -28,11 +28,11 @@ module _ {X : Type 0} (p : X → Bool) where
     | inr e ↦ rw (e, one-add) (after_cut xs)
   ]
 
-  -- the place that `position` answers, or the length
+  -- the index that `position` returns, or else the length
   pub place_is : (xs : List X) → unwrap_or (position p xs) (length xs) ≡ position_or_len p xs
   place_is xs = let le = prefix_len-le-length (λ x. not (p x)) xs in grind (arith, nat_tests)
 
-  -- a part without a separator is the first part, where a separator or nothing follows
+  -- a part without separators is the first part, if a separator follows it or nothing does
   pub part : (w rest : List X) → list_all (λ x. not (p x)) w ≡ true → begins p rest ≡ true
       → slice_split p (w ++ rest) ≡ w ∷ drop 1 (slice_split p rest)
   part [] [] h b = refl
@@ -42,7 +42,7 @@ module _ {X : Type 0} (p : X → Bool) where
     | inr e ↦ rw (e, part w rest (rw e at h) b) refl
   ]
 
--- blanks in front aren't part of a token
+-- leading blanks don't affect the tokens
 pub blanks_off : (line : List ℕ) → tokens (drop (position_or_len is_inked line) line) ≡ tokens line
 blanks_off [] = refl
 blanks_off (b ∷ bs) = elim (cases_Bool (is_blank b)) [
@@ -55,13 +55,13 @@ rest_of : (rest : List ℕ) → begins is_blank rest ≡ true
 rest_of [] b = refl
 rest_of (x ∷ xs) b = rw b refl
 
--- a word without blanks is the first token, where a blank or nothing follows
+-- a word without blanks is the first token, if a blank follows it or nothing does
 pub tokens-word : (c : ℕ) (w rest : List ℕ) → list_all is_inked (c ∷ w) ≡ true
     → begins is_blank rest ≡ true → tokens ((c ∷ w) ++ rest) ≡ (c ∷ w) ∷ tokens rest
 tokens-word c w rest h b =
     rw (part is_blank (c ∷ w) rest h b) (ap (λ (ts : List (List ℕ)). (c ∷ w) ∷ ts) (rest_of rest b))
 
--- the first token, where it is not empty
+-- a nonempty text without blanks is the first token
 pub first_token : (w rest : List ℕ) → is_filled w ≡ true → list_all is_inked w ≡ true
     → begins is_blank rest ≡ true → tokens (w ++ rest) ≡ w ∷ tokens rest
 first_token [] rest f h b = absurd (false≢true f)
@@ -80,7 +80,7 @@ nothing_left : (n : ℕ) → tokens (drop n []) ≡ []
 nothing_left zero = refl
 nothing_left (suc n) = refl
 
--- what is cut off the line after its blanks: with no token there, the line has none
+-- if the text after the leading blanks is empty, the line has no tokens
 pub next_none : (line : List ℕ) → let text = drop (position_or_len is_inked line) line in let n =
     position_or_len is_blank text in
     take n text ≡ [] → (tokens line ≡ []) × (tokens (drop n text) ≡ [])
@@ -103,7 +103,7 @@ next_some line f =
     ∙ first_token (take n text) (drop n text) f (before_cut is_blank text)
     (after_cut is_blank text)
 
--- the token and the rest that are cut off a line, as by one call of `next`
+-- the token and the rest that one call of `next` cuts from a line
 pub record IsNext (line token rest : List ℕ) : Type 0 where
   pub none : length token ≡ 0 → (tokens line ≡ []) × (tokens rest ≡ [])
   pub some : length token ≢ 0 → tokens line ≡ token ∷ tokens rest

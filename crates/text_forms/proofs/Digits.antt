@@ -1,4 +1,4 @@
--- Digits one by one, and a number that is printed and read again.
+-- The digits of a number one by one, and the proof that a printed number is read back.
 use Rattle.std.proofs.Common.{◌≡◌, ℕ, ◌+◌, ◌*◌, ◌<◌, ◌≤◌, Bool, true, false, cond, ◌&&◌, List, length, get_or, take, Some, None, refl, sym, arith, nat_le}
 use Rattle.std.specs.Char.{is_digit, digit_value}
 use Rattle.std.specs.List.{list_all}
@@ -13,7 +13,7 @@ none_above : (b : Bool) (v most : ℕ) → most < v → cond (b && nat_le v most
 none_above true v most h = let no : nat_le v most ≡ false = grind (arith, nat_tests) in rw no refl
 none_above false v most h = refl
 
--- digits whose first few stand for a number above the limit have none
+-- digits whose first few already exceed the limit give no number
 pub number_of-above : (radix most : ℕ) (ds : List ℕ) (i value digit : ℕ) → 1 ≤ radix → i < length ds
     → value ≡ digits_value radix (take i ds) → digit ≡ digit_value (get_or ds i 0)
     → most < value * radix + digit → None ≡ number_of radix most ds
@@ -23,7 +23,7 @@ number_of-above radix most ds i value digit low at v d above =
     let same : digits_value radix (take (i + 1) ds) ≡ value * radix + digit = rw (v, d) here in
     sym (none_above (is_numeral radix ds) (digits_value radix ds) most (omega (arith, same, grows)))
 
--- one digit more
+-- the value of one more digit
 pub more_digits : (radix : ℕ) (ds : List ℕ) (i value digit : ℕ) → i < length ds
     → value ≡ digits_value radix (take i ds) → list_all (λ c. is_digit c radix) (take i ds) ≡ true
     → digit_value (get_or ds i 0) < radix → digit ≡ digit_value (get_or ds i 0)

@@ -1,4 +1,4 @@
--- Texts, each with what it is.
+-- Texts and their values, computed.
 use Rattle.std.proofs.Common.{◌≡◌, true, false, [], ◌∷◌, codes, Some, None, refl}
 use Rattle.std.specs.Prelude.{replicate}
 use Rattle.uuid.specs.Text.{by_index}
@@ -8,7 +8,7 @@ use Rattle.text_forms.specs.Paths.{is_path}
 use Rattle.text_forms.specs.Tokens.{tokens}
 use Rattle.text_forms.specs.Words.{words}
 
--- sixty digits have the form of a number, though no limit here lets them pass
+-- sixty digits have the form of a number, although their value is above the limit
 long_number : (is_short_numeral 10 (replicate 60 57) ≡ true)
     × (short_number_of 10 0xffff_ffff_ffff_ffff (replicate 60 57) ≡ None)
 long_number = (refl, refl)

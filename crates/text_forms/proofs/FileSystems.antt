@@ -1,4 +1,4 @@
--- Magic numbers and UUIDs: what is printed is visible, and is read again.
+-- Magic numbers and UUIDs: their printed text is visible, and is read back as the same value.
 use Rattle.std.proofs.Common.{◌≡◌, ℕ, zero, suc, ◌+◌, ◌/◌, ◌%◌, ◌^◌, ◌<◌, ◌≤◌, Bool, true, false, ◌==◌, List, [], ◌∷◌, length, get_or, Option, Some, None, Err, IsOk, ◌↔◌, nat_le, if◌then◌else◌, refl, sym, ap, ◌∙◌, inl, inr, arith}
 use Rattle.std.specs.Fmt.{digits, digits_onto, digit_glyph}
 use Rattle.std.specs.Int.{w128, to_be_bytes, from_be_bytes, bytes_high_first, byte_at}
@@ -38,7 +38,7 @@ length-hex n fits =
     let le : length (digits_onto 64 16 false n []) ≤ 16 = omega (arith, short) in
     le-leb _ 16 le
 
--- a magic number
+-- the text of a magic number is visible, and is read back
 pub magic_again : (n : ℕ) → n ≤ 0xffff_ffff_ffff_ffff → (list_all is_visible (magic_text n) ≡ true)
     × (magic_of (magic_text n) ≡ Some n)
 magic_again n fits =
@@ -83,7 +83,7 @@ read_by f xs n len small e =
     ap (λ (o : Option (List ℕ)). option_map f o)
     (sym (parses_hyphenated_text lower xs (inl refl) len small)) ∙ ap (λ (m : ℕ). Some m) e
 
--- a UUID
+-- the text of a UUID is visible, and is read back
 pub uuid_again : (n : ℕ) → n < 2 ^ 128 → (list_all is_visible (uuid_text n) ≡ true)
     × (uuid_of (uuid_text n) ≡ Some n)
 uuid_again n fits = (
@@ -92,7 +92,7 @@ uuid_again n fits = (
       (from_be_bytes-to_be_bytes_16 n fits),
 )
 
--- a text of 36 bytes is read in the hyphenated form alone
+-- a text of 36 bytes can only be in the hyphenated form
 parsed_at_36 : (s : List ℕ) → length s ≡ 36 → parsed s ≡ parsed_hyphenated s
 parsed_at_36 s len = rw len refl
 

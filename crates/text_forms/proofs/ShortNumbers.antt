@@ -1,4 +1,5 @@
--- Numbers without leading zeros: what is printed is read again, and the form apart from the value.
+-- Numbers without leading zeros: a printed number is read back, and the form doesn't depend on the
+-- value.
 use Rattle.std.proofs.Common.{◌≡◌, ℕ, zero, suc, ◌+◌, ◌*◌, ◌/◌, ◌%◌, ◌^◌, ◌<◌, ◌≤◌, Bool, true, false, not, ◌==◌, ◌&&◌, List, [], ◌∷◌, Some, None, nat_le, nat_lt, if◌then◌else◌, refl, inl, inr, arith}
 use Rattle.std.specs.Fmt.{digits, digits_onto, digit_glyph, decimal}
 use Rattle.std.specs.Str.Parse.{digits_value}
@@ -8,7 +9,7 @@ use Rattle.std.proofs.Math.Nat.{div-add-mod', div-le_self, div-lt_iff_lt-mul, po
 use Rattle.text_forms.specs.Numbers.{is_short, is_short_numeral, short_number_of}
 use Rattle.text_forms.proofs.Visible.{number_of-digits}
 
--- the number of a text is its value, where the text has the form and the value is within the limit
+-- the number of a text is its value, if the text has the form and the value is within the limit
 pub short_number_by_value : (radix most : ℕ) (text : List ℕ)
     → short_number_of radix most text
     ≡ (if is_short_numeral radix text && nat_le (digits_value radix text) most
@@ -18,7 +19,7 @@ short_number_by_value radix most text = elim (cases_Bool (is_short text)) [
   | inr e ↦ rw e refl
 ]
 
--- whether the list begins with another digit than zero
+-- the list begins with a digit other than zero
 abbrev leads : List ℕ → Bool
 leads [] = false
 leads (c ∷ cs) = not (c == 48)
@@ -38,7 +39,7 @@ module _ (radix : ℕ) (low : 2 ≤ radix) (high : radix ≤ 16) where
   some : 0 < radix
   some = omega arith
 
-  -- the last digit of a number without others
+  -- a number with only one digit is that digit
   one_digit : (n : ℕ) → (n / radix == 0) ≡ true → n % radix ≡ n
   one_digit n last =
       let none : n / radix ≡ 0 = grind (arith, nat_tests) in
@@ -72,13 +73,13 @@ module _ (radix : ℕ) (low : 2 ≤ radix) (high : radix ≤ 16) where
   unfolding digits
   short_digits n fits = short_onto 63 n fits
 
-  -- what is printed of a number is read as that number
+  -- the printed digits of a number are read back as that number
   pub short_number_of-digits : (most n : ℕ) → n < radix ^ 64 → n ≤ most
       → short_number_of radix most (digits radix false n) ≡ Some n
   short_number_of-digits most n fits le =
       rw (short_digits n fits) (number_of-digits radix n low high fits most le)
 
--- the same of decimal digits
+-- the printed decimal digits of a number are read back as that number
 pub short_number_of-decimal : (most n : ℕ) → n < 2 ^ 64 → n ≤ most
     → short_number_of 10 most (decimal n) ≡ Some n
 short_number_of-decimal most n fits le = short_number_of-digits 10 (omega arith) (omega arith) most

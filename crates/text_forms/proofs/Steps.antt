@@ -1,4 +1,4 @@
--- Going over a list one by one, as a loop does that reads a text line by line.
+-- Iterating over a list, as a loop does that reads a text line by line.
 use Rattle.std.proofs.Common.{◌≡◌, ℕ, suc, ◌+◌, ◌<◌, ◌≤◌, List, [], ◌∷◌, length, get_or, drop, Result, Ok, Err, refl, sym, ap, ◌∙◌, add-one, arith}
 use Rattle.std.specs.List.{enumerate_from}
 use Rattle.std.proofs.lemmas.List.FromFn.{length-enumerate_from, get_or-enumerate_from}
@@ -6,14 +6,14 @@ use Rattle.std.proofs.Math.ListN.{drop_of_length-le}
 use Rattle.std.proofs.Math.Seq.{drop-cons}
 use Rattle.text_forms.specs.Lines.{from_lines, IsFirstBad}
 
--- the item of one iteration, where what is left of the list begins with it
+-- the item of one iteration, if the rest of the list begins with it
 pub next_item : {A : Type 0} (xs : List A) (n : ℕ) (x : A) → (n < length xs) × (x ≡ get_or xs n x)
     → drop n xs ≡ x ∷ drop (n + 1) xs
 next_item xs n x h =
     let e : drop n xs ≡ get_or xs n x ∷ drop (suc n) xs = drop-cons xs n x h.0 in
     rw (add-one, h.1) e
 
--- the same of an item with its number
+-- the item of one iteration, and its number, in a numbered list
 pub numbered_item : {A : Type 0} (xs : List A) (n i : ℕ) (x : A)
     → (n < length (enumerate_from 0 xs)) × ((i, x) ≡ get_or (enumerate_from 0 xs) n (i, x))
     → (i ≡ n) × (drop n xs ≡ x ∷ drop (n + 1) xs)
@@ -24,7 +24,7 @@ numbered_item {A} xs n i x h =
 
 module _ {S C F : Type 0} (fault : ℕ → C → F) (step : S → List ℕ → Result S C) (ls : List (List ℕ))
     (whole : Result S F) where
-  -- the line number is one more than the number of lines before it
+  -- the number of a line is one more than the number of lines before it
   pub goes_on : (n m : ℕ) (s t : S) (line : List ℕ) → drop n ls ≡ line ∷ drop (n + 1) ls
       → step s line ≡ Ok t → m ≡ n + 1
       → from_lines fault step (n + 1) s (drop n ls) ≡ whole

@@ -1,4 +1,4 @@
--- A text of lines of words tells its words.
+-- The text of lines of words determines the words.
 use Rattle.std.proofs.Common.{◌≡◌, ℕ, Bool, true, false, not, ◌&&◌, ◌==◌, List, [], ◌∷◌, ◌++◌, map, refl, sym, ap, ◌∙◌, append_assoc, arith}
 use Rattle.std.specs.List.{slice_split, list_all, join_with_byte}
 use Rattle.std.proofs.lemmas.Bool.{false≢true}
@@ -21,7 +21,7 @@ right : (a b : Bool) → (a && b) ≡ true → b ≡ true
 right true b h = h
 right false b h = absurd (false≢true h)
 
--- parts joined by a byte that none of them has are the parts between that byte
+-- splitting joined parts at the separator gives the parts back, if none of them has the separator
 pub parts_back : (c : ℕ) (w : List ℕ) (ws : List (List ℕ))
     → list_all (λ v. list_all (λ b. not (b == c)) v) (w ∷ ws) ≡ true
     → slice_split (λ b. b == c) (join_with_byte c (w ∷ ws)) ≡ w ∷ ws
@@ -38,7 +38,7 @@ no_space b h = right _ _ h
 no_newline : (b : ℕ) → is_clean_byte b ≡ true → not (b == 10) ≡ true
 no_newline b h = left _ _ h
 
--- the words of a line of a report
+-- splitting a line of a report gives its words back
 pub words_back : (w : List ℕ) (ws : List (List ℕ)) → is_line (w ∷ ws) ≡ true
     → words (join_with_byte 32 (w ∷ ws)) ≡ w ∷ ws
 words_back w ws h =
@@ -57,13 +57,13 @@ flat_words (w ∷ v ∷ ws) h =
     )
     (flat_words (v ∷ ws) (right _ _ h))
 
--- a line that no newline is in is taken off the text
+-- a line without newlines is split off the text
 pub line_split : (text rest : List ℕ) → list_all (λ b. not (b == 10)) text ≡ true
     → lines ((text ++ 10 ∷ []) ++ rest) ≡ text ∷ lines rest
 line_split text rest flat = ap lines (append_assoc text (10 ∷ []) rest)
     ∙ part (λ b. b == 10) text (10 ∷ rest) flat refl
 
--- the lines of a report, and one empty line behind the last newline
+-- splitting a report gives its lines back, and an empty line after the last newline
 pub lines_back : (ls : List (List (List ℕ))) → list_all is_line ls ≡ true
     → map words (lines (text_of ls)) ≡ ls ++ ([] ∷ []) ∷ []
 lines_back [] h = refl
@@ -74,7 +74,7 @@ lines_back ((w ∷ ws) ∷ ls) h =
     ∙ ap (λ (l : List (List ℕ)). l ∷ map words (lines (text_of ls))) (words_back w ws (left _ _ h))
     ∙ ap (λ (more : List (List (List ℕ))). (w ∷ ws) ∷ more) (lines_back ls (right _ _ h))
 
--- two reports with one text are one report
+-- two reports with the same text are equal
 pub text_tells : (a b : List (List (List ℕ))) → list_all is_line a ≡ true → list_all is_line b
     ≡ true → text_of a ≡ text_of b → a ≡ b
 text_tells a b h k e =

@@ -11,7 +11,7 @@ use Rattle.text_forms.specs.Numbers.{number_of}
 use Rattle.text_forms.specs.Tokens.{is_inked, is_filled}
 use Rattle.text_forms.specs.Words.{is_visible}
 
--- a test that holds wherever another does
+-- a list that passes one test passes a weaker one
 pub all_weaker : {X : Type 0} (p q : X → Bool) → ((x : X) → p x ≡ true → q x ≡ true) → (xs : List X)
     → list_all p xs ≡ true → list_all q xs ≡ true
 all_weaker p q f [] h = refl
@@ -53,7 +53,7 @@ filled [] h = absurd (omega (arith, h))
 filled (c ∷ ds) h = refl
 
 module _ (radix n : ℕ) (low : 2 ≤ radix) (high : radix ≤ 16) (fits : n < radix ^ 64) where
-  -- what is printed of a number is read as that number
+  -- the printed digits of a number are read back as that number
   pub number_of-digits : (most : ℕ) → n ≤ most → number_of radix most (digits radix false n)
       ≡ Some n
   number_of-digits most le =

@@ -1,4 +1,4 @@
--- Options one after the other, in `do` notation.
+-- Sequencing of options, in `do` notation.
 use Rattle.std.specs.Prelude.{Option, Some, None}
 
 infixl 10 ◌>>=◌

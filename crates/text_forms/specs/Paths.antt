@@ -1,10 +1,9 @@
--- Paths of files.
+-- The paths of files.
 use Rattle.std.specs.Prelude.{ℕ, Bool, false, ◌==◌, ◌&&◌, nat_le, List, [], ◌∷◌, length}
 use Rattle.std.specs.List.{slice_split, list_all}
 use Rattle.text_forms.specs.Words.{is_word}
 
--- a slash, and then components of 1 to 255 visible bytes, parted by slashes; at most 1,024 bytes in
--- all
+-- components of 1 to 255 visible bytes, each after one slash; at most 1,024 bytes in all
 abbrev pub is_path : List ℕ → Bool
 is_path [] = false
 is_path (b ∷ parts) =

@@ -1,4 +1,4 @@
--- Tokens are parted by any number of spaces and tabs, and by no other byte.
+-- Tokens are separated by any number of spaces and tabs, and by no other byte.
 use Rattle.std.specs.Prelude.{ℕ, Bool, true, false, not, ◌==◌, ◌||◌, List, [], ◌∷◌, filter}
 use Rattle.std.specs.List.{slice_split}
 

@@ -5,8 +5,8 @@ use crate::numbers::number_of;
 use std::fmt::{self, Display};
 use uuid::Uuid;
 
-/// The magic number of a file system (`s_magic`): `0x`, `0X` or neither, then 1 to 16 hexadecimal
-/// digits in either case.
+/// Parses the magic number of a file system (`s_magic`): an optional `0x` or `0X`, then 1 to 16
+/// hexadecimal digits in either case.
 pub fn magic_of(text: &[u8]) -> Option<u64>
     ensures { result ≡ magic_of text.now }
 {
@@ -27,8 +27,8 @@ fn without_0x(text: &[u8]) -> &[u8]
     }
 }
 
-/// The UUID of a file system, whose first byte is the most significant: the hyphenated form of
-/// RFC 9562, in either case.
+/// Parses the UUID of a file system, most significant byte first, in the hyphenated form of RFC
+/// 9562 and in either case.
 pub fn uuid_of(text: &[u8]) -> Option<u128>
     ensures { result ≡ uuid_of text.now }
 {
@@ -41,7 +41,7 @@ pub fn uuid_of(text: &[u8]) -> Option<u128>
     }
 }
 
-/// A magic number, displayed as `0x` and digits in lower case without leading zeros.
+/// A magic number, displayed as `0x` and lower-case digits without leading zeros.
 #[derive(Clone, Copy, Debug, PartialEq, Eq)]
 pub struct Magic(pub u64);
 

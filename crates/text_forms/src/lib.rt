@@ -1,9 +1,9 @@
-//! What the texts of lines share: policies, scripts and lists are read and printed by these forms.
+//! The text forms that policies, scripts and measurement lists share, for reading and for printing.
 //!
-//! A text is lines, a line is tokens parted by blanks ([`Tokens`]) or words parted by one space
-//! ([`words`]), and a number is digits ([`number_of`], [`short_number_of`]). The definitions stand
-//! in
-//! `specs/`, and `proofs/` has the lemmas that what is printed can be read back.
+//! A text consists of lines. A line consists of tokens separated by blanks ([`Tokens`]) or of words
+//! separated by single spaces ([`words`]). A number consists of digits ([`number_of`],
+//! [`short_number_of`]). The definitions are in `specs/`, and the lemmas in `proofs/` show that
+//! printed text can be read back.
 #![tactic(auto)]
 
 mod file_system;

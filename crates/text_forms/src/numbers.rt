@@ -3,10 +3,10 @@ ghost use Rattle.std.specs.Char.{is_digit};
 ghost use Rattle.std.specs.List.{list_all};
 ghost use Rattle.text_forms.specs.Numbers.{is_short_numeral, number_of, short_number_of};
 
-/// The number that the digits stand for in the radix, with letters in either case.
+/// The value of the digits in the radix; letters may be in either case.
 ///
-/// Any number of zeros may stand in front, and there may be hundreds of digits: only the value
-/// counts. None where there is no digit, another byte, or a value above `most`.
+/// Leading zeros are allowed, and there may be hundreds of digits: only the value matters. `None`
+/// if the text is empty, has a byte that isn't a digit, or has a value above `most`.
 pub fn number_of(digits: &[u8], radix: u32, most: u64) -> Option<u64>
     requires lowest { 2 ≤ radix }
     requires highest { radix ≤ 36 }
@@ -24,7 +24,7 @@ pub fn number_of(digits: &[u8], radix: u32, most: u64) -> Option<u64>
     (value <= most).then_some(value)
 }
 
-/// As [`number_of`], but no zero may stand in front of another digit.
+/// The value of the digits as [`number_of`] reads them, except that leading zeros are refused.
 pub fn short_number_of(digits: &[u8], radix: u32, most: u64) -> Option<u64>
     requires lowest { 2 ≤ radix }
     requires highest { radix ≤ 36 }
@@ -36,8 +36,8 @@ pub fn short_number_of(digits: &[u8], radix: u32, most: u64) -> Option<u64>
     }
 }
 
-/// Whether the text has the form that [`short_number_of`] reads, however large its value: one digit
-/// or more, and no zero in front of another.
+/// Whether the text has the form that [`short_number_of`] reads, however large its value: at least
+/// one digit, and no leading zero before another digit.
 pub fn is_short_numeral(text: &[u8], radix: u32) -> bool
     requires lowest { 2 ≤ radix }
     requires highest { radix ≤ 36 }

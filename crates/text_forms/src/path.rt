@@ -5,9 +5,8 @@ ghost use Rattle.text_forms.specs.Words.{is_word};
 
 use crate::word::is_word;
 
-/// Whether the text is the path of a file: at most 1,024 bytes, a slash, and then components of 1
-/// to
-/// 255 visible bytes, parted by one slash each. So it doesn't end with a slash.
+/// Whether the text is the path of a file: at most 1,024 bytes, and components of 1 to 255 visible
+/// bytes, each after one slash. So it doesn't end with a slash.
 pub fn is_path(text: &[u8]) -> bool
     ensures { result ≡ is_path text.now }
 {

@@ -2,8 +2,8 @@ ghost use Rattle.std.specs.Prelude.{◌≡◌, position};
 ghost use Rattle.std.specs.Iterator.{YieldsFirstRef, item_count};
 ghost use Rattle.text_forms.specs.Tokens.{is_blank, is_inked, tokens};
 
-/// The tokens of a line, from left to right: what stands between blanks, which are spaces and tabs
-/// alone. No token is empty.
+/// The tokens of a line, from left to right: the texts between blanks, which are spaces and tabs
+/// only. No token is empty.
 #[derive(Drop)]
 pub struct Tokens<'a>(pub &'a [u8]);
 

@@ -4,15 +4,15 @@ ghost use Rattle.text_forms.specs.Words.{words, is_visible, is_word};
 
 use std::alloc::{AllocError as OutOfMemory, Global};
 
-/// The words of a line, parted by exactly one space each: two spaces in a row, or one at an end,
-/// leave an empty word.
+/// The words of a line, separated by single spaces: two spaces in a row, or one at the start or the
+/// end, give an empty word.
 pub fn words(alloc: Global, line: &[u8]) -> Result<Vec<&[u8]>, OutOfMemory>
     ensures { IfOk result (λ v. map (λ w. w.now) v.items ≡ words line.now) }
 {
     line.split(|b| *b == b' ').collect(alloc)
 }
 
-/// Whether the text is a word of 1 to `most` visible bytes, 0x21 to 0x7e.
+/// Whether the text is a word of 1 to `most` visible bytes (0x21 to 0x7e).
 pub fn is_word(text: &[u8], most: usize) -> bool
     ensures { result ≡ is_word most text.now }
 {

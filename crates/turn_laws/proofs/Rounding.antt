@@ -14,17 +14,17 @@ use Rattle.turn_laws.proofs.Turning.{scene_same, still_more, turn_is_more}
 use Rattle.turn_laws.specs.Laws.{RoundIsMore, RoundIsWhole, RoundsAreOver, TurnInRound}
 use Rattle.turn_laws.specs.Runs.{IsInRound, IsTurn, StillRuns, moment_in, scene_in}
 
--- nothing more
+-- `false` is neutral on the right of `||`
 or_false : (b : Bool) → (b || false) ≡ b
 or_false true = refl
 or_false false = refl
 
--- one of three
+-- `||` is associative
 or_assoc : (a b c : Bool) → ((a || b) || c) ≡ (a || (b || c))
 or_assoc true b c = refl
 or_assoc false b c = refl
 
--- turns and one more: one of them moves
+-- a list of turns with one more moves exactly if the list or the last turn does
 any_more : (scene : Scene) (m : Moment) (ns : List ℕ) (n : ℕ)
     → any_moves scene m (ns ++ n ∷ [])
     ≡ (any_moves scene m ns || moves scene (turns_of scene m ns) n)
@@ -34,7 +34,7 @@ any_more scene m (k ∷ ns) n =
     ∙ sym (or_assoc (moves scene m k) (any_moves scene (turn scene m k) ns)
     (moves scene (turns_of scene (turn scene m k) ns) n))
 
--- the turn of the next task
+-- the turn of task k extends a round of the tasks below k
 in_round : (world w1 w2 : WorldValue) (tasks t1 t2 : List Tasked) (k : ℕ) (moved : Bool)
     (r : Turn) → IsInRound world w1 tasks t1 k moved → StillRuns w1 w2 t1 t2
     → IsTurn w1 w2 t1 t2 k r → IsInRound world w2 tasks t2 (suc k) (moved || is_moved r)
@@ -52,13 +52,13 @@ in_round world w1 w2 tasks t1 t2 k moved r h s e =
           ∙ sym (any_more scene start (numbers k) k);
     }
 
--- the law
+-- proof of `TurnInRound`
 pub turn_in_round : TurnInRound
 turn_in_round world w1 w2 tasks t1 t2 k moved r h s e =
     subst (λ (n : ℕ). IsInRound world w2 tasks t2 n (moved || is_moved r)) (sym (add-one k))
     (in_round world w1 w2 tasks t1 t2 k moved r h s e)
 
--- the law
+-- proof of `RoundIsWhole`
 pub round_is_whole : RoundIsWhole
 round_is_whole world world2 tasks tasks2 moved h =
     let scene = scene_in world tasks in
@@ -70,7 +70,7 @@ round_is_whole world world2 tasks tasks2 moved h =
           ∙ ap (λ (n : ℕ). any_moves scene start (numbers n)) (sym (length-map tasks program_of));
     }
 
--- the law
+-- proof of `RoundIsMore`
 pub round_is_more : RoundIsMore
 round_is_more world w1 w2 tasks t1 t2 n h s e =
     let scene = scene_in world tasks in
@@ -88,7 +88,7 @@ round_is_more world w1 w2 tasks t1 t2 n h s e =
           ∙ ap (λ (m : Moment). round_moves scene m) h.run));
     }
 
--- the law
+-- proof of `RoundsAreOver`
 pub rounds_are_over : RoundsAreOver
 rounds_are_over world w1 w2 tasks t1 t2 n h s e =
     let scene = scene_in world tasks in

@@ -17,7 +17,7 @@ use Rattle.task_laws.proofs.Eventing.{get_map}
 use Rattle.turn_laws.specs.Laws.{StepIsTurn}
 use Rattle.turn_laws.specs.Runs.{GoesTo, IsTurn, KeepsTask, StillRuns, moment_in, scene_in}
 
--- a write of an element with the same value leaves the list of values
+-- writing an element with the same image leaves the map of a list as it was
 map_same : {A B : Type 0} (f : A → B) (xs : List A) (i : ℕ) (x y : A) → slice_get xs i ≡ Some x
     → f y ≡ f x → map f (slice_set xs i y) ≡ map f xs
 map_same f [] i x y h e = refl
@@ -36,7 +36,7 @@ module _ (world world2 : WorldValue) (tasks : List Tasked) (k : ℕ) (t t2 : Tas
   abbrev start : Moment
   start = moment_in world tasks
 
-  -- the tasks are those of their world still
+  -- the tasks still belong to their world
   still_runs : StillRuns world world2 tasks tasks2
   still_runs = record {
     frame = keeps.frame;
@@ -56,7 +56,7 @@ module _ (world world2 : WorldValue) (tasks : List Tasked) (k : ℕ) (t t2 : Tas
     at j x (inr e) =
         subst (λ (f : Frame). IsNth f j x) (sym keeps.frame) (all.each j x e.1)
 
-  -- what the step left is what the turn of its task leaves
+  -- the effect of the step is that of a turn of its task
   is_turn : (r : Turn) → GoesTo world world2 t t2 r → IsTurn world world2 tasks tasks2 k r
   is_turn r goes = record {
     moment = sym (ap (λ (o : Option Program). turned scene start k o (slice_get start.thoughts k))
@@ -85,7 +85,7 @@ module _ (world world2 : WorldValue) (tasks : List Tasked) (k : ℕ) (t t2 : Tas
         ≡ record { state = world2.state; thought = t2.mind.thought; turn = r })
         (all.each k t there).number (goes (programs_of tasks))
 
--- the law
+-- proof of `StepIsTurn`
 pub step_is_turn : StepIsTurn
 step_is_turn world world2 tasks k t t2 all there keeps = (
   still_runs world world2 tasks k t t2 all there keeps,

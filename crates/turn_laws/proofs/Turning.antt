@@ -1,4 +1,4 @@
--- A turn more.
+-- The turns of a list, and one turn more.
 use Rattle.std.proofs.Common.{◌≡◌, ℕ, List, [], ◌∷◌, ◌++◌, refl, sym, ◌∙◌, ap}
 use Rattle.run_model.specs.Scene.{Program, Scene}
 use Rattle.run_model.specs.Turns.{Moment, turn, turns_of}
@@ -9,14 +9,14 @@ use Rattle.task_laws.specs.frames.World.{WorldValue}
 use Rattle.turn_laws.specs.Laws.{TurnIsMore}
 use Rattle.turn_laws.specs.Runs.{StillRuns, moment_in, scene_in}
 
--- the tasks of a world are of one scene for good
+-- the scene of the tasks of a world never changes
 pub scene_same : (world w1 : WorldValue) (tasks t1 : List Tasked) → StillRuns world w1 tasks t1
     → scene_in w1 t1 ≡ scene_in world tasks
 scene_same world w1 tasks t1 s =
     ap (λ (f : Frame). scene_of f (programs_of t1)) s.frame
     ∙ ap (λ (ps : List Program). scene_of world.frame ps) s.programs
 
--- what the tasks of a world left twice
+-- `StillRuns` is transitive
 pub still_more : (world w1 w2 : WorldValue) (tasks t1 t2 : List Tasked)
     → StillRuns world w1 tasks t1 → StillRuns w1 w2 t1 t2 → StillRuns world w2 tasks t2
 still_more world w1 w2 tasks t1 t2 a b = record {
@@ -25,13 +25,13 @@ still_more world w1 w2 tasks t1 t2 a b = record {
   each = b.each;
 }
 
--- the last turn of a list comes behind the others
+-- the last turn of a list comes after all others
 turns_more : (scene : Scene) (m : Moment) (ns : List ℕ) (n : ℕ)
     → turns_of scene m (ns ++ n ∷ []) ≡ turn scene (turns_of scene m ns) n
 turns_more scene m [] n = refl
 turns_more scene m (k ∷ ns) n = turns_more scene (turn scene m k) ns n
 
--- the law
+-- proof of `TurnIsMore`
 pub turn_is_more : TurnIsMore
 turn_is_more world w1 w2 tasks t1 t2 turns k r h s e =
     let scene = scene_in world tasks in

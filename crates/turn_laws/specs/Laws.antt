@@ -7,8 +7,8 @@ use Rattle.task_laws.specs.frames.Tasks.{Tasked}
 use Rattle.task_laws.specs.frames.World.{WorldValue}
 use Rattle.turn_laws.specs.Runs.{GoesTo, HasRounded, HasTurned, IsInRound, IsRound, IsTurn, KeepsTask, StillRuns, moment_in, scene_in}
 
--- a step of one of the tasks is a turn of all; without one, as where memory ran out, they are
--- still the tasks of their world
+-- a step of one task is a turn of all; without a turn, as when memory runs out, they are still the
+-- tasks of their world
 abbrev pub StepIsTurn : Type 0
 StepIsTurn = (world world2 : WorldValue) (tasks : List Tasked) (k : ℕ) (t t2 : Tasked)
     → AreTasks world.frame tasks → slice_get tasks k ≡ Some t → KeepsTask world world2 t t2
@@ -16,7 +16,7 @@ StepIsTurn = (world world2 : WorldValue) (tasks : List Tasked) (k : ℕ) (t t2 :
     × ((r : Turn) → GoesTo world world2 t t2 r
     → IsTurn world world2 tasks (slice_set tasks k t2) k r)
 
--- turns and one more
+-- the turns of a list and one turn more are the turns of the list with that task appended
 abbrev pub TurnIsMore : Type 0
 TurnIsMore = (world w1 w2 : WorldValue) (tasks t1 t2 : List Tasked) (turns : List ℕ) (k : ℕ)
     (r : Turn) → HasTurned world w1 tasks t1 turns → StillRuns w1 w2 t1 t2
@@ -28,19 +28,19 @@ TurnInRound = (world w1 w2 : WorldValue) (tasks t1 t2 : List Tasked) (k : ℕ) (
     (r : Turn) → IsInRound world w1 tasks t1 k moved → StillRuns w1 w2 t1 t2
     → IsTurn w1 w2 t1 t2 k r → IsInRound world w2 tasks t2 (k + 1) (moved || is_moved r)
 
--- each task has had its turn
+-- a round is complete once each task has had its turn
 abbrev pub RoundIsWhole : Type 0
 RoundIsWhole = (world world2 : WorldValue) (tasks tasks2 : List Tasked) (moved : Bool)
     → IsInRound world world2 tasks tasks2 (length tasks) moved
     → IsRound world world2 tasks tasks2 moved
 
--- rounds and one more, which moved a task
+-- n rounds, and one that moves a task, are n + 1 rounds
 abbrev pub RoundIsMore : Type 0
 RoundIsMore = (world w1 w2 : WorldValue) (tasks t1 t2 : List Tasked) (n : ℕ)
     → HasRounded world w1 tasks t1 n → StillRuns w1 w2 t1 t2 → IsRound w1 w2 t1 t2 true
     → HasRounded world w2 tasks t2 (n + 1)
 
--- rounds and one that moved none: their end, which is the only one
+-- rounds end with the first that moves no task, and that end is unique
 abbrev pub RoundsAreOver : Type 0
 RoundsAreOver = (world w1 w2 : WorldValue) (tasks t1 t2 : List Tasked) (n : ℕ)
     → HasRounded world w1 tasks t1 n → StillRuns w1 w2 t1 t2 → IsRound w1 w2 t1 t2 false

@@ -1,5 +1,5 @@
-// Many entries, a violation twice, and two callers under one lock. The registers are those of
-// `sha1sum` and `sha256sum` over the bytes written out.
+// The measurement book: many entries, a repeated violation, and two callers under one lock. The
+// registers were computed with `sha1sum` and `sha256sum` over the bytes written out.
 
 ghost use Rattle.std.specs.Prelude.{◌≡◌, ◌≢◌, IfOk};
 ghost use Rattle.grow_list.specs.Shown.{fresh};
@@ -18,12 +18,12 @@ use std::test::Fail;
 const ABC_SHA256: &[u8; 32] =
     b"\xba\x78\x16\xbf\x8f\x01\xcf\xea\x41\x41\x40\xde\x5d\xae\x22\x23\xb0\x03\x61\xa3\x96\x17\x7a\x9c\xb4\x10\xff\x61\xf2\x00\x15\xad";
 
-// Register 10 in the bank of SHA-1 after the boot aggregate and the file `/a` whose content is
+// Register 10 in the bank of SHA-1 after the boot aggregate and the file `/a` with the content
 // `abc`.
 const AFTER_A: &[u8; 20] =
     b"\x4f\x63\x19\x86\xc6\xd9\x74\xb0\x55\x63\x28\xcf\x14\x28\x52\xf2\x83\x35\x70\x5c";
 
-// The entry of a path, of zeros or of the content `abc`.
+// The entry of a path, with a digest of all zeros or of the content `abc`.
 fn entry(
     rt: &impl Abort,
     alloc: Global,
@@ -66,7 +66,7 @@ fn start_three(
     Ok((book, first, second))
 }
 
-// Adds the entry of the path `/f` and the number.
+// Adds the entry of the path `/f` followed by the number.
 fn add_file(
     rt: &impl Abort,
     alloc: Global,
@@ -119,7 +119,7 @@ fn a_violation_is_added_twice(rt: HostRuntime) -> Result<(), Fail> {
     Ok(())
 }
 
-/// Which book it is. Each call picks it.
+/// The name of a book, as a type. Each call chooses its own.
 trait Name {
     ghost use Rattle.grow_list.specs.Shown.{ListName};
 
@@ -132,7 +132,7 @@ impl Name for Brand {
     ghost name = { no_name };
 }
 
-/// A book as it lies under a lock: its type carries its name.
+/// A book as it is kept under a lock. Its type has its name.
 #[derive(Drop)]
 struct Locked<N: Name> {
     book: Book,
@@ -166,7 +166,7 @@ impl<N: Name> Locked<N> {
     }
 }
 
-// Two callers add in turn: the places rise, over both and so for each.
+// Two callers add in turn. The places rise over both, and so for each of them.
 fn add_in_turn<N: Name, R: Abort + Wait>(
     rt: &R,
     alloc: Global,

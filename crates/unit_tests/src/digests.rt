@@ -1,11 +1,11 @@
-// Digests that other programs computed (`md5sum`, `sha1sum` and their kin).
+// Digests that other programs computed (`md5sum`, `sha1sum` and so on).
 
 use hash_algos::{Algo, Running};
 use std::alloc::{AllocError as OutOfMemory, Global};
 use std::process::Abort;
 use std::test::Fail;
 
-// The digests of no bytes, of `abc` and of 1,000,000 bytes `a`.
+// The digests of the empty message, of `abc` and of 1,000,000 bytes `a`, for each algorithm.
 const VECTORS: [(Algo, [&str; 3]); 6] = [
     (
         Algo::Md5,
@@ -57,12 +57,12 @@ const VECTORS: [(Algo, [&str; 3]); 6] = [
     ),
 ];
 
-// So many bytes `a`.
+// A message of `count` bytes `a`.
 fn letters(alloc: Global, count: usize) -> Result<Vec<u8>, OutOfMemory> {
     vec![in alloc; b'a'; count]
 }
 
-// The digest of the message, fed in pieces of this size, as digits.
+// The digest of the message in hexadecimal, computed over pieces of `piece` bytes.
 fn digits(alloc: Global, algo: Algo, message: &[u8], piece: usize) -> Result<String, OutOfMemory> {
     let mut running = Running::new(algo);
     for part in message.chunks(piece.max(1)) {
@@ -75,7 +75,7 @@ fn digits(alloc: Global, algo: Algo, message: &[u8], piece: usize) -> Result<Str
     Ok(text)
 }
 
-// Each algorithm gives its three digests, where the messages are fed in pieces of this size.
+// Checks each algorithm against its three digests, with messages fed in pieces of this size.
 fn agree(
     rt: &impl Abort,
     alloc: Global,

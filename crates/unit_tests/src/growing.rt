@@ -8,9 +8,8 @@ use std::sync::{Mutex, Wait};
 use std::test::Fail;
 use std::thread::{Threads, join};
 
-/// A caller adds an entry, then any number of entries are added by others, and then the caller
-/// looks: its entry stands in the list at the place that it was told, and no entry but its own has
-/// its number.
+/// A caller adds an entry, others then add any number of entries, and the caller looks. Its entry
+/// is in the list, at the place that `push` returned, and no entries but its own have its number.
 fn stays<E: Drop>(grow: &mut Grow<E>, me: &mut Pass<E>, entry: E, others: Vec<(Pass<E>, E)>) -> u64
     requires room { length others.items < grow.old.spare }
     requires mine { me.old.name ≡ grow.old.name }
@@ -28,7 +27,7 @@ fn stays<E: Drop>(grow: &mut Grow<E>, me: &mut Pass<E>, entry: E, others: Vec<(P
     place
 }
 
-/// A list of two callers, and their passes.
+/// Starts a list of two callers, with their passes.
 fn start_two(alloc: Global) -> Result<(Grow<u64>, Pass<u64>, Pass<u64>), OutOfMemory>
     ensures list { IfOk result (λ r. (r.0.list ≡ []) × (r.0.callers ≡ 2)) }
     ensures passes { IfOk result (λ r. (r.1 ≡ fresh r.0.name 0) × (r.2 ≡ fresh r.0.name 1)) }
@@ -43,7 +42,7 @@ fn start_two(alloc: Global) -> Result<(Grow<u64>, Pass<u64>, Pass<u64>), OutOfMe
     Ok((grow, first, second))
 }
 
-/// Closes a list of two callers.
+/// Closes a list of two callers, with both of their passes.
 fn close_two(
     alloc: Global,
     grow: Grow<u64>,
@@ -84,7 +83,7 @@ fn one_caller_that_adds_nothing(rt: HostRuntime) -> Result<(), Fail> {
     Ok(())
 }
 
-/// Closes a list of two callers, of which the first is its owner's.
+/// Closes a list of two callers, the first of whom is the list's owner.
 fn close_with_one(
     alloc: Global,
     grow: Grow<u64>,
@@ -112,7 +111,7 @@ fn an_owner_and_a_caller(rt: HostRuntime) -> Result<(), Fail> {
     Ok(())
 }
 
-/// Which list it is. Each call picks it.
+/// The name of a list, as a type. Each call chooses its own.
 trait Name {
     ghost use Rattle.grow_list.specs.Shown.{ListName};
 
@@ -125,7 +124,7 @@ impl Name for Brand {
     ghost name = { no_name };
 }
 
-/// A list of two callers as it lies under a lock: its type carries its name.
+/// A list of two callers as it is kept under a lock. Its type has its name.
 #[derive(Drop)]
 struct Locked<N: Name> {
     grow: Grow<u64>,
@@ -161,7 +160,7 @@ impl<N: Name> Locked<N> {
     }
 }
 
-// Adds a thousand numbers from `first` on.
+// Adds a thousand numbers, from `first` on.
 fn add_thousand<N: Name>(
     rt: &impl Wait,
     list: &Mutex<Locked<N>>,
@@ -178,7 +177,7 @@ fn add_thousand<N: Name>(
     Ok(pass)
 }
 
-// Two threads add a thousand numbers each.
+// Two threads add a thousand numbers each to one list.
 fn add_by_two<N: Name + Send + Sync, R: Threads + Wait + Sync>(
     rt: &R,
     alloc: Global,
@@ -226,7 +225,7 @@ fn sent<T: Send>(value: T) -> T {
     value
 }
 
-// A list and its passes go to another thread wherever their entries may.
+// Moves a list and a pass to another thread, which needs nothing but that their entries may move.
 fn sent_list<E: Send>(grow: Grow<E>, pass: Pass<E>) -> (Grow<E>, Pass<E>) {
     (sent(grow), sent(pass))
 }

@@ -13,7 +13,7 @@ const SHA1: &[u8] =
 const SHA256: &[u8] =
     b"\xc5\x26\xc6\x22\x20\x44\xda\xb5\x67\x4d\xe9\xc4\xac\x7f\x45\x66\xeb\xb5\xe4\xd8\xbf\x9d\x8e\xa3\x4c\x9c\xc8\xa7\xcc\x3c\x86\x9c";
 
-// Both digests of the bytes, of which the first `cut` come as one piece.
+// Both digests of the bytes, which are hashed as one piece of `cut` bytes and one of the rest.
 fn by_pieces(algo: Algo, bytes: &[u8], cut: usize) -> (Digest, Digest) {
     let mut hashing = Hashing::begin(algo);
     hashing.next(&bytes[..cut.min(bytes.len())]);

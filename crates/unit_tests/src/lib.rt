@@ -1,19 +1,14 @@
-//! Tests of the parts: bytes, digests, pages, registers and the outside; labels, EVM, verdicts and
-//! policies; the lists that callers share, and the measurement list.
+//! Tests of the parts: vectors of digests and HMACs, pages, registers and streams; the lists that
+//! callers share, and the measurement list; and what no case of `worked_runs` holds or shows of
+//! records, labels, comments and deciding rules.
 //!
-//! They stand here, and not beside what they test, since a crate with tests is proved twice.
+//! The tests are in a crate of their own because a crate with tests is proved twice.
 #![tactic(auto)]
 
-#[cfg(test)]
-mod appending;
-#[cfg(test)]
-mod attributes;
 #[cfg(test)]
 mod books;
 #[cfg(test)]
 mod digests;
-#[cfg(test)]
-mod evm;
 #[cfg(test)]
 mod growing;
 #[cfg(test)]
@@ -33,10 +28,4 @@ mod policies;
 #[cfg(test)]
 mod registers;
 #[cfg(test)]
-mod semaphores;
-#[cfg(test)]
-mod settings;
-#[cfg(test)]
 mod streams;
-#[cfg(test)]
-mod verdicts;

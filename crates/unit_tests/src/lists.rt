@@ -1,12 +1,14 @@
-// Two lists whose records were written out by hand, with digests of `sha1sum` and `sha256sum`.
-// Debian's `evmctl ima_measurement` (ima-evm-utils 1.4) accepts both against the registers below:
-// one list has the template `ima`, which it takes in no list with others, and the other list has
-// the rest.
+// Two lists whose records were written out by hand, with digests of `sha1sum` and `sha256sum`. No
+// command prints records, and no call makes an entry of `ima-buf`.
+//
+// Debian's `evmctl ima_measurement` (ima-evm-utils 1.4) accepts both against their registers: one
+// list has the template `ima`, which it takes in no list with others, and the other list has the
+// rest. The registers of the one are in a case of `worked_runs`.
 
 use hash_algos::{Algo, Digest};
 use ima_templates::{Entry, build, can_show, violation};
 use inode_meta::{Bank, Template};
-use list_format::{ascii, binary, violations};
+use list_format::{ascii, binary};
 use pcr_bank::Banks;
 use std::alloc::{AllocError as OutOfMemory, Global};
 use std::process::Abort;
@@ -17,12 +19,6 @@ const IMA_RECORDS: [&str; 4] = [
     "0000000e000000626f6f745f6167677265676174650a00000093444aee429a48c9744a421e8f59a007d88bb927030000",
     "00696d61a9993e364706816aba3e25717850c26c9cd0d89d020000002f610a0000000000000000000000000000000000",
     "00000000000003000000696d610000000000000000000000000000000000000000020000002f61",
-];
-
-const IMA_LINES: [&str; 3] = [
-    "10 719de8e521439498e9b77f6ed41e230b9821111e ima 0000000000000000000000000000000000000000 boot_aggregate",
-    "10 93444aee429a48c9744a421e8f59a007d88bb927 ima a9993e364706816aba3e25717850c26c9cd0d89d /a",
-    "10 0000000000000000000000000000000000000000 ima 0000000000000000000000000000000000000000 /a",
 ];
 
 const OTHER_RECORDS: [&str; 14] = [
@@ -42,22 +38,10 @@ const OTHER_RECORDS: [&str; 14] = [
     "3a000000000000000000000000000000000000000000000000000000000000000000030000002f610000000000",
 ];
 
-const OTHER_LINES: [&str; 7] = [
-    "10 0adefe762c149c7cec19da62f0da1297fcfbffff ima-ng sha256:0000000000000000000000000000000000000000000000000000000000000000 boot_aggregate",
-    "10 760e8bce1babb2102a26353db8318441da8a08df ima-ng sha256:ba7816bf8f01cfea414140de5dae2223b00361a396177a9cb410ff61f20015ad /a",
-    "10 6fc38961409baff8a0dc8942ba8fc79e60e756cf ima-sig sha256:ba7816bf8f01cfea414140de5dae2223b00361a396177a9cb410ff61f20015ad /a 030204aabbccdd",
-    " 9 736f2f91d5209cc03cf285370463fcf0de9993ce ima-sig sha256:ba7816bf8f01cfea414140de5dae2223b00361a396177a9cb410ff61f20015ad /a ",
-    "10 f4084bc3aa1f6231b7de540b9c47cf2d653350c9 ima-buf sha256:ba7816bf8f01cfea414140de5dae2223b00361a396177a9cb410ff61f20015ad kernel 616263",
-    "10 0000000000000000000000000000000000000000 ima-ng sha256:0000000000000000000000000000000000000000000000000000000000000000 /a",
-    "10 0000000000000000000000000000000000000000 ima-sig sha256:0000000000000000000000000000000000000000000000000000000000000000 /a ",
-];
+const BUF_LINE: &str = "10 f4084bc3aa1f6231b7de540b9c47cf2d653350c9 ima-buf \
+    sha256:ba7816bf8f01cfea414140de5dae2223b00361a396177a9cb410ff61f20015ad kernel 616263\n";
 
-// What the registers hold after each list, in the banks of SHA-1 and SHA-256.
-const IMA_PCR: (&str, &str) = (
-    "df103b598051894a28f2859f01bf132594a3b786",
-    "5ddce439c2edba4189da5f487b835ac15b789da0da317652397b936e2e15d14c",
-);
-
+// What the registers hold after the other list, in the banks of SHA-1 and SHA-256.
 const OTHER_PCR_10: (&str, &str) = (
     "e06a45f1e9384347ee3dc7af82c08bd639d95c25",
     "68278c4d6d2dd13a7b7b313299dd91fdc407a2f31ac27932cde53d8496a14c20",
@@ -112,19 +96,16 @@ fn violation_of_a(
     violation(alloc, template, Algo::Sha256, b"/a")
 }
 
-// The list's records and lines are these.
-fn shows(
+// The list's records are these.
+fn has_records(
     rt: &impl Abort,
     alloc: Global,
     list: &[Entry],
     records: &[&str],
-    lines: &[&str],
 ) -> Result<(), OutOfMemory> {
     let mut bytes = Vec::new(alloc);
-    let mut text = Vec::new(alloc);
     for e in list {
         binary(e, &mut bytes)?;
-        ascii(e, &mut text)?;
     }
     let mut wanted = String::new(alloc);
     for record in records {
@@ -134,12 +115,6 @@ fn shows(
         hex::encode(alloc, bytes.as_slice())?.as_str(),
         wanted.as_str()
     );
-    wanted.clear();
-    for line in lines {
-        wanted.push_str(line)?;
-        wanted.push_str("\n")?;
-    }
-    assert_eq!(rt; text.as_slice(), wanted.as_bytes());
     Ok(())
 }
 
@@ -175,8 +150,7 @@ fn a_list_of_ima_is_that_of_evmctl(rt: HostRuntime) -> Result<(), Fail> {
     list.push(entry(&rt, alloc, 10, Template::Ima, b"", b"boot_aggregate", b"")?)?;
     list.push(entry(&rt, alloc, 10, Template::Ima, b"abc", b"/a", b"\x03\x02")?)?;
     list.push(violation_of_a(&rt, alloc, Template::Ima)?)?;
-    shows(&rt, alloc, list.as_slice(), &IMA_RECORDS, &IMA_LINES)?;
-    holds(&rt, alloc, list.as_slice(), 10, IMA_PCR.0, IMA_PCR.1)?;
+    has_records(&rt, alloc, list.as_slice(), &IMA_RECORDS)?;
     Ok(())
 }
 
@@ -189,10 +163,14 @@ fn a_list_of_the_others_is_that_of_evmctl(rt: HostRuntime) -> Result<(), Fail> {
     list.push(entry(&rt, alloc, 10, Template::ImaNg, b"abc", b"/a", label)?)?;
     list.push(entry(&rt, alloc, 10, Template::ImaSig, b"abc", b"/a", label)?)?;
     list.push(entry(&rt, alloc, 9, Template::ImaSig, b"abc", b"/a", b"")?)?;
-    list.push(entry(&rt, alloc, 10, Template::ImaBuf, b"abc", b"kernel", b"abc")?)?;
+    let buffer = entry(&rt, alloc, 10, Template::ImaBuf, b"abc", b"kernel", b"abc")?;
+    let mut line = Vec::new(alloc);
+    ascii(&buffer, &mut line)?;
+    assert_eq!(rt; line.as_slice(), BUF_LINE.as_bytes());
+    list.push(buffer)?;
     list.push(violation_of_a(&rt, alloc, Template::ImaNg)?)?;
     list.push(violation_of_a(&rt, alloc, Template::ImaSig)?)?;
-    shows(&rt, alloc, list.as_slice(), &OTHER_RECORDS, &OTHER_LINES)?;
+    has_records(&rt, alloc, list.as_slice(), &OTHER_RECORDS)?;
     holds(
         &rt,
         alloc,
@@ -202,64 +180,5 @@ fn a_list_of_the_others_is_that_of_evmctl(rt: HostRuntime) -> Result<(), Fail> {
         OTHER_PCR_10.1,
     )?;
     holds(&rt, alloc, list.as_slice(), 9, OTHER_PCR_9.0, OTHER_PCR_9.1)?;
-    assert_eq!(rt; violations(list.as_slice()), 2);
-    Ok(())
-}
-
-// A path of this directory and of this many letters behind it, in a list of `ima`.
-fn long_name(
-    rt: &impl Abort,
-    alloc: Global,
-    directory: &[u8],
-    letter: u8,
-    count: usize,
-    sum: &str,
-    name: usize,
-) -> Result<(), OutOfMemory> {
-    let mut path = Vec::from_slice(alloc, directory)?;
-    for _ in 0..count {
-        path.push(letter)?;
-    }
-    let e = entry(rt, alloc, 10, Template::Ima, b"abc", path.as_slice(), b"")?;
-    assert_eq!(rt;
-        hex::encode(alloc, e.sum(Bank::Sha1).as_slice())?.as_str(),
-        sum
-    );
-    assert_eq!(rt; e.name.as_slice().len(), name);
-    Ok(())
-}
-
-#[test]
-fn ima_shows_the_last_component_of_a_long_path(rt: HostRuntime) -> Result<(), Fail> {
-    let alloc = rt.alloc();
-    long_name(
-        &rt,
-        alloc,
-        b"/",
-        b'p',
-        254,
-        "0eff02eb1b3f7bdfd323e0f5350f53420d98fa4c",
-        255,
-    )?;
-    long_name(
-        &rt,
-        alloc,
-        b"/d/",
-        b'p',
-        253,
-        "384ade4f2936ab224f93ab7b0dfee7983844e447",
-        253,
-    )?;
-    let directory =
-        b"/ddddddddddddddddddddddddddddddddddddddddddddddddddddddddddddddddddddddddddddddddddddddddddddddddddd/";
-    long_name(
-        &rt,
-        alloc,
-        directory,
-        b'f',
-        199,
-        "85ef3f21e606647672f3d4d3a10796c81062cf77",
-        199,
-    )?;
     Ok(())
 }

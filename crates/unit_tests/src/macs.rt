@@ -6,7 +6,7 @@ struct Vector {
     mac: &'static [u8],
 }
 
-// The test cases of RFC 2202, section 3, and the HMACs that it gives.
+// The test cases of RFC 2202, section 3, with their HMACs.
 const VECTORS: [Vector; 7] = [
     Vector {
         key: &[0x0b; 20],
@@ -48,7 +48,7 @@ const VECTORS: [Vector; 7] = [
     },
 ];
 
-// The HMAC of the message in two pieces, the first of `cut` bytes.
+// The HMAC of the message, fed in two pieces, the first of `cut` bytes.
 fn mac_in_two(vector: &Vector, cut: usize) -> [u8; MAC_LEN] {
     let cut = cut.min(vector.message.len());
     let mut state = HmacSha1::new(vector.key);

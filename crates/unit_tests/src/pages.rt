@@ -2,7 +2,7 @@ use inode_hashing::pages::{Content, MOST_BYTES, PageErr};
 use std::alloc::Global;
 use std::test::Fail;
 
-// So many bytes 61.
+// A content of `count` bytes 0x61.
 fn letters(alloc: Global, count: usize) -> Result<Content, PageErr> {
     let bytes = vec![in alloc; b'a'; count]?;
     Content::from_slice(alloc, bytes.as_slice())

@@ -1,4 +1,4 @@
-// Two extends of a register, against values of `sha1sum` and `sha256sum`.
+// A register after two extends, against values of `sha1sum` and `sha256sum`.
 
 use pcr_bank::{Bank, Banks};
 

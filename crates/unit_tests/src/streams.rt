@@ -1,5 +1,5 @@
-// What no clause says: that the calls succeed with ample memory, and what becomes of a system's
-// faults.
+// Tests of what no contract says: that the calls succeed if memory is ample, and how faults of the
+// system's streams are reported.
 use ima_io::{
     Failed, FreeGate, Gate, MemSink, MemSource, ReadErr, Sink, Source, StdSink, StdSource, Who,
     read_all, write_all,
@@ -8,7 +8,7 @@ use std::io;
 use std::io::{ErrorKind, Read, Write};
 use std::test::Fail;
 
-// A source that is read to its end or fails, with the limit, and the answer.
+// Each row is a source that is read to its end or fails, the limit, and the result.
 #[test]
 fn a_source_is_read_to_its_end(rt: HostRuntime) -> Result<(), Fail> {
     let wholes: [(&[u8], usize, &[u64], usize, Result<&[u8], ReadErr>); 7] = [
@@ -37,7 +37,7 @@ fn a_source_is_read_to_its_end(rt: HostRuntime) -> Result<(), Fail> {
     Ok(())
 }
 
-// A source of more than one chunk.
+// A source that takes more than one chunk to read.
 #[test]
 fn a_long_source_is_read_whole(rt: HostRuntime) -> Result<(), Fail> {
     let bytes = vec![in rt.alloc(); b'x'; 200_001]?;
@@ -47,8 +47,8 @@ fn a_long_source_is_read_whole(rt: HostRuntime) -> Result<(), Fail> {
     Ok(())
 }
 
-// A sink of this room, with the numbers of the calls that fail, and whether a piece of seven bytes
-// goes in whole, and what was taken.
+// Each row has the sink's room, its most bytes per call, the calls that fail, whether a piece of
+// seven bytes goes in whole, and the bytes that the sink took.
 #[test]
 fn a_piece_is_written_whole(rt: HostRuntime) -> Result<(), Fail> {
     let writes: [(usize, usize, &[u64], Result<(), Failed>, &[u8]); 5] = [
@@ -68,7 +68,7 @@ fn a_piece_is_written_whole(rt: HostRuntime) -> Result<(), Fail> {
     Ok(())
 }
 
-// A stream of the system that gives and takes nothing but this answer.
+// A stream of the system whose every call returns the same: an error, or no bytes.
 #[derive(Drop)]
 struct Stuck {
     error: bool,

@@ -1,24 +1,27 @@
-// A case, and whether what came meets it.
+// A case of a family, and the check of an outcome against it.
 use crate::outcome::Outcome;
 
-/// One case, as its text gives it:
+/// One case, in the form of its text:
 ///
 /// ```text
 /// >>> the case's name
 /// the words of the command line
 /// the input, any number of lines
 /// --- writes 0
-/// the whole output; the number is the status
+/// the whole output; the number is the exit status
 /// --- anywhere
-/// ends of lines that stand somewhere in the output; without this part there are none
+/// ends of lines that are somewhere in the output; this part may be missing
 /// --- notes
-/// what is told on the note; without this part nothing is
+/// the line on the note; if this part is missing, the note is empty
 /// ```
 ///
-/// In place of `writes` stands `has`, where only some lines of the output are to be looked at: each
-/// of them stands in it, in this order. One that ends in ` ..` is any line that begins with what is
-/// before these. The part `anywhere` is for what the fall of threads' steps leaves open: in which
-/// order their events stand, and under which numbers.
+/// A part `has` in place of `writes` lists only some lines of the output: each must be in the
+/// output, in this order, and a line that ends in ` ..` stands for any line that begins with the
+/// text before it. The part `anywhere` is for lines whose order and numbers depend on how the
+/// threads' steps fall.
+///
+/// A text that repeats itself is written short, as `spread` reads it. If the first line of an input
+/// is `# order TASK.CALL.STEP ..`, a gate fixes the order of these steps.
 #[derive(Clone, Copy, Debug)]
 pub struct Case<'a> {
     pub name: &'a str,
@@ -32,7 +35,7 @@ pub struct Case<'a> {
 }
 
 impl<'a> Case<'a> {
-    /// The case of this text, without the mark before its name.
+    /// Parses the text of a case, which begins after the mark `>>> `.
     pub fn of(text: &'a str) -> Option<Case<'a>> {
         let (name, rest) = text.split_once('\n')?;
         let (words, rest) = rest.split_once('\n')?;
@@ -53,7 +56,7 @@ impl<'a> Case<'a> {
         })
     }
 
-    /// Whether the outcome is what the case demands.
+    /// Whether the outcome meets the case.
     pub fn holds(&self, got: &Outcome) -> bool {
         let out = if self.whole {
             got.out.as_slice() == self.out.as_bytes()
@@ -66,7 +69,7 @@ impl<'a> Case<'a> {
     }
 }
 
-// Whether each of these lines stands in the output, in this order.
+// Whether the output has all of these lines, in this order.
 fn has_lines(out: &[u8], lines: &str) -> bool {
     let mut wanted = lines.lines();
     let mut next = wanted.next();
@@ -78,7 +81,7 @@ fn has_lines(out: &[u8], lines: &str) -> bool {
     next.is_none()
 }
 
-// Whether the line is the wanted one, or begins with what is before ` ..` in that.
+// Whether the line is `want` or, if that has ` ..`, begins with the text before it.
 fn is_wanted(line: &[u8], want: &str) -> bool {
     match want.split_once(" ..") {
         Some((front, _)) => line.starts_with(front.as_bytes()),
@@ -86,7 +89,7 @@ fn is_wanted(line: &[u8], want: &str) -> bool {
     }
 }
 
-// Whether each of these is the end of a line of the output.
+// Whether each of these is the end of some line of the output.
 fn has_ends(out: &[u8], ends: &str) -> bool {
     for end in ends.lines() {
         if !has_end(out, end.as_bytes()) {
@@ -96,7 +99,7 @@ fn has_ends(out: &[u8], ends: &str) -> bool {
     true
 }
 
-// Whether a line of the output ends so.
+// Whether some line of the output ends in `end`.
 fn has_end(out: &[u8], end: &[u8]) -> bool {
     for line in out.split(|b| *b == b'\n') {
         if line.ends_with(end) {

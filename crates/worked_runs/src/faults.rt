@@ -9,6 +9,9 @@ use std::alloc::{AllocError as OutOfMemory, Global};
 use std::sync::Wait;
 use std::thread::Threads;
 
+// What is told of words that are no command.
+const FORMS: &str = "usage: imakern list | run | policy | label | gen N\n";
+
 /// Of each kind of fault, whether every try ended as it has to.
 #[derive(Clone, Copy, Debug)]
 pub struct Tried {
@@ -159,7 +162,7 @@ fn cuts_are_refused<R: Threads + Wait + Sync>(
     Ok(answer(rt, alloc, case.words, script)?.is(DONE, case.out.as_bytes(), ""))
 }
 
-// The script behind a comment line of so many bytes.
+// The script after a comment line of so many bytes.
 fn behind_a_comment<R: Threads + Wait + Sync>(
     rt: &R,
     alloc: Global,
@@ -205,8 +208,7 @@ fn words_are_usage<R: Threads + Wait + Sync>(
     ];
     for words in none_of_them {
         let got = answer(rt, alloc, words, case.input.as_bytes())?;
-        let told = got.note.starts_with(b"usage: imakern list | run | ");
-        if got.status != USAGE || !got.out.is_empty() || !told {
+        if !got.is(USAGE, b"", FORMS) {
             return Ok(false);
         }
     }

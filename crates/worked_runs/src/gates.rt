@@ -1,4 +1,4 @@
-// Gates: one that sees which steps pass it, and one behind which two tasks wait for each other.
+// Gates: one that sees which steps pass it, and one at which two tasks wait for each other.
 use crate::outcome::answer_behind;
 use ima_io::{Gate, Who};
 use ima_top::DONE;
@@ -8,8 +8,12 @@ use std::sync::Wait;
 use std::sync::atomic::{AtomicBool, AtomicUsize, Ordering};
 use std::thread::Threads;
 
-// A step of a run: its task, its call and its number in the call.
-type Step = (u32, u32, u32);
+/// A step of a run: its task, its call and its number in the call.
+pub type Step = (u32, u32, u32);
+
+/// How often a task looks for another at most. That takes about a second, in which one on another
+/// thread comes; so the tasks that must not meet wait as long as those that must.
+pub const MOST_LOOKS: u64 = 100_000_000;
 
 // One task that opens, reads and closes a measured file.
 const READER: &str = "imakern 1\n\
@@ -67,7 +71,7 @@ fn is_passed_by<R: Threads + Wait + Sync>(
 }
 
 /// Whether each turn of a task whose program isn't over passes the gate before it: a blocked one
-/// too, and none behind the last call.
+/// too, and none after the last call.
 pub fn turns_pass<R: Threads + Wait + Sync>(rt: &R, alloc: Global) -> Result<bool, OutOfMemory> {
     let open = [
         (0, 0, 0),
@@ -100,7 +104,6 @@ pub fn turns_pass<R: Threads + Wait + Sync>(rt: &R, alloc: Global) -> Result<boo
 // Lets the first step of each of two tasks wait for that of the other.
 #[derive(Drop)]
 struct Meeting {
-    turns: u64,
     first: AtomicBool,
     second: AtomicBool,
     missed: AtomicBool,
@@ -110,16 +113,14 @@ impl Meeting {
     // Sets the one flag, and waits for the other.
     fn meet(&self, own: &AtomicBool, other: &AtomicBool) {
         own.store(true, Ordering::SeqCst);
-        if !sees(other, self.turns) {
+        if !sees(other) {
             self.missed.store(true, Ordering::SeqCst);
         }
     }
 
-    // Whether both came, and neither waited in vain.
-    fn is_held(&self) -> bool {
-        self.first.load(Ordering::SeqCst)
-            && self.second.load(Ordering::SeqCst)
-            && !self.missed.load(Ordering::SeqCst)
+    // Whether both came.
+    fn is_passed(&self) -> bool {
+        self.first.load(Ordering::SeqCst) && self.second.load(Ordering::SeqCst)
     }
 }
 
@@ -133,9 +134,9 @@ impl Gate for Meeting {
     }
 }
 
-/// Whether the flag is set within so many looks.
-pub fn sees(flag: &AtomicBool, turns: u64) -> bool {
-    for _ in 0..turns {
+/// Whether the flag is set before the last look at it.
+pub fn sees(flag: &AtomicBool) -> bool {
+    for _ in 0..MOST_LOOKS {
         if flag.load(Ordering::SeqCst) {
             return true;
         }
@@ -144,21 +145,22 @@ pub fn sees(flag: &AtomicBool, turns: u64) -> bool {
     false
 }
 
-/// Whether two tasks meet before their first steps: each waits for the other, for at most so many
-/// looks at its flag.
+/// Whether two tasks that wait for each other before their first steps meet there. None if the run
+/// doesn't end well, or a task doesn't come to the gate.
 pub fn tasks_meet<R: Threads + Wait + Sync>(
     rt: &R,
     alloc: Global,
     ending: &str,
-    turns: u64,
-) -> Result<bool, OutOfMemory> {
+) -> Result<Option<bool>, OutOfMemory> {
     let gate = Meeting {
-        turns,
         first: AtomicBool::new(false),
         second: AtomicBool::new(false),
         missed: AtomicBool::new(false),
     };
     let input = format!(in alloc; "{POSTS}{ending}\n")?;
     let got = answer_behind(rt, alloc, "run", input.as_bytes(), &gate)?;
-    Ok(got.status == DONE && gate.is_held())
+    if got.status != DONE || !gate.is_passed() {
+        return Ok(None);
+    }
+    Ok(Some(!gate.missed.load(Ordering::SeqCst)))
 }

@@ -23,9 +23,6 @@ const OPENS: &str = "imakern 1\n\
     task uid=0 euid=0 gid=0 egid=0\nopen 0 /b r\n\
     threads 2\n";
 
-// How often a thread looks for another at most.
-const LOOKS: u64 = 100_000_000;
-
 // What the threads tell each other.
 #[derive(Drop)]
 struct Flags {
@@ -45,7 +42,7 @@ fn hold<N: Name, R: Wait>(rt: &R, live: &Live<N>, flags: &Flags)
 {
     live.hold(rt, 0, || {
         flags.held.store(true, Ordering::SeqCst);
-        let second = sees(&flags.second, LOOKS);
+        let second = sees(&flags.second);
         let first = flags.first.load(Ordering::SeqCst);
         flags.apart.store(second && !first, Ordering::SeqCst);
     });
@@ -68,7 +65,7 @@ fn step_behind<N: Name, R: Wait>(rt: &R, live: &Live<N>, flags: &Flags, task: Ta
     requires { IsTask N.frame task }
 {
     let mut task = task;
-    let held = sees(&flags.held, LOOKS);
+    let held = sees(&flags.held);
     let is_first = task.who().is_some_and(|who| who.task == 0);
     let begun = step(rt, live, &mut task);
     if is_first {

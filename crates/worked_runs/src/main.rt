@@ -1,28 +1,39 @@
-//! Worked runs: the commands over sources and sinks in memory, on the inputs of `data/`.
+//! Worked runs: the commands on sources and sinks in memory, with the inputs of `data/`.
 //!
 //! Each file of `data/` is a family of cases: an input, and what the command has to answer. What a
 //! case must write comes from outside: from a second program that follows `docs/RULES.md` and
-//! `docs/FORMATS.md`, with the digests of Python's hashlib. Two families have other sources. The
-//! cases of `kernels` were run on Debian's Linux kernels under qemu, with the versions and boot
-//! words that the first line of each script names: they have the kernel's measurement list, the
-//! registers that follow from it, and the first word of each reply. Those of `examples` repeat the
-//! files of `examples/` and what this program made of them; `bench/examples.py` compares the
-//! copies.
+//! `docs/FORMATS.md`, with the digests of Python's hashlib. The causes of refused lines, of which
+//! `settings`, `files`, `tasks`, `causes`, `words` and `over_limits` are full, were read off `docs/FORMATS.md` by
+//! hand. Two families have other sources. The cases of `kernels` were run on Debian's Linux kernels
+//! under qemu, with the versions and boot words that the first line of each script names: they have
+//! the kernel's measurement list, the registers that follow from it, and the first word of each
+//! reply. Those of `examples` repeat the files of `examples/` and what this program made of them;
+//! `bench/examples.py` compares the copies.
 //!
-//! `cases` reads a family, `outcome` calls `serve`, and `faults` cuts the input of the first case
-//! short, fails its reads and writes, and makes it too long. `gates` watches the steps of runs, and
-//! lets two tasks wait for each other; `locks` makes steps on one file while another is held. A
-//! line is printed for each case, and the status is 1 where one differs.
+//! In the five families of causes the name of a refused case begins with its cause, and goes on
+//! with the lines that matter: those of a file, a file system or a task by the words in which they
+//! differ from a plain one. A case that is `accepted` has no end, and so is refused for that alone,
+//! on the line after its last.
+//!
+//! `spread` and `cases` read a family, `outcome` calls `serve`, `orders` fixes the order in which
+//! the steps of threads come, and `faults` cuts the input of the first case short, fails its reads
+//! and writes, and makes it too long. `gates` watches the steps of runs, and lets two tasks wait
+//! for each other; `locks` makes steps on one file while another is held. A line is printed for
+//! each case, and the status is 1 if one differs.
 #![tactic(auto)]
 
 mod cases;
 mod faults;
 mod gates;
 mod locks;
+mod orders;
 mod outcome;
+mod spread;
 mod start;
 
 use crate::cases::Case;
+use crate::gates::Step;
+use crate::orders::Order;
 use crate::outcome::Outcome;
 use anyhow::{Context, Result, ensure};
 use std::alloc::{AllocError as OutOfMemory, Global};
@@ -32,27 +43,32 @@ use std::thread::Threads;
 
 // The families, and how often each of their cases is run. Those of the last one run on threads,
 // and the order of their steps is fixed, so the whole report is the same however the threads fall.
-const FAMILIES: [(&str, u32); 14] = [
+const FAMILIES: [(&str, u32); 24] = [
     ("measuring", 1),
     ("violations", 1),
     ("appraisal", 1),
+    ("refusals", 1),
     ("attributes", 1),
+    ("deeds", 1),
     ("calls", 1),
     ("growing", 1),
     ("labels", 1),
     ("lists", 1),
     ("policies", 1),
     ("summaries", 1),
+    ("limits", 1),
+    ("settings", 1),
+    ("files", 1),
+    ("tasks", 1),
+    ("causes", 1),
+    ("over_limits", 1),
+    ("words", 1),
     ("kernels", 1),
     ("examples", 1),
     ("threads", 1),
+    ("orders", 1),
     ("repeats", 1000),
 ];
-
-// How often a task looks for the other at most.
-const MANY_LOOKS: u64 = 100_000_000;
-
-const FEW_LOOKS: u64 = 1_000;
 
 fn main(rt: HostRuntime) -> Result<()> {
     let mut differ = false;
@@ -71,23 +87,27 @@ fn main(rt: HostRuntime) -> Result<()> {
     Ok(())
 }
 
-// Runs the case so often, and gives the first outcome that differs.
+// Runs the case so often, with these steps in their order, and gives the first outcome that
+// differs or whose steps came in another order.
 fn first_other<R: Threads + Wait + Sync>(
     rt: &R,
     alloc: Global,
     case: &Case<'_>,
+    steps: &[Step],
     times: u32,
 ) -> Result<Option<Outcome>, OutOfMemory> {
     for _ in 0..times {
-        let got = outcome::answer(rt, alloc, case.words, case.input.as_bytes())?;
-        if !case.holds(&got) {
+        let gate = Order::of(steps);
+        let input = case.input.as_bytes();
+        let got = outcome::answer_behind(rt, alloc, case.words, input, &gate)?;
+        if !case.holds(&got) || !gate.is_held() {
             return Ok(Some(got));
         }
     }
     Ok(None)
 }
 
-// Tries each case of the family so often, and tells whether all hold.
+// Runs each case of the family `times` times, prints a line for each, and returns whether all hold.
 fn family_holds<R: Print + Threads + Wait + Sync>(
     rt: &R,
     alloc: Global,
@@ -97,8 +117,10 @@ fn family_holds<R: Print + Threads + Wait + Sync>(
 ) -> Result<bool> {
     let mut all = true;
     for part in text.split(">>> ").skip(1) {
-        let case = Case::of(part).context("a case is not in its form")?;
-        match first_other(rt, alloc, &case, times)? {
+        let part = spread::spread(alloc, part)?.context("a text is not in its form")?;
+        let case = Case::of(part.as_str()).context("a case is not in its form")?;
+        let steps = orders::steps_of(alloc, case.input)?.context("no order of steps")?;
+        match first_other(rt, alloc, &case, steps.as_slice(), times)? {
             None => println!(rt; "{family}: {}", case.name)?,
             Some(got) => {
                 all = false;
@@ -114,7 +136,7 @@ fn text_of(bytes: &[u8]) -> &str {
     std::str::from_utf8(bytes).unwrap_or("bytes that are no text")
 }
 
-// Tells which rows hold, and whether all do.
+// Prints a line for each row, and returns whether all rows hold.
 fn rows_hold<R: Print>(rt: &R, family: &str, rows: &[(&str, bool)]) -> Result<bool> {
     let mut all = true;
     for (name, holds) in rows {
@@ -124,7 +146,7 @@ fn rows_hold<R: Print>(rt: &R, family: &str, rows: &[(&str, bool)]) -> Result<bo
     Ok(all)
 }
 
-// Tries the faults over the first case of the family.
+// Tries the faults on the first case of the family.
 fn faults_hold<R: Print + Threads + Wait + Sync>(
     rt: &R,
     alloc: Global,
@@ -145,17 +167,17 @@ fn faults_hold<R: Print + Threads + Wait + Sync>(
     rows_hold(rt, "faults", &rows)
 }
 
-// Tries the gates.
+// Checks the gates, and prints a line for each property.
 fn gates_hold<R: Print + Threads + Wait + Sync>(rt: &R, alloc: Global) -> Result<bool> {
     let turns = gates::turns_pass(rt, alloc)?;
-    let two = gates::tasks_meet(rt, alloc, "threads 2", MANY_LOOKS)?;
-    let one = gates::tasks_meet(rt, alloc, "threads 1", FEW_LOOKS)?;
-    let rounds = gates::tasks_meet(rt, alloc, "rounds", FEW_LOOKS)?;
+    let two = gates::tasks_meet(rt, alloc, "threads 2")?;
+    let one = gates::tasks_meet(rt, alloc, "threads 1")?;
+    let rounds = gates::tasks_meet(rt, alloc, "rounds")?;
     let rows = [
         ("each turn passes one", turns),
-        ("two tasks meet on two threads", two),
-        ("they don't on one thread", !one),
-        ("they don't in rounds", !rounds),
+        ("two tasks meet on two threads", two == Some(true)),
+        ("they don't on one thread", one == Some(false)),
+        ("they don't in rounds", rounds == Some(false)),
     ];
     rows_hold(rt, "gates", &rows)
 }

@@ -1,11 +1,11 @@
-// What `serve` does with words and an input in memory.
+// Calls `serve` with words and an input in memory.
 use ima_io::{FreeGate, Gate, MemSink, MemSource};
 use ima_top::serve;
 use std::alloc::{AllocError as OutOfMemory, Global};
 use std::sync::Wait;
 use std::thread::Threads;
 
-/// What a command did: its status, its output and its note.
+/// What a command did: its exit status, its output and its note.
 #[derive(Drop)]
 pub struct Outcome {
     pub status: u8,
@@ -14,7 +14,7 @@ pub struct Outcome {
 }
 
 impl Outcome {
-    /// Whether it is this status, this output and this note.
+    /// Whether the outcome has this status, this output and this note.
     pub fn is(&self, status: u8, out: &[u8], note: &str) -> bool {
         self.status == status
             && self.out.as_slice() == out
@@ -22,12 +22,12 @@ impl Outcome {
     }
 }
 
-/// No call's number.
+/// An empty list of failing calls, for a source or a sink that never fails.
 pub fn none(alloc: Global) -> Vec<u64> {
     Vec::new(alloc)
 }
 
-/// The outcome of the words over this input, where nothing fails.
+/// The outcome of the words on this input, if no read or write fails.
 pub fn answer<R: Threads + Wait + Sync>(
     rt: &R,
     alloc: Global,
@@ -37,7 +37,7 @@ pub fn answer<R: Threads + Wait + Sync>(
     answer_behind(rt, alloc, words, input, &FreeGate)
 }
 
-/// The same, where each turn of a task passes this gate.
+/// The outcome of the words on this input, if each turn of a task passes this gate first.
 pub fn answer_behind<G: Gate + Sync, R: Threads + Wait + Sync>(
     rt: &R,
     alloc: Global,
@@ -46,12 +46,12 @@ pub fn answer_behind<G: Gate + Sync, R: Threads + Wait + Sync>(
     gate: &G,
 ) -> Result<Outcome, OutOfMemory> {
     let mut script = MemSource::new(input.to_vec(alloc)?, 4096, none(alloc));
-    let out = MemSink::new(alloc, 1_000_000, 4096, none(alloc))?;
+    let out = MemSink::new(alloc, 2_000_000, 4096, none(alloc))?;
     let note = MemSink::new(alloc, 200, 200, none(alloc))?;
     served_behind(rt, alloc, words, &mut script, out, note, gate)
 }
 
-/// The outcome of the words, parted by spaces, over this source and these sinks.
+/// The outcome of the words, which spaces separate, over this source and these sinks.
 pub fn served<R: Threads + Wait + Sync>(
     rt: &R,
     alloc: Global,
@@ -63,7 +63,7 @@ pub fn served<R: Threads + Wait + Sync>(
     served_behind(rt, alloc, words, script, out, note, &FreeGate)
 }
 
-// The same, where each turn of a task passes this gate.
+// The outcome of the words over this source and these sinks, with this gate.
 fn served_behind<G: Gate + Sync, R: Threads + Wait + Sync>(
     rt: &R,
     alloc: Global,

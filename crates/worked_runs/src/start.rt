@@ -1,4 +1,4 @@
-// The world and the tasks of a script before their first turn.
+// Starts the world and the tasks of a script, for tests that take the turns themselves.
 ghost use Rattle.std.specs.Prelude.{◌≡◌, All, IfOk, length};
 ghost use Rattle.ima_top.specs.frames.Tasks.{IsTask};
 
@@ -8,7 +8,7 @@ use ima_top::scripts::Script;
 use ima_top::tasks::{Task, World};
 use std::alloc::{AllocError as OutOfMemory, Global};
 
-/// The world and the tasks of the script, and how many inodes there are.
+/// The world and the tasks of the script before their first turn, and the number of inodes.
 pub fn started(alloc: Global, script: Script) -> Result<(World, Vec<Task>, usize), OutOfMemory>
     ensures tasks { IfOk result (λ r. All (IsTask r.0.frame) r.1.items) }
     ensures inodes { IfOk result (λ r. length r.0.frame.sites ≡ r.2) }

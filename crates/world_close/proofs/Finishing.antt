@@ -1,4 +1,4 @@
--- The run that the closes give.
+-- The run that closing the lists yields.
 use Rattle.std.proofs.Common.{◌≡◌, ℕ, ◌+◌, ◌<◌, ◌≤◌, List, [], ◌∷◌, ◌++◌, length, ap, sym, subst, ◌∙◌, arith, Some, reverse}
 use Rattle.std.specs.Prelude.{All, map, slice_get}
 use Rattle.std.specs.List.{AllZip}
@@ -42,7 +42,7 @@ use Rattle.world_close.proofs.Scening.{IsAt, all_booked, all_legal, is_at, lists
 
 -- ---- a task
 
--- the task of this number
+-- the task of this number, with its program and its thought
 record IsTaskAt (tasks : List Tasked) (n : ℕ) (p : Program) (t : Thought) : Type 0 where
   pub task : Tasked
   pub at : slice_get tasks n ≡ Some task
@@ -62,7 +62,7 @@ task_at tasks n p t a b =
       stands = ap thought_of (same_Some x.0 y.0 (sym x.1.0 ∙ y.1.0)) ∙ y.1.1;
     }
 
--- a run has what was seen of its lists
+-- a run has seen all of its own lists
 sees_all : (s : State) (thoughts : List Thought)
     → SeesMore (seen_in s) (seen_of (run_at (record { state = s; thoughts = thoughts })))
 sees_all s thoughts = record {
@@ -74,13 +74,13 @@ sees_all s thoughts = record {
   added = prefix_refl s.added;
 }
 
--- it is served, and the places that its steps were told rise
+-- the task is served, and the places in its answers increase
 record IsServedRising (scene : Scene) (run : Run) (n : ℕ) (p : Program) (t : Thought)
     : Type 0 where
   pub served : IsServed scene run n p t
   pub rise : Rises (log (mode_of scene) n p served.history)
 
--- a task that has looked at all lists is so
+-- a task that has looked at all lists is served
 served_task : (frame : Frame) (s : State) (tasks : List Tasked) (n : ℕ) (task : Tasked)
     → task.number ≡ n → HasMade frame s task
     → IsServedRising (scene_of frame (programs_of tasks)) (run_at (moment_of s tasks)) n
@@ -102,7 +102,7 @@ served_task frame s tasks n task number made = record {
       made.rises.rises;
 }
 
--- the same of what the scene and the run have at its number
+-- the task of this number in the scene and the run is served
 served_at : (frame : Frame) (s : State) (tasks : List Tasked) → AreTasks frame tasks
     → HaveMade frame s tasks → (n : ℕ) (p : Program) (t : Thought) → IsTaskAt tasks n p t
     → IsServedRising (scene_of frame (programs_of tasks)) (run_at (moment_of s tasks)) n p t
@@ -115,7 +115,7 @@ served_at frame s tasks are made n p t x =
 
 -- ---- all inodes
 
--- what holds of all events holds of them in the other order
+-- a property of all events of a list holds of them in reverse order
 all_past : (P : Event → Type 0) (list : List Event) → All P list → All P (past list)
 unfolding past
 all_past P [] all = all
@@ -124,7 +124,7 @@ all_past P (e ∷ list) all =
     (All-push P (reverse list) e (all_past P list (All-tail P e list all))
     (All-head P e list all))
 
--- an inode's journal, as its scene has it
+-- the journal of an inode is legal, and its events are of the tasks or births
 record IsLegalAt (inode : Inode) (journal : List Event) (tasks : ℕ) : Type 0 where
   pub follows : EachFollows inode (past journal)
   pub owned : IsOwned (past journal)
@@ -142,7 +142,7 @@ legal_at s q tasks callers closed = record {
   within : (c : ℕ) → c < s.cell.callers → c ≤ tasks
   within c l = omega (arith, callers)
 
--- the journal of the number i
+-- the journal of number i is legal
 legal_in : (frame : Frame) (programs : List Program) (stations : List StationValue)
     (inodes : List (Passed Entry)) → AreStations frame stations
     → AllZip StationClosed stations inodes → (i : ℕ) (station : Station) (journal : List Event)
@@ -159,7 +159,7 @@ legal_in frame programs stations inodes are closed i station journal a b =
           (λ k. (w.inode_is k, w.journal_is k))
           (legal_at w.there q.0 frame.tasks (are.each i w.there w.at).callers q.1.1)
 
--- all events are of the tasks, or births
+-- all events of the journals are of the tasks, or births
 all_within : (frame : Frame) (stations : List StationValue) (inodes : List (Passed Entry))
     (count : ℕ) → frame.tasks ≡ count → AreStations frame stations
     → AllZip StationClosed stations inodes
@@ -178,7 +178,7 @@ all_within frame stations inodes count same are closed =
           (legal_at x.0 q.0 count ((are.each i x.0 x.1.0).callers
           ∙ ap (λ (n : ℕ). n + 1) same) q.1.1).within
 
--- along each the rules rise
+-- along each journal the rules that checks count never decrease
 all_rise : (frame : Frame) (stations : List StationValue) → AreStations frame stations
     → All (λ (journal : List Event). RulesRise (length frame.base) (past journal))
     (map journal_of stations)
@@ -195,7 +195,7 @@ all_rise frame stations are =
 
 -- ---- all tasks
 
--- the calls of each are those of a script
+-- the calls of each task are those of a script
 all_fit : (frame : Frame) (tasks : List Tasked) → AreTasks frame tasks
     → AreFit (scene_of frame (programs_of tasks))
 all_fit frame tasks are n p a k c e = at (get_map program_of tasks n p a) where
@@ -208,7 +208,7 @@ all_fit frame tasks are n p a k c e = at (get_map program_of tasks n p a) where
         subst (λ (m : ℕ). IsWithin m c) (sym (length-map frame.sites (station_of frame))) fit.1,
       )
 
--- none has added to the measurement list
+-- no task has added to the measurement list
 all_unlisted : (frame : Frame) (tasks : List Tasked) → AreTasks frame tasks
     → All (λ (q : Passed Entry). q.mine ≡ []) (map (λ (p : PassesValue). p.book)
     (map (λ (t : Tasked). t.passes) tasks))
@@ -292,7 +292,7 @@ reached_moment frame stations list signals added tasks are each count made close
           ≡ own_signals (mode_in frame) y.0 y.1 h.history) (λ k. (number k, x.program k))
           h.signals)
 
--- the law
+-- proof of `ClosedIsFinished`
 pub finished : ClosedIsFinished
 finished frame stations list signals added tasks are each count made closed = record {
   legal = all_legal frame (programs_of tasks) stations closed.inodes are closed.closed;
@@ -311,12 +311,12 @@ finished frame stations list signals added tasks are each count made closed = re
   reached = reached_moment frame stations list signals added tasks are each count made closed;
 }
 
--- where no task could move, each is done or the run is stuck
+-- proof of `FinishedEnds`
 pub finished_ends : FinishedEnds
 finished_ends scene m f still =
     (ends scene m (record { legal = f.reached.legal; tasks = f.reached.tasks; still = still })).1
 
--- and it may be shown
+-- proof of `FinishedIsShown`
 pub finished_shown : FinishedIsShown
 finished_shown scene m ending f through = record {
   legal = f.legal;

@@ -1,4 +1,4 @@
--- The passes of all tasks are those of the lists.
+-- The passes of all tasks, returned to the lists that they belong to.
 use Rattle.std.proofs.Common.{◌≡◌, ℕ, ◌+◌, ◌<◌, ◌≤◌, ◌==◌, Bool, true, false, List, [], ◌∷◌, ◌++◌, length, refl, ap, sym, subst, ◌∙◌, arith, Some, ◌⊎◌, inl, inr, suc, zero, get_or, length-append, eqb}
 use Rattle.std.specs.Prelude.{All, count_by, map, slice_get}
 use Rattle.std.specs.List.{AllZip}
@@ -30,7 +30,7 @@ AreOfTasks frame passes = (n : ℕ) (p : PassesValue) → slice_get passes n ≡
 
 -- ---- the journals
 
--- the rows have a pass of each journal
+-- each row has a pass of each journal
 pub rows_fit : (frame : Frame) (passes : List PassesValue) (count : ℕ)
     → count ≡ length frame.sites → AreOfTasks frame passes
     → RowsFit count (journal_name frame) (map (λ (q : PassesValue). q.inodes) passes)
@@ -51,7 +51,7 @@ rows_fit frame passes count even of k row at =
             (is.1, is.0);
       }
 
--- the inodes have the names of the frame
+-- the journals of the inodes have the names of the frame
 pub are_named : (frame : Frame) (stations : List StationValue) (rows : ℕ)
     → rows ≡ frame.tasks → AreStations frame stations
     → AreNamed (journal_name frame) rows stations
@@ -64,7 +64,7 @@ are_named frame stations rows even are k s at =
 
 -- ---- two lists side by side
 
--- beside each of the second list stands one of the first
+-- each element of the second list has a partner in the first
 zip_back : {A B : Type 0} (R : A → B → Type 0) (xs : List A) (ys : List B) (k : ℕ) (y : B)
     → AllZip R xs ys → slice_get ys k ≡ Some y
     → (x : A) × ((slice_get xs k ≡ Some x) × R x y)
@@ -76,7 +76,7 @@ zip_back R (x ∷ xs) (w ∷ ys) (suc k) y z h = zip_back R xs ys k y z.1 h
 
 -- ---- the measurement list
 
--- the inodes' passes and then the tasks' are the others of the list
+-- the other passes of the measurement list are the inodes', followed by the tasks'
 module _ (frame : Frame) (book : Grown Entry) (stations : List StationValue)
     (inodes : List (Passed Entry)) (passes : List PassesValue) where
   book_pass : IsBookOf frame book → AreStations frame stations
@@ -153,7 +153,7 @@ sem_others frame sems passes is of count =
 
 -- ---- the rules
 
--- an item that passes the test
+-- an element of the list that passes the test
 record Counted {A : Type 0} (test : A → Bool) (xs : List A) : Type 0 where
   pub place : ℕ
   pub item : A
@@ -176,14 +176,14 @@ counted test (x ∷ xs) one = at (counted test xs) (test x) refl where
       (add_none (count_by test xs) ∙ ap (λ (b : Bool). bit b + count_by test xs) (sym is)
       ∙ sym (count_by-cons test x xs) ∙ one))
 
--- what holds of all holds of what stands at a place
+-- a property of all elements holds of the one at a place
 pub all_at : {A : Type 0} (P : A → Type 0) (xs : List A) (k : ℕ) (x : A) → All P xs
     → slice_get xs k ≡ Some x → P x
 all_at P xs k x all at =
     subst P (get_or_from_slice_get xs k x x at)
     (All-get_or P xs k x (slice_get_within xs k x at) all)
 
--- a pass of the rules: in order, and a task's or one that has added nothing
+-- a pass of the rules has its number in order, and is a task's or has added nothing
 record IsRulesPass (frame : Frame) (p : PolicyValue) (k : ℕ) (q : Passed RuleEntry)
     : Type 0 where
   pub name : q.name ≡ p.appended.name

@@ -1,4 +1,4 @@
--- The rows of the tasks' passes give their last ones to a column.
+-- The rows of the tasks' passes give their last passes to a column.
 use Rattle.std.proofs.Common.{◌≡◌, ℕ, ◌+◌, ◌<◌, ◌≤◌, List, [], ◌∷◌, ◌++◌, length, refl, ap, sym, ◌∙◌, arith, Some, ◌⊎◌, inl, inr, length-append, get_or, suc, zero}
 use Rattle.std.specs.Prelude.{All, slice_get, slice_set}
 use Rattle.std.proofs.lemmas.Option.{same_Some}
@@ -21,7 +21,7 @@ has_more k n names rows column row m at none =
     let empty : length row ≡ 0 = ap length none in
     omega arith
 
--- a column of the passes has one more
+-- the column grows by one pass that fits
 column_more : (k n : ℕ) (names : ℕ → ListName) (rows : List (List (Passed Event)))
     (column : List (Passed Event)) (q : Passed Event) → RowsMid k n names rows column
     → (q.number ≡ k + 1) × (q.name ≡ names n) → ColumnFits (names n) (column ++ q ∷ [])
@@ -47,7 +47,7 @@ column_more k n names rows column q m fits j x is =
       at (inl w) = m.column_fits j x w
       at (inr w) = last w.0 w.1.0 w.1.1
 
--- the row k gives its last pass to the column
+-- row k gives its last pass to the column
 pub mid_more : (k n : ℕ) (names : ℕ → ListName) (rows : List (List (Passed Event)))
     (column row row2 : List (Passed Event)) (q : Passed Event)
     → RowsMid k n names rows column → slice_get rows k ≡ Some row → row ≡ row2 ++ q ∷ []
@@ -93,7 +93,7 @@ mid_more k n names rows column row row2 q m at split = record {
   left j r above (inl w) = let e : k ≡ j = w.0 in absurd (omega arith)
   left j r above (inr w) = m.left j r (omega arith) w.1
 
--- a column in order is the journal's passes but its own
+-- the passes of a complete column are all passes of the journal except its own
 pub column_others : (c : CellValue) (name : ListName) (column : List (Passed Event))
     → ColumnFits name column → length column + 1 ≡ c.callers → c.journal ≡ name
     → HasPasses c column

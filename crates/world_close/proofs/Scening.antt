@@ -21,7 +21,7 @@ use Rattle.world_close.proofs.Gets.{all_by_get, get_map}
 -- ---- pairs of lists
 
 module _ {A B : Type 0} where
-  -- they have one length
+  -- lists in a pairwise relation have the same length
   pub zip_even : (R : A → B → Type 0) (xs : List A) (ys : List B) → AllZip R xs ys
       → length ys ≡ length xs
   zip_even R [] [] z = refl
@@ -29,7 +29,7 @@ module _ {A B : Type 0} where
   zip_even R (x ∷ xs) [] z = absurd z
   zip_even R (x ∷ xs) (y ∷ ys) z = let e = zip_even R xs ys z.1 in omega arith
 
-  -- beside each stands the other
+  -- each element of the first list has a partner in the second
   pub zip_at : (R : A → B → Type 0) (xs : List A) (ys : List B) (k : ℕ) (x : A)
       → AllZip R xs ys → slice_get xs k ≡ Some x → (y : B) × ((slice_get ys k ≡ Some y) × R x y)
   zip_at R [] ys k x z h = absurd (cc)
@@ -56,7 +56,7 @@ pub record IsAt (scene : Scene) (stations : List StationValue) (i : ℕ) (statio
   pub journal_is : journal_of there ≡ journal
   pub inode_is : there.cell.inode ≡ inode_of scene station
 
--- the inode of the number i is that of the scene
+-- inode number i is that of the scene
 pub is_at : (frame : Frame) (programs : List Program) (stations : List StationValue) (i : ℕ)
     (station : Station) (journal : List Event) → AreStations frame stations
     → slice_get (scene_of frame programs).stations i ≡ Some station
@@ -88,7 +88,7 @@ is_at frame programs stations i station journal are a b =
 
 -- ---- the journals of the scene
 
--- one of them is that of a station
+-- the journal is that of a station, at the same place
 record IsJournalAt (scene : Scene) (stations : List Station) (lists : List (List Event)) (i : ℕ)
     (j : Journal) : Type 0 where
   pub station : Station
@@ -130,14 +130,14 @@ journals_even scene (s ∷ stations) [] even = absurd (omega arith)
 journals_even scene (s ∷ stations) (l ∷ lists) even =
     let e = journals_even scene stations lists (omega arith) in omega arith
 
--- as many journals as stations
+-- there are as many journals as stations
 pub lists_even : (frame : Frame) (programs : List Program) (stations : List StationValue)
     → AreStations frame stations
     → length (map journal_of stations) ≡ length (scene_of frame programs).stations
 lists_even frame programs stations are =
     length-map stations journal_of ∙ are.even ∙ sym (length-map frame.sites (station_of frame))
 
--- what an inode's close gives is so of the scene's journal
+-- the closed inode of number i and its pass, for the scene's journal of that number
 record IsClosedAt (stations : List StationValue) (inodes : List (Passed Entry)) (i : ℕ)
     (j : Journal) : Type 0 where
   pub pass : Passed Entry
@@ -167,7 +167,7 @@ closed_at frame programs stations inodes are closed i j h =
             booked = subst (λ (x : Journal). InodeClosed x q.0) same q.1.1.booked;
           }
 
--- each is legal
+-- each journal of the scene is legal
 pub all_legal : (frame : Frame) (programs : List Program) (stations : List StationValue)
     (inodes : List (Passed Entry)) → AreStations frame stations
     → AllZip StationClosed stations inodes
@@ -179,7 +179,7 @@ all_legal frame programs stations inodes are closed =
     (map journal_of stations))
     (λ i j h. (closed_at frame programs stations inodes are closed i j h).legal)
 
--- and each has its pass of the measurement list
+-- each journal of the scene has its pass of the measurement list
 pub all_booked : (frame : Frame) (programs : List Program) (stations : List StationValue)
     (inodes : List (Passed Entry)) → AreStations frame stations
     → AllZip StationClosed stations inodes

@@ -1,4 +1,4 @@
--- The inodes are closed from the last one on.
+-- The inodes are closed from the last one to the first.
 use Rattle.std.proofs.Common.{◌≡◌, ℕ, ◌+◌, List, [], ◌∷◌, ◌++◌, length, refl, ap, sym, ◌∙◌, arith, Some, subst}
 use Rattle.std.specs.Prelude.{map, reverse, slice_get}
 use Rattle.std.specs.List.{AllZip}
@@ -12,7 +12,7 @@ use Rattle.world_close.specs.Closed.{AreClosed, AreClosedBehind, IsPushed, Stati
 use Rattle.world_close.specs.Rows.{AreNamed}
 use Rattle.world_close.proofs.Gets.{get_left, get_last}
 
--- of the inodes that are left, the last one has the last name
+-- of the inodes that remain, the last has the last name
 pub named_front : (names : ℕ → ListName) (n : ℕ) (all front : List StationValue)
     (s : StationValue) → all ≡ front ++ s ∷ [] → AreNamed names n all
     → AreNamed names n front
@@ -24,7 +24,7 @@ named_front names n all front s is named = (
       (ap (λ (l : List StationValue). slice_get l (length front)) is ∙ get_last front s),
 )
 
--- one inode more is closed
+-- one more inode is closed
 pub closed_more : (all left front : List StationValue) (s : StationValue)
     (inodes inodes2 : List EndedInodeValue) (book book2 : List (Passed Entry))
     (rules rules2 : List (Passed RuleEntry)) → left ≡ front ++ s ∷ []
@@ -45,7 +45,7 @@ closed_more all left front s inodes inodes2 book book2 rules rules2 is i b r old
   };
 }
 
--- none is closed at first
+-- no inode is closed at first
 pub closed_none : (all : List StationValue) → AreClosedBehind all all [] [] []
 closed_none all = record {
   done = [];
@@ -53,7 +53,7 @@ closed_none all = record {
   are = record { inodes_are = refl; rules_are = refl; closed = tt };
 }
 
--- all are, where none is left
+-- all inodes are closed once none remains
 pub closed_all : (all left : List StationValue) (inodes : List EndedInodeValue)
     (book : List (Passed Entry)) (rules : List (Passed RuleEntry)) → left ≡ []
     → AreClosedBehind all left inodes book rules

@@ -1,4 +1,4 @@
--- What the closes of a world's lists give.
+-- What closing a world's lists yields.
 use Rattle.std.specs.Prelude.{◌≡◌, ℕ, ◌+◌, ◌<◌, ◌≤◌, All, List, [], ◌∷◌, ◌++◌, get_or, length, map, max, reverse, Some, slice_get}
 use Rattle.std.specs.List.{AllZip}
 use Rattle.grow_list.specs.Shown.{ListName, Passed, no_name}
@@ -25,7 +25,7 @@ use Rattle.task_frame.specs.World.{IsStation, StationValue}
 
 -- ---- an inode
 
--- its journal and its pass of the measurement list
+-- an inode's journal and its pass of the measurement list, when the inode is closed
 pub record CellClosed (c : CellValue) (q : Passed Entry) : Type 0 where
   pub legal : Legal c.inode (past c.list)
   pub owned : IsOwned (past c.list)
@@ -37,11 +37,11 @@ pub record CellClosed (c : CellValue) (q : Passed Entry) : Type 0 where
 abbrev pub StationClosed : StationValue → Passed Entry → Type 0
 StationClosed s q = CellClosed s.cell q
 
--- what is left of the inode
+-- the closed inode of a station
 abbrev pub ended_station : StationValue → EndedInodeValue
 ended_station s = ended_inode s.cell.inode s.cell.list
 
--- there is one pass more, of the inode that was closed
+-- closing the inode of this station appends its pass
 pub record IsPushed (s : StationValue) (old new : List (Passed Entry)) : Type 0 where
   pub pass : Passed Entry
   pub is : new ≡ old ++ pass ∷ []
@@ -49,7 +49,7 @@ pub record IsPushed (s : StationValue) (old new : List (Passed Entry)) : Type 0 
 
 -- ---- all inodes
 
--- what is left of them, and their passes of the measurement list and of the appended rules
+-- the closed inodes, and their passes of the measurement list and of the appended rules
 pub record ClosedValue : Type 0 where
   pub inodes : List EndedInodeValue
   pub book : List (Passed Entry)
@@ -61,7 +61,7 @@ pub record AreClosed (stations : List StationValue) (inodes : List EndedInodeVal
   pub rules_are : rules ≡ map (λ (s : StationValue). s.rules) stations
   pub closed : AllZip StationClosed stations book
 
--- the last ones are closed, the last one first, and these are left
+-- the stations after `left` are closed, from the last one to the first
 pub record AreClosedBehind (all left : List StationValue) (inodes : List EndedInodeValue)
     (book : List (Passed Entry)) (rules : List (Passed RuleEntry)) : Type 0 where
   pub done : List StationValue
@@ -75,7 +75,7 @@ pub record AreStations (frame : Frame) (stations : List StationValue) : Type 0 w
   pub even : length stations ≡ length frame.sites
   pub each : (i : ℕ) (s : StationValue) → slice_get stations i ≡ Some s → IsStation frame i s
 
--- the passes of the rules that are nobody's, behind all others
+-- the spare passes of the rules, which come after all others and have added nothing
 pub record AreIdle (frame : Frame) (idle : List (Passed RuleEntry)) : Type 0 where
   pub count : frame.tasks + length frame.sites + length idle
       ≡ max 1 (frame.tasks + length frame.sites)
@@ -83,7 +83,19 @@ pub record AreIdle (frame : Frame) (idle : List (Passed RuleEntry)) : Type 0 whe
       → (q.name ≡ frame.rules) × (q.number ≡ frame.tasks + length frame.sites + k)
       × (q.mine ≡ [])
 
--- no inode
+-- the closed inodes of the stations, and the passes that each other list takes back, in order
+pub record AreReturned (stations : List StationValue) (idle : List (Passed RuleEntry))
+    (passes : List PassesValue) (inodes : List EndedInodeValue) (listers : List (Passed Entry))
+    (signals : List (Passed Event)) (appenders : List (Passed RuleEntry)) : Type 0 where
+  pub book : List (Passed Entry)
+  pub closed : AllZip StationClosed stations book
+  pub inodes_are : inodes ≡ map ended_station stations
+  pub listers_are : listers ≡ book ++ map (λ (p : PassesValue). p.book) passes
+  pub signals_are : signals ≡ map (λ (p : PassesValue). p.sems) passes
+  pub appenders_are : appenders ≡ map (λ (p : PassesValue). p.rules) passes
+      ++ map (λ (s : StationValue). s.rules) stations ++ idle
+
+-- a placeholder for an inode that isn't there
 abbrev pub no_site : Site
 no_site = record { path = []; birth = nothing; place = 0; journal = no_name }
 
@@ -91,14 +103,14 @@ no_site = record { path = []; birth = nothing; place = 0; journal = no_name }
 abbrev pub journal_name : Frame → ℕ → ListName
 journal_name frame i = (get_or frame.sites i no_site).journal
 
--- what is left of a world's lists
+-- the closed lists of a world
 pub record ListsValue : Type 0 where
   pub inodes : List EndedInodeValue
   pub list : List Entry
   pub banks : Banks
   pub rules : List RuleEntry
 
--- what the closes tell of the lists, whose passes are those of the inodes and of the tasks
+-- what is known of the closed lists, with the passes of the inodes and of the tasks
 pub record WorldClosed (frame : Frame) (stations : List StationValue) (list : List Entry)
     (signals : List Event) (added : List RuleEntry) (tasks : List PassesValue) : Type 0 where
   pub inodes : List (Passed Entry)

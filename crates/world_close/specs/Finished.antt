@@ -1,4 +1,4 @@
--- The run that a world's closes give, where each task has looked at all lists before.
+-- The run that a world's closed lists make, provided that each task has looked at all lists before.
 use Rattle.std.specs.Prelude.{◌≡◌, ℕ, ◌<◌, ◌||◌, true, false, All, List, length, map, Some, slice_get}
 use Rattle.ima_templates.specs.declared.entry.Entry.{Entry}
 use Rattle.inode_events.specs.Legal.{Legal}
@@ -19,7 +19,7 @@ use Rattle.task_frame.specs.Tasks.{Tasked}
 use Rattle.task_frame.specs.World.{StationValue, journal_of}
 use Rattle.world_close.specs.Closed.{AreStations, WorldClosed}
 
--- the lists of a world
+-- the lists of a world, as the state of a run
 abbrev pub state_at : List StationValue → List Entry → List Event → List RuleEntry → State
 state_at stations list signals added = record {
   journals = map journal_of stations;
@@ -32,7 +32,7 @@ state_at stations list signals added = record {
 abbrev pub HaveMade : Frame → State → List Tasked → Type 0
 HaveMade frame s tasks = (k : ℕ) (t : Tasked) → slice_get tasks k ≡ Some t → HasMade frame s t
 
--- a moment of a run at which it may be shown, however it came there
+-- a moment of a run at which the run may be shown, however it was reached
 pub record IsFinished (scene : Scene) (m : Moment) : Type 0 where
   pub legal : All (λ (j : Journal). Legal j.inode j.events)
       (journals_of scene scene.stations m.state.journals)
@@ -43,7 +43,7 @@ pub record IsFinished (scene : Scene) (m : Moment) : Type 0 where
 
 -- ---- the laws
 
--- the closes give such a moment
+-- if each task has looked at all lists, closing them yields a finished moment
 abbrev pub ClosedIsFinished : Type 0
 ClosedIsFinished =
     (frame : Frame) (stations : List StationValue) (list : List Entry) (signals : List Event)
@@ -54,13 +54,13 @@ ClosedIsFinished =
     → IsFinished (scene_of frame (programs_of tasks))
     (moment_of (state_at stations list signals added) tasks)
 
--- where no task could move there, each is done or the run is stuck
+-- at a finished moment at which no task can move, each is done or the run is stuck
 abbrev pub FinishedEnds : Type 0
 FinishedEnds = (scene : Scene) (m : Moment) → IsFinished scene m
     → ((n : ℕ) → n < length scene.programs → moves scene m n ≡ false)
     → (all_done scene.programs m.thoughts || is_stuck scene.programs m.thoughts) ≡ true
 
--- and a run that has gone on as long as its ending asks may be shown
+-- a finished run that has gone on as long as its ending asks may be shown
 abbrev pub FinishedIsShown : Type 0
 FinishedIsShown = (scene : Scene) (m : Moment) (ending : Ending) → IsFinished scene m
     → IsThrough ending

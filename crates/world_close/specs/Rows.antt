@@ -4,7 +4,7 @@ use Rattle.grow_list.specs.Shown.{ListName, Passed}
 use Rattle.inode_events.specs.declared.told.Event.{Event}
 use Rattle.task_frame.specs.World.{StationValue}
 
--- the row of the task k has a pass of each of the first n journals
+-- the row of task k has a pass of each of the first n journals
 pub record RowFits (n : ℕ) (names : ℕ → ListName) (k : ℕ) (row : List (Passed Event)) : Type 0 where
   pub count : length row ≡ n
   pub each : (i : ℕ) (q : Passed Event) → slice_get row i ≡ Some q
@@ -19,7 +19,7 @@ abbrev pub ColumnFits : ListName → List (Passed Event) → Type 0
 ColumnFits name column = (k : ℕ) (q : Passed Event) → slice_get column k ≡ Some q
     → (q.number ≡ k + 1) × (q.name ≡ name)
 
--- the first k rows have given their last pass to the column
+-- each of the first k rows has given its last pass to the column
 pub record RowsMid (k n : ℕ) (names : ℕ → ListName) (rows : List (List (Passed Event)))
     (column : List (Passed Event)) : Type 0 where
   pub count : length column ≡ k
@@ -29,7 +29,7 @@ pub record RowsMid (k n : ℕ) (names : ℕ → ListName) (rows : List (List (Pa
   pub left : (j : ℕ) (row : List (Passed Event)) → k ≤ j → slice_get rows j ≡ Some row
       → RowFits (n + 1) names j row
 
--- the journal of the k-th inode has the k-th name, and its own pass and one of each task
+-- the journal of the k-th inode has the k-th name, and as callers itself and each task
 abbrev pub AreNamed : (ℕ → ListName) → ℕ → List StationValue → Type 0
 AreNamed names tasks stations = (k : ℕ) (s : StationValue) → slice_get stations k ≡ Some s
     → (s.cell.journal ≡ names k) × (s.cell.callers ≡ tasks + 1)

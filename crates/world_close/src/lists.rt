@@ -1,9 +1,9 @@
-ghost use Rattle.std.specs.Prelude.{◌≡◌, ℕ, ◌+◌, [], length, map, All, IfOk, Some, slice_get};
+ghost use Rattle.std.specs.Prelude.{◌≡◌, ℕ, ◌+◌, ◌++◌, [], length, map, All, IfOk, Some, slice_get};
 ghost use Rattle.ima_templates.specs.Replay.{banks_of};
 ghost use Rattle.task_frame.specs.Frame.{Frame};
 ghost use Rattle.task_frame.specs.Tasks.{ArePassesOf, PassesValue};
 ghost use Rattle.task_frame.specs.World.{AreRulesOf, AreSignalsOf, IsBookOf};
-ghost use Rattle.world_close.specs.Closed.{AreIdle, AreStations, WorldClosed, ended_station};
+ghost use Rattle.world_close.specs.Closed.{AreIdle, AreReturned, AreStations, WorldClosed, ended_station};
 
 use crate::rows::Row;
 use crate::stations::{Closed, close_stations};
@@ -18,14 +18,14 @@ use std::marker::Model;
 use task_frame::books::Book;
 use task_frame::{Passes, Station};
 
-/// What is left of a world's lists. Contracts see the record of its fields, each vector as a list.
+/// The closed lists of a world. Contracts see a record of the fields, with each vector as a list.
 #[derive(Drop)]
 pub struct Lists {
     /// The inodes with their journals, in order.
     pub inodes: Vec<EndedInode>,
-    /// The measurement list.
+    /// The entries of the measurement list.
     pub list: Vec<Entry>,
-    /// Its registers.
+    /// The registers that the measurement list extends.
     pub banks: Banks,
     /// The appended rules, in order.
     pub rules: Vec<RuleEntry>,
@@ -44,7 +44,7 @@ impl Model for Lists {
     } };
 }
 
-// The passes of all tasks, by their lists.
+// The passes of all tasks, sorted by the list that each belongs to.
 #[derive(Drop)]
 struct Parted {
     rows: Vec<Row>,
@@ -84,7 +84,81 @@ fn part(alloc: Global, passes: Vec<Passes>) -> Result<Parted, OutOfMemory>
     Ok(parted)
 }
 
-/// Closes all lists of a world: the tasks' passes go back to them.
+// The closed inodes, and all passes of the other lists, each list's in the order of their numbers.
+#[derive(Drop)]
+struct Returned {
+    inodes: Vec<EndedInode>,
+    listers: Vec<Pass<Entry>>,
+    signals: Vec<Pass<Event>>,
+    appenders: Vec<Pass<RuleEntry>>,
+}
+
+fn join_listers(
+    inodes: Vec<Pass<Entry>>,
+    tasks: Vec<Pass<Entry>>,
+) -> Result<Vec<Pass<Entry>>, OutOfMemory>
+    ensures { IfOk result (λ v. v.items ≡ inodes.items ++ tasks.items) }
+{
+    let mut all = inodes;
+    let mut tasks = tasks;
+    all.append(&mut tasks)?;
+    Ok(all)
+}
+
+fn join_appenders(
+    tasks: Vec<Pass<RuleEntry>>,
+    inodes: Vec<Pass<RuleEntry>>,
+    idle: Vec<Pass<RuleEntry>>,
+) -> Result<Vec<Pass<RuleEntry>>, OutOfMemory>
+    ensures { IfOk result (λ v. v.items ≡ tasks.items ++ inodes.items ++ idle.items) }
+{
+    let mut all = tasks;
+    let mut inodes = inodes;
+    let mut idle = idle;
+    all.append(&mut inodes)?;
+    all.append(&mut idle)?;
+    Ok(all)
+}
+
+// Closes the inodes, and collects the passes of the other lists.
+fn take_back(
+    alloc: Global,
+    stations: Vec<Station>,
+    idle: Vec<Pass<RuleEntry>>,
+    passes: Vec<Passes>,
+) -> Result<Returned, OutOfMemory>
+    ghost frame: { Frame }
+    requires stations { AreStations frame stations.items }
+    requires count { length passes.items ≡ frame.tasks }
+    requires passes { (n : ℕ) (p : PassesValue) → slice_get passes.items n ≡ Some p
+        → ArePassesOf frame n p }
+    ensures { IfOk result (λ r. AreReturned stations.items idle.items passes.items r.inodes.items
+        r.listers.items r.signals.items r.appenders.items) }
+{
+    let parted = part(alloc, passes)?;
+    let Parted {
+        rows,
+        sems: signals,
+        book: tasks,
+        rules: appenders,
+    } = parted;
+    let closed = close_stations(alloc, stations, rows)?;
+    let Closed {
+        inodes,
+        book: listers,
+        rules: counters,
+    } = closed;
+    let listers = join_listers(listers, tasks)?;
+    let appenders = join_appenders(appenders, counters, idle)?;
+    Ok(Returned {
+        inodes,
+        listers,
+        signals,
+        appenders,
+    })
+}
+
+/// Closes all lists of a world, to which the tasks' passes are returned.
 pub fn close_lists(
     alloc: Global,
     stations: Vec<Station>,
@@ -110,23 +184,13 @@ pub fn close_lists(
     ensures closed { IfOk result (λ r. WorldClosed frame stations.items book.list sems.list
         rules.appended.list passes.items) }
 {
-    let parted = part(alloc, passes)?;
-    let Parted {
-        rows,
-        sems: signals,
-        book: mut tasks,
-        rules: mut appenders,
-    } = parted;
-    let closed = close_stations(alloc, stations, rows)?;
-    let Closed {
+    let back = take_back(alloc, stations, idle, passes)?;
+    let Returned {
         inodes,
-        book: mut listers,
-        rules: mut counters,
-    } = closed;
-    listers.append(&mut tasks)?;
-    appenders.append(&mut counters)?;
-    let mut idle = idle;
-    appenders.append(&mut idle)?;
+        listers,
+        signals,
+        appenders,
+    } = back;
     let (list, banks) = book.close(listers);
     let _signals = sems.close(signals);
     let rules = rules.close(appenders);

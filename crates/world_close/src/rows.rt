@@ -1,4 +1,4 @@
-// The passes of the tasks, of which each journal gets its own.
+// The passes of the tasks, handed back to the journals that they belong to.
 ghost use Rattle.std.specs.Prelude.{◌≡◌, ℕ, ◌+◌, ◌<◌, [], ◌∷◌, ◌++◌, length, IfOk, OnOk, MatchOption};
 ghost use Rattle.grow_list.specs.Shown.{ListName};
 ghost use Rattle.world_close.specs.Rows.{ColumnFits, RowsFit, RowsMid};
@@ -8,7 +8,7 @@ use inode_events::Event;
 use std::alloc::{AllocError as OutOfMemory, Global};
 use std::marker::Model;
 
-// The passes of one task, of each inode's journal in order.
+// The passes of one task: one for each inode's journal, in order.
 #[derive(Drop)]
 pub(crate) struct Row {
     passes: Vec<Pass<Event>>,
@@ -31,7 +31,7 @@ impl Row {
         Row { passes }
     }
 
-    // Takes the last pass.
+    // Removes the last pass and returns it.
     fn pop(&mut self) -> Option<Pass<Event>>
         ensures { MatchOption result (self.old ≡ []) (λ q. self.old ≡ self.new ++ q ∷ []) }
     {
@@ -62,7 +62,7 @@ fn take_one(
     Ok(())
 }
 
-// Takes the last pass of each row, which are those of one journal.
+// Takes the last pass of each row. Together they are the passes of one journal.
 pub(crate) fn take_last(
     alloc: Global,
     rows: &mut Vec<Row>,

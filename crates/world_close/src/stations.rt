@@ -1,9 +1,7 @@
-// The inodes of a world, closed from the last one on.
+// The inodes of a world, closed from the last one to the first.
 ghost use Rattle.std.specs.Prelude.{◌≡◌, ℕ, ◌+◌, [], ◌∷◌, ◌++◌, length, IfOk, OnOk};
 ghost use Rattle.grow_list.specs.Shown.{ListName};
-ghost use Rattle.task_frame.specs.inodes.Ending.{HasPasses};
-ghost use Rattle.inode_events.specs.EndedInode.{ended_inode};
-ghost use Rattle.world_close.specs.Closed.{AreClosed, CellClosed, IsPushed, ended_station};
+ghost use Rattle.world_close.specs.Closed.{AreClosed, IsPushed, ended_station};
 ghost use Rattle.world_close.specs.Rows.{AreNamed, RowsFit};
 
 use crate::rows::{Row, take_last};
@@ -14,9 +12,8 @@ use policy_cell::RuleEntry;
 use std::alloc::{AllocError as OutOfMemory, Global};
 use std::marker::Model;
 use task_frame::Station;
-use task_frame::inodes::{EndedInode as CellEnd, InodeCell};
 
-// What is left of the inodes, in order, and their passes of the other lists.
+// The closed inodes, in order, and their passes of the other lists.
 #[derive(Drop)]
 pub(crate) struct Closed {
     pub(crate) inodes: Vec<EndedInode>,
@@ -34,34 +31,6 @@ impl Model for Closed {
       book = c.book.items;
       rules = c.rules.items;
     } };
-}
-
-// Closes one inode.
-fn close_cell(cell: InodeCell, column: Vec<Pass<Event>>) -> (EndedInode, Pass<Entry>)
-    requires { HasPasses cell column.items }
-    ensures ended { result.0 ≡ ended_inode cell.inode cell.list }
-    ensures closed { CellClosed cell result.1 }
-{
-    let (end, book) = cell.close(column);
-    let CellEnd {
-        path,
-        journal,
-        digest,
-        attrs,
-        writers,
-        readers,
-        execs,
-    } = end;
-    let ended = EndedInode {
-        path,
-        journal,
-        force: digest,
-        attrs,
-        writers,
-        readers,
-        execs,
-    };
-    (ended, book)
 }
 
 // Closes the last inode with the last pass of each row.
@@ -91,7 +60,7 @@ fn close_last(
         place: _,
     } = station;
     let column = take_last(alloc, rows, number)?;
-    let (ended, listed) = close_cell(cell, column);
+    let (ended, listed) = cell.close(column);
     inodes.push(ended)?;
     book.push(listed)?;
     rules.push(pass)?;

@@ -29,7 +29,7 @@ use Rattle.task_deeds.specs.laws_of_tasks.Ready.{HasLooked}
 use Rattle.world_deeds.specs.Acting.{IsPlacedAt, StationDid, answered_in, told_in, told_of}
 use Rattle.world_deeds.specs.Checking.{IsChecked, check_by, checked_in}
 
--- the answer says what the deed was told
+-- the outcome in the answer is that of the deed
 pub answered_told : {E : Type 0} (place : ℕ) (r : Result (Option Told) E)
     → told_in (answered_in place r) ≡ deeds.told_in r
 answered_told place (Ok (Some t)) = refl
@@ -48,13 +48,13 @@ answered_placed place (Ok (Some t)) = (refl, refl)
 answered_placed place (Ok None) = tt
 answered_placed place (Err e) = tt
 
--- of a check: what it was told
+-- the outcome in the answer is that of the check
 pub checked_told : {E : Type 0} (place : ℕ) (r : Result (Told × ActionValue) E)
     → told_in (checked_in place r) ≡ told_by (λ x. x.0) r
 checked_told place (Ok x) = refl
 checked_told place (Err e) = refl
 
--- what the check was told, by a list that has the same entries
+-- the outcome of a check is the same by a measurement list with the same entries
 pub checked_is : {E : Type 0} (cell : CellValue) (list list1 : List Entry)
     (rules : List RuleValue) (cred : Cred) (place : Super) (asked : Checks)
     (r : Result (Told × ActionValue) E) → list1 ≡ list
@@ -75,7 +75,7 @@ checked_is cell list list1 rules cred place asked (Ok x) e action told = record 
 }
 checked_is cell list list1 rules cred place asked (Err x) e action told = tt
 
--- with the two looks around it
+-- the deed with the two looks around it
 pub did_by : (s s2 : StationValue) (book book1 book2 book3 : Grown Entry)
     (pass pass2 : Passed Event)
     (listed listed1 listed2 : Passed Entry) (who : Who) (d : Deed) (g g2 : Gathered)

@@ -1,4 +1,4 @@
--- What a step of a task finds at the inode of its number.
+-- What a step of a task can rely on at the inode of its number.
 use Rattle.std.proofs.Common.{◌≡◌, ℕ, ◌+◌, ◌<◌, List, length, Option, Some, sym, ◌∙◌, ap, subst}
 use Rattle.std.specs.Prelude.{IfOk, Result, Ok, Err, slice_get}
 use Rattle.std.proofs.lemmas.Option.{same_Some}
@@ -30,7 +30,7 @@ use Rattle.world_deeds.specs.Acting.{IsPlacedAt, IsSaid, ReadyAt, told_of}
 use Rattle.world_deeds.specs.Parts.{AreParts, frame_by, state_by}
 use Rattle.world_deeds.specs.declared.answers.Answered.{Answered}
 
--- what a task does isn't a check
+-- no deed other than a check counts rules
 pub does_count : (n : ℕ) (x : Doing) → CountsAll n (deed_in x)
 does_count n doing.Birth = tt
 does_count n (doing.Count how) = tt
@@ -69,7 +69,7 @@ module _ (settings : Settings) (stations : List StationValue) (supers : List Sup
         birth = st.cell.inode.birth;
       }) (parts.stations i st there).settings
 
-  -- the inode's journal goes to this measurement list
+  -- the inode's journal belongs to this measurement list
   pub found_book : st.cell.book ≡ book.name
   found_book = (parts.stations i st there).book
 
@@ -79,7 +79,7 @@ module _ (settings : Settings) (stations : List StationValue) (supers : List Sup
   pub found_rules : st.rules.name ≡ rules.appended.name
   found_rules = (parts.stations i st there).rules_name
 
-  -- its pass is of its journal
+  -- the task's pass is of the inode's journal
   pub found_pass : (n : ℕ) (passes : PassesValue) (pass : Passed Event) → ArePassesOf F n passes
       → slice_get passes.inodes i ≡ Some pass
       → (pass.name ≡ st.cell.journal) × (pass.number ≡ n + 1)
@@ -108,7 +108,7 @@ module _ (settings : Settings) (stations : List StationValue) (supers : List Sup
       let is = found_ready n passes pass g action slot d at number ready looked in
       record { may = is.may; by = is.by }
 
-  -- what the deed was told is said of the world
+  -- the answer on this inode, as an answer of the world
   said_of : (d : Deed) (o : Option Answered)
       → told_of o ≡ outcome st.cell.inode book.list d (past st.cell.list)
       → IsPlacedAt (length st.cell.list) o → IsSaid F i d S o

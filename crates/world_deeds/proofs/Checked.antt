@@ -1,4 +1,4 @@
--- What became of a turn with a check.
+-- How a turn with a check ends.
 use Rattle.std.proofs.Common.{◌≡◌, ℕ, List, [], ◌∷◌, length, Option, Some, None, refl, sym, ◌∙◌, ap, subst}
 use Rattle.std.specs.Prelude.{Result, Ok, Err, slice_get, unwrap_or}
 use Rattle.std.proofs.lemmas.Option.{get_or_from_slice_get, same_Some}
@@ -47,7 +47,7 @@ module _ (frame : Frame) (t : Tasked) (i file : ℕ) (func : Func) (mask : ℕ) 
   abbrev rules : List RuleValue
   rules = rules_with (scene_of frame []) old.added
 
-  -- the action, where the inode has this journal
+  -- the action of the check, if the inode has this journal
   abbrev action_on : Site → List Event → Action
   action_on s journal =
       decided rules p.cred (super_at frame s.place) (metadata (past journal)) func mask
@@ -55,7 +55,7 @@ module _ (frame : Frame) (t : Tasked) (i file : ℕ) (func : Func) (mask : ℕ) 
   abbrev check_on : Site → List Event → Deed
   check_on s journal = deed.Check file func (action_on s journal) (length rules)
 
-  -- the check that was told, where the journal was this
+  -- the check was made, and the journal was this
   module _ (s : Site) (there : slice_get frame.sites i ≡ Some s) (a : Answered)
       (journal : List Event)
       (e : EventOn frame i s who (check_on s journal) old new t.passes passes t.gathered t.gathered
@@ -114,7 +114,7 @@ module _ (frame : Frame) (t : Tasked) (i file : ℕ) (func : Func) (mask : ℕ) 
       goes = goes;
     }
 
-  -- an inode that isn't there blocks
+  -- on an inode that isn't there the turn is blocked
   none_stops : slice_get frame.sites i ≡ None → new ≡ old → passes ≡ t.passes
       → Stops frame t old new passes t.gathered turns.Blocked
   none_stops there e f = record {

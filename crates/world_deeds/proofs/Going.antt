@@ -48,7 +48,7 @@ module _ (frame : Frame) (t : Tasked) (i : ℕ) (s : Site) (d : Deed) (old new :
   heard action rules =
       hear_told (mode_in frame) p t.mind.thought (length e.journal) action rules o
 
-  -- the turn with this deed
+  -- the turn of the task makes this event
   pub goes_event : (programs : List Program) (action : Action) (rules : ℕ)
       → go_event (scene_of frame programs) t.number p old t.mind.thought i (inode_in frame s) d
       action rules ≡ turned_to new (heard action rules) (turn_of o)
@@ -62,7 +62,7 @@ module _ (frame : Frame) (t : Tasked) (i : ℕ) (s : Site) (d : Deed) (old new :
       (ap length journal_is)
       ∙ ap (λ (x : State). turned_to x (heard action rules) (turn_of o)) (sym e.state)
 
-  -- by a step that does it
+  -- the turn of a step that does this deed
   goes_does : step_at p t.mind.thought.mind ≡ Some (Does i d) → (programs : List Program)
       → go (scene_of frame programs) t.number p old t.mind.thought
       ≡ turned_to new (heard no_action 0) (turn_of o)
@@ -73,7 +73,7 @@ module _ (frame : Frame) (t : Tasked) (i : ℕ) (s : Site) (d : Deed) (old new :
       (get_map (station_of frame) frame.sites i s there)
       ∙ goes_event programs no_action 0
 
--- ---- a deed that was told, blocked, or ran out of memory
+-- ---- a deed that was done, was blocked, or ran out of memory
 
 pub answer_same : (a : Answered) (place : ℕ) → a.place ≡ place → a.action ≡ None
     → plain_answer place a.told ≡ answer_of a 0

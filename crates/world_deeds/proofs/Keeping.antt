@@ -13,7 +13,7 @@ use Rattle.world_deeds.specs.Looking.{AreKept, IsKept, KeptAt}
 use Rattle.task_deeds.specs.frames.Frame.{Frame, Site}
 use Rattle.task_deeds.specs.frames.World.{IsStation, StationValue, journal_of, site_of}
 
--- two lists of one length with the same elements at each place are the same
+-- lists of the same length with the same element at each place are equal
 same_lists : {A : Type 0} (xs ys : List A) → length xs ≡ length ys
     → ((k : ℕ) (x y : A) → slice_get xs k ≡ Some x → slice_get ys k ≡ Some y → x ≡ y) → xs ≡ ys
 same_lists [] [] e f = refl
@@ -24,14 +24,14 @@ same_lists (x ∷ xs) (y ∷ ys) e f =
     ∙ ap (λ zs. y ∷ zs)
     (same_lists xs ys (omega arith) (λ k a b g h. f (suc k) a b g h))
 
--- the element of a list of values is the value of an element
+-- each element of a mapped list is the image of an element
 map_get : {A B : Type 0} (f : A → B) (xs : List A) (k : ℕ) (b : B) → slice_get (map f xs) k ≡ Some b
     → (a : A) × ((slice_get xs k ≡ Some a) × (f a ≡ b))
 map_get f [] k b h = absurd (cc)
 map_get f (x ∷ xs) zero b h = (x, (refl, same_Some (f x) b h))
 map_get f (x ∷ xs) (suc k) b h = map_get f xs k b h
 
--- what a look leaves of each inode it leaves of all
+-- a function that a look preserves for each inode is preserved for all
 pub kept_map : {B : Type 0} (f : StationValue → B) (old new : List StationValue)
     → AreKept old new → ((a b : StationValue) → IsKept a b → f b ≡ f a) → map f new ≡ map f old
 kept_map f old new k e =

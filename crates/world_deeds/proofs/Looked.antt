@@ -19,7 +19,7 @@ use Rattle.world_deeds.specs.Parts.{AreParts, frame_by}
 use Rattle.task_deeds.specs.frames.Frame.{Frame, Site}
 use Rattle.task_deeds.specs.frames.World.{AreRulesOf, IsStation, StationValue, site_of}
 
--- so many rules are in force
+-- the number of rules in force is that of the script's and the appended ones
 pub force_count : (p : PolicyValue) → length (in_force p) ≡ length p.base + length p.appended.list
 force_count p =
     length-append p.base (rules_in p.appended.list)

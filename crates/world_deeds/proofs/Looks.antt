@@ -17,7 +17,7 @@ same_kept s = record {
   place = refl;
 }
 
--- before the first
+-- before the first look
 pub looks_init : (stations : List StationValue) (passes : List (Passed Event))
     → HaveLookedTo 0 stations stations passes passes
 looks_init stations passes = record {
@@ -39,7 +39,7 @@ set_behind (y ∷ ys) zero (suc i) x l = refl
 set_behind (y ∷ ys) (suc n) zero x l = absurd (omega arith)
 set_behind (y ∷ ys) (suc n) (suc i) x l = set_behind ys n i x (omega arith)
 
--- one more
+-- after one more look
 pub looks_more : (n : ℕ) (stations stations2 : List StationValue) (old new : List (Passed Event))
     (s s2 : StationValue) (q q2 : Passed Event)
     → HaveLookedTo n stations stations2 old new
@@ -84,7 +84,7 @@ looks_more n stations stations2 old new s s2 q q2 h at there kept looked = recor
     lower : (j : ℕ) → j < n + 1 → n ≢ j → j < n
     lower j a b = omega arith
 
--- behind the last
+-- after the last look
 pub looks_end : (n : ℕ) (stations stations2 : List StationValue) (old new : List (Passed Event))
     → HaveLookedTo n stations stations2 old new → length new ≤ n
     → HaveLooked stations old new
@@ -95,7 +95,7 @@ looks_end n stations stations2 old new h l = record {
   within : (i : ℕ) (q : Passed Event) → slice_get new i ≡ Some q → i < n
   within i q e = let k : i < length new = slice_get_within new i q e in omega arith
 
--- the element that was read at an index stands there
+-- an element that was read at an index is found there
 pub at_index : {A : Type 0} (xs : List A) (i : ℕ) (x d : A) → i < length xs → x ≡ get_or xs i d
     → slice_get xs i ≡ Some x
 at_index [] i x d l e = absurd (omega arith)

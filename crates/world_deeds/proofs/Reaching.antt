@@ -1,4 +1,4 @@
--- What became of a turn with a deed on an inode.
+-- How a turn with a deed on an inode ends.
 use Rattle.std.proofs.Common.{◌≡◌, ℕ, zero, suc, List, [], ◌∷◌, map, get_or, Option, Some, None, refl, sym, ◌∙◌, ap, subst}
 use Rattle.std.specs.Prelude.{IfOk, Result, Ok, Err, slice_get, slice_set}
 use Rattle.std.proofs.lemmas.List.{append-nil, set-get_or}
@@ -26,7 +26,7 @@ get_map_none f [] k h = refl
 get_map_none f (x ∷ xs) zero h = absurd (cc)
 get_map_none f (x ∷ xs) (suc k) h = get_map_none f xs k h
 
--- a deed that left no event left the lists
+-- a deed without an event leaves the lists as they were
 pub unmoved : (frame : Frame) (i : ℕ) (s : Site) (who : Who) (d : Deed) (old : State)
     → state_on old i (inode_in frame s) who d None ≡ old
 unmoved frame i s who d old =
@@ -34,7 +34,7 @@ unmoved frame i s who d old =
     (ap (λ (xs : List Event). slice_set old.journals i xs) (append-nil (get_or old.journals i []))
     ∙ set-get_or old.journals i [])
 
--- the task with equal passes and hashes
+-- with equal passes and hashing the task is the same
 pub same_left : (frame : Frame) (t : Tasked) (passes : PassesValue) (g : Gathered)
     → passes ≡ t.passes → g ≡ t.gathered
     → (h : List Answer) → HasPlayed frame t h → HasPlayed frame (task_left t passes g) h
@@ -47,7 +47,7 @@ module _ (frame : Frame) (t : Tasked) (i : ℕ) (d : Deed) (old new : State) (pa
   abbrev who : Who
   who = who_at t.number t.mind.program t.mind.thought.mind
 
-  -- an inode that isn't there blocks
+  -- on an inode that isn't there the turn is blocked
   none_stops : slice_get frame.sites i ≡ None → new ≡ old → passes ≡ t.passes → g ≡ t.gathered
       → Stops frame t old new passes g turns.Blocked
   none_stops there e f k = record {

@@ -1,4 +1,4 @@
--- What became of a turn that does nothing, posts, waits or appends a rule.
+-- How a turn ends that does nothing, posts, waits or appends a rule.
 use Rattle.std.proofs.Common.{◌≡◌, ℕ, ◌+◌, ◌<◌, List, [], ◌∷◌, ◌++◌, length, Option, Some, None, refl, sym, ◌∙◌, ap, subst, arith, length-append}
 use Rattle.std.specs.Prelude.{Bool, true, false, cond, nat_lt, IfOk, Result, Ok, Err, unwrap_or}
 use Rattle.std.proofs.lemmas.Option.{same_Some}
@@ -39,7 +39,7 @@ use Rattle.task_deeds.proofs.laws_of_tasks.Quieting.{quiet_is_left, quiet_is_pla
 use Rattle.task_deeds.specs.laws_of_tasks.Quiet.{IsQuiet, QuietLeft, QuietPasses}
 use Rattle.task_deeds.specs.laws_of_tasks.Steps.{Adds}
 
--- an answer without an action leaves the action of the last check, at a step that isn't a check
+-- if a step isn't a check, its answer has no action, and the action of the last check remains
 checked_quiet : (t : ActionValue) (a : Answered) (o : Option Step) → IsQuiet o → a.action ≡ None
     → unwrap_or a.action t ≡ action_by o (answer_of a 0) t
 checked_quiet t a (Some Nothing) q e = ap (λ (x : Option Action). unwrap_or x t) e
@@ -49,7 +49,7 @@ checked_quiet t a (Some (Does i d)) q e = absurd q
 checked_quiet t a (Some (Checks i file func mask)) q e = absurd q
 checked_quiet t a None q e = absurd q
 
--- a post or a wait that isn't blocked is told that it was done
+-- the outcome of a post or a wait that isn't blocked is `Done`
 is_done : (before : List Event) (d : Deed) (u : Told) → semaphore_says before d ≡ Some u
     → u ≡ told.Done
 is_done before (deed.Post sem) u e = sym (same_Some told.Done u e)
@@ -66,7 +66,7 @@ module _ (frame : Frame) (t : Tasked) where
   abbrev who : Who
   who = who_at t.number t.mind.program t.mind.thought.mind
 
-  -- a quiet step that was told, by its answer
+  -- a quiet step that was made, by its answer
   quiet_tells : (old new : State) (passes : PassesValue) (a : Answered) (place : ℕ)
       → IsQuiet due → a.place ≡ place → a.action ≡ None
       → QuietPasses frame t passes (plain_answer place a.told)
@@ -87,7 +87,7 @@ module _ (frame : Frame) (t : Tasked) where
             (hear (mode_in frame) t.mind.program t.mind.thought b) turns.Moved) same;
       }
 
-  -- nothing
+  -- a step that does nothing was made
   pub nothing_tells : (old : State) (a : Answered) → due ≡ Some Nothing → a.place ≡ 0
       → a.told ≡ told.Nothing → a.action ≡ None
       → Tells frame t old old t.passes t.gathered a
@@ -176,7 +176,7 @@ module _ (frame : Frame) (t : Tasked) where
           (append-nil old.signals);
     }
 
-  -- a rule that was appended
+  -- an appended rule
   module _ (rule : RuleValue) (old new : State) (passes : PassesValue)
       (st : due ≡ Some (Appends rule)) where
     abbrev entry : RuleEntry
@@ -209,7 +209,7 @@ module _ (frame : Frame) (t : Tasked) where
               );
         }
 
-    -- the answer to it
+    -- the answer to an appended rule
     pub appends_tells : (a : Answered) → AppendsTo old new t.passes passes entry
         → (a.place ≡ length old.added) × (a.told ≡ told.Done) × (a.action ≡ None)
         → Tells frame t old new passes t.gathered a

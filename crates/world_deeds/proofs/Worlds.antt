@@ -1,4 +1,5 @@
--- A deed on one inode leaves the constants of its world, and the lists as a turn has them.
+-- A deed on one inode leaves the constants of its world as they were, and changes the lists as a
+-- turn does.
 use Rattle.std.proofs.Common.{◌≡◌, ◌≢◌, ℕ, zero, suc, ◌+◌, ◌<◌, List, [], ◌∷◌, ◌++◌, length, map, get_or, Option, Some, None, refl, sym, ◌∙◌, ap, subst, inl, inr}
 use Rattle.std.specs.Prelude.{◌⊎◌, slice_get, slice_set}
 use Rattle.std.proofs.lemmas.Option.{get_or_from_slice_get, same_Some, slice_get_within}
@@ -107,7 +108,7 @@ module _ (settings : Settings) (stations : List StationValue) (supers : List Sup
         journal = x;
       }) did.leaves.same.journal
 
-  -- the constants stay
+  -- the constants stay the same
   pub frame_same : frame_by settings stations2 supers book2 sems rules tasks ≡ F
   frame_same =
       ap (λ (xs : List Site). record F { boot = boot_in book2.list; sites = xs; book = book2.name })
@@ -115,7 +116,7 @@ module _ (settings : Settings) (stations : List StationValue) (supers : List Sup
       ∙ ap (λ (e : Entry). record F { boot = e; book = book2.name }) (ap boot_in first.1)
       ∙ ap (λ (x : ListName). record F { book = x }) did.book_name
 
-  -- the inode is still that of the frame
+  -- the inode still belongs to the frame
   pub station_same : CountsAll (length F.base + length st.rules.seen) d → IsStation F i st2
   station_same counts =
       let old : IsStation F i st = parts.stations i st there in
@@ -138,7 +139,7 @@ module _ (settings : Settings) (stations : List StationValue) (supers : List Sup
             (sym did.leaves.journal) rise);
       }
 
-  -- all parts are
+  -- all parts still belong to the frame
   pub parts_same : CountsAll (length F.base + length st.rules.seen) d
       → AreParts F stations2 book2 sems rules
   parts_same counts = record {
@@ -172,7 +173,7 @@ module _ (settings : Settings) (stations : List StationValue) (supers : List Sup
   journal_there : slice_get S.journals i ≡ Some st.cell.list
   journal_there = get_map journal_of stations i st there
 
-  -- the lists are those of a turn
+  -- the lists are those after a turn
   pub state_same : state_by stations2 book2 sems rules ≡ state_on S i st.cell.inode who d o
   state_same =
       let here : get_or S.journals i [] ≡ st.cell.list =
@@ -196,7 +197,7 @@ module _ (settings : Settings) (stations : List StationValue) (supers : List Sup
         birth = st.cell.inode.birth;
       }) (sym (parts.stations i st there).settings)
 
-  -- what the deed leaves, as its task sees it
+  -- the effect of the deed, from the view of its task
   pub event_on : (passes passes2 : PassesValue) → slice_get passes.inodes i ≡ Some pass
       → passes2.inodes ≡ slice_set passes.inodes i pass2 → passes2.sems ≡ passes.sems
       → Adds passes.rules passes2.rules [] → IsPrefix passes.rules.seen passes2.rules.seen
@@ -233,7 +234,7 @@ module _ (settings : Settings) (stations : List StationValue) (supers : List Sup
         did.hashes);
   }
 
-  -- the same at the frame's own site of this number
+  -- the effect of the deed at the frame's own site of this number
   pub event_in : (passes passes2 : PassesValue) → slice_get passes.inodes i ≡ Some pass
       → passes2.inodes ≡ slice_set passes.inodes i pass2 → passes2.sems ≡ passes.sems
       → Adds passes.rules passes2.rules [] → IsPrefix passes.rules.seen passes2.rules.seen

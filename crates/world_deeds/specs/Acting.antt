@@ -1,4 +1,4 @@
--- What a deed leaves of one inode of a world, of the measurement list and of the task's passes.
+-- How a deed changes one inode of a world, the measurement list and the task's passes.
 use Rattle.std.specs.Prelude.{◌≡◌, ℕ, ◌+◌, [], length, List, Option, Some, None, Result, Ok, Err, option_map, slice_get}
 use mathlib.Core.List.{IsPrefix}
 use Rattle.grow_list.specs.Shown.{Grown, Passed}
@@ -23,7 +23,7 @@ use Rattle.task_deeds.specs.laws_of_tasks.Events.{EventOn}
 use Rattle.task_deeds.specs.laws_of_tasks.Ready.{HasLooked, IsReady}
 use Rattle.task_deeds.specs.laws_of_tasks.Steps.{Adds}
 
--- what the step was told, if anything
+-- the outcome of the step, if it was answered
 abbrev pub told_of : Option Answered → Option Told
 told_of o = option_map (λ (a : Answered). a.told) o
 
@@ -31,18 +31,18 @@ abbrev pub told_in : {E : Type 0} → Result (Option Answered) E → Option Told
 told_in (Ok o) = told_of o
 told_in (Err e) = None
 
--- a deed was told this, and its event stands at this place
+-- the answer to a deed with this outcome, whose event is at this place
 abbrev pub answered_in : {E : Type 0} → ℕ → Result (Option Told) E → Result (Option Answered) E
 answered_in place (Ok (Some t)) = Ok (Some (record { place = place; told = t; action = None }))
 answered_in place (Ok None) = Ok None
 answered_in place (Err e) = Err e
 
--- where its event stands
+-- the answer gives this place and no action
 abbrev pub IsPlacedAt : ℕ → Option Answered → Type 0
 IsPlacedAt place None = Unit {0}
 IsPlacedAt place (Some a) = (a.place ≡ place) × (a.action ≡ None)
 
--- the deed on this inode, which was told so
+-- the deed on this inode, with this outcome
 pub record StationDid (s s2 : StationValue) (book book2 : Grown Entry) (pass pass2 : Passed Event)
     (listed listed2 : Passed Entry) (who : Who) (d : Deed) (g g2 : Gathered) (o : Option Told)
     : Type 0 where
@@ -55,6 +55,15 @@ pub record StationDid (s s2 : StationValue) (book book2 : Grown Entry) (pass pas
   pub book_pass : Adds listed listed2 []
   pub before : IsPrefix listed.seen book.list
   pub seen : listed2.seen ≡ book2.list
+  pub hashes : HashesTold s.cell.inode s2.cell.list g g2 d o
+
+-- the deed on this inode, with this outcome; it didn't consult the measurement list
+pub record StationDidAlone (s s2 : StationValue) (pass pass2 : Passed Event) (who : Who) (d : Deed)
+    (g g2 : Gathered) (o : Option Told) : Type 0 where
+  pub looked : HasLooked s.cell.inode pass.number pass.seen s.cell.list pass.mine
+  pub leaves : (list : List Entry) → Leaves s.cell s2.cell list list pass pass2 who d o
+  pub rules : s2.rules ≡ s.rules
+  pub place : s2.place ≡ s.place
   pub hashes : HashesTold s.cell.inode s2.cell.list g g2 d o
 
 -- after a look the deed on the inode of this number is ready
@@ -74,14 +83,14 @@ pub record NoEvent (old new : State) (passes passes2 : PassesValue) (g g2 : Gath
   pub gathered : g2 ≡ g
   pub told : o ≡ None
 
--- an inode that isn't there, which no script names, blocks
+-- the deed on the inode of this number; if there is none, which no script names, it is blocked
 abbrev pub EventIn : Frame → ℕ → Option Site → Who → Deed → State → State → PassesValue
     → PassesValue → Gathered → Gathered → Option Told → Type 0
 EventIn frame i None who d old new passes passes2 g g2 o = NoEvent old new passes passes2 g g2 o
 EventIn frame i (Some s) who d old new passes passes2 g g2 o =
     EventOn frame i s who d old new passes passes2 g g2 o
 
--- what it was told is the outcome, and its event stands behind the journal
+-- the answer's outcome is the deed's, and its place is the end of the journal
 abbrev pub IsSaid : Frame → ℕ → Deed → State → Option Answered → Type 0
 IsSaid frame i d old o = (s : Site) (journal : List Event) → slice_get frame.sites i ≡ Some s
     → slice_get old.journals i ≡ Some journal

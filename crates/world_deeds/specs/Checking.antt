@@ -1,4 +1,4 @@
--- What a check leaves of one inode of a world.
+-- How a check changes one inode of a world.
 use Rattle.std.specs.Prelude.{◌≡◌, ℕ, [], length, List, Option, Some, None, Result, Ok, Err, slice_get}
 use Rattle.ima_templates.specs.declared.entry.Entry.{Entry}
 use Rattle.inode_events.specs.Asked.{outcome}
@@ -25,20 +25,20 @@ use Rattle.task_deeds.specs.laws_of_tasks.Events.{EventOn}
 use Rattle.world_deeds.specs.Acting.{NoEvent, told_in}
 use Rattle.world_deeds.specs.declared.answers.Answered.{Answered}
 
--- the check that these rules decide
+-- the check as a deed, with the action that these rules decide
 abbrev pub check_by : List RuleValue → Cred → Super → Meta → Checks → Deed
 check_by rules cred place meta asked =
     deed.Check asked.file asked.func (decided rules cred place meta asked.func asked.mask)
     (length rules)
 
--- it was told this, with this action, and its event stands at this place
+-- the answer to a check with this outcome and action, whose event is at this place
 abbrev pub checked_in : {E : Type 0} → ℕ → Result (Told × ActionValue) E
     → Result (Option Answered) E
 checked_in place (Ok r) =
     Ok (Some (record { place = place; told = r.0; action = Some r.1 }))
 checked_in place (Err e) = Err e
 
--- what it was told stands at the end of the journal, and its action is that of these rules
+-- the answer's place is the end of the journal, and its action is the one of these rules
 pub record IsCheckedBy (inode : Inode) (journal : List Event) (list : List Entry)
     (rules : List RuleValue) (cred : Cred) (place : Super) (asked : Checks) (a : Answered)
     : Type 0 where
@@ -48,7 +48,7 @@ pub record IsCheckedBy (inode : Inode) (journal : List Event) (list : List Entry
   pub told : Some a.told ≡ outcome inode list
       (check_by rules cred place (metadata (past journal)) asked) (past journal)
 
--- a check is never blocked
+-- the answer to a check, which is never blocked
 abbrev pub IsChecked : {E : Type 0} → Inode → List Event → List Entry → List RuleValue → Cred
     → Super → Checks → Result (Option Answered) E → Type 0
 IsChecked inode journal list rules cred place asked (Ok (Some a)) =
@@ -56,7 +56,7 @@ IsChecked inode journal list rules cred place asked (Ok (Some a)) =
 IsChecked inode journal list rules cred place asked (Ok None) = ⊥
 IsChecked inode journal list rules cred place asked (Err e) = Unit {0}
 
--- the check on an inode that is there: by all rules, which the task's pass has seen
+-- the check on an inode that is there, by all rules in force, which the task's pass has seen
 pub record CheckOn {E : Type 0} (frame : Frame) (i : ℕ) (s : Site) (who : Who) (cred : Cred)
     (asked : Checks) (old new : State) (passes passes2 : PassesValue) (g : Gathered)
     (r : Result (Option Answered) E) : Type 0 where

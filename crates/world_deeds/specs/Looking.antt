@@ -1,4 +1,4 @@
--- What a look at all journals leaves of inodes and passes.
+-- How a look at all journals changes inodes and passes.
 use Rattle.std.specs.Prelude.{◌≡◌, ℕ, ◌<◌, ◌≤◌, List, length, Some, slice_get}
 use Rattle.grow_list.specs.Shown.{Passed}
 use Rattle.task_deeds.specs.inodes.Value.{IsSameCell}
@@ -6,7 +6,7 @@ use Rattle.inode_events.specs.declared.told.Event.{Event}
 use Rattle.task_deeds.specs.frames.World.{StationValue}
 use Rattle.task_deeds.specs.laws_of_tasks.Ready.{HasLooked}
 
--- the inode is as it was, with perhaps another room
+-- the inode is unchanged but perhaps for its spare capacity
 pub record IsKept (old new : StationValue) : Type 0 where
   pub cell : IsSameCell old.cell new.cell
   pub list : new.cell.list ≡ old.cell.list
@@ -18,12 +18,12 @@ pub record KeptAt (old : List StationValue) (i : ℕ) (new : StationValue) : Typ
   pub at : slice_get old i ≡ Some before
   pub kept : IsKept before new
 
--- all are
+-- all inodes are unchanged but perhaps for their spare capacity
 pub record AreKept (old new : List StationValue) : Type 0 where
   pub even : length new ≡ length old
   pub each : (i : ℕ) (s : StationValue) → slice_get new i ≡ Some s → KeptAt old i s
 
--- the pass has seen the journal of the inode, and is otherwise as it was
+-- the pass is up to date with the inode's journal, and otherwise unchanged
 pub record IsLooked (station : StationValue) (old new : Passed Event) : Type 0 where
   pub name : new.name ≡ old.name
   pub number : new.number ≡ old.number
@@ -39,13 +39,13 @@ pub record LookedAt (stations : List StationValue) (old : List (Passed Event)) (
   pub station_at : slice_get stations i ≡ Some station
   pub looked : IsLooked station before new
 
--- all have
+-- all passes are up to date with their journals, and otherwise unchanged
 pub record HaveLooked (stations : List StationValue) (old new : List (Passed Event))
     : Type 0 where
   pub even : length new ≡ length old
   pub each : (i : ℕ) (q : Passed Event) → slice_get new i ≡ Some q → LookedAt stations old i q
 
--- those below a number have, and the others are as they were
+-- the passes below n are up to date with their journals, and the others are unchanged
 pub record HaveLookedTo (n : ℕ) (stations stations2 : List StationValue)
     (old new : List (Passed Event)) : Type 0 where
   pub kept : AreKept stations stations2

@@ -1,4 +1,4 @@
--- The lists of a world together: its constants, and what the lists keep of these.
+-- The lists of a world together: its constants, and the invariants between the lists and these.
 use Rattle.std.specs.Prelude.{◌≡◌, ℕ, List, map, Some, slice_get}
 use Rattle.grow_list.specs.Shown.{Grown}
 use Rattle.ima_templates.specs.declared.entry.Entry.{Entry}
@@ -10,7 +10,7 @@ use Rattle.run_model.specs.Turns.{State}
 use Rattle.task_deeds.specs.frames.Frame.{Frame, boot_in}
 use Rattle.task_deeds.specs.frames.World.{AreRulesOf, AreSignalsOf, IsBookOf, IsStation, StationValue, journal_of, site_of}
 
--- the constants of these parts
+-- the constants of a world with these parts
 abbrev pub frame_by : Settings → List StationValue → List Super → Grown Entry → Grown Event
     → PolicyValue → ℕ → Frame
 frame_by settings stations supers book sems rules tasks = record {
@@ -25,7 +25,7 @@ frame_by settings stations supers book sems rules tasks = record {
   tasks = tasks;
 }
 
--- and their lists
+-- the lists of a world with these parts
 abbrev pub state_by : List StationValue → Grown Entry → Grown Event → PolicyValue → State
 state_by stations book sems rules = record {
   journals = map journal_of stations;
@@ -34,7 +34,7 @@ state_by stations book sems rules = record {
   added = rules.appended.list;
 }
 
--- each part is one of the frame
+-- each part belongs to the frame
 pub record AreParts (frame : Frame) (inodes : List StationValue) (list : Grown Entry)
     (signals : Grown Event) (policy : PolicyValue) : Type 0 where
   pub stations : (i : ℕ) (s : StationValue) → slice_get inodes i ≡ Some s → IsStation frame i s

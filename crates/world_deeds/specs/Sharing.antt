@@ -1,4 +1,4 @@
--- What posts, waits and appended rules leave of a world's lists and of the task's passes.
+-- How posts, waits and appended rules change a world's lists and the task's passes.
 use Rattle.std.specs.Prelude.{◌≡◌, [], ◌∷◌, ◌++◌, length, Option}
 use mathlib.Core.List.{IsPrefix}
 use Rattle.inode_meta.specs.declared.step.Who.{Who}
@@ -10,14 +10,14 @@ use Rattle.run_model.specs.Turns.{State}
 use Rattle.task_deeds.specs.frames.Tasks.{PassesValue}
 use Rattle.task_deeds.specs.laws_of_tasks.Steps.{Adds}
 
--- a post or a wait, which was told so: None where it was blocked or ran out of memory
+-- a post or a wait, with this outcome: None if it was blocked or ran out of memory
 pub record SignalsOn (old new : State) (passes passes2 : PassesValue) (who : Who) (d : Deed)
     (o : Option Told) : Type 0 where
   pub state : new ≡ record old { signals = old.signals ++ made who d o }
   pub sems : Adds passes.sems passes2.sems (entered (length old.signals) who d o)
   pub others : passes2 ≡ record passes { sems = passes2.sems }
 
--- a rule that was appended
+-- an appended rule
 pub record AppendsTo (old new : State) (passes passes2 : PassesValue) (entry : RuleEntry)
     : Type 0 where
   pub state : new ≡ record old { added = old.added ++ entry ∷ [] }

@@ -1,4 +1,4 @@
--- What a turn leaves of its task and of its world.
+-- How a turn changes its task and its world.
 use Rattle.std.specs.Prelude.{◌≡◌, ℕ, List, ◌∷◌, Option, Some, None, Result, Ok, Err, unwrap_or}
 use Rattle.call_steps.specs.Steps.{given}
 use Rattle.run_model.specs.History.{Answer, Thought, hear, step_at}
@@ -18,21 +18,21 @@ use Rattle.task_deeds.specs.minds.Value.{TaskValue}
 abbrev pub turned_to : State → Thought → Turn → Turned
 turned_to state thought turn = record { state = state; thought = thought; turn = turn }
 
--- one turn of the task, whatever the programs of the others
+-- one turn of the task, whatever the programs of the others are
 abbrev pub Goes : Frame → Tasked → State → Turned → Type 0
 Goes frame t old after = (programs : List Program)
     → go (scene_of frame programs) t.number t.mind.program old t.mind.thought ≡ after
 
--- the answer, to a check by so many rules
+-- the answer to a step; for a check, `rules` is the number of rules in force
 abbrev pub answer_of : Answered → ℕ → Answer
 answer_of a rules =
     record { place = a.place; told = a.told; action = given a.action; rules = rules }
 
--- the step was told this
+-- the step was made with this answer
 pub record Tells (frame : Frame) (t : Tasked) (old new : State) (passes : PassesValue)
     (g : Gathered) (a : Answered) : Type 0 where
   pub rules : ℕ
-  -- a check alone has an action
+  -- only a check has an action
   pub checked : unwrap_or a.action t.mind.checked
       ≡ action_by (step_at t.mind.program t.mind.thought.mind) (answer_of a rules) t.mind.checked
   pub plays : (h : List Answer) (mind : TaskValue) → HasPlayed frame t h
@@ -41,7 +41,7 @@ pub record Tells (frame : Frame) (t : Tasked) (old new : State) (passes : Passes
   pub goes : Goes frame t old (turned_to new
       (hear (mode_in frame) t.mind.program t.mind.thought (answer_of a rules)) turns.Moved)
 
--- the task has made no step
+-- the task has made no step, so its history is as before
 abbrev pub StillPlays : Frame → Tasked → PassesValue → Gathered → Type 0
 StillPlays frame t passes g =
     (h : List Answer) → HasPlayed frame t h → HasPlayed frame (task_left t passes g) h
@@ -64,7 +64,7 @@ Reaches frame t old new passes g (Ok reached.Blocked) =
 Reaches frame t old new passes g (Ok reached.Over) = Stops frame t old new passes g turns.Done
 Reaches frame t old new passes g (Err e) = Fails frame t old new passes g
 
--- what became of a turn that was answered so
+-- how a turn ended, by the answer to its step
 abbrev pub reached_by : {E : Type 0} → Result (Option Answered) E → Result Reached E
 reached_by (Ok (Some a)) = Ok (reached.Told a)
 reached_by (Ok None) = Ok reached.Blocked

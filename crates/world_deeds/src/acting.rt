@@ -17,8 +17,8 @@ use task_deeds::frames::{Gathered, Station};
 use task_deeds::minds::Doing;
 use task_deeds::{Actor, does};
 
-/// The deed on the inode, by its task's passes of the journal and of the measurement list. `None`
-/// is blocked.
+/// Does the deed on the inode, through its task's passes of the journal and of the measurement
+/// list. `None` means that it is blocked.
 pub fn act_at(
     station: &mut Station,
     pass: &mut Pass<Event>,

@@ -7,29 +7,29 @@ use inode_events::Told;
 use policy_text::Action;
 use std::alloc::AllocError as OutOfMemory;
 
-/// What a step was told.
+/// The answer to a step.
 #[derive(Drop)]
 pub struct Answered {
-    /// Where its event or its rule stands.
+    /// The index of the step's event in its journal, or of its rule among the appended ones.
     pub place: u64,
-    /// The outcome.
+    /// The outcome of the step.
     pub told: Told,
-    /// The action of a check.
+    /// The action, if the step was a check.
     pub action: Option<Action>,
 }
 
-/// What became of a turn.
+/// How a turn ended.
 #[derive(Drop)]
 pub enum Reached {
-    /// The program was over.
+    /// The program had no call left.
     Over,
     /// The step can't be made now.
     Blocked,
-    /// It was made, and told this.
+    /// The step was made, with this answer.
     Told(Answered),
 }
 
-/// What a deed was told, with the place of its event. `None` is blocked.
+/// The answer to a deed, with the place of its event. `None` means that it is blocked.
 pub fn told_at(
     place: u64,
     told: Result<Option<Told>, OutOfMemory>,
@@ -47,7 +47,7 @@ pub fn told_at(
     }
 }
 
-/// What a check was told, with the place of its event and its action.
+/// The answer to a check, with its action and the place of its event.
 pub fn checked_at(
     place: u64,
     told: Result<(Told, Action), OutOfMemory>,
@@ -64,7 +64,7 @@ pub fn checked_at(
     }
 }
 
-/// What became of the turn: a step that was blocked has no answer.
+/// How the turn ended; a step that was blocked has no answer.
 pub fn became(answered: Result<Option<Answered>, OutOfMemory>) -> Result<Reached, OutOfMemory>
     ensures { result ≡ reached_by answered }
 {

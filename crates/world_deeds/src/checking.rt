@@ -22,8 +22,8 @@ use task_deeds::books::Book;
 use task_deeds::frames::Station;
 use task_deeds::{Actor, Checks, checks};
 
-/// The check on the inode, which lies on this file system, by its task's passes of the journal and
-/// of the measurement list.
+/// Makes the check on the inode, which is on this file system, through its task's passes of the
+/// journal and of the measurement list.
 pub fn check_at(
     station: &mut Station,
     pass: &mut Pass<Event>,

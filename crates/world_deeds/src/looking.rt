@@ -10,7 +10,7 @@ use grow_list::Pass;
 use inode_events::Event;
 use task_deeds::frames::Station;
 
-/// The passes of all journals see them.
+/// Brings the passes of all journals up to date.
 pub fn look_at_inodes(stations: &mut Vec<Station>, passes: &mut Vec<Pass<Event>>)
     requires even { length passes.old.items ≡ length stations.old.items }
     requires names { (i : ℕ) (s : StationValue) (q : AnyPass AnyEvent)
@@ -24,7 +24,7 @@ pub fn look_at_inodes(stations: &mut Vec<Station>, passes: &mut Vec<Pass<Event>>
     }
 }
 
-// The pass of the inode's journal sees it.
+// Brings the pass of the inode's journal up to date.
 fn look_at(station: &mut Station, pass: &mut Pass<Event>)
     requires { pass.old.name ≡ station.old.cell.journal }
     ensures station { IsKept station.old station.new }

@@ -1,4 +1,4 @@
--- What a world leaves when its lists are closed.
+-- The final state of a world when its lists are closed.
 use Rattle.std.proofs.Common.{◌≡◌, ℕ, Bool, List, length, refl, ap, sym, ◌∙◌, subst, Some, None}
 use Rattle.std.specs.Prelude.{◌==◌, All, Option, false, map}
 use mathlib.Core.List.{map-map}
@@ -26,7 +26,7 @@ use Rattle.world_ended.specs.Settled.{HasEnded, HaveSameMinds, mind_of}
 
 -- ---- tasks
 
--- nothing is left of the semaphore, if there is one
+-- the awaited semaphore, if there is one, has no post left
 abbrev pub vain : (ℕ → ℕ) → Option ℕ → Bool
 vain left_of None = false
 vain left_of (Some sem) = left_of sem == 0
@@ -39,7 +39,7 @@ vain_is left_of (Some c) = refl
 
 -- ---- the world
 
--- the closes of its lists, and what its tasks leave
+-- the final state, by the closed lists and the tasks
 pub closed_ended : (frame : Frame) (stations : List StationValue) (list : List Entry)
     (signals : List Event) (added : List RuleEntry) (tasks : List Tasked) (e : EndedValue)
     → AreStations frame stations → AreTasks frame tasks → length tasks ≡ frame.tasks
@@ -56,7 +56,7 @@ closed_ended frame stations list signals added tasks e are of count made closed 
       finished = done;
     }
 
--- the same run, where the tasks have only looked
+-- the final state doesn't change if the tasks have only looked at the lists
 pub ended_same : (frame frame2 : Frame) (state state2 : State) (old new : List Tasked)
     (e : EndedValue) → frame2 ≡ frame → state2 ≡ state → HaveSameMinds old new
     → HasEnded (scene_of frame2 (programs_of new)) (moment_of state2 new) e

@@ -1,4 +1,4 @@
--- What the closed lists and the tasks leave is what the run leaves.
+-- The final state of the closed lists and the tasks is the final state of the run.
 use Rattle.std.proofs.Common.{◌≡◌, ℕ, ◌&&◌, ◌||◌, Bool, List, [], ◌∷◌, length, refl, ap, sym, ◌∙◌, arith, Some, suc}
 use Rattle.std.specs.Prelude.{map, not, slice_get}
 use Rattle.std.specs.List.{list_all, list_any}
@@ -24,7 +24,7 @@ use Rattle.world_ended.specs.Leaves.{ClosedIsLeft, done_by, may_append, rests, t
 
 -- ---- the inodes
 
--- they end as their journals say, where each is that of the scene
+-- each inode ends as its journal says
 inodes_are : (scene : Scene) (sites : List Station) (stations : List StationValue)
     → length sites ≡ length stations
     → ((k : ℕ) (x : Station) (s : StationValue) → slice_get sites k ≡ Some x
@@ -45,20 +45,20 @@ tasks_are : (tasks : List Tasked)
 tasks_are [] = refl
 tasks_are (t ∷ tasks) = ap (λ (l : List EndedTaskValue). task_left t ∷ l) (tasks_are tasks)
 
--- all are done
+-- `done_by` of all tasks is `all_done` of the run
 dones : (tasks : List Tasked)
     → list_all done_by tasks ≡ all_done (map program_of tasks) (map thought_of tasks)
 dones [] = refl
 dones (t ∷ tasks) = ap (λ (b : Bool). done_by t && b) (dones tasks)
 
--- none can go on
+-- no task can go on in the world exactly if none can in the run
 waits : (left_of : ℕ → ℕ) (tasks : List Tasked)
     → list_all (rests left_of) tasks
     ≡ all_wait left_of (map program_of tasks) (map thought_of tasks)
 waits left_of [] = refl
 waits left_of (t ∷ tasks) = ap (λ (b : Bool). rests left_of t && b) (waits left_of tasks)
 
--- some can append a rule
+-- some task can append a rule in the world exactly if one can in the run
 grown : (tasks : List Tasked)
     → list_any may_append tasks
     ≡ list_any (λ (p : Program). list_any appends p.calls) (map program_of tasks)
@@ -90,7 +90,7 @@ closed_left frame stations list signals added tasks are finished = λ i. record 
       sym w.inode_is ∙ ap (λ (t : StationValue). t.cell.inode)
       (same_Some w.there s (sym w.at ∙ b)))
 
-  -- what is left of each semaphore by the journal is left by the replies
+  -- the posts that are left of each semaphore are the same by the journal as by the replies
   left_is : (sem : ℕ) → count_left sem (past signals)
       ≡ left sem (map program_of tasks) (map thought_of tasks)
   left_is sem =

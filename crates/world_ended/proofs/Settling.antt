@@ -1,4 +1,4 @@
--- One task more has looked at all lists.
+-- One more task has looked at all lists.
 use Rattle.std.proofs.Common.{◌≡◌, ℕ, ◌+◌, ◌<◌, ◌≤◌, ◌⊎◌, inl, inr, List, [], ◌∷◌, length, Some, refl, ap, sym, ◌∙◌, subst, arith, suc, zero}
 use Rattle.std.specs.Prelude.{map, slice_get, slice_set}
 use Rattle.std.proofs.lemmas.Option.{same_Some, slice_get_within}
@@ -10,7 +10,7 @@ use Rattle.world_close.proofs.Gets.{get_set}
 use Rattle.world_close.specs.Finished.{HaveMade}
 use Rattle.world_ended.specs.Settled.{HaveLooked, mind_of}
 
--- an element of which the map makes the same leaves the map as it was
+-- writing an element with the same image leaves the map of a list as it was
 map_kept : {A B : Type 0} (f : A → B) (xs : List A) (k : ℕ) (x y : A) → slice_get xs k ≡ Some x
     → f y ≡ f x → map f (slice_set xs k y) ≡ map f xs
 map_kept f [] k x y at e = refl
@@ -19,7 +19,7 @@ map_kept {B = B} f (z ∷ xs) zero x y at e =
 map_kept {B = B} f (z ∷ xs) (suc k) x y at e =
     ap (λ (l : List B). f z ∷ l) (map_kept f xs k x y at e)
 
--- none has looked at first
+-- no task has looked at first
 pub looked_none : (frame : Frame) (state : State) (tasks : List Tasked) → AreTasks frame tasks
     → HaveLooked frame state 0 tasks tasks
 looked_none frame state tasks are = record {
@@ -28,7 +28,7 @@ looked_none frame state tasks are = record {
   same = refl;
 }
 
--- one task more has
+-- one more task has looked
 pub looked_more : (frame : Frame) (state : State) (k : ℕ) (old new : List Tasked)
     (t t2 : Tasked) → slice_get new k ≡ Some t → HasMade frame state t2 → IsTask frame t2
     → t2.number ≡ t.number → t2.mind ≡ t.mind → HaveLooked frame state k old new
@@ -54,7 +54,7 @@ looked_more frame state k old new t t2 at has task number mind l = record {
       (record { number = number ∙ (l.tasks.each k t at).number; task = task })
   each j u (inr w) = l.tasks.each j u w.1
 
--- where no task is left, all have
+-- all tasks have looked once none remains
 pub looked_all : (frame : Frame) (state : State) (k : ℕ) (old new : List Tasked)
     → length new ≤ k → HaveLooked frame state k old new → HaveMade frame state new
 looked_all frame state k old new all l j t at =

@@ -1,4 +1,4 @@
--- What a world leaves, by its closed lists and its tasks.
+-- The final state of a world, by its closed lists and its tasks.
 use Rattle.std.specs.Prelude.{◌≡◌, ℕ, ◌&&◌, ◌||◌, not, Bool, List, length, map, slice_get}
 use Rattle.std.specs.List.{list_all, list_any}
 use Rattle.ima_templates.specs.Replay.{banks_of}
@@ -19,20 +19,20 @@ use Rattle.world_close.specs.Finished.{IsFinished, state_at}
 
 -- ---- a task
 
--- each of its calls is answered
+-- each of the task's calls is answered
 abbrev pub done_by : Tasked → Bool
 done_by t = is_done t.mind.program t.mind.thought
 
 abbrev pub task_left : Tasked → EndedTaskValue
 task_left t = record { done = done_by t; replies = t.mind.thought.replies }
 
--- it is done, or its next call waits for a semaphore of which nothing is left
+-- the task is done, or its next call waits for a semaphore with no post left
 abbrev pub rests : (ℕ → ℕ) → Tasked → Bool
 rests left_of t =
     done_by t || waits_in_vain left_of
     (slice_get t.mind.program.calls (length t.mind.thought.replies))
 
--- its program can append a rule
+-- the task's program can append a rule
 abbrev pub may_append : Tasked → Bool
 may_append t = list_any appends t.mind.program.calls
 
@@ -58,7 +58,7 @@ left_by frame stations list signals added tasks = record {
   grows = list_any may_append tasks;
 }
 
--- it is what the run leaves
+-- the final state of the closed lists and the tasks is the final state of the run
 abbrev pub ClosedIsLeft : Type 0
 ClosedIsLeft =
     (frame : Frame) (stations : List StationValue) (list : List Entry) (signals : List Event)

@@ -1,4 +1,4 @@
--- Tasks that look at all lists of their world, one after the other, and how their run ends.
+-- Tasks that look at all lists of their world, one after another, and how their run ends.
 use Rattle.std.specs.Prelude.{◌≡◌, ℕ, ◌<◌, ◌||◌, All, Bool, List, map, Some, slice_get}
 use Rattle.ima_templates.specs.IsEntry.{IsEntry}
 use Rattle.run_model.specs.Ended.{all_done, is_stuck}
@@ -14,11 +14,11 @@ use Rattle.world_close.specs.Finished.{IsFinished}
 abbrev pub mind_of : Tasked → TaskValue
 mind_of t = t.mind
 
--- each task knows of its own calls what it knew
+-- no task's knowledge of its own calls has changed
 abbrev pub HaveSameMinds : List Tasked → List Tasked → Type 0
 HaveSameMinds old new = map mind_of new ≡ map mind_of old
 
--- the tasks below k have looked
+-- the tasks below k have looked at all lists
 pub record HaveLooked (frame : Frame) (state : State) (k : ℕ) (old new : List Tasked)
     : Type 0 where
   pub made : (j : ℕ) (t : Tasked) → j < k → slice_get new j ≡ Some t → HasMade frame state t
@@ -29,7 +29,7 @@ pub record HaveLooked (frame : Frame) (state : State) (k : ℕ) (old new : List 
 abbrev pub is_over : Scene → Moment → Bool
 is_over scene m = all_done scene.programs m.thoughts || is_stuck scene.programs m.thoughts
 
--- what the run leaves at the moment
+-- the final state of the run at this moment
 pub record HasEnded (scene : Scene) (m : Moment) (e : EndedValue) : Type 0 where
   pub ended : e ≡ ended_of scene (run_at m)
   pub entries : All IsEntry e.list

@@ -6,7 +6,7 @@ ghost use Rattle.run_model.specs.Ended.{is_done, waits_in_vain};
 use world_close::minds::TaskMind;
 use world_close::semaphores::SemaphoreCell;
 
-// Whether its next call waits for a semaphore of which nothing is left.
+// Whether the task's next call waits for a semaphore with no post left.
 fn waits_in_vain(mind: &TaskMind, sems: &SemaphoreCell) -> bool
     ensures { result ≡ waits_in_vain (λ sem. left sem (past sems.now.list))
         (slice_get mind.now.program.calls (length mind.now.thought.replies)) }
@@ -17,7 +17,7 @@ fn waits_in_vain(mind: &TaskMind, sems: &SemaphoreCell) -> bool
     }
 }
 
-/// Whether the task is done, or its next call waits for a semaphore of which nothing is left.
+/// Whether the task is done, or its next call waits for a semaphore with no post left.
 pub fn rests(mind: &TaskMind, sems: &SemaphoreCell) -> bool
     ensures { result ≡ (is_done mind.now.program mind.now.thought
         || waits_in_vain (λ sem. left sem (past sems.now.list))

@@ -1,5 +1,5 @@
--- A deed under the inode's lock alone: behind a look it may be done, and what it leaves.
-use Rattle.std.proofs.Common.{◌≡◌, ℕ, ◌+◌, List, ◌++◌, length, map, Option, Some, None, refl, sym, ◌∙◌, ap, subst}
+-- A deed under the inode's lock alone: after a look it may be done; and its effect.
+use Rattle.std.proofs.Common.{◌≡◌, ℕ, List, map, Option, Some, None, refl, sym, ◌∙◌, ap, subst}
 use Rattle.std.specs.Prelude.{IfOk, OnErr, Result, Ok, Err}
 use mathlib.Core.List.{IsPrefix}
 use Rattle.grow_list.specs.Entries.{entries_of}
@@ -8,7 +8,7 @@ use Rattle.ima_templates.specs.declared.entry.Entry.{Entry}
 use Rattle.inode_cell.specs.Acts.{Acts, MayBy, Stays}
 use Rattle.inode_cell.specs.Value.{CellValue, IsSameCell}
 use Rattle.inode_meta.specs.declared.step.Who.{Who}
-use Rattle.inode_events.specs.Asked.{asked, entered, list_after, made, outcome}
+use Rattle.inode_events.specs.Asked.{outcome}
 use Rattle.inode_events.specs.Callers.{caller_of}
 use Rattle.inode_events.specs.Inode.{Inode}
 use Rattle.inode_events.specs.Legal.{Legal, May}
@@ -18,7 +18,7 @@ use Rattle.inode_events.specs.declared.told.Event.{Event}
 use Rattle.inode_events.specs.declared.told.Told.{Told}
 use Rattle.inode_cell.specs.laws_of_journals.OwnLaws.{TellsByMine}
 use Rattle.inode_cell.specs.laws_of_journals.Own.{IsBy, IsOwned}
-use Rattle.world_deeds.proofs.about_deeds.Leaving.{acts_leave, stays_leave}
+use Rattle.world_deeds.proofs.about_deeds.Leaving.{acts_leave, leaves_looked, stays_leave}
 use Rattle.world_deeds.specs.deeds.Leaving.{Leaves, told_by}
 use Rattle.world_deeds.specs.laws_of_tasks.Ready.{HasLooked}
 
@@ -37,7 +37,7 @@ pub record CellLooked (old new : CellValue) (pass pass2 : Passed Event) : Type 0
 
 module _ (old between : CellValue) (pass pass1 : Passed Event)
     (look : CellLooked old between pass pass1) where
-  -- what it gives, by the pass before it
+  -- what the look tells the pass, by the pass before it
   pub has_looked : HasLooked old.inode pass.number pass.seen old.list pass.mine
   has_looked = record {
     before = look.before;
@@ -50,7 +50,7 @@ module _ (old between : CellValue) (pass pass1 : Passed Event)
         xs) look.mine look.tells);
   }
 
-  -- behind it the deed may be done
+  -- after the look the deed may be done
   pub may_behind : (d : Deed)
       → (HasLooked old.inode pass.number pass.seen old.list pass.mine → MayBy old pass.number d)
       → MayBy between pass1.number d
@@ -63,33 +63,17 @@ module _ (old between : CellValue) (pass pass1 : Passed Event)
             (subst (λ (xs : List Event). IsBy pass.number d (past xs)) (sym look.list) x.by);
       }
 
-  -- what the deed leaves behind it is left of the cell before it
+  -- the effect of the deed after the look is one on the cell before the look
   leaves_behind : (new : CellValue) (list list2 : List Entry) (pass2 : Passed Event) (who : Who)
       (d : Deed) (o : Option Told) → Leaves between new list list2 pass1 pass2 who d o
       → Leaves old new list list2 pass pass2 who d o
-  leaves_behind new list list2 pass2 who d o x = record {
-    journal = x.journal ∙ ap (λ (xs : List Event). xs ++ made who d o) look.list;
-    book = x.book
-        ∙ ap (λ (i : Inode). list_after list (asked i d (past between.list)) o) look.same.inode
-        ∙ ap (λ (xs : List Event). list_after list (asked old.inode d (past xs)) o) look.list;
-    seen = x.seen;
-    mine = x.mine
-        ∙ ap (λ (xs : List (ℕ × Event)). xs ++ entered (length between.list) who d o) look.mine
-        ∙ ap (λ (xs : List Event). pass.mine ++ entered (length xs) who d o) look.list;
-    pass_name = x.pass_name ∙ look.same_pass.0;
-    pass_number = x.pass_number ∙ look.same_pass.1;
-    same = record {
-      inode = x.same.inode ∙ look.same.inode;
-      journal = x.same.journal ∙ look.same.journal;
-      callers = x.same.callers ∙ look.same.callers;
-      book = x.same.book ∙ look.same.book;
-      booked = x.same.booked ∙ look.same.booked;
-    };
-  }
+  leaves_behind new list list2 pass2 who d o x =
+      leaves_looked old between new list list2 pass pass1 pass2 who d o look.list look.same
+      look.mine look.same_pass x
 
   module _ {A E : Type 0} (f : A → Told) (new : CellValue) (pass2 : Passed Event) (who : Who)
       (d : Deed) where
-    -- whatever the measurement list holds, the deed leaves it
+    -- whatever the measurement list holds, the deed leaves it as it was
     pub leaves_alone : (r : Result A E)
         → IfOk r (λ x. (list : List Entry)
         → Acts between new list list pass1 pass2 who d (Some (f x)))
@@ -102,7 +86,7 @@ module _ (old between : CellValue) (pass pass1 : Passed Event)
         leaves_behind new list list pass2 who d None
         (stays_leave between new list list pass1 pass2 who d s refl look.seen)
 
-    -- what it was told is said of the cell before the look
+    -- the outcome is the one on the cell before the look
     pub told_alone : (r : Result A E)
         → IfOk r (λ x. (list : List Entry)
         → Acts between new list list pass1 pass2 who d (Some (f x)))

@@ -1,4 +1,4 @@
--- A check under its locks, behind two looks at the appended rules.
+-- A check under its locks, after two looks at the appended rules.
 use Rattle.std.proofs.Common.{◌≡◌, ℕ, ◌+◌, ◌<◌, List, [], ◌++◌, length, get_or, Option, sym, ◌∙◌, ap, subst}
 use Rattle.std.specs.Prelude.{Result}
 use Rattle.std.proofs.lemmas.List.{append-nil}
@@ -32,7 +32,7 @@ use Rattle.world_locks.proofs.Lists.{book_still, rules_still}
 use Rattle.world_locks.proofs.Stations.{station_looked, station_still}
 use Rattle.world_locks.specs.Kept.{AskMet}
 
--- a look of a pass at the appended rules, which leaves the others as they were
+-- a look of a pass at the appended rules, which leaves the rules as they were
 pub record LooksAt (rules rules2 : PolicyValue) (q q2 : Passed RuleEntry) : Type 0 where
   pub base : rules2.base ≡ rules.base
   pub list : IsSameList rules.appended rules2.appended
@@ -41,13 +41,13 @@ pub record LooksAt (rules rules2 : PolicyValue) (q q2 : Passed RuleEntry) : Type
   pub mine : q2.mine ≡ q.mine
   pub same : (q2.name ≡ q.name) × (q2.number ≡ q.number)
 
--- it has seen no less
+-- after a look the pass has seen at least as much as before
 looks_more : (rules rules2 : PolicyValue) (q q2 : Passed RuleEntry) → LooksAt rules rules2 q q2
     → IsPrefix q.seen q2.seen
 looks_more rules rules2 q q2 x =
     subst (λ (xs : List RuleEntry). IsPrefix q.seen xs) (sym (x.seen ∙ x.list.list)) x.before
 
--- what the file system of a place is
+-- the file system that was read at a place is the one of that number
 super_is : (supers : List Super) (k : ℕ) (x : Super) → k < length supers → x ≡ get_or supers k x
     → x ≡ get_or supers k no_super
 super_is supers k x l e =
@@ -65,7 +65,7 @@ module _ {E : Type 0} (frame : Frame) (i : ℕ) (st st2 : StationValue) (is : Is
     (did : (g : Gathered) → StationDid (record st { rules = q }) st2 book book2 pass pass2 listed
     listed2 who (check_by index cred place (metadata (past st.cell.list)) asked) g g (told_in r))
     (told : IsChecked st.cell.inode st.cell.list book.list index cred place asked r) where
-  -- the inode whose pass has looked
+  -- the inode after its pass has looked
   abbrev st1 : StationValue
   st1 = record st { rules = q }
 
@@ -101,7 +101,7 @@ module _ {E : Type 0} (frame : Frame) (i : ℕ) (st st2 : StationValue) (is : Is
       (check_by index cred place (metadata (past st.cell.list)) asked) gathered.Nothing
       gathered.Nothing (told_in r) (did gathered.Nothing)
 
-  -- the rules are all in force, and the file system is the inode's
+  -- these are all rules in force, and the file system is the inode's
   all_rules : index ≡ rules_with (scene_of frame []) rules2.appended.list
   all_rules =
       index_is

@@ -1,4 +1,4 @@
--- A step that was told nothing added nothing of its task.
+-- A step without an answer has added nothing of its task.
 use Rattle.std.proofs.Common.{◌≡◌, ℕ, List, [], map, Option, Some, None, ◌∙◌, ap, subst}
 use Rattle.std.specs.Prelude.{Result, slice_get}
 use Rattle.std.proofs.lemmas.List.{append-nil}

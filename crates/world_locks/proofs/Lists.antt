@@ -1,5 +1,4 @@
--- The measurement list and the rules under their locks are those of the constants, behind each
--- step.
+-- The measurement list and the rules under their locks belong to the constants after each step.
 use Rattle.std.proofs.Common.{◌≡◌, ℕ, List, [], ◌∷◌, ◌++◌, map, Option, Some, None, refl, sym, ◌∙◌, ap}
 use Rattle.std.specs.Prelude.{slice_get}
 use Rattle.std.proofs.lemmas.List.{map-append}
@@ -21,7 +20,7 @@ use Rattle.world_deeds.specs.Acting.{StationDid}
 
 -- ---- the measurement list
 
--- an addition leaves the first entry
+-- an entry added to the measurement list leaves the first entry as it was
 added_first : (x : Entry) (xs : List Entry) (e : Entry)
     → slice_get (add (x ∷ xs) e) 0 ≡ Some x
 added_first x xs e = at (place_of_same (x ∷ xs) e) where
@@ -29,7 +28,7 @@ added_first x xs e = at (place_of_same (x ∷ xs) e) where
   at None = refl
   at (Some k) = refl
 
--- so does each deed
+-- each deed leaves the first entry of the measurement list as it was
 first_stays : (list : List Entry) (b : Entry) (e : Option Entry) (o : Option Told)
     → slice_get list 0 ≡ Some b → slice_get (list_after list e o) 0 ≡ Some b
 first_stays [] b e o h = absurd (cc)
@@ -51,7 +50,7 @@ book_still frame st st2 book book2 pass pass2 listed listed2 who d g g2 o did is
 
 -- ---- the rules
 
--- a look leaves them
+-- a look at the rules leaves them as they were
 pub rules_still : (frame : Frame) (rules rules2 : PolicyValue) → rules2.base ≡ rules.base
     → IsSameList rules.appended rules2.appended → AreRulesOf frame rules
     → AreRulesOf frame rules2
@@ -63,7 +62,7 @@ rules_still frame rules rules2 base list is = record {
       ∙ ap (λ (xs : List RuleEntry). map (λ (r : RuleEntry). r.who.task) xs) (sym list.list);
 }
 
--- a rule that is appended by the task of its Who is one more
+-- a rule appended by the task of its `Who` leaves the invariant of the rules intact
 pub rules_more : (frame : Frame) (rules rules2 : PolicyValue) (e : RuleEntry) (n : ℕ)
     → (rules2.base ≡ rules.base) × (rules2.appended.name ≡ rules.appended.name)
     × (rules2.appended.callers ≡ rules.appended.callers)

@@ -1,4 +1,4 @@
--- The lists that come out of their locks are those of the constants.
+-- The lists that are taken out of their locks belong to the constants.
 use Rattle.std.proofs.Common.{◌≡◌, ℕ, zero, suc, ◌+◌, List, [], ◌∷◌, ◌++◌, length, map, Some, refl, sym, ◌∙◌, ap, subst, arith, inl, inr}
 use Rattle.std.specs.Prelude.{slice_get}
 use Rattle.std.proofs.lemmas.List.{length-map}
@@ -11,20 +11,20 @@ use Rattle.world_close.specs.Closed.{AreStations}
 use Rattle.world_locks.specs.Parts.{AreEach, KeepFrame, frame_of_parts}
 use Rattle.world_locks.specs.declared.parts.Parts.{Parts}
 
--- those in front of the last are each the one of its number
+-- the inodes before the last one are each the one of their number
 pub each_before : (frame : Frame) (all left : List StationValue) (s : StationValue)
     → all ≡ left ++ s ∷ [] → AreEach frame all → AreEach frame left
 each_before frame all left s e each i x at =
     each i x (ap (λ (xs : List StationValue). slice_get xs i) e ∙ get_left left (s ∷ []) i x at)
 
--- the last is that of the number behind them
+-- the last inode is the one whose number is the count of those before it
 pub last_is : (frame : Frame) (all left : List StationValue) (s : StationValue)
     → all ≡ left ++ s ∷ [] → AreEach frame all → IsStation frame (length left) s
 last_is frame all left s e each =
     each (length left) s
     (ap (λ (xs : List StationValue). slice_get xs (length left)) e ∙ get_last left s)
 
--- with the next one there is one more
+-- with the next inode added, each is still the one of its number
 pub each_more : (frame : Frame) (stations all : List StationValue) (n : ℕ) (s : StationValue)
     → all ≡ stations ++ s ∷ [] → n ≡ length stations → IsStation frame n s
     → AreEach frame stations → AreEach frame all
@@ -43,7 +43,7 @@ each_more frame stations all n s e number is each i x at =
 
 -- ---- the constants
 
--- two lists of one length with the same elements at each place are the same
+-- lists of the same length with the same element at each place are equal
 same_lists : {A : Type 0} (xs ys : List A) → length xs ≡ length ys
     → ((k : ℕ) (x : A) → slice_get xs k ≡ Some x → slice_get ys k ≡ Some x) → xs ≡ ys
 same_lists [] [] e f = refl
@@ -67,7 +67,7 @@ boot_is : (list : List Entry) (boot : Entry) → slice_get list 0 ≡ Some boot
 boot_is [] boot h = absurd (cc)
 boot_is (e ∷ es) boot h = same_Some e boot h
 
--- lists that keep the constants have them
+-- the constants of lists that belong to the frame are the frame
 pub frame_kept : (frame : Frame) (p : Parts) → KeepFrame frame p → frame_of_parts p ≡ frame
 frame_kept frame p keep = λ i. record {
   settings = keep.settings i;

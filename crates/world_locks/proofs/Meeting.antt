@@ -1,5 +1,5 @@
--- A deed under locks, as its task sees it: it met some lists, and left those that the passes of the
--- task have seen.
+-- A deed under locks, from the view of its task: it met some lists, and the passes of the task have
+-- seen these lists as the deed left them.
 use Rattle.std.proofs.Common.{◌≡◌, ℕ, zero, suc, ◌+◌, ◌≤◌, List, [], ◌∷◌, ◌++◌, length, map, get_or, Option, Some, None, refl, sym, ◌∙◌, ap, subst, arith}
 use Rattle.std.specs.Prelude.{IfOk, Result, Ok, Err, slice_get, slice_set}
 use Rattle.std.proofs.lemmas.Option.{get_or_from_slice_get, same_Some}
@@ -37,14 +37,14 @@ use Rattle.world_locks.proofs.Stations.{inode_same}
 use Rattle.world_locks.specs.Kept.{AskMet, DeedMet}
 use Rattle.world_locks.specs.Met.{CheckMet, EventMet, seen_of, state_met, state_seen}
 
--- of two elements that are put at one place the second stands there
+-- of two elements written at the same place the second is found there
 set_set : {A : Type 0} (xs : List A) (i : ℕ) (a b : A)
     → slice_set (slice_set xs i a) i b ≡ slice_set xs i b
 set_set [] i a b = refl
 set_set (x ∷ xs) zero a b = refl
 set_set (x ∷ xs) (suc i) a b = ap (λ ys. x ∷ ys) (set_set xs i a b)
 
--- behind its end a list has nothing
+-- at and after its end a list has no element
 pub nothing_behind : {A : Type 0} (xs : List A) (i : ℕ) → length xs ≤ i → slice_get xs i ≡ None
 nothing_behind [] i h = refl
 nothing_behind (x ∷ xs) zero h = absurd (omega arith)
@@ -64,7 +64,7 @@ module _ (frame : Frame) (i : ℕ) (passes passes2 : PassesValue) (who : Who) (d
   abbrev Old : State
   Old = state_met passes i st.cell.list book.list added
 
-  -- the journal that it met
+  -- the journal that the deed met is the inode's
   pub journal_met : slice_get Old.journals i ≡ Some st.cell.list
   journal_met =
       get_set (map seen_of passes.inodes) i st.cell.list pass.seen
@@ -91,7 +91,7 @@ module _ (frame : Frame) (i : ℕ) (passes passes2 : PassesValue) (who : Who) (d
       ∙ ap (λ (xs : List Event). list_after book.list (asked st.cell.inode d (past xs)) o)
       (sym here)
 
-  -- behind it the passes have seen what it left
+  -- after the deed the passes have seen the lists as it left them
   state_is : state_seen passes2 ≡ state_on Old i st.cell.inode who d o
   state_is = λ k. record {
     journals = journals_are k;
@@ -100,7 +100,7 @@ module _ (frame : Frame) (i : ℕ) (passes passes2 : PassesValue) (who : Who) (d
     added = rules k;
   }
 
-  -- the event, as its task sees it
+  -- the event, from the view of its task
   pub event_met : EventOn frame i (site_of st) who d Old (state_seen passes2) passes passes2 g g2 o
   event_met = record {
     journal = st.cell.list;
@@ -131,7 +131,7 @@ module _ (frame : Frame) (i : ℕ) (passes passes2 : PassesValue) (who : Who) (d
         did.hashes);
   }
 
-  -- what it was told is said of the lists that it met
+  -- the answer's outcome is the one on the lists that the deed met
   pub said_met : (a : Option Answered)
       → told_of a ≡ outcome st.cell.inode book.list d (past st.cell.list)
       → IsPlacedAt (length st.cell.list) a → IsSaid frame i d Old a
@@ -148,7 +148,7 @@ module _ (frame : Frame) (i : ℕ) (passes passes2 : PassesValue) (who : Who) (d
 
 -- ---- the steps
 
--- where the inode isn't there nothing is done
+-- on an inode that isn't there nothing is done
 pub none_met : {E : Type 0} (frame : Frame) (i : ℕ) (passes : PassesValue) (who : Who) (d : Deed)
     (g : Gathered) → length frame.sites ≤ i
     → EventMet {E = E} frame i who d passes passes g g (Ok None)

@@ -1,4 +1,4 @@
--- The passes of a task, opened for a step under locks.
+-- The passes of a task, unpacked for a step under locks.
 use Rattle.std.proofs.Common.{◌≡◌, ℕ, ◌+◌, ◌<◌, List, length, get_or, Option, Some, refl, sym, ◌∙◌, ap, subst, arith}
 use Rattle.std.specs.Prelude.{IfOk, Result, Ok, Err, slice_get, slice_set}
 use Rattle.grow_list.specs.Shown.{Passed}
@@ -44,7 +44,7 @@ module _ (inodes : List (Passed Event)) (sems : Passed Event) (book : Passed Ent
       subst (λ (x : PassesValue). SignalsMet x (record opened { sems = sems2 }) who d r) view
       (signals_met opened (record opened { sems = sems2 }) who d r refl m)
 
-  -- a rule that was appended by the pass of the rules
+  -- a rule appended by the pass of the rules
   pub appends_opened : {E : Type 0} (rules2 : Passed RuleEntry) (entry : RuleEntry)
       (r : Result Answered E) → IfOk r (λ a. AppendMet rules rules2 entry a)
       → IfOk r (λ a. AppendsMet p (record opened { rules = rules2 }) entry a)
@@ -53,12 +53,12 @@ module _ (inodes : List (Passed Event)) (sems : Passed Event) (book : Passed Ent
       (appends_met opened (record opened { rules = rules2 }) entry a refl m)
   appends_opened rules2 entry (Err e) m = tt
 
-  -- ---- at the inode of a number, which is there
+  -- ---- on the inode of a number, which is there
 
   module _ (frame : Frame) (are : ArePassesOf frame who.task p) (i k : ℕ) (taken : k ≡ i)
       (below : i < length frame.sites) (pass : Passed Event)
       (pass_is : pass ≡ get_or inodes i pass) where
-    -- the pass of its journal stands there
+    -- the task's pass of the inode's journal is at its place
     pass_at : slice_get p.inodes i ≡ Some pass
     pass_at =
         let within : i < length p.inodes = omega (arith, are.even) in
@@ -70,19 +70,19 @@ module _ (inodes : List (Passed Event)) (sems : Passed Event) (book : Passed Ent
         (are.inodes i (get_or frame.sites i no_site) pass (got frame.sites i no_site below)
         pass_at).1
 
-    -- it is the task's
+    -- the pass has the name of the inode's journal and the number of the task
     pub pass_of : IsPassAt frame k who.task pass
     pass_of s at =
         are.inodes i s pass (ap (λ (n : ℕ). slice_get frame.sites n) (sym taken) ∙ at) pass_at
 
-    -- after a look by it the deed is ready
+    -- after a look by the pass the deed is ready
     pub ready_of : (g : Gathered) (action : ActionValue) (slot : Slot) (d : Deed)
         → ReadyAt frame i p.inodes who.task g action slot d
         → IsReadyBy frame k who.task pass g action slot d
     ready_of g action slot d ready s list at looked =
         ready s pass list (ap (λ (n : ℕ). slice_get frame.sites n) (sym taken) ∙ at) pass_at looked
 
-    -- after a look by it the deed may be done
+    -- after a look by the pass the deed may be done
     pub look_of : (d : Deed) → MayAt frame i p.inodes who.task d
         → MayByLook frame k who.task pass d
     look_of d may s list at looked =
@@ -91,7 +91,7 @@ module _ (inodes : List (Passed Event)) (sems : Passed Event) (book : Passed Ent
     opened_at : slice_get inodes i ≡ Some pass
     opened_at = subst (λ (x : PassesValue). slice_get x.inodes i ≡ Some pass) (sym view) pass_at
 
-    -- a deed on it
+    -- a deed on the inode
     pub deed_opened : {E : Type 0} (pass2 : Passed Event) (book2 : Passed Entry) (d : Deed)
         (g g2 : Gathered) (r : Result (Option Answered) E)
         → DeedMet frame k pass pass2 book book2 who d g g2 r
@@ -105,7 +105,7 @@ module _ (inodes : List (Passed Event)) (sems : Passed Event) (book : Passed Ent
         (subst (λ (n : ℕ). DeedMet frame n pass pass2 book book2 who d g g2 r) taken m) opened_at
         its_number refl refl refl)
 
-    -- a check of it
+    -- a check of the inode
     pub ask_opened : {E : Type 0} (pass2 : Passed Event) (book2 : Passed Entry)
         (rules2 : Passed RuleEntry) (cred : Cred) (asked : Checks)
         (r : Result (Option Answered) E)

@@ -1,6 +1,6 @@
--- A deed under the inode's lock alone, as one that met the measurement list as its task has seen
+-- A deed under the inode's lock alone, as one that met the measurement list as its task last saw
 -- it.
-use Rattle.std.proofs.Common.{◌≡◌, ℕ, ◌+◌, ◌++◌, List, [], ◌∷◌, length, Option, Some, None, refl, sym, ◌∙◌, ap, subst}
+use Rattle.std.proofs.Common.{◌≡◌, ℕ, ◌+◌, ◌++◌, List, [], length, Option, Some, None, refl, sym, subst}
 use Rattle.std.specs.Prelude.{IfOk, Result, Ok, Err}
 use Rattle.grow_list.proofs.Prefixes.{prefix_refl}
 use Rattle.grow_list.specs.Shown.{Grown, Passed}
@@ -9,7 +9,6 @@ use Rattle.inode_cell.specs.Acts.{MayBy}
 use Rattle.inode_cell.specs.Answers.{piece_told}
 use Rattle.inode_cell.specs.Value.{CellValue}
 use Rattle.inode_cell.specs.declared.answers.Piece.{Piece}
-use Rattle.inode_cell.specs.declared.writing.Got.{Got}
 use Rattle.inode_events.specs.Asked.{made, outcome}
 use Rattle.inode_events.specs.Inode.{Inode}
 use Rattle.inode_events.specs.Integrity.{Collection, collecting}
@@ -20,7 +19,6 @@ use Rattle.inode_events.specs.declared.deed.Deed.{Deed}
 use Rattle.inode_events.specs.declared.deed.Deed.TheVariants as deed
 use Rattle.inode_events.specs.declared.told.Event.{Event}
 use Rattle.inode_events.specs.declared.told.Told.{Told}
-use Rattle.inode_events.specs.declared.told.Told.TheVariants as told
 use Rattle.inode_meta.specs.declared.step.Who.{Who}
 use Rattle.inode_pages.specs.Content.{piece_at}
 use Rattle.inode_cell.specs.laws_of_journals.Own.{IsBy}
@@ -34,14 +32,14 @@ use Rattle.world_close.specs.frames.declared.gathered.Gathered.{Gathered}
 use Rattle.world_deeds.proofs.laws_of_tasks.Eventing.{adds_none}
 use Rattle.world_deeds.specs.laws_of_tasks.Due.{HashesAfter, HashesTold}
 use Rattle.world_deeds.specs.laws_of_tasks.Ready.{HasLooked}
-use Rattle.world_deeds.specs.Acting.{StationDid}
+use Rattle.world_deeds.specs.Acting.{IsPlacedAt, StationDid, StationDidAlone, told_in, told_of}
 use Rattle.world_deeds.specs.declared.answers.Answered.{Answered}
 use Rattle.world_locks.proofs.Stations.{inode_same, its_pass}
 use Rattle.world_locks.specs.Kept.{DeedMet, IsPassAt}
-use Rattle.world_locks.specs.Pages.{AloneMet, IsPageDeed, MayByLook, PageMet, ReadMet, alone_in, read_in, taken_in}
+use Rattle.world_locks.specs.Pages.{AloneMet, IsPageDeed, MayByLook, PageMet, taken_in}
 use Rattle.world_locks.specs.declared.pages.TakenPage.{TakenPage}
 
--- ---- on the inode under its lock
+-- ---- the inode under its lock
 
 module _ (frame : Frame) (i : ℕ) (st : StationValue) (is : IsStation frame i st) where
   -- after a look the deed may be done
@@ -75,7 +73,7 @@ module _ (frame : Frame) (i : ℕ) (st : StationValue) (is : IsStation frame i s
       place = refl;
     }
 
-    -- the page that was taken
+    -- the page that was taken meets `PageMet`
     pub page_is_met : {E : Type 0} (r : Result (Piece × List ℕ) E)
         → ((list : List Entry)
         → Leaves st.cell cell2 list list pass pass2 who d (told_by (λ x. piece_told x.0) r))
@@ -102,79 +100,72 @@ module _ (frame : Frame) (i : ℕ) (st : StationValue) (is : IsStation frame i s
       page = tt;
     }
 
-    -- the bytes that were read
-    pub read_is_met : {E : Type 0} (r : Result Got E)
-        → ((list : List Entry)
-        → Leaves st.cell cell2 list list pass pass2 who d (told_by (λ g. told.Read g.n g.digest) r))
-        → IfOk r (λ g. (list : List Entry)
-        → Some (told.Read g.n g.digest) ≡ outcome st.cell.inode list d (past st.cell.list))
-        → ReadMet frame i pass pass2 who d (read_in place r)
-    read_is_met (Ok x) leaves said = record {
-      station = st;
-      station2 = record st { cell = cell2 };
-      alone = alone (Some (told.Read x.n x.digest)) leaves;
-      told = said;
-      at = (place_is, refl);
-    }
-    read_is_met (Err e) leaves said = record {
-      station = st;
-      station2 = record st { cell = cell2 };
-      alone = alone None leaves;
-      told = tt;
-      at = tt;
-    }
-
--- ---- as its task sees it
+-- ---- from the view of the task
 
 -- the measurement list as the pass has seen it
 abbrev as_seen : Passed Entry → Grown Entry
 as_seen q = record { name = q.name; callers = 0; spare = 0; list = q.seen; numbers = [] }
 
--- the deed left it
-did_alone : (frame : Frame) (i : ℕ) (pass pass2 : Passed Event) (listed : Passed Entry)
-    (who : Who) (d : Deed) (g g2 : Gathered) (o : Option Told) (st st2 : StationValue)
-    → AloneMet frame i pass pass2 who d o st st2
-    → HashesTold st.cell.inode st2.cell.list g g2 d o
+-- the deed left the measurement list as the pass had seen it
+did_alone : (pass pass2 : Passed Event) (listed : Passed Entry) (who : Who) (d : Deed)
+    (g g2 : Gathered) (o : Option Told) (st st2 : StationValue)
+    → StationDidAlone st st2 pass pass2 who d g g2 o
     → StationDid st st2 (as_seen listed) (as_seen listed) pass pass2 listed listed who d g g2 o
-did_alone frame i pass pass2 listed who d g g2 o st st2 m hashes = record {
-  looked = m.looked;
-  leaves = m.leaves listed.seen;
-  rules = m.rules;
-  place = m.place;
+did_alone pass pass2 listed who d g g2 o st st2 did = record {
+  looked = did.looked;
+  leaves = did.leaves listed.seen;
+  rules = did.rules;
+  place = did.place;
   book_name = refl;
   book_callers = refl;
   book_pass = adds_none listed listed refl;
   before = prefix_refl listed.seen;
   seen = refl;
-  hashes = hashes;
+  hashes = did.hashes;
 }
 
--- bytes that were read
-pub read_met : {E : Type 0} (frame : Frame) (i : ℕ) (pass pass2 : Passed Event)
-    (listed : Passed Entry) (who : Who) (file from len : ℕ) (g : Gathered) (r : Result Answered E)
-    → ReadMet frame i pass pass2 who (deed.Read file from len) r
-    → DeedMet frame i pass pass2 listed listed who (deed.Read file from len) g g (alone_in r)
-read_met frame i pass pass2 listed who file from len g (Ok a) m = record {
-  station = m.station;
-  station2 = m.station2;
+-- a deed that didn't consult the measurement list, from the view of a pass of that list
+pub alone_met : {E : Type 0} (frame : Frame) (i : ℕ) (pass pass2 : Passed Event)
+    (listed : Passed Entry) (who : Who) (d : Deed) (g g2 : Gathered) (st st2 : StationValue)
+    (r : Result (Option Answered) E) → IsStation frame i st
+    → StationDidAlone st st2 pass pass2 who d g g2 (told_in r)
+    → IfOk r (λ o. (list : List Entry)
+    → told_of o ≡ outcome st.cell.inode list d (past st.cell.list))
+    → IfOk r (λ o. IsPlacedAt (length st.cell.list) o)
+    → DeedMet frame i pass pass2 listed listed who d g g2 r
+alone_met frame i pass pass2 listed who d g g2 st st2 (Ok o) is did told place = record {
+  station = st;
+  station2 = st2;
   book = as_seen listed;
   book2 = as_seen listed;
-  is = m.alone.is;
-  did = did_alone frame i pass pass2 listed who (deed.Read file from len) g g (Some a.told)
-      m.station m.station2 m.alone tt;
-  told = m.told listed.seen;
-  place = m.at;
+  is = is;
+  did = did_alone pass pass2 listed who d g g2 (told_of o) st st2 did;
+  told = told listed.seen;
+  place = place;
 }
-read_met frame i pass pass2 listed who file from len g (Err e) m = record {
-  station = m.station;
-  station2 = m.station2;
+alone_met frame i pass pass2 listed who d g g2 st st2 (Err e) is did told place = record {
+  station = st;
+  station2 = st2;
   book = as_seen listed;
   book2 = as_seen listed;
-  is = m.alone.is;
-  did = did_alone frame i pass pass2 listed who (deed.Read file from len) g g None m.station
-      m.station2 m.alone refl;
+  is = is;
+  did = did_alone pass pass2 listed who d g g2 None st st2 did;
   told = tt;
   place = tt;
+}
+
+-- a deed under the inode's lock alone, with what its task has hashed
+hashed_alone : (frame : Frame) (i : ℕ) (pass pass2 : Passed Event) (who : Who) (d : Deed)
+    (g g2 : Gathered) (o : Option Told) (st st2 : StationValue)
+    → AloneMet frame i pass pass2 who d o st st2
+    → HashesTold st.cell.inode st2.cell.list g g2 d o
+    → StationDidAlone st st2 pass pass2 who d g g2 o
+hashed_alone frame i pass pass2 who d g g2 o st st2 m hashes = record {
+  looked = m.looked;
+  leaves = m.leaves;
+  rules = m.rules;
+  place = m.place;
+  hashes = hashes;
 }
 
 page_hashes : (inode : Inode) (list list2 : List Event) (g g2 : Gathered) (page : List ℕ)
@@ -191,7 +182,7 @@ page_hashes inode list list2 g g2 page who p (deed.CloseChunk file) is before ta
     close_piece_left inode list g g2 page before taken file who list2 p e h
 page_hashes inode list list2 g g2 page who p d is before taken e h = absurd is
 
--- a page of a collection, which is hashed
+-- the page of a collection, which is hashed, from the view of the task
 pub page_met : {E : Type 0} (frame : Frame) (i : ℕ) (pass pass2 : Passed Event)
     (listed : Passed Entry) (who : Who) (d : Deed) (g g2 : Gathered) (t : TakenPage)
     → IsPageDeed d → (m : PageMet {E = E} frame i pass pass2 who d (Ok t))
@@ -210,15 +201,16 @@ page_met {E} frame i pass pass2 listed who d g g2 t is m before gathered u e =
       book = as_seen listed;
       book2 = as_seen listed;
       is = m.alone.is;
-      did = did_alone frame i pass pass2 listed who d g g2 (Some (piece_told t.piece)) m.station
+      did = did_alone pass pass2 listed who d g g2 (Some (piece_told t.piece)) m.station m.station2
+          (hashed_alone frame i pass pass2 who d g g2 (Some (piece_told t.piece)) m.station
           m.station2 m.alone
           (page_hashes m.station.cell.inode m.station.cell.list m.station2.cell.list g g2 t.page
-          who t.piece d is before m.page (m.alone.leaves listed.seen).journal gathered);
+          who t.piece d is before m.page (m.alone.leaves listed.seen).journal gathered));
       told = m.told listed.seen;
       place = (m.at, refl);
     })
 
--- no page, since memory ran out
+-- no page was taken, since memory ran out
 pub page_failed : {E : Type 0} (frame : Frame) (i : ℕ) (pass pass2 : Passed Event)
     (listed : Passed Entry) (who : Who) (d : Deed) (g : Gathered) (e e2 : E)
     → PageMet {E = E} frame i pass pass2 who d (Err e)
@@ -229,7 +221,8 @@ page_failed frame i pass pass2 listed who d g e e2 m = record {
   book = as_seen listed;
   book2 = as_seen listed;
   is = m.alone.is;
-  did = did_alone frame i pass pass2 listed who d g g None m.station m.station2 m.alone refl;
+  did = did_alone pass pass2 listed who d g g None m.station m.station2
+      (hashed_alone frame i pass pass2 who d g g None m.station m.station2 m.alone refl);
   told = tt;
   place = tt;
 }

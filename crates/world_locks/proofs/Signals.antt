@@ -1,4 +1,4 @@
--- A post, a wait or an appended rule under its lock, as its task sees it.
+-- A post, a wait or an appended rule under its lock, from the view of its task.
 use Rattle.std.proofs.Common.{◌≡◌, ℕ, List, ◌++◌, length, Option, Some, None, refl, sym, ◌∙◌, ap, subst}
 use Rattle.std.specs.Prelude.{IfSome, Result, Ok, Err, option_map}
 use Rattle.std.proofs.lemmas.List.{append-nil}
@@ -19,7 +19,7 @@ use Rattle.world_deeds.specs.declared.answers.Answered.{Answered}
 use Rattle.world_locks.specs.Kept.{AppendMet, SignalMet, signalled_at}
 use Rattle.world_locks.specs.Met.{AppendsMet, SignalsMet, state_seen}
 
--- out of memory, a pass is as it was
+-- when memory runs out, the pass is as it was
 pub signal_fails : {E : Type 0} (pass : Passed Event) (who : Who) (d : Deed) (e : E)
     → SignalMet pass pass who d (Err e)
 signal_fails pass who d e = record {
@@ -29,19 +29,19 @@ signal_fails pass who d e = record {
   told = tt;
 }
 
--- it was told that it was done, or nothing
+-- the outcome of a post or a wait is `Done`, unless it was blocked
 told_signalled : (place : Option ℕ)
     → told_of (signalled_at place) ≡ option_map (λ (k : ℕ). told.Done) place
 told_signalled None = refl
 told_signalled (Some k) = refl
 
--- its event stands where it was put
+-- the answer gives the place at which the event was put
 placed_signalled : (place : Option ℕ) (n : ℕ) → IfSome place (λ k. k ≡ n)
     → IsPlacedAt n (signalled_at place)
 placed_signalled None n h = tt
 placed_signalled (Some k) n h = (h, refl)
 
--- with memory, the post or wait met the journal behind which its event stands
+-- if memory suffices, the post or wait met the journal at the end of which its event was put
 pub signal_met : {E : Type 0} (pass pass2 : Passed Event) (who : Who) (d : Deed)
     (journal : List Event) (place : Option ℕ) (o : Option Answered) → o ≡ signalled_at place
     → option_map (λ (k : ℕ). told.Done) place ≡ semaphore_says (past journal) d
@@ -69,7 +69,7 @@ signal_met {E} pass pass2 who d journal place o is says at seen mine same =
       );
     }
 
--- its task's passes have seen the journal of the semaphores as it left it
+-- the task's passes have seen the journal of the semaphores as the post or wait left it
 pub signals_met : {E : Type 0} (passes passes2 : PassesValue) (who : Who) (d : Deed)
     (r : Result (Option Answered) E) → passes2 ≡ record passes { sems = passes2.sems }
     → SignalMet passes.sems passes2.sems who d r → SignalsMet passes passes2 who d r
@@ -84,7 +84,7 @@ signals_met passes passes2 who d r others m = record {
   told = m.told;
 }
 
--- a rule that was appended is one more of those that its task's pass has seen
+-- the task's pass has seen the rules with the appended one
 pub appends_met : (passes passes2 : PassesValue) (entry : RuleEntry) (a : Answered)
     → passes2 ≡ record passes { rules = passes2.rules }
     → AppendMet passes.rules passes2.rules entry a → AppendsMet passes passes2 entry a

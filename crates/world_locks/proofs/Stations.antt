@@ -1,6 +1,5 @@
--- An inode under its lock is the one of its number, before a step on it and behind it.
-use Rattle.std.proofs.Common.{◌≡◌, ℕ, ◌+◌, ◌<◌, List, [], ◌∷◌, ◌++◌, length, Option, Some, sym, ◌∙◌, ap, subst}
-use Rattle.std.specs.Prelude.{slice_get}
+-- An inode under its lock is the one of its number, before and after a step on it.
+use Rattle.std.proofs.Common.{◌≡◌, ℕ, ◌+◌, ◌<◌, List, ◌++◌, length, Option, Some, sym, ◌∙◌, ap, subst}
 use mathlib.Core.List.{IsPrefix}
 use Rattle.grow_list.proofs.Prefixes.{prefix_refl}
 use Rattle.grow_list.specs.Shown.{Grown, ListName, Passed}
@@ -27,7 +26,7 @@ use Rattle.world_deeds.specs.Acting.{StationDid}
 use Rattle.world_locks.specs.Kept.{IsPassAt, IsReadyBy, NumberedStation}
 
 module _ (frame : Frame) (i : ℕ) (st : StationValue) (is : IsStation frame i st) where
-  -- the inode of the site is its own
+  -- the inode of the site is the one in the cell
   pub inode_same : inode_in frame (site_of st) ≡ st.cell.inode
   inode_same =
       ap (λ (x : Settings). record {
@@ -36,7 +35,7 @@ module _ (frame : Frame) (i : ℕ) (st : StationValue) (is : IsStation frame i s
         birth = st.cell.inode.birth;
       }) (sym is.settings)
 
-  -- a task's pass of this number is of its journal
+  -- a task's pass of this number is of the inode's journal
   pub its_pass : (n : ℕ) (q : Passed Event) → IsPassAt frame i n q
       → (q.name ≡ st.cell.journal) × (q.number ≡ n + 1)
   its_pass n q at = at (site_of st) is.site
@@ -54,7 +53,7 @@ module _ (frame : Frame) (i : ℕ) (st : StationValue) (is : IsStation frame i s
       (subst (λ (x : Inode). HasLooked x (n + 1) q.seen st.cell.list q.mine) (sym inode_same)
       (subst (λ (k : ℕ). HasLooked st.cell.inode k q.seen st.cell.list q.mine) number looked))))
 
-  -- and may be done
+  -- after a look the deed may be done
   pub its_may : (n : ℕ) (q : Passed Event) (g : Gathered) (action : ActionValue) (slot : Slot)
       (d : Deed) → IsPassAt frame i n q → IsReadyBy frame i n q g action slot d
       → HasLooked st.cell.inode q.number q.seen st.cell.list q.mine
@@ -63,7 +62,7 @@ module _ (frame : Frame) (i : ℕ) (st : StationValue) (is : IsStation frame i s
       let x = its_ready n q g action slot d at ready looked in
       record { may = x.may; by = x.by }
 
-  -- with a pass of the appended rules that has seen more it is the same inode
+  -- with a pass of the appended rules that has seen more it is still the inode of its number
   pub station_looked : (q : Passed RuleEntry)
       → (q.name ≡ st.rules.name) × (q.number ≡ st.rules.number) → q.mine ≡ st.rules.mine
       → IsPrefix st.rules.seen q.seen → IsStation frame i (record st { rules = q })
@@ -80,7 +79,7 @@ module _ (frame : Frame) (i : ℕ) (st : StationValue) (is : IsStation frame i s
     rise = law_rise_by_look (length frame.base) st.cell.list st.rules.seen q.seen more is.rise;
   }
 
-  -- behind a deed that leaves its pass of the rules and its place
+  -- after a deed that leaves the pass of the rules and the file system as they were
   module _ (st2 : StationValue) (list list2 : List Entry) (pass pass2 : Passed Event) (who : Who)
       (d : Deed) (o : Option Told)
       (leaves : Leaves st.cell st2.cell list list2 pass pass2 who d o)
@@ -106,7 +105,7 @@ module _ (frame : Frame) (i : ℕ) (st : StationValue) (is : IsStation frame i s
           journal = x;
         }) leaves.same.journal
 
-    -- it is still the inode of its number
+    -- after the deed it is still the inode of its number
     pub station_left : CountsAll (length frame.base + length st.rules.seen) d
         → IsStation frame i st2
     station_left counts =
@@ -129,7 +128,7 @@ module _ (frame : Frame) (i : ℕ) (st : StationValue) (is : IsStation frame i s
               (sym leaves.journal) rise);
         }
 
-  -- behind a deed on it and on the measurement list
+  -- it is still the inode of its number after a deed on it and on the measurement list
   pub station_still : (st2 : StationValue) (book book2 : Grown Entry) (pass pass2 : Passed Event)
       (listed listed2 : Passed Entry) (who : Who) (d : Deed) (g g2 : Gathered) (o : Option Told)
       → StationDid st st2 book book2 pass pass2 listed listed2 who d g g2 o
@@ -137,14 +136,14 @@ module _ (frame : Frame) (i : ℕ) (st : StationValue) (is : IsStation frame i s
   station_still st2 book book2 pass pass2 listed listed2 who d g g2 o did counts =
       station_left st2 book.list book2.list pass pass2 who d o did.leaves did.rules did.place counts
 
--- the inode under the lock, by the number that its value shows
+-- the inode under the lock is the one of the number that its value shows
 pub station_at : (frame : Frame) (n : ℕ) (st : StationValue) (v : NumberedStation)
     → ◌≡◌ {A = NumberedStation} (record { number = n; station = st }) v → IsStation frame n st
     → IsStation frame v.number st
 station_at frame n st v view is =
     subst (λ (x : NumberedStation). IsStation frame x.number st) view is
 
--- the same as it is opened
+-- the inode is the one of its number as it is unpacked
 pub station_opened : (frame : Frame) (n : ℕ) (opened st : StationValue) (v : NumberedStation)
     → opened ≡ st → ◌≡◌ {A = NumberedStation} (record { number = n; station = st }) v
     → IsStation frame n st → IsStation frame v.number opened

@@ -1,4 +1,4 @@
--- The constants of no world.
+-- Placeholder constants, of a world without inodes and tasks.
 use Rattle.std.specs.Prelude.{[], None, refl}
 use Rattle.grow_list.specs.Shown.{no_name}
 use Rattle.inode_events.specs.hashes.declared.algo.Algo.TheVariants.{Sha1}

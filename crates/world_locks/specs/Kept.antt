@@ -1,4 +1,4 @@
--- What contracts see of the values under locks, and what these keep of the constants.
+-- The values under locks as contracts see them, and their invariants with the constants.
 use Rattle.std.specs.Prelude.{◌≡◌, ℕ, ◌+◌, ◌∷◌, ◌++◌, [], length, List, Option, Some, IfOk, Result, slice_get}
 use mathlib.Core.List.{IsPrefix}
 use Rattle.grow_list.specs.Shown.{Grown, Passed}
@@ -34,7 +34,7 @@ pub record NumberedStation : Type 0 where
   pub number : ℕ
   pub station : StationValue
 
--- the rules, with the passes that are nobody's
+-- the rules and their spare passes, which belong to no task and no inode
 pub record RulesKeep (frame : Frame) (p : PolicyValue) (nobodys : List (Passed RuleEntry))
     : Type 0 where
   pub rules : AreRulesOf frame p
@@ -42,20 +42,20 @@ pub record RulesKeep (frame : Frame) (p : PolicyValue) (nobodys : List (Passed R
 
 -- ---- an inode
 
--- the pass of a task, of the journal of the inode of this number
+-- the task's pass of the journal of the inode of this number
 abbrev pub IsPassAt : Frame → ℕ → ℕ → Passed Event → Type 0
 IsPassAt frame i task pass =
     (s : Site) → slice_get frame.sites i ≡ Some s
     → (pass.name ≡ s.journal) × (pass.number ≡ task + 1)
 
--- after a look by it the deed is ready
+-- after a look by this pass the deed is ready
 abbrev pub IsReadyBy : Frame → ℕ → ℕ → Passed Event → Gathered → ActionValue → Slot → Deed → Type 0
 IsReadyBy frame i task pass g action slot d =
     (s : Site) (list : List Event) → slice_get frame.sites i ≡ Some s
     → HasLooked (inode_in frame s) (task + 1) pass.seen list pass.mine
     → IsReady (inode_in frame s) (task + 1) list g action slot d
 
--- the deed met some inode of this number and some measurement list
+-- the deed met an inode of this number and a measurement list, and left these others
 pub record DeedMet {E : Type 0} (frame : Frame) (i : ℕ) (pass pass2 : Passed Event)
     (listed listed2 : Passed Entry) (who : Who) (d : Deed) (g g2 : Gathered)
     (r : Result (Option Answered) E) : Type 0 where
@@ -69,7 +69,7 @@ pub record DeedMet {E : Type 0} (frame : Frame) (i : ℕ) (pass pass2 : Passed E
       ≡ outcome station.cell.inode book.list d (past station.cell.list))
   pub place : IfOk r (λ o. IsPlacedAt (length station.cell.list) o)
 
--- the check met these appended rules besides
+-- the check met an inode of this number, a measurement list and these appended rules
 pub record AskMet {E : Type 0} (frame : Frame) (i : ℕ) (pass pass2 : Passed Event)
     (own own2 : Passed RuleEntry) (listed listed2 : Passed Entry) (who : Who) (cred : Cred)
     (asked : Checks) (r : Result (Option Answered) E) : Type 0 where
@@ -90,7 +90,7 @@ pub record AskMet {E : Type 0} (frame : Frame) (i : ℕ) (pass pass2 : Passed Ev
 
 -- ---- semaphores and rules
 
--- what a post or a wait was told, whose event stands at this place
+-- the answer to a post or a wait whose event is at this place
 abbrev pub signalled_at : Option ℕ → Option Answered
 signalled_at None = None
 signalled_at (Some place) = Some (record { place = place; told = told.Done; action = None })
@@ -104,7 +104,7 @@ pub record SignalMet {E : Type 0} (pass pass2 : Passed Event) (who : Who) (d : D
   pub told : IfOk r (λ o. (told_of o ≡ semaphore_says (past journal) d)
       × IsPlacedAt (length journal) o)
 
--- the rule was appended behind these
+-- the rule was appended after these
 pub record AppendMet (pass pass2 : Passed RuleEntry) (entry : RuleEntry) (a : Answered)
     : Type 0 where
   pub added : List RuleEntry

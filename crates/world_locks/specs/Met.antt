@@ -1,5 +1,5 @@
--- What a step under locks leaves: it met some lists, and behind it the passes of its task have seen
--- what it left of them.
+-- The effect of a step under locks: it met some lists, and after it the passes of its task have
+-- seen these lists as the step left them.
 use Rattle.std.specs.Prelude.{◌≡◌, ℕ, length, List, map, IfOk, Option, Result, slice_get, slice_set}
 use Rattle.grow_list.specs.Shown.{Passed}
 use Rattle.ima_templates.specs.declared.entry.Entry.{Entry}
@@ -52,8 +52,7 @@ mines_of passes = record {
   added = passes.rules.mine;
 }
 
--- The lists that a step on an inode met. Those at which it doesn't look are as its task has seen
--- them.
+-- The lists that a step on an inode met. The others are as the task has last seen them.
 abbrev pub state_met : PassesValue → ℕ → List Event → List Entry → List RuleEntry → State
 state_met passes i journal list added = record {
   journals = slice_set (map seen_of passes.inodes) i journal;
@@ -62,7 +61,7 @@ state_met passes i journal list added = record {
   added = added;
 }
 
--- a deed on the inode of this number
+-- a deed on the inode of this number met these lists
 pub record EventMet {E : Type 0} (frame : Frame) (i : ℕ) (who : Who) (d : Deed)
     (passes passes2 : PassesValue) (g g2 : Gathered) (r : Result (Option Answered) E)
     : Type 0 where
@@ -71,7 +70,7 @@ pub record EventMet {E : Type 0} (frame : Frame) (i : ℕ) (who : Who) (d : Deed
       passes2 g g2 (told_in r)
   pub told : IfOk r (λ o. IsSaid frame i d old o)
 
--- a check of it
+-- a check of the inode of this number met these lists
 pub record CheckMet {E : Type 0} (frame : Frame) (i : ℕ) (who : Who) (cred : Cred)
     (asked : Checks) (passes passes2 : PassesValue) (r : Result (Option Answered) E)
     : Type 0 where
@@ -79,7 +78,7 @@ pub record CheckMet {E : Type 0} (frame : Frame) (i : ℕ) (who : Who) (cred : C
   pub check : (g : Gathered) → CheckIn frame i (slice_get frame.sites i) who cred asked old
       (state_seen passes2) passes passes2 g r
 
--- a post or a wait
+-- a post or a wait met these lists
 pub record SignalsMet {E : Type 0} (passes passes2 : PassesValue) (who : Who) (d : Deed)
     (r : Result (Option Answered) E) : Type 0 where
   pub old : State
@@ -87,7 +86,7 @@ pub record SignalsMet {E : Type 0} (passes passes2 : PassesValue) (who : Who) (d
   pub told : IfOk r (λ o. (told_of o ≡ semaphore_says (past old.signals) d)
       × IsPlacedAt (length old.signals) o)
 
--- a rule that was appended
+-- an appended rule met these lists
 pub record AppendsMet (passes passes2 : PassesValue) (entry : RuleEntry) (a : Answered)
     : Type 0 where
   pub old : State

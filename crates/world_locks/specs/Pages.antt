@@ -1,10 +1,9 @@
--- What deeds under the inode's lock alone leave.
-use Rattle.std.specs.Prelude.{◌≡◌, ℕ, ◌+◌, length, List, Option, Some, None, IfOk, Result, Ok, Err, slice_get}
+-- A page of a collection, which is taken under the inode's lock alone.
+use Rattle.std.specs.Prelude.{◌≡◌, ℕ, ◌+◌, length, List, Option, Some, IfOk, Result, Ok, Err, slice_get}
 use Rattle.grow_list.specs.Shown.{Passed}
 use Rattle.ima_templates.specs.declared.entry.Entry.{Entry}
 use Rattle.inode_cell.specs.Answers.{piece_told}
 use Rattle.inode_cell.specs.declared.answers.Piece.{Piece}
-use Rattle.inode_cell.specs.declared.writing.Got.{Got}
 use Rattle.inode_events.specs.Asked.{outcome}
 use Rattle.inode_events.specs.Integrity.{Collection, collecting}
 use Rattle.inode_events.specs.Legal.{May}
@@ -14,7 +13,6 @@ use Rattle.inode_events.specs.declared.deed.Deed.{Deed}
 use Rattle.inode_events.specs.declared.deed.Deed.TheVariants as deed
 use Rattle.inode_events.specs.declared.told.Event.{Event}
 use Rattle.inode_events.specs.declared.told.Told.{Told}
-use Rattle.inode_events.specs.declared.told.Told.TheVariants as told
 use Rattle.inode_meta.specs.declared.step.Who.{Who}
 use Rattle.inode_pages.specs.Content.{piece_at}
 use Rattle.inode_cell.specs.laws_of_journals.Own.{IsBy}
@@ -22,25 +20,18 @@ use Rattle.world_deeds.specs.deeds.Leaving.{Leaves, told_by}
 use Rattle.world_close.specs.frames.Frame.{Frame, Site, inode_in}
 use Rattle.world_close.specs.frames.World.{IsStation, StationValue}
 use Rattle.world_deeds.specs.laws_of_tasks.Ready.{HasLooked}
-use Rattle.world_deeds.specs.declared.answers.Answered.{Answered}
 use Rattle.world_locks.specs.declared.pages.TakenPage.{TakenPage}
 
--- the deed goes on with a collection
+-- the deed continues a collection by one page
 abbrev pub IsPageDeed : Deed → Type 0
 IsPageDeed (deed.Chunk file) = Unit {0}
 IsPageDeed (deed.CloseChunk file) = Unit {0}
 IsPageDeed _ = ⊥
 
--- the page, with the place of its event
+-- the page that was taken, with the place of its event
 abbrev pub taken_in : {E : Type 0} → ℕ → Result (Piece × List ℕ) E → Result TakenPage E
 taken_in place (Ok x) = Ok (record { place = place; piece = x.0; page = x.1 })
 taken_in place (Err e) = Err e
-
--- what was read, with the place of its event
-abbrev pub read_in : {E : Type 0} → ℕ → Result Got E → Result Answered E
-read_in place (Ok x) =
-    Ok (record { place = place; told = told.Read x.n x.digest; action = None })
-read_in place (Err e) = Err e
 
 -- after a look by the pass the deed may be done
 abbrev pub MayByLook : Frame → ℕ → ℕ → Passed Event → Deed → Type 0
@@ -49,7 +40,7 @@ MayByLook frame i task pass d =
     → HasLooked (inode_in frame s) (task + 1) pass.seen list pass.mine
     → May (inode_in frame s) (past list) d × IsBy (task + 1) d (past list)
 
--- the same by each of a task's passes
+-- after a look by any of these passes the deed may be done
 abbrev pub MayAt : Frame → ℕ → List (Passed Event) → ℕ → Deed → Type 0
 MayAt frame i passes task d =
     (s : Site) (q : Passed Event) (list : List Event) → slice_get frame.sites i ≡ Some s
@@ -57,7 +48,7 @@ MayAt frame i passes task d =
     → HasLooked (inode_in frame s) (task + 1) q.seen list q.mine
     → May (inode_in frame s) (past list) d × IsBy (task + 1) d (past list)
 
--- the deed met some inode of this number, and asked nothing of the measurement list
+-- the deed met an inode of this number, and didn't consult the measurement list
 pub record AloneMet (frame : Frame) (i : ℕ) (pass pass2 : Passed Event) (who : Who) (d : Deed)
     (o : Option Told) (station station2 : StationValue) : Type 0 where
   pub is : IsStation frame i station
@@ -66,7 +57,7 @@ pub record AloneMet (frame : Frame) (i : ℕ) (pass pass2 : Passed Event) (who :
   pub rules : station2.rules ≡ station.rules
   pub place : station2.place ≡ station.place
 
--- a page of a collection
+-- the deed took a page of a collection
 pub record PageMet {E : Type 0} (frame : Frame) (i : ℕ) (pass pass2 : Passed Event) (who : Who)
     (d : Deed) (r : Result TakenPage E) : Type 0 where
   pub station : StationValue
@@ -79,19 +70,3 @@ pub record PageMet {E : Type 0} (frame : Frame) (i : ℕ) (pass pass2 : Passed E
   pub page : IfOk r (λ t. (c : Collection)
       → collecting station.cell.inode (past station.cell.list) ≡ Some c
       → t.page ≡ piece_at (content (past station.cell.list)) c.pieces)
-
--- bytes that were read
-pub record ReadMet {E : Type 0} (frame : Frame) (i : ℕ) (pass pass2 : Passed Event) (who : Who)
-    (d : Deed) (r : Result Answered E) : Type 0 where
-  pub station : StationValue
-  pub station2 : StationValue
-  pub alone : AloneMet frame i pass pass2 who d (told_by (λ (a : Answered). a.told) r) station
-      station2
-  pub told : IfOk r (λ a. (list : List Entry)
-      → Some a.told ≡ outcome station.cell.inode list d (past station.cell.list))
-  pub at : IfOk r (λ a. (a.place ≡ length station.cell.list) × (a.action ≡ None))
-
--- what it was told, which is something
-abbrev pub alone_in : {E : Type 0} → Result Answered E → Result (Option Answered) E
-alone_in (Ok a) = Ok (Some a)
-alone_in (Err e) = Err e

@@ -1,4 +1,4 @@
--- The lists of a world, each one of its constants.
+-- The lists of a world, each of which belongs to the world's constants.
 use Rattle.std.specs.Prelude.{◌≡◌, List, Some, ℕ, slice_get}
 use Rattle.world_close.specs.frames.Frame.{Frame}
 use Rattle.world_close.specs.frames.World.{AreRulesOf, AreSignalsOf, IsBookOf, IsStation, StationValue}
@@ -26,7 +26,7 @@ pub record KeepFrame (frame : Frame) (p : Parts) : Type 0 where
 
 -- ---- inodes that are put under locks, or taken back
 
--- each is the one of its number
+-- each inode is the one of its number
 abbrev pub AreEach : Frame → List StationValue → Type 0
 AreEach frame stations =
     (i : ℕ) (s : StationValue) → slice_get stations i ≡ Some s → IsStation frame i s

@@ -7,14 +7,13 @@ ghost use Rattle.world_close.specs.frames.Tasks.{ArePassesOf};
 ghost use Rattle.world_close.specs.frames.declared.gathered.Gathered.{Gathered as AnyGathered};
 ghost use Rattle.task_mind.specs.Steps.{deed_in};
 ghost use Rattle.world_deeds.specs.Acting.{ReadyAt};
+ghost use Rattle.world_deeds.specs.deeds.Hashed.{IsAloneDeed, IsListedDeed};
 ghost use Rattle.world_locks.specs.Met.{CheckMet, EventMet};
-ghost use Rattle.world_locks.specs.Pages.{IsPageDeed, MayAt};
+ghost use Rattle.world_locks.specs.Pages.{IsPageDeed};
 
 use crate::locks::Locks;
 use crate::name::Name;
 use crate::order::Order;
-use crate::pages::alone;
-use inode_meta::Who;
 use std::alloc::AllocError as OutOfMemory;
 use std::sync::Wait;
 use task_mind::Doing;
@@ -23,7 +22,8 @@ use world_deeds::Answered;
 use world_deeds::deeds::{Actor, Checks, gather, piece_told};
 
 impl<N: Name> Locks<N> {
-    /// Does the deed on the inode of this number, by the task's passes. `None` is blocked.
+    /// Does the deed on the inode of this number, through the task's passes. `None` means that it
+    /// is blocked.
     pub fn does<R: Wait>(
         &self,
         rt: &R,
@@ -43,16 +43,15 @@ impl<N: Name> Locks<N> {
             return Ok(None);
         }
         match doing {
+            Doing::Take(_) => self.acts(rt, i, passes, actor, doing, gathered),
+            Doing::Finish(_) => { self.acts(rt, i, passes, actor, doing, gathered) }
             Doing::Chunk(_) => self.hashes(rt, i, passes, actor, doing, gathered),
             Doing::CloseChunk(_) => { self.hashes(rt, i, passes, actor, doing, gathered) }
-            Doing::Read { file, from, len } => {
-                self.reads(rt, i, passes, actor.who, file, from, len)
-            }
-            _ => self.acts(rt, i, passes, actor, doing, gathered),
+            _ => self.acts_alone(rt, i, passes, actor, doing, gathered),
         }
     }
 
-    // A deed for which the measurement list is locked too.
+    // Does a deed that may add to the measurement list, which is locked too.
     fn acts<R: Wait>(
         &self,
         rt: &R,
@@ -66,6 +65,7 @@ impl<N: Name> Locks<N> {
         requires passes { ArePassesOf N.frame actor.now.who.task passes.old }
         requires ready { ReadyAt N.frame i passes.old.inodes actor.now.who.task gathered.old
             actor.now.action actor.now.slot (deed_in doing) }
+        requires adds { IsListedDeed (deed_in doing) }
         ensures { EventMet N.frame i actor.now.who (deed_in doing.entry) passes.old passes.new
             gathered.old gathered.new result }
     {
@@ -82,7 +82,30 @@ impl<N: Name> Locks<N> {
         )
     }
 
-    // A page of a collection, which is hashed behind the lock.
+    // Does a deed that doesn't consult the measurement list, under the inode's lock alone.
+    fn acts_alone<R: Wait>(
+        &self,
+        rt: &R,
+        i: u32,
+        passes: &mut Passes,
+        actor: &Actor<'_>,
+        doing: Doing<'_>,
+        gathered: &mut Gathered,
+    ) -> Result<Option<Answered>, OutOfMemory>
+        requires below { i < length N.frame.sites }
+        requires passes { ArePassesOf N.frame actor.now.who.task passes.old }
+        requires ready { ReadyAt N.frame i passes.old.inodes actor.now.who.task gathered.old
+            actor.now.action actor.now.slot (deed_in doing) }
+        requires alone { IsAloneDeed (deed_in doing) }
+        ensures { EventMet N.frame i actor.now.who (deed_in doing.entry) passes.old passes.new
+            gathered.old gathered.new result }
+    {
+        let mut order = Order::new();
+        self.take(rt, &mut order, i)
+            .act_alone(&mut passes.inodes[i as usize], actor, doing, gathered)
+    }
+
+    // Takes a page of a collection, and hashes it after the lock is released.
     fn hashes<R: Wait>(
         &self,
         rt: &R,
@@ -113,32 +136,8 @@ impl<N: Name> Locks<N> {
         }))
     }
 
-    // Bytes that are read.
-    fn reads<R: Wait>(
-        &self,
-        rt: &R,
-        i: u32,
-        passes: &mut Passes,
-        who: Who,
-        file: u64,
-        from: u64,
-        len: u64,
-    ) -> Result<Option<Answered>, OutOfMemory>
-        requires below { i < length N.frame.sites }
-        requires passes { ArePassesOf N.frame who.task passes.old }
-        requires may { MayAt N.frame i passes.old.inodes who.task (Deed.Read file from len) }
-        ensures { (g : AnyGathered) → EventMet N.frame i who (Deed.Read file from len) passes.old
-            passes.new g g result }
-    {
-        let mut order = Order::new();
-        let read = self
-            .take(rt, &mut order, i)
-            .read(&mut passes.inodes[i as usize], who, file, from, len);
-        alone(read)
-    }
-
-    /// Checks the inode of this number by all rules in force, by the task's passes. `None` is
-    /// blocked: the inode isn't there.
+    /// Checks the inode of this number by all rules in force, through the task's passes. `None`
+    /// means that it is blocked because there is no such inode.
     pub fn checks<R: Wait>(
         &self,
         rt: &R,

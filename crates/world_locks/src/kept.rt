@@ -1,5 +1,5 @@
-//! The measurement list, the semaphores and the rules, each of which keeps that it is the one of
-//! the constants.
+//! The measurement list, the semaphores and the rules, each with the invariant that it belongs to
+//! the constants that `N` names.
 
 ghost use Rattle.std.specs.Prelude.{◌≡◌, ◌+◌, IfOk, OnErr};
 ghost use Rattle.world_close.specs.frames.World.{AreSignalsOf, IsBookOf};
@@ -17,7 +17,7 @@ use std::marker::{Model, PhantomData};
 use world_close::semaphores::SemaphoreCell;
 use world_deeds::Answered;
 
-/// The measurement list.
+/// The measurement list, with the invariant that it belongs to the constants that `N` names.
 #[derive(Drop)]
 pub struct KeptBook<N: Name> {
     pub(crate) book: Book,
@@ -37,7 +37,7 @@ impl<N: Name> Model for KeptBook<N> {
 }
 
 impl<N: Name> KeptBook<N> {
-    /// The measurement list of these constants.
+    /// Wraps the measurement list of these constants.
     pub fn new(book: Book) -> KeptBook<N>
         requires { IsBookOf N.frame book }
         ensures { result ≡ book }
@@ -48,7 +48,7 @@ impl<N: Name> KeptBook<N> {
         }
     }
 
-    /// Gives it back.
+    /// Returns the measurement list.
     pub fn open(self) -> Book
         ensures kept { IsBookOf N.frame result }
         ensures value { result ≡ self }
@@ -58,7 +58,7 @@ impl<N: Name> KeptBook<N> {
     }
 }
 
-/// The semaphores.
+/// The semaphores, with the invariant that they belong to the constants that `N` names.
 #[derive(Drop)]
 pub struct KeptSemaphores<N: Name> {
     sems: SemaphoreCell,
@@ -78,7 +78,7 @@ impl<N: Name> Model for KeptSemaphores<N> {
 }
 
 impl<N: Name> KeptSemaphores<N> {
-    /// The semaphores of these constants.
+    /// Wraps the semaphores of these constants.
     pub fn new(sems: SemaphoreCell) -> KeptSemaphores<N>
         requires { AreSignalsOf N.frame sems }
         ensures { result ≡ sems }
@@ -89,7 +89,7 @@ impl<N: Name> KeptSemaphores<N> {
         }
     }
 
-    /// Gives them back.
+    /// Returns the semaphores.
     pub fn open(self) -> SemaphoreCell
         ensures kept { AreSignalsOf N.frame result }
         ensures value { result ≡ self }
@@ -98,7 +98,7 @@ impl<N: Name> KeptSemaphores<N> {
         sems
     }
 
-    /// Posts to a semaphore or waits for one. `None` is blocked.
+    /// Posts to a semaphore or waits for one. `None` means that it is blocked.
     pub fn signal(
         &mut self,
         pass: &mut Pass<Event>,
@@ -114,7 +114,7 @@ impl<N: Name> KeptSemaphores<N> {
     }
 }
 
-// What a post or a wait was told, whose event stands at this place. `None` is blocked.
+// The answer to a post or a wait whose event is at this place. `None` means that it is blocked.
 fn signalled(place: Option<u64>) -> Option<Answered>
     ensures { result ≡ signalled_at place }
 {
@@ -128,7 +128,8 @@ fn signalled(place: Option<u64>) -> Option<Answered>
     }
 }
 
-/// The rules, with the passes that are nobody's.
+/// The rules and their spare passes, with the invariant that they belong to the constants that `N`
+/// names.
 #[derive(Drop)]
 pub struct KeptRules<N: Name> {
     pub(crate) rules: PolicyCell,
@@ -148,7 +149,7 @@ impl<N: Name> Model for KeptRules<N> {
 }
 
 impl<N: Name> KeptRules<N> {
-    /// The rules of these constants.
+    /// Wraps the rules of these constants, and their spare passes.
     pub fn new(rules: PolicyCell, idle: Vec<Pass<RuleEntry>>) -> KeptRules<N>
         requires { RulesKeep N.frame rules idle.items }
         ensures { result ≡ rules }
@@ -160,7 +161,7 @@ impl<N: Name> KeptRules<N> {
         }
     }
 
-    /// Gives them back.
+    /// Returns the rules and their spare passes.
     pub fn open(self) -> (PolicyCell, Vec<Pass<RuleEntry>>)
         ensures kept { RulesKeep N.frame result.0 result.1.items }
         ensures value { result.0 ≡ self }

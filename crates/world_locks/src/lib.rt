@@ -1,10 +1,11 @@
 //! The lists of a world under locks, and the steps of tasks on them.
 //!
-//! Each inode lies under a lock of its own, as do the measurement list, the semaphores and the
-//! rules. A step takes those that it needs in the order inode, rules, measurement list, which each
-//! call that takes one asks of what the step has taken before. A post, a wait, a rule that is
-//! appended and a read take one lock alone. A page of a collection is taken under its inode's lock,
-//! and hashed when that is given back.
+//! Each inode is under a lock of its own, as are the measurement list, the semaphores and the
+//! rules. A step takes the locks that it needs in the order inode, rules, measurement list: each
+//! call that takes a lock requires that none of the same or a later place is held. Only a step that
+//! may add to the measurement list takes that list's lock; each other step on an inode takes the
+//! inode's lock alone, as a post, a wait and an appended rule take one lock alone. A page of a
+//! collection is taken under its inode's lock, and hashed after the lock is released.
 #![tactic(auto)]
 
 mod acting;

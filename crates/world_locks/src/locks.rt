@@ -1,4 +1,4 @@
-//! The locks of a world: how its lists come under them and out again.
+//! The locks of a world: putting its lists under locks, and taking them out again.
 
 ghost use Rattle.std.specs.Prelude.{◌≡◌, ◌<◌, IfOk, length};
 ghost use Rattle.std.specs.Sync.Mutex.{mutex_guard_value};
@@ -18,8 +18,8 @@ use std::alloc::{AllocError as OutOfMemory, Global};
 use std::sync::{Mutex, MutexGuard, Wait};
 use world_close::frames::Station;
 
-/// The lists of a world, each inode under a lock of its own, and one lock each for the measurement
-/// list, the semaphores and the rules. They are those of the constants that `N` names.
+/// The lists of a world, with a lock for each inode, and one lock each for the measurement list,
+/// the semaphores and the rules. They belong to the constants that `N` names.
 #[derive(Drop)]
 pub struct Locks<N: Name> {
     pub(crate) stations: Vec<Mutex<KeptStation<N>>>,
@@ -36,7 +36,7 @@ pub struct Locks<N: Name> {
     ghost tasks_are: { tasks ≡ N.frame.tasks },
 }
 
-// The inode of this place under a lock.
+// Puts the inode of this place under a lock.
 fn lock_at<N: Name>(place: usize, station: Station) -> Result<Mutex<KeptStation<N>>, OutOfMemory>
     requires { IsStation N.frame place station }
 {
@@ -46,7 +46,7 @@ fn lock_at<N: Name>(place: usize, station: Station) -> Result<Mutex<KeptStation<
     Ok(Mutex::new(KeptStation::<N>::new(number, station)))
 }
 
-// The inodes, each under a lock.
+// Puts each inode under a lock.
 fn lock_each<N: Name>(
     alloc: Global,
     stations: Vec<Station>,
@@ -64,19 +64,19 @@ fn lock_each<N: Name>(
     Ok(locked)
 }
 
-// The inode of this place, out of its lock.
+// Takes the inode of this place out of its lock.
 fn unlock_at<N: Name>(place: usize, mutex: Mutex<KeptStation<N>>) -> Result<Station, OutOfMemory>
     ensures { IfOk result (λ station. IsStation N.frame place station) }
 {
     let (number, station) = mutex.into_inner().open();
-    // It stands in its place, but the type of a lock doesn't tell it.
+    // The inode is in its place, but the type of a lock doesn't say so.
     if number as usize != place {
         return Err(OutOfMemory);
     }
     Ok(station)
 }
 
-// The inodes, out of their locks, in order.
+// Takes the inodes out of their locks, in order.
 fn unlock_each<N: Name>(
     alloc: Global,
     locked: Vec<Mutex<KeptStation<N>>>,
@@ -121,7 +121,7 @@ impl<N: Name> Locks<N> {
         })
     }
 
-    /// Gives the lists back, which have the same constants.
+    /// Takes the lists out of their locks. Their constants are the same.
     pub fn into_parts(self) -> Result<Parts, OutOfMemory>
         ensures keep { IfOk result (λ parts. KeepFrame N.frame parts) }
         ensures frame { IfOk result (λ parts. frame_of_parts parts ≡ N.frame) }
@@ -153,14 +153,14 @@ impl<N: Name> Locks<N> {
         })
     }
 
-    /// The appraisal mode.
+    /// The appraisal mode in the world's settings.
     pub fn mode(&self) -> Mode
         ensures { result ≡ N.frame.settings.mode }
     {
         self.settings.mode
     }
 
-    // Takes the lock of the inode of this number, before any other.
+    // Takes the lock of the inode of this number. No other lock may be held.
     pub(crate) fn take<'a, R: Wait>(
         &'a self,
         rt: &R,
@@ -182,7 +182,7 @@ impl<N: Name> Locks<N> {
         unreachable!()
     }
 
-    // Takes the lock of the rules, after an inode's at most.
+    // Takes the lock of the rules. At most an inode's lock may be held.
     pub(crate) fn take_rules<'a, R: Wait>(
         &'a self,
         rt: &R,
@@ -195,7 +195,8 @@ impl<N: Name> Locks<N> {
         self.rules.lock(rt)
     }
 
-    // Takes the lock of the measurement list, after an inode's and the rules' at most.
+    // Takes the lock of the measurement list. At most an inode's lock and the rules' lock may be
+    // held.
     pub(crate) fn take_book<'a, R: Wait>(
         &'a self,
         rt: &R,
@@ -208,7 +209,7 @@ impl<N: Name> Locks<N> {
         self.book.lock(rt)
     }
 
-    // Takes the lock of the semaphores, beside no other.
+    // Takes the lock of the semaphores. No other lock may be held.
     pub(crate) fn take_semaphores<'a, R: Wait>(
         &'a self,
         rt: &R,
@@ -221,7 +222,7 @@ impl<N: Name> Locks<N> {
         self.sems.lock(rt)
     }
 
-    /// Takes the lock of the inode of this number, calls `f` once, and lets go.
+    /// Takes the lock of the inode of this number, calls `f` once, and releases the lock.
     pub fn hold<R: Wait, F: FnOnce()>(&self, rt: &R, inode: u32, f: F)
         requires below { inode < length N.frame.sites }
         requires call { F.IsAlwaysCallable f }

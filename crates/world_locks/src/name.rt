@@ -1,7 +1,8 @@
 use std::marker::Brand;
 
-/// Names the constants of a world whose lists lie under locks. What lies under a lock keeps that it
-/// has them, so a task knows after each lock that the list is the one of its pass.
+/// Names the constants of a world whose lists are under locks. Each value under a lock has the
+/// invariant that it belongs to these constants, so a task that has taken a lock knows that the
+/// list is the one of its pass.
 pub trait Name: Send + Sync {
     ghost use Rattle.world_close.specs.frames.Frame.{Frame};
 

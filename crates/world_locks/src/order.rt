@@ -3,17 +3,17 @@
 ghost use Rattle.std.specs.Prelude.{◌≡◌};
 
 /// How far a step has come in the order of locks: an inode's is the first, the rules' the second,
-/// the measurement list's the third. Each call that takes a lock asks that none of its place or a
-/// later one is held, so no two steps can each hold what the other waits for. The semaphores' lock
-/// is held alone.
+/// the measurement list's the third. Each call that takes a lock requires that none of the same or
+/// a later place is held, so no two steps can each hold a lock that the other waits for. The
+/// semaphores' lock is never held together with another.
 #[derive(Drop)]
 pub(crate) struct Order {
-    /// The place of the last lock that was taken, 0 where none was, and 3 behind the semaphores'.
+    /// The place of the last lock taken: 0 before the first, and 3 after the semaphores'.
     pub(crate) taken: u8,
 }
 
 impl Order {
-    /// No lock is held.
+    /// The state in which no lock is held.
     pub(crate) fn new() -> Order
         ensures { result.taken ≡ 0 }
     {

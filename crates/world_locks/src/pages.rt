@@ -1,5 +1,5 @@
 //! Deeds that hash much take the inode's lock alone, and a page that a collection took is hashed
-//! when the lock is given back.
+//! after the lock is released.
 
 ghost use Rattle.inode_events.specs.declared.deed.Deed.TheVariants as Deed;
 ghost use Rattle.std.specs.Prelude.{◌≡◌, ◌+◌, List, Some, IfOk, OnErr, length};
@@ -14,29 +14,28 @@ ghost use Rattle.inode_pages.specs.Content.{piece_at};
 ghost use Rattle.world_deeds.specs.deeds.Leaving.{Leaves, told_by};
 ghost use Rattle.world_deeds.specs.laws_of_tasks.Ready.{HasLooked};
 ghost use Rattle.task_mind.specs.Steps.{deed_in};
-ghost use Rattle.world_locks.specs.Pages.{IsPageDeed, alone_in, read_in, taken_in};
+ghost use Rattle.world_locks.specs.Pages.{IsPageDeed, taken_in};
 
 use grow_list::Pass;
-use inode_cell::{Got, InodeCell, Piece};
-use inode_events::{Event, Told};
+use inode_cell::{InodeCell, Piece};
+use inode_events::Event;
 use inode_meta::Who;
 use inode_pages::Page;
 use std::alloc::AllocError as OutOfMemory;
 use task_mind::Doing;
-use world_deeds::Answered;
 
 /// A page that a collection took.
 #[derive(Drop)]
 pub struct TakenPage {
-    /// Where its event stands.
+    /// The index of its event in the journal.
     pub place: u64,
-    /// Whether it is the last.
+    /// Whether it is the last page of the collection.
     pub piece: Piece,
-    /// Its bytes.
+    /// The bytes of the page.
     pub page: Page,
 }
 
-// The page, with the place of its event.
+// The page that was taken, with the place of its event.
 pub(crate) fn taken_at(
     place: u64,
     taken: Result<(Piece, Page), OutOfMemory>,
@@ -49,24 +48,7 @@ pub(crate) fn taken_at(
     }
 }
 
-// What was read, with the place of its event.
-pub(crate) fn read_at(place: u64, got: Result<Got, OutOfMemory>) -> Result<Answered, OutOfMemory>
-    ensures { result ≡ read_in place got }
-{
-    match got {
-        Ok(got) => Ok(Answered {
-            place,
-            told: Told::Read {
-                n: got.n,
-                digest: got.digest,
-            },
-            action: None,
-        }),
-        Err(err) => Err(err),
-    }
-}
-
-// The next page of the collection with which the deed goes on.
+// Takes the next page of the collection that the deed continues.
 fn next_page(
     cell: &mut InodeCell,
     pass: &mut Pass<Event>,
@@ -115,38 +97,4 @@ pub(crate) fn take_page(
 {
     cell.look(pass);
     next_page(cell, pass, who, doing)
-}
-
-// Looks at the journal, and reads at most `len` bytes, from the byte `from` on.
-pub(crate) fn read(
-    cell: &mut InodeCell,
-    pass: &mut Pass<Event>,
-    who: Who,
-    file: u64,
-    from: u64,
-    len: u64,
-) -> Result<Got, OutOfMemory>
-    requires name { pass.old.name ≡ cell.old.journal }
-    requires number { pass.old.number ≡ who.task + 1 }
-    requires may { HasLooked cell.old.inode pass.old.number pass.old.seen cell.old.list
-        pass.old.mine → MayBy cell.old pass.old.number (Deed.Read file from len) }
-    ensures looked { HasLooked cell.old.inode pass.old.number pass.old.seen cell.old.list
-        pass.old.mine }
-    ensures leaves { (list : List AnyEntry) → Leaves cell.old cell.new list list pass.old pass.new
-        who (Deed.Read file from len) (told_by (λ g. Told.Read g.n g.digest) result) }
-    ensures told { IfOk result (λ g. (list : List AnyEntry) → Some (Told.Read g.n g.digest)
-        ≡ outcome cell.old.inode list (Deed.Read file from len) (past cell.old.list)) }
-{
-    cell.look(pass);
-    cell.read(pass, who, file, from, len)
-}
-
-// What was read, which is something.
-pub(crate) fn alone(read: Result<Answered, OutOfMemory>) -> Result<Option<Answered>, OutOfMemory>
-    ensures { result ≡ alone_in read }
-{
-    match read {
-        Ok(answered) => Ok(Some(answered)),
-        Err(err) => Err(err),
-    }
 }

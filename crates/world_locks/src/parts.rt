@@ -7,25 +7,25 @@ use std::alloc::Global;
 use world_close::frames::Station;
 use world_close::semaphores::SemaphoreCell;
 
-/// The lists of a world.
+/// The lists of a world, taken apart.
 #[derive(Drop)]
 pub struct Parts {
     /// The inodes, in order.
     pub stations: Vec<Station>,
     /// The measurement list.
     pub book: Book,
-    /// The semaphores.
+    /// The semaphores and their journal.
     pub sems: SemaphoreCell,
-    /// The rules.
+    /// The rules of the script and the appended ones.
     pub rules: PolicyCell,
-    /// The passes of the rules that are nobody's.
+    /// The spare passes of the rules, which belong to no task and no inode.
     pub idle: Vec<Pass<RuleEntry>>,
-    /// The file systems.
+    /// The file systems, in order.
     pub supers: Vec<Super>,
-    /// The settings.
+    /// The settings that all inodes share.
     pub settings: Settings,
-    /// How many tasks there are.
+    /// The number of tasks.
     pub tasks: u32,
-    /// Where its memory comes from.
+    /// The allocator of the world's memory.
     pub alloc: Global,
 }

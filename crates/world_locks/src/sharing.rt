@@ -16,7 +16,7 @@ use world_close::frames::Passes;
 use world_deeds::Answered;
 
 impl<N: Name> Locks<N> {
-    /// Posts to a semaphore or waits for one. `None` is blocked.
+    /// Posts to a semaphore or waits for one. `None` means that it is blocked.
     pub fn signals<R: Wait>(
         &self,
         rt: &R,

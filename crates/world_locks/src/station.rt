@@ -1,17 +1,20 @@
-//! An inode that keeps that it is the one of its number, and the steps on it.
+//! An inode with the invariant that it is the one of its number, and the steps on it.
 
 ghost use Rattle.inode_events.specs.declared.deed.Deed.TheVariants as Deed;
 ghost use Rattle.std.specs.Prelude.{◌≡◌, ◌+◌};
+ghost use Rattle.grow_list.specs.Shown.{Passed as AnyPass};
+ghost use Rattle.ima_templates.specs.declared.entry.Entry.{Entry as AnyEntry};
 ghost use Rattle.inode_events.specs.Checks.{no_action};
 ghost use Rattle.world_close.specs.frames.World.{IsStation};
 ghost use Rattle.world_close.specs.frames.declared.gathered.Gathered.{Gathered as AnyGathered};
 ghost use Rattle.task_mind.specs.Steps.{deed_in};
+ghost use Rattle.world_deeds.specs.deeds.Hashed.{IsAloneDeed, IsListedDeed};
 ghost use Rattle.world_locks.specs.Kept.{AskMet, DeedMet, IsPassAt, IsReadyBy};
-ghost use Rattle.world_locks.specs.Pages.{IsPageDeed, MayByLook, PageMet, ReadMet};
+ghost use Rattle.world_locks.specs.Pages.{IsPageDeed, MayByLook, PageMet};
 
 use crate::kept::{KeptBook, KeptRules};
 use crate::name::Name;
-use crate::pages::{TakenPage, read, read_at, take_page, taken_at};
+use crate::pages::{TakenPage, take_page, taken_at};
 use grow_list::Pass;
 use ima_templates::Entry;
 use inode_events::Event;
@@ -23,9 +26,9 @@ use std::marker::{Model, PhantomData};
 use task_mind::Doing;
 use world_close::frames::{Gathered, Station};
 use world_deeds::deeds::{Actor, Checks};
-use world_deeds::{Answered, act_at, check_at};
+use world_deeds::{Answered, act_alone_at, act_at, check_at};
 
-/// An inode with its number.
+/// An inode with its number, and the invariant that it belongs to the constants that `N` names.
 #[derive(Drop)]
 pub struct KeptStation<N: Name> {
     number: u32,
@@ -45,7 +48,7 @@ impl<N: Name> Model for KeptStation<N> {
 }
 
 impl<N: Name> KeptStation<N> {
-    /// The inode of this number.
+    /// Wraps the inode of this number.
     pub fn new(number: u32, station: Station) -> KeptStation<N>
         requires { IsStation N.frame number station }
         ensures { result.number ≡ number }
@@ -57,14 +60,14 @@ impl<N: Name> KeptStation<N> {
         }
     }
 
-    /// Its number.
+    /// The inode's number.
     pub fn number(&self) -> u32
         ensures { result ≡ self.now.number }
     {
         self.number
     }
 
-    /// Gives it back.
+    /// Returns the number and the inode.
     pub fn open(self) -> (u32, Station)
         ensures { IsStation N.frame result.0 result.1 }
     {
@@ -76,8 +79,8 @@ impl<N: Name> KeptStation<N> {
         (number, station)
     }
 
-    /// Does the deed, by the task's passes of the journal and of the measurement list. `None` is
-    /// blocked.
+    /// Does a deed that may add to the measurement list, through the task's passes of the journal
+    /// and of that list. `None` means that it is blocked.
     pub fn act(
         &mut self,
         pass: &mut Pass<Event>,
@@ -91,6 +94,7 @@ impl<N: Name> KeptStation<N> {
         requires listed { listed.old.name ≡ N.frame.book }
         requires ready { IsReadyBy N.frame self.old.number actor.now.who.task pass.old gathered.old
             actor.now.action actor.now.slot (deed_in doing) }
+        requires adds { IsListedDeed (deed_in doing) }
         ensures number { self.new.number ≡ self.old.number }
         ensures met { DeedMet N.frame self.old.number pass.old pass.new listed.old listed.new
             actor.now.who (deed_in doing.entry) gathered.old gathered.new result }
@@ -106,7 +110,29 @@ impl<N: Name> KeptStation<N> {
         )
     }
 
-    /// Takes the next page of the collection with which the deed goes on.
+    /// Does a deed that doesn't consult the measurement list, through the task's pass of the
+    /// journal. To each pass of that list it is as if the list were the one that the pass has seen.
+    /// `None` means that it is blocked.
+    pub fn act_alone(
+        &mut self,
+        pass: &mut Pass<Event>,
+        actor: &Actor<'_>,
+        doing: Doing<'_>,
+        gathered: &mut Gathered,
+    ) -> Result<Option<Answered>, OutOfMemory>
+        requires pass { IsPassAt N.frame self.old.number actor.now.who.task pass.old }
+        requires ready { IsReadyBy N.frame self.old.number actor.now.who.task pass.old gathered.old
+            actor.now.action actor.now.slot (deed_in doing) }
+        requires alone { IsAloneDeed (deed_in doing) }
+        ensures number { self.new.number ≡ self.old.number }
+        ensures met { (listed : AnyPass AnyEntry) → DeedMet N.frame self.old.number pass.old
+            pass.new listed listed actor.now.who (deed_in doing.entry) gathered.old gathered.new
+            result }
+    {
+        act_alone_at(&mut self.station, pass, actor, doing, gathered)
+    }
+
+    /// Takes the next page of the collection that the deed continues.
     pub fn take_page(
         &mut self,
         pass: &mut Pass<Event>,
@@ -125,28 +151,7 @@ impl<N: Name> KeptStation<N> {
         taken_at(place, take_page(&mut station.cell, pass, who, doing))
     }
 
-    /// Reads at most `len` bytes, from the byte `from` on.
-    pub fn read(
-        &mut self,
-        pass: &mut Pass<Event>,
-        who: Who,
-        file: u64,
-        from: u64,
-        len: u64,
-    ) -> Result<Answered, OutOfMemory>
-        requires pass { IsPassAt N.frame self.old.number who.task pass.old }
-        requires may { MayByLook N.frame self.old.number who.task pass.old
-            (Deed.Read file from len) }
-        ensures number { self.new.number ≡ self.old.number }
-        ensures met { ReadMet N.frame self.old.number pass.old pass.new who
-            (Deed.Read file from len) result }
-    {
-        let station = &mut self.station;
-        let place = station.cell.len();
-        read_at(place, read(&mut station.cell, pass, who, file, from, len))
-    }
-
-    /// Checks it by all rules in force, at which the task's pass and the inode's look first.
+    /// Checks the inode by all rules in force; the task's pass and the inode's look at them first.
     pub fn check(
         &mut self,
         pass: &mut Pass<Event>,

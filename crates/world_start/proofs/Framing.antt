@@ -1,4 +1,4 @@
--- The parts that a world starts with are those of its frame.
+-- The parts that a world starts with belong to its frame.
 use Rattle.std.proofs.Common.{◌≡◌, ℕ, ◌+◌, ◌-◌, ◌<◌, List, [], ◌∷◌, length, refl, ap, sym, subst, ◌∙◌, arith, Some}
 use Rattle.std.specs.Prelude.{All, map, max, slice_get}
 use mathlib.Core.List.{map-map}
@@ -28,7 +28,7 @@ use Rattle.world_deeds.specs.Parts.{frame_by, state_by}
 use Rattle.world_start.specs.Start.{AreFirstPasses, Begins, IsFrameOf}
 use Rattle.world_start.specs.Started.{AreFresh, AreRows, AreStarted, IsStarted, SeatsValue, counter_of, file_of, lister_of, named_by, pass_of, place_of, row_of}
 
--- the journals are those of inodes that were just born
+-- the journal of each inode holds only its birth
 born : (settings : Settings) (tasks : ℕ) (frame : Frame) (stations : List StationValue)
     → All (IsStarted settings tasks) stations
     → map journal_of stations ≡ map newborn (map (station_of frame) (map site_of stations))
@@ -80,7 +80,7 @@ module _ (settings : Settings) (boot : Entry) (inodes : List (List ℕ × Image)
   module _ (listers : AreFresh book.name (λ k. k + 1) (length inodes) seats.listers)
       (counters : AreFresh rules.appended.name (λ k. tasks + k) (length inodes) seats.counters)
       (places : All (λ (p : ℕ). p < length supers) seats.places) where
-    -- the pass of the measurement list
+    -- the pass of the measurement list of inode i has caller number i + 1
     lister : (i : ℕ) (s : StationValue) → slice_get stations i ≡ Some s
         → lister_of s ≡ (book.name, i + 1)
     lister i s at =
@@ -94,7 +94,7 @@ module _ (settings : Settings) (boot : Entry) (inodes : List (List ℕ × Image)
               ∙ ap named_by (same_Some q.0 (fresh book.name (i + 1))
               (sym q.1.0 ∙ listers.each i (slice_get_within seats.listers i q.0 q.1.0)))
 
-    -- the pass of the appended rules
+    -- the pass of the appended rules of inode i comes after those of the tasks
     counter : (i : ℕ) (s : StationValue) → slice_get stations i ≡ Some s
         → s.rules ≡ fresh rules.appended.name (tasks + i)
     counter i s at =
@@ -157,7 +157,7 @@ module _ (settings : Settings) (boot : Entry) (inodes : List (List ℕ × Image)
         ∙ ap (λ (l : List RuleEntry). map (λ (r : RuleEntry). r.who.task) l) (sym added);
   }
 
-  -- the passes of the rules that are nobody's
+  -- the spare passes of the rules come after all others
   pub are_idle : (idle : List (Passed RuleEntry))
       → AreFresh rules.appended.name (λ k. tasks + length inodes + k)
       (max 1 (tasks + length inodes) - (tasks + length inodes)) idle → AreIdle frame idle
@@ -197,7 +197,7 @@ module _ (settings : Settings) (boot : Entry) (inodes : List (List ℕ × Image)
         (ap (λ (l : List (List (Passed Event))). slice_get l k) (sym rows_is)
         ∙ map_get (λ (x : PassesValue). x.inodes) passes k p at)
 
-    -- the pass of one list is the one at its number
+    -- a task's pass of one list is the one at its number
     its : {E : Type 0} (f : PassesValue → Passed E) (all : List (Passed E)) (name : ListName)
         (number : ℕ → ℕ) → map f passes ≡ all → AreFresh name number tasks all
         → (k : ℕ) (p : PassesValue) → slice_get passes k ≡ Some p
@@ -274,7 +274,7 @@ module _ (settings : Settings) (boot : Entry) (inodes : List (List ℕ × Image)
       rules = ap (λ (q : Passed RuleEntry). q.mine) (rule k p at);
     }
 
-    -- the passes are those of the frame, and none was used
+    -- the passes are those of the frame, and none has an entry of its own
     pub first_passes : AreFirstPasses frame passes
     first_passes = record {
       count = sym (length-map passes (λ (p : PassesValue). p.inodes)) ∙ ap length rows_is

@@ -1,4 +1,4 @@
--- Passes of one list, each of its number, and none of them was used.
+-- Passes of one list, each with its number, and none with an entry of its own.
 use Rattle.std.proofs.Common.{◌≡◌, ℕ, ◌+◌, ◌<◌, ◌≤◌, List, [], ◌∷◌, length, refl, ap, sym, subst, ◌∙◌, arith, Some, suc, zero}
 use Rattle.std.specs.Prelude.{All, drop, max, slice_get, take}
 use Rattle.std.proofs.lemmas.List.{length-drop, length-take-le}
@@ -25,7 +25,7 @@ module _ {A : Type 0} where
   get_take (suc n) (x ∷ xs) zero b = refl
   get_take (suc n) (x ∷ xs) (suc k) b = get_take n xs k (omega arith)
 
--- the first passes
+-- the first passes are fresh
 pub fresh_take : {E : Type 0} (name : ListName) (number : ℕ → ℕ) (m n : ℕ)
     (passes first : List (Passed E)) → m ≤ n → first ≡ take m passes
     → AreFresh name number n passes → AreFresh name number m first
@@ -38,7 +38,7 @@ fresh_take {E} name number m n passes first below is f =
       len : length (take m passes) ≡ m
       len = length-take-le m passes (subst (λ (k : ℕ). m ≤ k) (sym f.even) below)
 
--- and those behind them
+-- the passes after the first ones are fresh
 pub fresh_drop : {E : Type 0} (name : ListName) (number : ℕ → ℕ) (m n count : ℕ)
     (passes rest : List (Passed E)) → n ≡ m + count → rest ≡ drop m passes
     → AreFresh name number n passes → AreFresh name (λ k. number (m + k)) count rest
@@ -50,7 +50,7 @@ fresh_drop {E} name number m n count passes rest all is f =
           ∙ f.each (m + k) (let e = length-drop m passes in omega arith);
     })
 
--- the passes that are each of the right number are all
+-- passes that are each fresh and of the right number are all fresh
 pub fresh_all : {E : Type 0} (name : ListName) (number : ℕ → ℕ) (count : ℕ)
     (passes : List (Passed E)) → length passes ≡ count
     → ((k : ℕ) → k < count → slice_get passes k ≡ Some (fresh name (number k)))
@@ -60,7 +60,7 @@ fresh_all name number count passes even each = record {
   each = λ k b. each k (subst (λ (n : ℕ). k < n) even b);
 }
 
--- the same numbers
+-- numbers that are equal at each place make the same fresh passes
 pub fresh_as : {E : Type 0} (name : ListName) (number other : ℕ → ℕ) (count : ℕ)
     (passes : List (Passed E)) → ((k : ℕ) → number k ≡ other k)
     → AreFresh name number count passes → AreFresh name other count passes
@@ -69,11 +69,11 @@ fresh_as {E} name number other count passes same f = record {
   each = λ k b. f.each k b ∙ ap (λ (n : ℕ). Some (fresh {E = E} name n)) (same k);
 }
 
--- one is at least this
+-- the greater of 1 and n is at least n
 pub below_max : (n : ℕ) → n ≤ max 1 n
 below_max n = le-max_right 1 n
 
--- no fresh pass has an entry
+-- a fresh pass has no entry of its own
 pub unused : {E : Type 0} (name : ListName) (number : ℕ → ℕ) (count : ℕ)
     (passes : List (Passed E)) → AreFresh name number count passes
     → All (λ (q : Passed E). q.mine ≡ []) passes

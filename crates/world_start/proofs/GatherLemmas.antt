@@ -1,11 +1,11 @@
--- One task more has its passes.
+-- One more task has its passes.
 use Rattle.std.proofs.Common.{◌≡◌, List, [], ◌∷◌, ◌++◌, length, refl, ap, ◌∙◌, arith}
 use Rattle.std.specs.Prelude.{map}
 use Rattle.world_close.specs.frames.Tasks.{PassesValue}
 use Rattle.world_start.specs.Started.{AreGathered, ColumnsValue, HasTaken}
 use Rattle.world_start.proofs.Starting.{ended, moved}
 
--- none has at first
+-- no task has its passes at first
 pub gathered_none : (all : ColumnsValue) → length all.sems ≡ length all.rows
     → length all.book ≡ length all.rows → length all.rules ≡ length all.rows
     → AreGathered all all []
@@ -19,7 +19,7 @@ gathered_none all sems book rules = record {
   even_rules = rules;
 }
 
--- the passes of a task go over
+-- one more task takes its passes from the columns
 pub gathered_more : (all left rest : ColumnsValue) (passes : List PassesValue) (p : PassesValue)
     → HasTaken left rest p → AreGathered all left passes → AreGathered all rest (passes ++ p ∷ [])
 gathered_more all left rest passes p took g = record {
@@ -39,7 +39,7 @@ gathered_more all left rest passes p took g = record {
       let w = g.even_rules in omega arith;
 }
 
--- where no row is left, all have gone over
+-- all tasks have their passes once no row remains
 pub record AreAll (all : ColumnsValue) (passes : List PassesValue) : Type 0 where
   pub rows : map (λ (p : PassesValue). p.inodes) passes ≡ all.rows
   pub sems : map (λ (p : PassesValue). p.sems) passes ≡ all.sems

@@ -8,14 +8,14 @@ use Rattle.grow_list.specs.Shown.{Passed}
 use Rattle.inode_events.specs.declared.told.Event.{Event}
 
 module _ {A : Type 0} where
-  -- what was written stands there
+  -- an element that was written is found at its place
   pub get_set_same : (xs : List A) (k : ℕ) (v : A) → k < length xs
       → slice_get (slice_set xs k v) k ≡ Some v
   get_set_same [] k v b = absurd (omega arith)
   get_set_same (x ∷ xs) zero v b = refl
   get_set_same (x ∷ xs) (suc k) v b = get_set_same xs k v (omega arith)
 
-  -- elsewhere all is as before
+  -- a write leaves the other places as they were
   pub get_set_other : (xs : List A) (k j : ℕ) (v : A) → (j ≡ k → ⊥)
       → slice_get (slice_set xs k v) j ≡ slice_get xs j
   get_set_other [] k j v ne = refl
@@ -24,13 +24,13 @@ module _ {A : Type 0} where
   get_set_other (x ∷ xs) (suc k) zero v ne = refl
   get_set_other (x ∷ xs) (suc k) (suc j) v ne = get_set_other xs k j v (λ e. ne (ap suc e))
 
--- the rows up to this one have their passes, and the others are as before
+-- the rows below k have been given their element, and the others are as before
 pub record IsShared {A : Type 0} (of : ℕ → A) (k : ℕ) (old new : List (List A)) : Type 0 where
   pub given : (j : ℕ) (row : List A) → j < k → slice_get old j ≡ Some row
       → slice_get new j ≡ Some (row ++ of j ∷ [])
   pub left : (j : ℕ) → k ≤ j → slice_get new j ≡ slice_get old j
 
--- one row more has
+-- one more row has been given its element
 pub shared_more : {A : Type 0} (of : ℕ → A) (k : ℕ) (old new new2 : List (List A)) (x : A)
     → k < length new → x ≡ of k → new2 ≡ slice_set new k (get_or new k [] ++ x ∷ [])
     → IsShared of k old new → IsShared of (k + 1) old new2
@@ -58,14 +58,14 @@ shared_more {A} of k old new new2 x within is set s = record {
         before_it : (j k : ℕ) → j < k + 1 → (j ≡ k → ⊥) → j < k
         before_it j k b n = grind arith
 
--- none has at first
+-- no row has been given its element at first
 pub shared_none : {A : Type 0} (of : ℕ → A) (old : List (List A)) → IsShared of 0 old old
 shared_none of old = record {
   given = λ j row below at. absurd (omega arith);
   left = λ j above. refl;
 }
 
--- the first k rows have their passes of one journal, and the column has those of the others
+-- the first k rows have their passes of one journal, and the column has the other passes
 pub record Shares (of : ℕ → Passed Event) (k : ℕ) (old rows : List (List (Passed Event)))
     (left : List (Passed Event)) : Type 0 where
   pub count : length rows ≡ length old
@@ -87,7 +87,7 @@ shares_none of rows column even each = record {
   shared = shared_none of rows;
 }
 
--- one row more has its pass
+-- one more row has its pass
 pub shares_more : (of : ℕ → Passed Event) (k : ℕ) (old rows rows2 : List (List (Passed Event)))
     (column column2 : List (Passed Event)) (pass : Passed Event) → column ≡ pass ∷ column2
     → rows2 ≡ slice_set rows k (get_or rows k [] ++ pass ∷ [])
@@ -111,7 +111,7 @@ shares_more of k old rows rows2 column column2 pass first set s = record {
   even : length rows2 ≡ length rows
   even = ap length set ∙ length-set rows k (get_or rows k [] ++ pass ∷ [])
 
--- where each row was gone through, each has its pass
+-- once all rows are passed, each has its pass
 pub shares_all : (of : ℕ → Passed Event) (k : ℕ) (old rows : List (List (Passed Event)))
     (column : List (Passed Event)) → length old ≤ k → Shares of k old rows column → (j : ℕ)
     → (row : List (Passed Event)) → slice_get old j ≡ Some row

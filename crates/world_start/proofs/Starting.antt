@@ -1,4 +1,4 @@
--- One inode more is started.
+-- One more inode is started.
 use Rattle.std.proofs.Common.{◌≡◌, ℕ, ◌<◌, List, [], ◌∷◌, ◌++◌, length, refl, ap, sym, ◌∙◌, arith, Some, get_or, subst}
 use Rattle.std.specs.Prelude.{All, map, slice_get}
 use Rattle.std.proofs.lemmas.List.{append-nil, append_assoc, map-append}
@@ -14,7 +14,7 @@ use Rattle.world_close.specs.frames.World.{StationValue}
 use Rattle.world_close.proofs.Gets.{got}
 use Rattle.world_start.specs.Started.{AreRows, AreStarted, IsFile, IsStarted, SeatsValue, StartsBefore, counter_of, file_of, lister_of, named_by, pass_of, place_of, row_of}
 
--- what was made of the first ones and what is left, with one more made
+-- a list, split into the part already made and the rest, after one more element is made
 pub moved : {S A : Type 0} (f : S → A) (all left rest : List A) (done : List S) (s : S) (x : A)
     → all ≡ map f done ++ left → left ≡ x ∷ rest → f s ≡ x
     → all ≡ map f (done ++ s ∷ []) ++ rest
@@ -23,12 +23,12 @@ moved {A = A} f all left rest done s x is first made =
     ∙ sym (append_assoc (map f done) (f s ∷ []) rest)
     ∙ ap (λ (l : List A). l ++ rest) (sym (map-append f done (s ∷ [])))
 
--- a list without length is empty
+-- a list of length 0 is empty
 none : {A : Type 0} (xs : List A) → length xs ≡ 0 → xs ≡ []
 none [] e = refl
 none (x ∷ xs) e = absurd (omega arith)
 
--- where none is left, all are made
+-- all elements are made once none remains
 pub ended : {S A : Type 0} (f : S → A) (all left : List A) (done : List S)
     → all ≡ map f done ++ left → length left ≡ 0 → map f done ≡ all
 ended {A = A} f all left done is empty =
@@ -37,7 +37,7 @@ ended {A = A} f all left done is empty =
 
 module _ (settings : Settings) (tasks : ℕ) (inodes : List (List ℕ × Image)) (seats : SeatsValue)
   where
-    -- none is started at first
+    -- no inode is started at first
     pub started_none : length seats.places ≡ length inodes → length seats.listers ≡ length inodes
         → length seats.counters ≡ length inodes → All IsFile inodes
         → All (λ (q : Passed Entry). q.mine ≡ []) seats.listers
@@ -55,7 +55,7 @@ module _ (settings : Settings) (tasks : ℕ) (inodes : List (List ℕ × Image))
       each = All-nil (IsStarted settings tasks);
     }
 
-    -- where none is left, all are
+    -- all inodes are started once none remains
     pub started_all : (left : List (List ℕ × Image)) (rest : SeatsValue)
         (stations : List StationValue) → length left ≡ 0
         → StartsBefore settings tasks inodes seats left rest stations
@@ -73,7 +73,7 @@ module _ (settings : Settings) (tasks : ℕ) (inodes : List (List ℕ × Image))
       each = b.each;
     }
 
-    -- one more is
+    -- one more inode is started
     pub started_more : (left left2 : List (List ℕ × Image)) (rest rest2 : SeatsValue)
         (stations : List StationValue) (x : List ℕ × Image) (place : ℕ) (listed : Passed Entry)
         (counted : Passed RuleEntry) (s : StationValue) → left ≡ x ∷ left2
@@ -107,7 +107,7 @@ module _ (settings : Settings) (tasks : ℕ) (inodes : List (List ℕ × Image))
               (All-cons (IsStarted settings tasks) s [] is (All-nil (IsStarted settings tasks)));
         }
 
--- each task has a pass of one journal more
+-- each task gets a pass of one more journal
 pub rows_more : (stations : List StationValue) (s : StationValue) (tasks : ℕ)
     (rows rows2 : List (List (Passed Event))) → AreRows stations tasks rows
     → length rows2 ≡ length rows

@@ -20,7 +20,7 @@ abbrev pub state_of_start : Start → State
 state_of_start w = state_by w.stations.items w.book w.sems w.rules
 
 -- the constants are those of a script with these settings, this first entry of the list, these
--- files on these file systems, these rules, and so many tasks
+-- files on these file systems, these rules, and this many tasks
 pub record IsFrameOf (config : Settings) (first : Entry) (inodes : List (List ℕ × Image))
     (systems : List Super) (numbers : List ℕ) (policy : List RuleValue) (count : ℕ)
     (frame : Frame) : Type 0 where
@@ -37,7 +37,7 @@ abbrev pub Begins : Frame → State → Type 0
 Begins frame state =
     (programs : List Program) → state ≡ (start_of (scene_of frame programs)).state
 
--- there are passes for each task, in order, and none of them was used
+-- there are passes for each task, in order, and none has an entry of its own
 pub record AreFirstPasses (frame : Frame) (passes : List PassesValue) : Type 0 where
   pub count : length passes ≡ frame.tasks
   pub each : (k : ℕ) (p : PassesValue) → slice_get passes k ≡ Some p

@@ -1,4 +1,4 @@
--- How a world's lists start, and whose their passes are.
+-- How a world's lists start, and the callers that their passes belong to.
 use Rattle.std.specs.Prelude.{◌≡◌, ℕ, ◌+◌, ◌<◌, ◌≤◌, All, List, [], ◌∷◌, ◌++◌, length, map, Some, slice_get}
 use Rattle.grow_list.specs.Shown.{ListName, Passed, fresh}
 use Rattle.ima_templates.specs.Path.{IsMeasuredPath}
@@ -13,14 +13,15 @@ use Rattle.policy_cell.specs.declared.cell.RuleEntry.{RuleEntry}
 use Rattle.world_close.specs.frames.World.{StationValue}
 use Rattle.world_close.specs.frames.Tasks.{PassesValue}
 
--- a file that a world can have: each template can show its path, and it isn't too long
+-- a file that a world can have: each template can represent its path, and its content is within the
+-- limit
 pub record IsFile (x : List ℕ × Image) : Type 0 where
   pub path : IsMeasuredPath Ima x.0
   pub content : length x.1.content ≤ most_bytes
 
 -- ---- passes
 
--- so many passes of one list, each of its number, and none of them was used
+-- this many passes of one list, each with its number, and none with an entry of its own
 pub record AreFresh {E : Type 0} (name : ListName) (number : ℕ → ℕ) (count : ℕ)
     (passes : List (Passed E)) : Type 0 where
   pub even : length passes ≡ count
@@ -28,14 +29,14 @@ pub record AreFresh {E : Type 0} (name : ListName) (number : ℕ → ℕ) (count
 
 -- ---- the inodes
 
--- the inode was just born, in a world with these settings and so many tasks
+-- the journal of the inode holds only its birth, in a world with these settings and this many tasks
 pub record IsStarted (config : Settings) (tasks : ℕ) (s : StationValue) : Type 0 where
   pub settings : s.cell.inode.settings ≡ config
   pub list : s.cell.list ≡ birth_of s.cell.inode.birth ∷ []
   pub callers : s.cell.callers ≡ tasks + 1
 
--- its path and its image, the number of its file system, and its passes of the measurement list and
--- of the appended rules
+-- the constants of an inode that are given at the start: its path and image, the number of its file
+-- system, and its passes of the measurement list and of the appended rules
 abbrev pub file_of : StationValue → List ℕ × Image
 file_of s = (s.cell.inode.path, s.cell.inode.birth)
 
@@ -48,18 +49,18 @@ lister_of s = (s.cell.book, s.cell.booked)
 abbrev pub counter_of : StationValue → Passed RuleEntry
 counter_of s = s.rules
 
--- which list the pass is of, and its number
+-- the name of the pass's list, and the pass's number in it
 abbrev pub named_by : Passed Entry → ListName × ℕ
 named_by q = (q.name, q.number)
 
--- what the inodes take of a world's other lists: the numbers of their file systems, and their
--- passes of the measurement list and of the appended rules
+-- for each inode: the number of its file system, and its passes of the measurement list and of the
+-- appended rules
 pub record SeatsValue : Type 0 where
   pub places : List ℕ
   pub listers : List (Passed Entry)
   pub counters : List (Passed RuleEntry)
 
--- the inodes are started in order, each with what it takes
+-- the inodes are started in order, each with its seat
 pub record AreStarted (settings : Settings) (tasks : ℕ) (inodes : List (List ℕ × Image))
     (seats : SeatsValue) (stations : List StationValue) : Type 0 where
   pub files : map file_of stations ≡ inodes
@@ -68,7 +69,7 @@ pub record AreStarted (settings : Settings) (tasks : ℕ) (inodes : List (List �
   pub counters : map counter_of stations ≡ seats.counters
   pub each : All (IsStarted settings tasks) stations
 
--- the first ones are, and these are left
+-- the stations of the first inodes are started, and `left` and `rest` remain
 pub record StartsBefore (settings : Settings) (tasks : ℕ) (inodes : List (List ℕ × Image))
     (seats : SeatsValue) (left : List (List ℕ × Image)) (rest : SeatsValue)
     (stations : List StationValue) : Type 0 where
@@ -86,11 +87,11 @@ pub record StartsBefore (settings : Settings) (tasks : ℕ) (inodes : List (List
 
 -- ---- the passes of the tasks
 
--- the pass that the task k has of the inode's journal: it has seen it, and added nothing to it
+-- task k's pass of the inode's journal: it has seen the journal, and added nothing to it
 abbrev pub pass_of : StationValue → ℕ → Passed Event
 pass_of s k = new_pass s.cell.journal s.cell.list (k + 1)
 
--- those that it has of these inodes' journals
+-- task k's passes of these inodes' journals
 abbrev pub row_of : List StationValue → ℕ → List (Passed Event)
 row_of stations k = map (λ (s : StationValue). pass_of s k) stations
 
@@ -99,21 +100,21 @@ AreRows stations tasks rows = (length rows ≡ tasks)
     × ((k : ℕ) (row : List (Passed Event)) → slice_get rows k ≡ Some row
     → row ≡ row_of stations k)
 
--- the passes of all tasks, by their lists
+-- the passes of all tasks, sorted by the list that each belongs to
 pub record ColumnsValue : Type 0 where
   pub rows : List (List (Passed Event))
   pub sems : List (Passed Event)
   pub book : List (Passed Entry)
   pub rules : List (Passed RuleEntry)
 
--- the next task has taken its own
+-- the next task has taken its passes
 pub record HasTaken (old new : ColumnsValue) (p : PassesValue) : Type 0 where
   pub rows : old.rows ≡ p.inodes ∷ new.rows
   pub sems : old.sems ≡ p.sems ∷ new.sems
   pub book : old.book ≡ p.book ∷ new.book
   pub rules : old.rules ≡ p.rules ∷ new.rules
 
--- the first tasks have theirs, and these are left
+-- the first tasks have taken their passes, and `left` remains
 pub record AreGathered (all left : ColumnsValue) (passes : List PassesValue) : Type 0 where
   pub rows : all.rows ≡ map (λ (p : PassesValue). p.inodes) passes ++ left.rows
   pub sems : all.sems ≡ map (λ (p : PassesValue). p.sems) passes ++ left.sems

@@ -1,4 +1,4 @@
-// The lists of a world beside the journals of its inodes, and their passes.
+// The lists of a world other than the journals of its inodes, and their passes.
 ghost use Rattle.std.specs.Prelude.{◌≡◌, ℕ, ◌+◌, ◌-◌, ◌<◌, ◌^◌, [], ◌∷◌, IfOk, max};
 ghost use Rattle.world_start.specs.Started.{AreFresh};
 
@@ -11,25 +11,25 @@ use std::alloc::{AllocError as OutOfMemory, Global};
 use world_close::books::Book;
 use world_close::semaphores::SemaphoreCell;
 
-// The lists, with the passes of the inodes and those of the tasks.
+// The lists of a new world, with the passes of the inodes and of the tasks.
 #[derive(Drop)]
 pub(crate) struct Cells {
     pub(crate) book: Book,
     pub(crate) sems: SemaphoreCell,
     pub(crate) rules: PolicyCell,
-    // Of the measurement list and of the rules: those of the inodes.
+    // The passes of the inodes: of the measurement list, and of the rules
     pub(crate) listers: Vec<Pass<Entry>>,
     pub(crate) counters: Vec<Pass<RuleEntry>>,
-    // Of the semaphores, of the measurement list and of the rules: those of the tasks.
+    // The passes of the tasks: of the semaphores, of the measurement list, and of the rules
     pub(crate) task_signallers: Vec<Pass<Event>>,
     pub(crate) task_listers: Vec<Pass<Entry>>,
     pub(crate) task_appenders: Vec<Pass<RuleEntry>>,
-    // Of the rules: the one of nobody, where there is neither a task nor an inode.
+    // The spare pass of the rules: one if there is neither a task nor an inode, else none
     pub(crate) idle: Vec<Pass<RuleEntry>>,
 }
 
-// How many callers the rules have: the tasks and the inodes, and where there are none, one that is
-// nobody.
+// The number of callers of the rules: the tasks and the inodes, or one spare caller if there are
+// none.
 fn appenders_of(tasks: u32, count: u32) -> u32
     requires { count + tasks + 1 < 2 ^ 32 }
     ensures { result ≡ max 1 (tasks + count) }
@@ -37,7 +37,69 @@ fn appenders_of(tasks: u32, count: u32) -> u32
     if tasks + count == 0 { 1 } else { tasks + count }
 }
 
-// The lists for so many inodes and tasks.
+// The measurement list of a new world, with its passes of the inodes and of the tasks.
+#[derive(Drop)]
+struct Listed {
+    book: Book,
+    listers: Vec<Pass<Entry>>,
+    task_listers: Vec<Pass<Entry>>,
+}
+
+// Starts the measurement list for this many inodes and tasks.
+fn start_book(alloc: Global, boot: Entry, count: u32, tasks: u32) -> Result<Listed, OutOfMemory>
+    requires { count + tasks + 1 < 2 ^ 32 }
+    ensures book { IfOk result (λ c. c.book.list ≡ boot ∷ []) }
+    ensures listed { IfOk result (λ c. c.book.callers ≡ 1 + count + tasks) }
+    ensures listers { IfOk result (λ c. AreFresh c.book.name (λ k. k + 1) count
+        c.listers.items) }
+    ensures task_listers { IfOk result (λ c. AreFresh c.book.name (λ k. count + k + 1) tasks
+        c.task_listers.items) }
+{
+    let (book, mut listers) = Book::start(alloc, 1 + count + tasks, boot)?;
+    let task_listers = listers.split_off(count as usize)?;
+    Ok(Listed {
+        book,
+        listers,
+        task_listers,
+    })
+}
+
+// The rules of a new world, with the passes of the inodes and of the tasks, and the spare one.
+#[derive(Drop)]
+struct Ruled {
+    rules: PolicyCell,
+    counters: Vec<Pass<RuleEntry>>,
+    task_appenders: Vec<Pass<RuleEntry>>,
+    idle: Vec<Pass<RuleEntry>>,
+}
+
+// Starts the rules for this many inodes and tasks.
+fn start_rules(alloc: Global, rules: Policy, count: u32, tasks: u32) -> Result<Ruled, OutOfMemory>
+    requires { count + tasks + 1 < 2 ^ 32 }
+    ensures base { IfOk result (λ c. c.rules.base ≡ rules) }
+    ensures added { IfOk result (λ c. c.rules.appended.list ≡ []) }
+    ensures numbers { IfOk result (λ c. c.rules.appended.numbers ≡ []) }
+    ensures appended { IfOk result (λ c. c.rules.appended.callers ≡ max 1 (tasks + count)) }
+    ensures counters { IfOk result (λ c. AreFresh c.rules.appended.name (λ k. tasks + k) count
+        c.counters.items) }
+    ensures task_appenders { IfOk result (λ c. AreFresh c.rules.appended.name (λ k. k) tasks
+        c.task_appenders.items) }
+    ensures idle { IfOk result (λ c. AreFresh c.rules.appended.name (λ k. tasks + count + k)
+        (max 1 (tasks + count) - (tasks + count)) c.idle.items) }
+{
+    let appenders = appenders_of(tasks, count);
+    let (rules, mut task_appenders) = PolicyCell::start(alloc, rules, appenders)?;
+    let mut counters = task_appenders.split_off(tasks as usize)?;
+    let idle = counters.split_off(count as usize)?;
+    Ok(Ruled {
+        rules,
+        counters,
+        task_appenders,
+        idle,
+    })
+}
+
+// Starts the lists for this many inodes and tasks.
 pub(crate) fn start_cells(
     alloc: Global,
     boot: Entry,
@@ -67,22 +129,18 @@ pub(crate) fn start_cells(
     ensures idle { IfOk result (λ c. AreFresh c.rules.appended.name (λ k. tasks + count + k)
         (max 1 (tasks + count) - (tasks + count)) c.idle.items) }
 {
-    let (book, mut listers) = Book::start(alloc, 1 + count + tasks, boot)?;
-    let task_listers = listers.split_off(count as usize)?;
+    let listed = start_book(alloc, boot, count, tasks)?;
     let (sems, task_signallers) = SemaphoreCell::start(alloc, tasks + 1)?;
-    let appenders = appenders_of(tasks, count);
-    let (rules, mut task_appenders) = PolicyCell::start(alloc, rules, appenders)?;
-    let mut counters = task_appenders.split_off(tasks as usize)?;
-    let idle = counters.split_off(count as usize)?;
+    let ruled = start_rules(alloc, rules, count, tasks)?;
     Ok(Cells {
-        book,
+        book: listed.book,
         sems,
-        rules,
-        listers,
-        counters,
+        rules: ruled.rules,
+        listers: listed.listers,
+        counters: ruled.counters,
         task_signallers,
-        task_listers,
-        task_appenders,
-        idle,
+        task_listers: listed.task_listers,
+        task_appenders: ruled.task_appenders,
+        idle: ruled.idle,
     })
 }

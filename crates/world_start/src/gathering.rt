@@ -1,4 +1,4 @@
-// The passes of each task, from those of each list.
+// The passes of each task, collected from the passes of each list.
 ghost use Rattle.std.specs.Prelude.{◌≡◌, ℕ, IfNone, IfOk, IfSome, length, map};
 ghost use Rattle.world_close.specs.frames.Tasks.{PassesValue};
 ghost use Rattle.world_start.specs.Started.{HasTaken};
@@ -13,7 +13,7 @@ use std::collections::VecDeque;
 use std::marker::Model;
 use world_close::frames::Passes;
 
-// The passes of all tasks, by their lists.
+// The passes of all tasks, sorted by the list that each belongs to.
 #[derive(Drop)]
 pub(crate) struct Columns {
     rows: VecDeque<Row>,
@@ -84,7 +84,7 @@ impl Columns {
     }
 }
 
-// The passes of the tasks, in order.
+// Collects the passes of each task, in the order of the tasks.
 pub(crate) fn gather(alloc: Global, columns: Columns) -> Result<Vec<Passes>, OutOfMemory>
     requires sems { length columns.sems ≡ length columns.rows }
     requires book { length columns.book ≡ length columns.rows }

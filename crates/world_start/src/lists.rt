@@ -1,8 +1,11 @@
-ghost use Rattle.std.specs.Prelude.{◌≡◌, ℕ, ◌+◌, ◌<◌, ◌^◌, All, IfOk, length};
+ghost use Rattle.std.specs.Prelude.{◌≡◌, ℕ, ◌+◌, ◌<◌, ◌^◌, [], All, IfOk, length, map};
+ghost use Rattle.grow_list.specs.Shown.{Passed};
+ghost use Rattle.ima_templates.specs.declared.entry.Entry.{Entry as AnyEntry};
+ghost use Rattle.world_close.specs.frames.Tasks.{PassesValue};
 ghost use Rattle.world_close.specs.frames.World.{AreRulesOf, AreSignalsOf, IsBookOf};
 ghost use Rattle.world_close.specs.Closed.{AreIdle, AreStations};
 ghost use Rattle.world_start.specs.Start.{AreFirstPasses, Begins, IsFrameOf, frame_of_start, state_of_start};
-ghost use Rattle.world_start.specs.Started.{IsFile};
+ghost use Rattle.world_start.specs.Started.{AreRows, AreStarted, IsFile};
 
 use crate::cells::start_cells;
 use crate::gathering::{Columns, gather};
@@ -11,7 +14,7 @@ use crate::stations::start_stations;
 use grow_list::Pass;
 use ima_templates::Entry;
 use inode_events::xattrs::Bytes;
-use inode_events::{Image, Settings};
+use inode_events::{Event, Image, Settings};
 use policy_cell::{PolicyCell, RuleEntry};
 use policy_text::{Policy, Super};
 use std::alloc::{AllocError as OutOfMemory, Global};
@@ -24,26 +27,64 @@ use world_close::semaphores::SemaphoreCell;
 pub struct Start {
     /// The inodes, in order.
     pub stations: Vec<Station>,
-    /// The measurement list.
+    /// The measurement list, whose only entry is the first one (`boot`).
     pub book: Book,
-    /// The semaphores.
+    /// The semaphores, with an empty journal.
     pub sems: SemaphoreCell,
-    /// The rules.
+    /// The rules of the script; none has been appended.
     pub rules: PolicyCell,
-    /// The pass of the rules that is nobody's: one where there is neither a task nor an inode.
+    /// The spare pass of the rules: one if there is neither a task nor an inode, else none.
     pub idle: Vec<Pass<RuleEntry>>,
-    /// The file systems.
+    /// The file systems, in order.
     pub supers: Vec<Super>,
-    /// The settings.
+    /// The settings that all inodes share.
     pub settings: Settings,
-    /// How many tasks there are.
+    /// The number of tasks.
     pub tasks: u32,
-    /// The passes of each task.
+    /// The passes of each task, in the order of the tasks.
     pub passes: Vec<Passes>,
 }
 
-/// The lists of a world over these files, each on the file system of its place, with room for so
-/// many tasks.
+// Starts all inodes, and collects the passes of each task, to which those of the other lists are
+// given in order.
+fn start_inodes(
+    alloc: Global,
+    settings: &Settings,
+    tasks: u32,
+    inodes: Vec<(Bytes, Image)>,
+    seats: Seats,
+    signallers: Vec<Pass<Event>>,
+    listers: Vec<Pass<Entry>>,
+    appenders: Vec<Pass<RuleEntry>>,
+) -> Result<(Vec<Station>, Vec<Passes>), OutOfMemory>
+    requires tasks { tasks + 1 < 2 ^ 32 }
+    requires files { All IsFile inodes.items }
+    requires places { length seats.places ≡ length inodes.items }
+    requires listers { length seats.listers ≡ length inodes.items }
+    requires counters { length seats.counters ≡ length inodes.items }
+    requires unused { All (λ (q : Passed AnyEntry). q.mine ≡ []) seats.listers }
+    requires signallers { length signallers.items ≡ tasks }
+    requires task_listers { length listers.items ≡ tasks }
+    requires appenders { length appenders.items ≡ tasks }
+    ensures stations { IfOk result (λ r. AreStarted settings.now tasks inodes.items seats
+        r.0.items) }
+    ensures rows { IfOk result (λ r. AreRows r.0.items tasks
+        (map (λ (p : PassesValue). p.inodes) r.1.items)) }
+    ensures sems { IfOk result (λ r. map (λ (p : PassesValue). p.sems) r.1.items
+        ≡ signallers.items) }
+    ensures book { IfOk result (λ r. map (λ (p : PassesValue). p.book) r.1.items
+        ≡ listers.items) }
+    ensures rules { IfOk result (λ r. map (λ (p : PassesValue). p.rules) r.1.items
+        ≡ appenders.items) }
+{
+    let (stations, rows) = start_stations(alloc, settings, tasks, inodes, seats)?;
+    let columns = Columns::new(rows, signallers, listers, appenders);
+    let passes = gather(alloc, columns)?;
+    Ok((stations, passes))
+}
+
+/// Starts the lists of a world with these files, each on the file system of the number at its
+/// place, and the passes of this many tasks.
 pub fn start_lists(
     alloc: Global,
     settings: Settings,
@@ -71,14 +112,16 @@ pub fn start_lists(
     let count = inodes.len() as u32;
     let cells = start_cells(alloc, boot, rules, count, tasks)?;
     let seats = Seats::new(places, cells.listers, cells.counters);
-    let (stations, rows) = start_stations(alloc, &settings, tasks, inodes, seats)?;
-    let columns = Columns::new(
-        rows,
+    let (stations, passes) = start_inodes(
+        alloc,
+        &settings,
+        tasks,
+        inodes,
+        seats,
         cells.task_signallers,
         cells.task_listers,
         cells.task_appenders,
-    );
-    let passes = gather(alloc, columns)?;
+    )?;
     Ok(Start {
         stations,
         book: cells.book,

@@ -1,4 +1,4 @@
-// The passes of the journals, of which each task gets one.
+// The passes of the journals, one of which goes to each task.
 ghost use Rattle.std.specs.Prelude.{◌≡◌, ℕ, ◌<◌, [], ◌∷◌, ◌++◌, Some, List, length, OnOk, get_or, slice_get, slice_set};
 ghost use Rattle.grow_list.specs.Shown.{Passed};
 ghost use Rattle.inode_events.specs.declared.told.Event.{Event as AnyEvent};
@@ -11,7 +11,7 @@ use std::collections::VecDeque;
 use std::marker::Model;
 use world_close::frames::Station;
 
-// The passes of one task, of each inode's journal in order.
+// The passes of one task: one for each inode's journal, in order.
 #[derive(Drop)]
 pub(crate) struct Row {
     passes: Vec<Pass<Event>>,
@@ -49,7 +49,7 @@ impl Row {
     }
 }
 
-// The row of this number gets a pass.
+// Gives a pass to the row of this number.
 fn give(rows: &mut Vec<Row>, k: usize, pass: Pass<Event>) -> Result<(), OutOfMemory>
     requires { k < length rows.old.items }
     ensures { OnOk result (rows.new.items
@@ -59,7 +59,7 @@ fn give(rows: &mut Vec<Row>, k: usize, pass: Pass<Event>) -> Result<(), OutOfMem
     row.push(pass)
 }
 
-// Each row gets its pass of the inode's journal.
+// Gives each row its pass of the inode's journal.
 pub(crate) fn share_out(
     rows: &mut Vec<Row>,
     station: &Station,

@@ -1,4 +1,4 @@
-// What the inodes take of a world's other lists.
+// What each inode needs of a world's other lists: its passes and the number of its file system.
 ghost use Rattle.std.specs.Prelude.{◌≡◌, ◌<◌, ◌∷◌, length};
 
 use grow_list::Pass;
@@ -7,8 +7,8 @@ use policy_cell::RuleEntry;
 use std::collections::VecDeque;
 use std::marker::Model;
 
-// The numbers of the file systems of the inodes that are to start, and their passes of the
-// measurement list and of the appended rules.
+// For the inodes that are yet to be started: the numbers of their file systems, and their passes of
+// the measurement list and of the appended rules.
 #[derive(Drop)]
 pub(crate) struct Seats {
     places: VecDeque<u32>,
@@ -28,7 +28,7 @@ impl Model for Seats {
     } };
 }
 
-// Those of one inode.
+// For one inode: the number of its file system, and its passes of the other lists.
 #[derive(Drop)]
 pub(crate) struct Seat {
     pub(crate) place: u32,
@@ -53,7 +53,7 @@ impl Seats {
         }
     }
 
-    // Takes those of the next inode.
+    // Takes the seat of the next inode.
     pub(crate) fn next(&mut self) -> Seat
         requires places { 0 < length self.old.places }
         requires listers { 0 < length self.old.listers }

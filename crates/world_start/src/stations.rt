@@ -1,4 +1,4 @@
-// The inodes of a world.
+// The inodes of a new world.
 ghost use Rattle.std.specs.Prelude.{◌≡◌, ℕ, ◌+◌, ◌<◌, ◌^◌, [], All, IfOk, List, length, Some, slice_get};
 ghost use Rattle.grow_list.specs.Shown.{Passed};
 ghost use Rattle.ima_templates.specs.declared.entry.Entry.{Entry as AnyEntry};
@@ -15,18 +15,18 @@ use std::collections::VecDeque;
 use world_close::frames::Station;
 use world_close::inodes::InodeCell;
 
-// One inode, and the passes of its journal.
+// Starts one inode, and the passes of its journal.
 fn start_station(
     alloc: Global,
     file: (Bytes, Image),
-    settings: Settings,
+    settings: &Settings,
     tasks: u32,
     seat: Seat,
 ) -> Result<(Station, Vec<Pass<Event>>), OutOfMemory>
     requires file { IsFile file }
     requires tasks { tasks + 1 < 2 ^ 32 }
     requires listed { seat.listed.mine ≡ [] }
-    ensures station { IfOk result (λ r. IsStarted settings tasks r.0) }
+    ensures station { IfOk result (λ r. IsStarted settings.now tasks r.0) }
     ensures file { IfOk result (λ r. file_of r.0 ≡ file) }
     ensures place { IfOk result (λ r. r.0.place ≡ seat.place) }
     ensures listed { IfOk result (λ r. lister_of r.0 ≡ named_by seat.listed) }
@@ -41,7 +41,8 @@ fn start_station(
         listed,
         counted,
     } = seat;
-    let (cell, passes) = InodeCell::start(alloc, path.as_slice(), image, settings, tasks, listed)?;
+    let copy = settings.copy()?;
+    let (cell, passes) = InodeCell::start(alloc, path.as_slice(), image, copy, tasks, listed)?;
     let station = Station {
         cell,
         rules: counted,
@@ -50,7 +51,7 @@ fn start_station(
     Ok((station, passes))
 }
 
-// All inodes, in order, and a row of passes for each task.
+// Starts all inodes, in order, and a row of passes for each task.
 pub(crate) fn start_stations(
     alloc: Global,
     settings: &Settings,
@@ -74,15 +75,14 @@ pub(crate) fn start_stations(
     let mut rows = empty_rows(alloc, tasks)?;
     while let Some(file) = left.pop_front() {
         let seat = seats.next();
-        let copy = settings.copy()?;
-        let (station, column) = start_station(alloc, file, copy, tasks, seat)?;
+        let (station, column) = start_station(alloc, file, settings, tasks, seat)?;
         share_out(&mut rows, &station, VecDeque::from(column))?;
         stations.push(station)?;
     }
     Ok((stations, rows))
 }
 
-// A row without passes for each task.
+// Makes an empty row of passes for each task.
 fn empty_rows(alloc: Global, tasks: u32) -> Result<Vec<Row>, OutOfMemory>
     ensures count { IfOk result (λ rows. length rows.items ≡ tasks) }
     ensures empty { IfOk result (λ rows. All (λ (row : List (Passed AnyEvent)). row ≡ [])

@@ -1,4 +1,4 @@
-//! Opens and changes of attributes and metadata by two tasks, each with what it answers.
+//! Opens and changes of attributes and metadata by two tasks, each with its outcome.
 
 mod changes;
 mod lab;

@@ -1,6 +1,6 @@
-//! Tests of calls and their steps on one inode, also under its lock.
+//! Tests of calls and their steps on one inode, with and without its lock.
 //!
-//! They stand here, and not beside what they test, since a crate with tests is proved twice.
+//! The tests are in a crate of their own because a crate with tests is proved twice.
 #![tactic(auto)]
 
 #[cfg(test)]

@@ -53,7 +53,7 @@ fn boot(rt: &impl Abort, alloc: Global) -> Result<Entry, OutOfMemory> {
     )
 }
 
-// An empty file of this path.
+// An empty file with this path.
 fn file(rt: &impl Abort, alloc: Global, path: &[u8]) -> Result<(Bytes, Image), OutOfMemory>
     ensures { IfOk result IsFile }
 {
@@ -68,7 +68,7 @@ fn file(rt: &impl Abort, alloc: Global, path: &[u8]) -> Result<(Bytes, Image), O
     Ok((Bytes::from_slice(alloc, path)?, image))
 }
 
-// Two files on one file system.
+// Two files on one file system, as paths with images, and the places of their file systems.
 fn files(rt: &impl Abort, alloc: Global) -> Result<(Vec<(Bytes, Image)>, Vec<u32>), OutOfMemory>
     ensures files { IfOk result (λ r. (All IsFile r.0.items) × (length r.0.items ≡ 2)) }
     ensures places { IfOk result (λ r. (All (λ place. place < 1) r.1.items)
@@ -83,7 +83,7 @@ fn files(rt: &impl Abort, alloc: Global) -> Result<(Vec<(Bytes, Image)>, Vec<u32
     Ok((files, places))
 }
 
-// The lists of a world with two inodes.
+// The parts of a world with two inodes.
 fn parts(rt: &impl Abort, alloc: Global) -> Result<Parts, OutOfMemory>
     ensures keep { IfOk result (λ p. KeepFrame (frame_of_parts p) p) }
     ensures two { IfOk result (λ p. length p.stations.items ≡ 2) }
@@ -131,7 +131,7 @@ fn parts(rt: &impl Abort, alloc: Global) -> Result<Parts, OutOfMemory>
     })
 }
 
-// Whether the flag is set within 100,000,000 looks.
+// Whether the flag is seen set within 100,000,000 looks.
 fn sees(flag: &AtomicBool) -> bool {
     for _ in 0..100_000_000 {
         if flag.load(Ordering::SeqCst) {
@@ -141,7 +141,7 @@ fn sees(flag: &AtomicBool) -> bool {
     false
 }
 
-// One thread holds the inode 0 till the other has held the inode 1.
+// One thread holds inode 0 until the other has held inode 1.
 fn hold_both<N: Name, R: Threads + Wait + Sync>(
     rt: &R,
     parts: Parts,

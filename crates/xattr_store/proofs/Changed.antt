@@ -1,4 +1,5 @@
--- What stands under a name after a change, and that a change keeps order and bound.
+-- The value of each attribute after a change, and the proof that a change keeps the order of the
+-- names and the bound on the values.
 use Rattle.std.proofs.Common.{◌≡◌, ◌∙◌, ap, sym, ℕ, List, [], ◌∷◌, refl}
 use Rattle.std.specs.Prelude.{true, false, cond, Option, Some, None}
 use Rattle.std.specs.Ordering.{match_ordering}
@@ -15,7 +16,7 @@ pub attrs-changed : (name : List ℕ) (bytes : Option (List ℕ)) (attrs : List 
 attrs-changed name None attrs fits ok = attrs-without name attrs ok
 attrs-changed name (Some bytes) attrs fits ok = attrs-put name bytes attrs fits ok
 
--- where the name is absent nothing is taken away
+-- removing an absent name changes nothing
 pub without_absent : (name : List ℕ) (attrs : List Pair) → value name attrs ≡ None
     → without name attrs ≡ attrs
 without_absent name [] absent = refl
@@ -26,7 +27,7 @@ without_absent name (a ∷ rest) absent =
       | false ↦ λ h. ap (λ (l : List Pair). a ∷ l) (without_absent name rest h)
     ] absent
 
--- a name isn't equal to what is equal to another name
+-- bytes that equal one name don't equal another
 not_other : (name a q : List ℕ) → bytes_eq name q ≡ false → bytes_eq name a ≡ true
     → bytes_eq q a ≡ false
 not_other name a q differ same =
@@ -38,7 +39,7 @@ not_other name a q differ same =
       | false ↦ λ h. refl
     ] refl
 
--- the name that was put has its value
+-- a name that was set has its value
 value_put : (name bytes : List ℕ) (attrs : List Pair)
     → value name (put name bytes attrs) ≡ Some bytes
 value_put name bytes [] = rw ((bytes_eq-Decides name name).1 refl) refl
@@ -51,12 +52,13 @@ value_put name bytes (a ∷ rest) =
       | Greater ↦ λ h. rw (eq_as_ordered name a.0 Greater h) (value_put name bytes rest)
     ] refl
 
--- the same pair before two lists in which a name has the same value
+-- a name has the same value in two lists that begin with the same pair, if it has the same value in
+-- their rests
 value_ahead : (q : List ℕ) (a : Pair) (left right : List Pair) → value q left ≡ value q right
     → value q (a ∷ left) ≡ value q (a ∷ right)
 value_ahead q a left right h = ap (λ v. cond (bytes_eq q a.0) (Some a.1) v) h
 
--- another name keeps its value where a name is put
+-- setting a name leaves the values of other names as they are
 other_put : (name bytes q : List ℕ) (attrs : List Pair) → bytes_eq name q ≡ false
     → bytes_eq q name ≡ false → value q (put name bytes attrs) ≡ value q attrs
 other_put name bytes q [] differ back = rw back refl
@@ -69,7 +71,7 @@ other_put name bytes q (a ∷ rest) differ back =
       | Greater ↦ λ h. value_ahead q a _ _ (other_put name bytes q rest differ back)
     ] refl
 
--- another name keeps its value where a name is taken away
+-- removing a name leaves the values of other names as they are
 other_without : (name q : List ℕ) (attrs : List Pair) → bytes_eq name q ≡ false
     → value q (without name attrs) ≡ value q attrs
 other_without name q [] differ = refl
@@ -80,7 +82,7 @@ other_without name q (a ∷ rest) differ =
       | false ↦ λ h. value_ahead q a _ _ (other_without name q rest differ)
     ] refl
 
--- a name that was taken away isn't there
+-- a name that was removed is absent
 value_without : (name : List ℕ) (attrs : List Pair) → IsAttrs attrs
     → value name (without name attrs) ≡ None
 value_without name [] ok = refl
@@ -93,24 +95,24 @@ value_without name (a ∷ rest) ok =
       | false ↦ λ h. rw h (value_without name rest ok.2)
     ] refl
 
--- the name that is changed has its new value, or none
+-- the changed name has its new value, or none
 pub same_changed : (name : List ℕ) (bytes : Option (List ℕ)) (attrs : List Pair) → IsAttrs attrs
     → value name (changed name bytes attrs) ≡ bytes
 same_changed name None attrs ok = value_without name attrs ok
 same_changed name (Some bytes) attrs ok = value_put name bytes attrs
 
--- two names differ, seen from either
+-- if a name differs from another, the other differs from it
 differ_back : (name q : List ℕ) → bytes_eq name q ≡ false → bytes_eq q name ≡ false
 differ_back name q differ = not_other name name q differ ((bytes_eq-Decides name name).1 refl)
 
--- another name keeps its value
+-- a change leaves the values of other names as they are
 pub other_changed : (name q : List ℕ) (bytes : Option (List ℕ)) (attrs : List Pair)
     → bytes_eq name q ≡ false → value q (changed name bytes attrs) ≡ value q attrs
 other_changed name q None attrs differ = other_without name q attrs differ
 other_changed name q (Some bytes) attrs differ =
     other_put name bytes q attrs differ (differ_back name q differ)
 
--- a value has at most 4,096 bytes
+-- no value is longer than 4,096 bytes
 pub value_fits : (name : List ℕ) (attrs : List Pair) → IsAttrs attrs → Fits (value name attrs)
 value_fits name [] ok = tt
 value_fits name (a ∷ rest) ok =

@@ -1,4 +1,4 @@
--- Putting a value and taking a name away keep the order of the names and the bound on the values.
+-- Setting and removing a name keep the order of the names and the bound on the values.
 use Rattle.std.proofs.Common.{◌≡◌, ◌∙◌, ap, ℕ, ◌≤◌, List, [], ◌∷◌, length, refl}
 use Rattle.std.specs.Prelude.{true, false, cond}
 use Rattle.std.specs.Cmp.Lexicographic.{nat_list_cmp_total}

@@ -1,4 +1,4 @@
--- A search for a name, and what stands at the place where it ends.
+-- The search for a name, and the result at the index where it ends.
 use Rattle.std.proofs.Common.{◌≡◌, ◌∙◌, ap, subst, ℕ, zero, suc, ◌<◌, List, [], ◌∷◌, length, get_or, set, refl, arith}
 use Rattle.std.specs.Prelude.{Some, None, insert, remove}
 use Rattle.std.specs.Cmp.Lexicographic.{texts_ties, nat_list_cmp_total}
@@ -9,7 +9,7 @@ use Rattle.std.specs.declared.cmp.Ordering.TheVariants.{Less, Equal, Greater}
 use Rattle.xattr_store.specs.Attrs.{byte_order, IsAttrs, IsBefore, Pair, put, value, without}
 use Rattle.xattr_store.specs.Places.{IsFoundAt, IsGapAt, IsPast}
 
--- ---- the steps of a search: a is the pair at place i
+-- ---- the steps of a search: a is the pair at index i
 
 at_head : (name : List ℕ) (b a : Pair) (r : Ordering) → a ≡ b → byte_order name a.0 ≡ r
     → byte_order name b.0 ≡ r
@@ -44,7 +44,7 @@ pub gap_end : (name : List ℕ) (attrs : List Pair) → IsPast name attrs (lengt
 gap_end name [] past = tt
 gap_end name (b ∷ rest) past = (past.0, gap_end name rest past.1)
 
--- ---- where it ends
+-- ---- the end of a search
 
 pub found_below : (name : List ℕ) (attrs : List Pair) (k : ℕ) → IsFoundAt name attrs k
     → k < length attrs
@@ -59,7 +59,7 @@ gap_within name [] (suc k) gap = absurd gap
 gap_within name (a ∷ rest) zero gap = omega arith
 gap_within name (a ∷ rest) (suc k) gap = let h = gap_within name rest k gap.1 in omega arith
 
--- equal in order and equal are the same
+-- names compare as Equal exactly if their bytes are equal
 pub eq_as_ordered : (name other : List ℕ) (r : Ordering) → byte_order name other ≡ r
     → bytes_eq name other ≡ is_eq r
 eq_as_ordered name other r h = texts_ties name other ∙ ap is_eq h
@@ -71,7 +71,7 @@ value_found name (a ∷ rest) zero d found = rw (eq_as_ordered name a.0 Equal fo
 value_found name (a ∷ rest) (suc k) d found =
     rw (eq_as_ordered name a.0 Greater found.0) (value_found name rest k d found.1)
 
--- a name before the first isn't there
+-- a name that comes before the first one is absent
 pub value_before : (name : List ℕ) (attrs : List Pair) → IsBefore name attrs → value name attrs
     ≡ None
 value_before name [] before = refl

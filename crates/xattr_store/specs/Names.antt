@@ -1,10 +1,10 @@
--- The attributes of IMA and EVM.
+-- The names of the attributes of IMA and EVM.
 use Rattle.std.specs.Prelude.{ℕ, List, codes}
 
--- the attribute that holds the label
+-- the name of the attribute that holds the label
 abbrev pub ima_name : List ℕ
 ima_name = codes "security.ima"
 
--- the attribute that holds the HMAC
+-- the name of the attribute that holds the HMAC
 abbrev pub evm_name : List ℕ
 evm_name = codes "security.evm"

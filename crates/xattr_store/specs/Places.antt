@@ -1,22 +1,22 @@
--- Where a search for a name among attributes in byte order ends.
+-- The result of a search for a name among attributes in byte order.
 use Rattle.std.specs.Prelude.{◌≡◌, ℕ, zero, suc, List, [], ◌∷◌}
 use Rattle.std.specs.declared.cmp.Ordering.TheVariants.{Less, Equal, Greater}
 use Rattle.xattr_store.specs.Attrs.{byte_order, Pair}
 
--- the first k names come before the name
+-- the first k names of the attributes come before the name
 abbrev pub IsPast : List ℕ → List Pair → ℕ → Type 0
 IsPast name attrs zero = Unit {0}
 IsPast name [] (suc k) = ⊥
 IsPast name (a ∷ rest) (suc k) = (byte_order name a.0 ≡ Greater) × IsPast name rest k
 
--- the name stands at place k, and the names before it come before it
+-- the name is at index k, and the names at smaller indices come before it
 abbrev pub IsFoundAt : List ℕ → List Pair → ℕ → Type 0
 IsFoundAt name [] k = ⊥
 IsFoundAt name (a ∷ rest) zero = byte_order name a.0 ≡ Equal
 IsFoundAt name (a ∷ rest) (suc k) = (byte_order name a.0 ≡ Greater) × IsFoundAt name rest k
 
--- the name isn't there: those before place k come before it, and the one at k, if there is one,
--- behind it
+-- the name isn't there: those at indices below k come before it, and the one at k, if there is one,
+-- comes after it
 abbrev pub IsGapAt : List ℕ → List Pair → ℕ → Type 0
 IsGapAt name [] zero = Unit {0}
 IsGapAt name [] (suc k) = ⊥

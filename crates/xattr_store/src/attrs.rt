@@ -1,10 +1,12 @@
 ghost use Rattle.std.specs.Prelude.{◌≡◌, ◌<◌, ◌↔◌, [], IfOk, IsErr, IsErrOf, OnErr, OnOk, length, slice_get};
 ghost use Rattle.std.specs.Option.{option_copied, option_map};
 ghost use Rattle.xattr_store.specs.declared.attrs.SetErr.TheVariants.{OutOfMemory};
-ghost use Rattle.xattr_store.specs.Attrs.{Fits, changed, put, value, without};
+ghost use Rattle.xattr_store.specs.Attrs.{Fits, changed, most_value, put, value, without};
+ghost use Rattle.xattr_store.specs.Names.{evm_name, ima_name};
 
 use crate::bytes::Bytes;
 use crate::changes::NewValue;
+use crate::names::{EVM_NAME, IMA_NAME};
 use crate::places::{change_within, find, put_value, value_in};
 use std::alloc::{AllocError as OutOfMemory, Global};
 use std::marker::Model;
@@ -12,7 +14,7 @@ use std::marker::Model;
 /// The most bytes that the value of an attribute may have.
 pub const MAX_VALUE: usize = 4096;
 
-/// Why an attribute wasn't set.
+/// Why an attribute could not be set.
 #[derive(Clone, Copy, Debug, PartialEq, Eq)]
 pub enum SetErr {
     /// The value has more than [`MAX_VALUE`] bytes.
@@ -29,12 +31,12 @@ impl From<OutOfMemory> for SetErr {
     }
 }
 
-/// There is no attribute of that name.
+/// The error of a removal: there is no attribute of that name.
 #[derive(Clone, Copy, Debug, PartialEq, Eq)]
 pub struct NoData;
 
-/// The extended attributes of an inode. Contracts see the list of pairs of name and value: each
-/// name once, in byte order, with values of at most [`MAX_VALUE`] bytes.
+/// The extended attributes of an inode. Contracts see the list of pairs of name and value: the
+/// names are distinct and in byte order, and each value has at most [`MAX_VALUE`] bytes.
 #[derive(Debug, Drop)]
 pub struct Attrs {
     pairs: Vec<(Bytes, Bytes)>,
@@ -52,7 +54,7 @@ impl Model for Attrs {
 }
 
 impl Attrs {
-    /// No attributes.
+    /// The empty set of attributes.
     pub fn new(alloc: Global) -> Attrs
         ensures { result ≡ [] }
     {
@@ -61,18 +63,32 @@ impl Attrs {
         }
     }
 
-    /// The value under the name; `None` exactly where the name isn't there.
+    /// The value of the attribute `name`; `None` exactly if there is no such attribute.
     pub fn get(&self, name: &[u8]) -> Option<&[u8]>
         ensures { option_copied result ≡ value name.now self.now }
     {
         value_in(&self.pairs, name)
     }
 
-    /// Puts the value under the name, in place of an older value. After an error the attributes are
-    /// as before.
+    /// The file's label, the value of `security.ima`; `None` exactly if there is none.
+    pub fn label(&self) -> Option<&[u8]>
+        ensures { option_copied result ≡ value ima_name self.now }
+    {
+        self.get(IMA_NAME)
+    }
+
+    /// EVM's HMAC, the value of `security.evm`; `None` exactly if there is none.
+    pub fn hmac(&self) -> Option<&[u8]>
+        ensures { option_copied result ≡ value evm_name self.now }
+    {
+        self.get(EVM_NAME)
+    }
+
+    /// Sets the attribute `name` to `value`, replacing an older value. On an error the attributes
+    /// don't change.
     pub fn set(&mut self, name: &[u8], value: &[u8]) -> Result<(), SetErr>
         ensures ok { OnOk result (self.new ≡ put name.now value.now self.old) }
-        ensures too_long { IsErrOf result SetErr.TooLong ↔ (MAX_VALUE < length value.now) }
+        ensures too_long { IsErrOf result SetErr.TooLong ↔ (most_value < length value.now) }
         ensures err { OnErr result (self.new ≡ self.old) }
     {
         if value.len() > MAX_VALUE {
@@ -82,8 +98,8 @@ impl Attrs {
         Ok(())
     }
 
-    /// Removes the name; `NoData` exactly where it isn't there, and then the attributes are as
-    /// before.
+    /// Removes the attribute `name`; `NoData` exactly if there is none, and then the attributes
+    /// don't change.
     pub fn remove(&mut self, name: &[u8]) -> Result<(), NoData>
         ensures ok { OnOk result (self.new ≡ without name.now self.old) }
         ensures no_data { IsErr result ↔ (value name.now self.old ≡ None) }
@@ -98,15 +114,15 @@ impl Attrs {
         }
     }
 
-    /// A law: there is no value under the name, or one of at most [`MAX_VALUE`] bytes.
+    /// A law: the attribute `name`, if there is one, has a value of at most [`MAX_VALUE`] bytes.
     pub fn value_fits(&self, name: &[u8])
         ensures { Fits (value name.now self.now) }
     {
         let _ = self.pairs.as_slice();
     }
 
-    /// The value that would stand under the name after the change; `None` exactly where it wouldn't
-    /// be there.
+    /// The value that the attribute `name` would have after the change; `None` exactly if there
+    /// would be no such attribute.
     pub fn get_after<'a>(&'a self, change: NewValue<'a>, name: &[u8]) -> Option<&'a [u8]>
         ensures { option_copied result ≡ value name.now
             (changed change.entry.name.now (option_copied change.entry.value) self.now) }
@@ -119,7 +135,7 @@ impl Attrs {
         }
     }
 
-    /// Makes the change. After memory ran out the attributes are as before.
+    /// Applies the change. If memory runs out, the attributes don't change.
     pub fn change(&mut self, change: NewValue<'_>) -> Result<(), OutOfMemory>
         requires fits { Fits (option_copied change.value) }
         ensures ok { OnOk result (self.new
@@ -132,8 +148,8 @@ impl Attrs {
         Ok(())
     }
 
-    /// Makes the first change and then the second, or neither: after memory ran out the attributes
-    /// are as before.
+    /// Applies the first change and then the second, or neither: if memory runs out, the attributes
+    /// don't change.
     pub fn change_both(
         &mut self,
         first: NewValue<'_>,
@@ -155,7 +171,7 @@ impl Attrs {
         Ok(())
     }
 
-    /// An equal list.
+    /// A copy with equal names and values, in its own memory.
     pub fn copy(&self) -> Result<Attrs, OutOfMemory>
         ensures { IfOk result (λ copy. copy ≡ self.now) }
     {
@@ -176,8 +192,8 @@ impl Attrs {
         self.pairs.as_slice()
     }
 
-    /// The name and the value at place `k`, counted from 0; `None` exactly from the number of
-    /// attributes on.
+    /// The name and the value at index `k`, counted from 0; `None` exactly if there are no more
+    /// than `k` attributes.
     pub fn at(&self, k: usize) -> Option<(&[u8], &[u8])>
         ensures { option_map (λ p. (p.0.now, p.1.now)) result ≡ slice_get self.now k }
     {

@@ -3,8 +3,8 @@ ghost use Rattle.std.specs.Prelude.{◌≡◌, ℕ, List, IfOk};
 use std::alloc::{AllocError as OutOfMemory, Global};
 use std::marker::Model;
 
-/// A byte string that owns its memory, as a path, a name or the value of an attribute. Contracts
-/// see its list of bytes.
+/// A byte string that owns its memory: a path, a name or the value of an attribute. Contracts see
+/// its list of bytes.
 #[derive(Debug, Drop)]
 pub struct Bytes {
     bytes: Vec<u8>,
@@ -17,7 +17,7 @@ impl Model for Bytes {
 }
 
 impl Bytes {
-    /// The string with these bytes.
+    /// A string with a copy of the bytes `b`.
     pub fn from_slice(alloc: Global, b: &[u8]) -> Result<Bytes, OutOfMemory>
         ensures bytes { IfOk result (λ copy. copy ≡ b.now) }
     {
@@ -26,21 +26,21 @@ impl Bytes {
         Ok(Bytes { bytes })
     }
 
-    /// The string with the bytes of a vector, which it takes over.
+    /// A string that takes ownership of the vector's bytes.
     pub fn from_vec(bytes: Vec<u8>) -> Bytes
         ensures bytes { result ≡ bytes.items }
     {
         Bytes { bytes }
     }
 
-    /// The vector of the string's bytes, taken over.
+    /// The string's bytes as a vector, without a copy.
     pub fn into_vec(self) -> Vec<u8>
         ensures bytes { result.items ≡ self }
     {
         self.bytes
     }
 
-    /// The bytes.
+    /// The bytes, borrowed.
     pub fn as_slice(&self) -> &[u8]
         ensures bytes { result.now ≡ self.now }
     {

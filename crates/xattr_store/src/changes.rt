@@ -1,4 +1,4 @@
-// Changes of attributes, and what they would leave.
+// Changes of attributes, and the attributes that would result from them.
 
 ghost use Rattle.std.specs.Prelude.{◌≡◌, IfOk};
 ghost use Rattle.std.specs.Option.{option_copied};
@@ -9,17 +9,17 @@ use crate::bytes::Bytes;
 use std::alloc::{AllocError as OutOfMemory, Global};
 use std::marker::Model;
 
-/// What a name is to have: a value, or none.
+/// A change of one attribute: a new value, or its removal.
 #[derive(Clone, Copy)]
 pub struct NewValue<'a> {
-    /// The name of the attribute.
+    /// The name of the attribute to change.
     pub name: &'a [u8],
-    /// Its value, or `None` where the name is to go.
+    /// The new value, or `None` if the attribute is to be removed.
     pub value: Option<&'a [u8]>,
 }
 
 impl NewValue<'_> {
-    // Copies of the name and of the value: the memory that the change takes.
+    // Copies of the name and of the value: all the memory that the change needs.
     pub(crate) fn copied(self, alloc: Global) -> Result<(Bytes, Option<Bytes>), OutOfMemory>
         ensures name { IfOk result (λ r. r.0 ≡ self.entry.name.now) }
         ensures value { IfOk result (λ r. r.1 ≡ option_copied self.entry.value) }
@@ -32,8 +32,8 @@ impl NewValue<'_> {
     }
 }
 
-/// Attributes as they are, or as a change would leave them. Contracts see the list of pairs of name
-/// and value.
+/// The attributes of an inode as they are, or as a change would leave them. Contracts see the list
+/// of pairs of name and value.
 #[derive(Drop)]
 pub struct After<'a> {
     attrs: &'a Attrs,
@@ -51,7 +51,7 @@ impl<'a> Model for After<'a> {
 }
 
 impl<'a> After<'a> {
-    /// The attributes as they are.
+    /// The attributes unchanged.
     pub fn none(attrs: &'a Attrs) -> After<'a>
         ensures { result ≡ attrs.now }
     {
@@ -61,7 +61,7 @@ impl<'a> After<'a> {
         }
     }
 
-    /// The attributes as the change would leave them.
+    /// The attributes as `change` would leave them.
     pub fn change(attrs: &'a Attrs, change: NewValue<'a>) -> After<'a>
         ensures { result ≡ changed change.entry.name.now (option_copied change.entry.value)
             attrs.now }
@@ -72,7 +72,7 @@ impl<'a> After<'a> {
         }
     }
 
-    /// The value under the name; `None` exactly where the name isn't there.
+    /// The value of the attribute `name`; `None` exactly if there is no such attribute.
     pub fn get(&self, name: &[u8]) -> Option<&[u8]>
         ensures { option_copied result ≡ value name.now self.now }
     {

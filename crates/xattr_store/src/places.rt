@@ -1,4 +1,5 @@
-// Where a name stands, or would stand, among pairs whose names ascend.
+// The index of a name in a list of pairs in ascending order of names, or the index at which to
+// insert it.
 
 ghost use Rattle.std.specs.Prelude.{◌≡◌, ◌+◌, ◌<◌, ◌≤◌, MatchResult, if◌then◌else◌, is_ok, vec_capacity, vec_len};
 ghost use Rattle.xattr_store.specs.Attrs.{IsAttrs, changed, put, value};
@@ -9,7 +10,7 @@ use crate::bytes::Bytes;
 use std::alloc::AllocError as OutOfMemory;
 use std::cmp::Ordering;
 
-// `Ok` of the place of the name, or `Err` of the place where it is to be inserted.
+// `Ok` with the index of the name, or `Err` with the index at which it is to be inserted.
 pub fn find(pairs: &[(Bytes, Bytes)], name: &[u8]) -> Result<usize, usize>
     ensures { MatchResult result (IsFoundAt name.now pairs.now) (IsGapAt name.now pairs.now) }
 {
@@ -23,7 +24,7 @@ pub fn find(pairs: &[(Bytes, Bytes)], name: &[u8]) -> Result<usize, usize>
     Err(pairs.len())
 }
 
-// The value under the name; `None` exactly where the name isn't there.
+// The value of the attribute `name`; `None` exactly if there is no such attribute.
 pub fn value_in<'a>(pairs: &'a [(Bytes, Bytes)], name: &[u8]) -> Option<&'a [u8]>
     requires { IsAttrs pairs.now }
     ensures { option_copied result ≡ value name.now pairs.now }
@@ -34,8 +35,8 @@ pub fn value_in<'a>(pairs: &'a [(Bytes, Bytes)], name: &[u8]) -> Option<&'a [u8]
     }
 }
 
-// Puts the value under the name. Both copies are made first, so that after memory ran out the pairs
-// are as before.
+// Sets the attribute `name` to `value`. Both are copied first, so that the pairs don't change if
+// memory runs out.
 pub fn put_value(
     pairs: &mut Vec<(Bytes, Bytes)>,
     name: &[u8],
@@ -58,7 +59,8 @@ pub fn put_value(
     Ok(())
 }
 
-// Puts the value under the name, whose place was sought before, in room that was made.
+// Sets the attribute `name` to `value` at the place that a search found, in memory that was
+// reserved.
 fn put_at(pairs: &mut Vec<(Bytes, Bytes)>, found: Result<usize, usize>, name: Bytes, value: Bytes)
     requires room { vec_len pairs.old < vec_capacity pairs.old }
     requires found { MatchResult found (IsFoundAt name pairs.old.items)
@@ -72,13 +74,13 @@ fn put_at(pairs: &mut Vec<(Bytes, Bytes)>, found: Result<usize, usize>, name: By
             pairs[place].1 = value;
         }
         Err(place) => {
-            // There is room.
+            // The insertion can't fail: there is room for one more pair.
             let _ = pairs.insert(place, (name, value));
         }
     }
 }
 
-// Gives the name this value, or none, in room that was made.
+// Sets or removes the attribute `name`, in memory that was reserved.
 pub fn change_within(pairs: &mut Vec<(Bytes, Bytes)>, name: Bytes, value: Option<Bytes>)
     requires room { vec_len pairs.old < vec_capacity pairs.old }
     requires attrs { IsAttrs pairs.old.items }

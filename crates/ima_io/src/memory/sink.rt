@@ -7,9 +7,9 @@ use crate::outside::{Failed, Sink};
 use std::alloc::{AllocError as OutOfMemory, Global};
 use std::marker::Model;
 
-/// A sink into memory of a fixed room. It takes at most `piece` bytes in one call. The calls whose
-/// numbers stand in `fails`, counted from 0, fail, and so does a call with a piece that isn't empty
-/// once the room is full.
+/// A sink into memory of a fixed capacity. It takes at most `piece` bytes in one call. A call fails
+/// if its number, counted from 0, is in `fails`, or if it brings a nonempty piece when the capacity
+/// is used up.
 #[derive(Drop)]
 pub struct MemSink {
     taken: Vec<u8>,
@@ -40,8 +40,8 @@ impl Model for MemSink {
 }
 
 impl MemSink {
-    /// The sink before its first call. Its room is reserved at once, so no write takes memory.
-    /// `piece` is at least 1.
+    /// A sink before its first call. Its whole capacity is reserved at once, so no write allocates
+    /// memory. `piece` is at least 1.
     pub fn new(
         alloc: Global,
         room: usize,
@@ -68,7 +68,7 @@ impl MemSink {
         })
     }
 
-    /// What the sink took, in order.
+    /// The bytes that the sink took, in order.
     pub fn taken(&self) -> &[u8]
         ensures { result.now ≡ self.now.taken }
     {
@@ -88,8 +88,8 @@ impl Sink for MemSink {
         ensures count { self.old.faults ≤ self.new.faults }
         ensures cause { OnErr result (Rose self.old.faults self.new.faults) }
 
-        // It fails exactly at the calls of those numbers and where no room is left for a byte, and
-        // else takes as much as it may.
+        // It fails exactly at the calls with those numbers and when no room is left for a byte, and
+        // otherwise takes as many bytes as it may.
         ensures failed { is_err result ≡ (fails_at self.old.fails self.old.call
             || (self.old.room == length self.old.taken && nat_lt 0 (length piece.now))) }
         ensures took { IfOk result

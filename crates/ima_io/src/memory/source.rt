@@ -6,8 +6,8 @@ ghost use Rattle.ima_io.specs.Memory.{fails_at};
 use crate::outside::{Failed, Source};
 use std::marker::Model;
 
-/// A source over bytes in memory. It gives at most `piece` bytes in one call, and the calls whose
-/// numbers stand in `fails`, counted from 0, fail.
+/// A source of bytes from memory. It gives at most `piece` bytes in one call. The calls whose
+/// numbers, counted from 0, are in `fails` fail.
 #[derive(Drop)]
 pub struct MemSource {
     bytes: Vec<u8>,
@@ -36,7 +36,7 @@ impl Model for MemSource {
 }
 
 impl MemSource {
-    /// The source of these bytes, before its first call. `piece` is at least 1.
+    /// A source of these bytes, before its first call. `piece` is at least 1.
     pub fn new(bytes: Vec<u8>, piece: usize, fails: Vec<u64>) -> MemSource
         requires { 0 < piece }
         ensures { result ≡ record {
@@ -69,7 +69,8 @@ impl Source for MemSource {
         ensures count { self.old.faults ≤ self.new.faults }
         ensures cause { OnErr result (Rose self.old.faults self.new.faults) }
 
-        // It fails exactly at the calls of those numbers, and else gives as much as it may.
+        // It fails exactly at the calls with those numbers, and otherwise gives as many bytes as it
+        // may.
         ensures failed { is_err result ≡ fails_at self.old.fails self.old.call }
         ensures given { IfOk result
             (λ n. n ≡ min (min (length buf.old) self.old.piece) (length self.old.left)) }

@@ -3,9 +3,9 @@ ghost use Rattle.std.specs.Prelude.{◌≡◌};
 use crate::outside::{Failed, Sink};
 use std::io::Write;
 
-/// A writer as a sink. It tells the bytes that the writer tells, so none at a stream of the system.
-/// Its count of faults has 64 bits, rises at each `Err` of the writer and at each write that takes
-/// nothing of a piece that isn't empty, and stays at its last value.
+/// A sink that writes to a writer. Contracts know its bytes as far as they know the writer's, so
+/// not at all for a stream of the system. Its count of faults has 64 bits and saturates; it rises
+/// at each `Err` of the writer, and at each write that takes no byte of a nonempty piece.
 #[derive(Drop)]
 pub struct StdSink<W> {
     writer: W,
@@ -13,7 +13,7 @@ pub struct StdSink<W> {
 }
 
 impl<W: Write> StdSink<W> {
-    /// The sink that writes to `writer` and has not failed yet.
+    /// A sink that writes to `writer` and hasn't failed yet.
     pub fn new(writer: W) -> StdSink<W>
         ensures { ⟦<StdSink<W> as Sink>⟧.faults result ≡ 0 }
     {

@@ -3,9 +3,9 @@ ghost use Rattle.std.specs.Prelude.{◌≡◌};
 use crate::outside::{Failed, Source};
 use std::io::Read;
 
-/// A reader as a source. It tells the bytes that the reader tells, so none at a stream of the
-/// system. Its count of faults has 64 bits, rises at each `Err` of the reader, and stays at its
-/// last value.
+/// A source that reads from a reader. Contracts know its bytes as far as they know the reader's, so
+/// not at all for a stream of the system. Its count of faults has 64 bits and saturates; it rises
+/// at each `Err` of the reader.
 #[derive(Drop)]
 pub struct StdSource<R> {
     reader: R,
@@ -13,7 +13,7 @@ pub struct StdSource<R> {
 }
 
 impl<R: Read> StdSource<R> {
-    /// The source that reads from `reader` and has not failed yet.
+    /// A source that reads from `reader` and hasn't failed yet.
     pub fn new(reader: R) -> StdSource<R>
         ensures { ⟦<StdSource<R> as Source>⟧.faults result ≡ 0 }
     {

@@ -1,5 +1,5 @@
--- The command `gen`: the summary of the run of the script that is made of a number. It reads
--- nothing, and nothing refuses it.
+-- The command `gen`: the summary of the run of a generated script. It reads nothing, and no input
+-- is refused.
 use Rattle.std.specs.Prelude.{ℕ, List}
 use Rattle.ima_top.specs.Summarized.{IsSummary}
 

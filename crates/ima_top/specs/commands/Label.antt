@@ -5,7 +5,7 @@ use Rattle.script_text.specs.Grammar.{script_of}
 use Rattle.label_text.specs.Labels.{label_answer}
 use Rattle.ima_top.specs.commands.BadLine.{refusal_of}
 
--- the line that is told of an input that isn't a script
+-- the line that refuses an input that isn't a script
 unfoldable pub label_refusal : List ℕ → Option (List ℕ)
 label_refusal input = refusal_of (script_of input)
 

@@ -15,7 +15,7 @@ abbrev pub refusal_of_fault : Result (List RuleValue) Fault → Option (List ℕ
 refusal_of_fault (Ok rules) = None
 refusal_of_fault (Err fault) = Some (fault_line fault)
 
--- the line that is told of an input that isn't a policy
+-- the line that refuses an input that isn't a policy
 unfoldable pub policy_refusal : List ℕ → Option (List ℕ)
 policy_refusal input = refusal_of_fault (policy_of input)
 

@@ -1,5 +1,4 @@
--- The command `run`: the report of what a run of a script leaves, or its first bad line and the
--- cause.
+-- The command `run`: the report of a run of a script, or the script's first bad line and the cause.
 use Rattle.std.specs.Prelude.{◌≡◌, ℕ, Bool, List, Option, Some, None, Result, Ok, Err, IsOkAnd}
 use Rattle.report_text.specs.Report.{report_of}
 use Rattle.script_run.specs.model.EndedValue.{EndedValue}
@@ -13,11 +12,11 @@ abbrev pub run_refusal_of : Result ScriptValue Fault → Option (List ℕ)
 run_refusal_of (Ok s) = None
 run_refusal_of (Err fault) = Some (bad_line fault)
 
--- the line that is told of an input that isn't a script
+-- the line that refuses an input that isn't a script
 unfoldable pub run_refusal : List ℕ → Option (List ℕ)
 run_refusal input = run_refusal_of (script_of input)
 
--- the bytes are the report of what a run of the script leaves, stuck or not
+-- the bytes are the report of a run of the script, which is stuck or not, as the flag says
 pub record IsReport (s : ScriptValue) (stuck : Bool) (output : List ℕ) : Type 0 where
   pub ended : EndedValue
   pub has_run : HasRun s ended

@@ -1,5 +1,5 @@
 -- The commands: which of them read, what refuses an input, and what is an output for it. Each
--- command is a row of each table, and what the row says stands in the command's own file.
+-- command has a row in each table, and the terms of the row are defined in the command's own file.
 use Rattle.std.specs.Prelude.{◌≡◌, ℕ, Bool, true, false, List, Option, None}
 use Rattle.command_line.specs.declared.command.Command.{Command}
 use Rattle.command_line.specs.declared.command.Command.TheVariants as command
@@ -9,7 +9,8 @@ use Rattle.ima_top.specs.commands.List.{list_refusal, IsListOutput}
 use Rattle.ima_top.specs.commands.Policy.{policy_refusal, IsPolicyOutput}
 use Rattle.ima_top.specs.commands.Run.{run_refusal, IsRunOutput}
 
--- The command reads its input. One that doesn't is answered as if it had read nothing.
+-- Whether the command reads its input. A command that doesn't is answered as if the input were
+-- empty.
 unfoldable pub reads : Command → Bool
 reads command.List = true
 reads command.Policy = true
@@ -17,7 +18,7 @@ reads command.Label = true
 reads command.Run = true
 reads (command.Gen number) = false
 
--- the line that is told of an input outside the command's grammar
+-- the line that refuses an input outside the command's grammar
 unfoldable pub refusal : Command → List ℕ → Option (List ℕ)
 refusal command.List input = list_refusal input
 refusal command.Policy input = policy_refusal input
@@ -25,9 +26,9 @@ refusal command.Label input = label_refusal input
 refusal command.Run input = run_refusal input
 refusal (command.Gen number) input = None
 
--- The bytes are an output for the input, of a run that is stuck or isn't. This is a relation, not a
--- function, since an input whose tasks run on threads has several outputs. A command without tasks,
--- or whose tasks never wait, is never stuck.
+-- The bytes are an output for the input, of a run that is stuck or not, as the flag says. This is a
+-- relation, not a function, since an input whose tasks run on threads has several outputs. A
+-- command without tasks, or whose tasks never wait, is never stuck.
 unfoldable pub IsOutput : Command → List ℕ → Bool → List ℕ → Type 0
 IsOutput command.List input stuck output = (stuck ≡ false) × IsListOutput input output
 IsOutput command.Policy input stuck output = (stuck ≡ false) × IsPolicyOutput input output

@@ -1,11 +1,11 @@
-// The line that tells the first bad line of a script or of a list text.
+// The line that names the first fault of a script or of a list text.
 ghost use Rattle.std.specs.Prelude.{◌≡◌, IfOk};
 ghost use Rattle.ima_top.specs.commands.BadLine.{bad_line};
 
 use script_text::Fault;
 use std::alloc::{AllocError as OutOfMemory, Global};
 
-/// `line L: CAUSE`
+/// The fault as a line `line L: CAUSE`, with the number of the bad line and the cause.
 pub fn bad_line(alloc: Global, fault: Fault) -> Result<Vec<u8>, OutOfMemory>
     ensures { IfOk result (λ line. line.items ≡ bad_line fault) }
 {

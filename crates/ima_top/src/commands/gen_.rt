@@ -1,4 +1,4 @@
-// The command `gen`: the summary of the run of the script that is made of a number.
+// The command `gen`: the summary of the run of a generated script.
 ghost use Rattle.std.specs.Prelude.{IfOk};
 ghost use Rattle.ima_top.specs.commands.Gen.{IsGenOutput};
 
@@ -8,7 +8,7 @@ use std::alloc::{AllocError as OutOfMemory, Global};
 use std::sync::Wait;
 use std::thread::Threads;
 
-/// The summary of the run of the number's script. Nothing refuses it.
+/// The summary of the run of the number's script. No number is refused.
 #[tactic(auto, unfolding(crate::specs::commands::Gen::IsGenOutput))]
 pub fn answer<G: Gate + Sync, R: Threads + Wait + Sync>(
     rt: &R,

@@ -6,7 +6,7 @@ ghost use Rattle.ima_templates.specs.Replay.{banks_of};
 ghost use Rattle.ima_templates.specs.Same.{add, place_of_same};
 ghost use Rattle.list_format.specs.Line.{ascii_line};
 ghost use Rattle.ima_top.specs.Answered.{Answers};
-ghost use Rattle.ima_top.specs.declared.top.TheConstants.{MOST_INPUT};
+ghost use Rattle.ima_top.specs.Limits.{most_input};
 ghost use Rattle.ima_top.specs.commands.List.{boot_entry, file_entry, list_refusal, IsListOutput, list_text, measured, register_line};
 
 use crate::commands::bad_line::bad_line;
@@ -20,10 +20,10 @@ use pcr_bank::Banks;
 use script_text::{ScriptErr, parse_list};
 use std::alloc::{AllocError as OutOfMemory, Global};
 
-/// The measurement list of the files, or the line that tells the first bad line.
+/// The measurement list of the files, or the line that names the first fault of the list text.
 #[tactic(auto, unfolding(crate::specs::commands::List::list_refusal, crate::specs::commands::List::IsListOutput))]
 pub fn answer(alloc: Global, input: &[u8]) -> Result<Vec<u8>, NotDone>
-    requires { length input.now ≤ MOST_INPUT }
+    requires { length input.now ≤ most_input }
     ensures { Answers result (list_refusal input.now)
         (λ output. IsListOutput input.now output.items) }
 {
@@ -37,7 +37,7 @@ pub fn answer(alloc: Global, input: &[u8]) -> Result<Vec<u8>, NotDone>
     }
 }
 
-// Each path can be shown by the template.
+// The entries of the files, after the boot aggregate. The template can show each path.
 fn measured(alloc: Global, files: &[(Bytes, Bytes)]) -> Result<Vec<Entry>, OutOfMemory>
     requires { All (λ f. IsTrue (is_path f.0)) files.now }
     ensures { IfOk result (λ list. list.items ≡ measured files.now) }
@@ -84,7 +84,7 @@ fn file_entry(alloc: Global, file: &(Bytes, Bytes)) -> Result<Entry, OutOfMemory
     )
 }
 
-// Adds an entry that isn't in the list yet.
+// Adds the entry if it isn't in the list yet.
 fn add(list: &mut Vec<Entry>, entry: Entry) -> Result<(), OutOfMemory>
     ensures { OnOk result (list.new.items ≡ add list.old.items entry) }
 {

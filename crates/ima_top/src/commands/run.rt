@@ -1,22 +1,22 @@
 // The command `run`: the report of the run of a script.
 ghost use Rattle.std.specs.Prelude.{◌≤◌, length, IfOk};
 ghost use Rattle.ima_top.specs.Answered.{Answers};
-ghost use Rattle.ima_top.specs.declared.top.TheConstants.{MOST_INPUT};
+ghost use Rattle.ima_top.specs.Limits.{most_input};
 ghost use Rattle.ima_top.specs.commands.Run.{IsReport, IsRunOutput, run_refusal};
 
 use crate::commands::Answer;
 use crate::commands::bad_line::bad_line;
 use crate::not_done::NotDone;
 use ima_io::Gate;
-use report_text::report;
+use report_text::report_in_pieces;
 use script_run::run;
 use script_text::{Script, ScriptErr, parse};
 use std::alloc::{AllocError as OutOfMemory, Global};
 use std::sync::Wait;
 use std::thread::Threads;
 
-/// The report of the script's run, or the line that tells its first bad line. The input is given up
-/// once it is read.
+/// The report of the script's run, or the line that names the script's first fault. The input is
+/// dropped once it is parsed.
 #[tactic(auto, unfolding(crate::specs::commands::Run::run_refusal, crate::specs::commands::Run::IsRunOutput))]
 pub fn answer<G: Gate + Sync, R: Threads + Wait + Sync>(
     rt: &R,
@@ -24,7 +24,7 @@ pub fn answer<G: Gate + Sync, R: Threads + Wait + Sync>(
     input: Vec<u8>,
     gate: &G,
 ) -> Result<Answer, NotDone>
-    requires { length input.items ≤ MOST_INPUT }
+    requires { length input.items ≤ most_input }
     ensures { Answers result (run_refusal input.items)
         (λ answer. IsRunOutput input.items answer.stuck answer.output) }
 {
@@ -38,7 +38,7 @@ pub fn answer<G: Gate + Sync, R: Threads + Wait + Sync>(
     }
 }
 
-// The report of what the script's run leaves, and whether it is stuck.
+// Runs the script and returns its report, and whether the run is stuck.
 fn reported<G: Gate + Sync, R: Threads + Wait + Sync>(
     rt: &R,
     alloc: Global,
@@ -49,6 +49,6 @@ fn reported<G: Gate + Sync, R: Threads + Wait + Sync>(
 {
     let ended = run(rt, alloc, script, gate)?;
     let stuck = ended.stuck;
-    let output = report(alloc, ended)?;
+    let output = report_in_pieces(alloc, ended)?;
     Ok(Answer { output, stuck })
 }

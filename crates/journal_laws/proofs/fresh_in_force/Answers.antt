@@ -1,4 +1,4 @@
--- Where no writer is, nothing was written since the begin of the digest in force.
+-- Without a writer, nothing was written since the collection of the digest in force began.
 use Rattle.journal_laws.proofs.Fresh.{fresh_at}
 use Rattle.journal_laws.proofs.FreshSteps.{freshness_lem}
 use Rattle.journal_laws.proofs.fresh_in_force.Goals as goal

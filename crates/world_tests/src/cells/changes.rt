@@ -47,7 +47,7 @@ const BROKEN: Start = Start {
     ..KEYED
 };
 
-// A new file, which has no attributes either.
+// A file that is about to be created, so that it has no attributes either.
 const NEW: Start = Start {
     present: false,
     content: b"",
@@ -74,7 +74,7 @@ const NO_HMAC: Steps = &[(0, SetMeta(MODE), Changed(Status(EvmStatus::NoLabel)))
 
 const WRONG_HMAC: Steps = &[(0, SetMeta(MODE), Changed(Status(EvmStatus::Fail)))];
 
-// The HMAC follows each change: the next one finds it right.
+// Each change renews the HMAC, so that the next change finds it right.
 const RIGHT_HMAC: Steps = &[
     (0, SetMeta(MODE), Changed(Done)),
     (1, SetMeta(Change::Owner { uid: 1, gid: 1 }), Changed(Done)),

@@ -13,7 +13,7 @@ use world_locks::inodes::{Counted, InodeCell, Set};
 pub enum Step {
     Open(How),
     Set(&'static [u8], &'static [u8]),
-    // By a task that may administer.
+    // Sets an attribute as a task that may administer.
     AdminSet(&'static [u8], &'static [u8]),
     Remove(&'static [u8]),
     SetMeta(Change),
@@ -25,7 +25,7 @@ pub enum Answer {
     Changed(Set),
 }
 
-// Each step is by the task of its number.
+// The steps in order, each with the number of its task and the expected answer.
 pub type Steps = &'static [(u32, Step, Answer)];
 
 fn cred(admin: bool) -> Cred {
@@ -72,7 +72,7 @@ fn does(
     }
 }
 
-// The step of one of two tasks.
+// Does the step as one of the two tasks.
 fn step_of(
     cell: &mut InodeCell,
     first: &mut Pass<Event>,
@@ -92,7 +92,7 @@ fn step_of(
     }
 }
 
-// Each step answers what the table says, on one cell.
+// Does the steps on one inode, and compares each answer with the table's.
 pub fn goes(rt: &impl Abort, alloc: Global, from: &Start, steps: Steps) -> Result<(), Fail> {
     let (mut cell, mut first, mut second) = cell_of(rt, alloc, from)?;
     for (task, step, answer) in steps {

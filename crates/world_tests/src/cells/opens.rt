@@ -19,7 +19,7 @@ const CREATE: Step = Step::Open(How::Write {
 
 const EXEC: Step = Step::Open(How::Exec);
 
-// A file has the place of its open in the journal, behind the birth.
+// A file's number is the place of its open in the journal, which begins with the birth at 0.
 const WRITER_FIRST: Steps = &[
     (0, WRITE, Opened(Held(1))),
     (1, EXEC, Opened(TextBusy)),

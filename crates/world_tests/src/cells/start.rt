@@ -14,7 +14,7 @@ use world_locks::books::Book;
 use world_locks::growing::Pass;
 use world_locks::inodes::InodeCell;
 
-// An inode of one file system, and the script's settings beside sha256 and ima-ng.
+// An inode on a file system, and the script's settings other than sha256 and ima-ng.
 #[derive(Clone, Copy)]
 pub struct Start {
     pub key: Option<&'static [u8]>,
@@ -23,7 +23,7 @@ pub struct Start {
     pub attrs: &'static [(&'static [u8], &'static [u8])],
 }
 
-// The file `abc` without attributes, under no key.
+// The file `abc` without attributes, and no key.
 pub const PLAIN: Start = Start {
     key: None,
     present: true,
@@ -31,7 +31,7 @@ pub const PLAIN: Start = Start {
     attrs: &[],
 };
 
-// No file.
+// A file that isn't present, and no key.
 pub const ABSENT: Start = Start {
     present: false,
     content: b"",
@@ -47,7 +47,7 @@ pub const KEYED: Start = Start {
 pub const LABEL: &[u8] =
     b"\x04\x04\xba\x78\x16\xbf\x8f\x01\xcf\xea\x41\x41\x40\xde\x5d\xae\x22\x23\xb0\x03\x61\xa3\x96\x17\x7a\x9c\xb4\x10\xff\x61\xf2\x00\x15\xad";
 
-// With the HMAC as openssl gives it.
+// The file `abc` with its label, and with its HMAC as openssl computes it.
 pub const SEALED: Start = Start {
     attrs: &[
         (
@@ -96,7 +96,7 @@ fn image(alloc: Global, start: &Start) -> Result<Image, Fail>
     })
 }
 
-// The pass of a list for its one inode.
+// The pass of a new measurement list for the list's one inode.
 fn book_pass(rt: &impl Abort, alloc: Global) -> Result<Pass<Entry>, OutOfMemory>
     ensures { IfOk result (λ p. p.mine ≡ []) }
 {
@@ -118,7 +118,7 @@ fn book_pass(rt: &impl Abort, alloc: Global) -> Result<Pass<Entry>, OutOfMemory>
     Ok(pass)
 }
 
-// An inode and the passes of the tasks 0 and 1.
+// An inode, and the passes of tasks 0 and 1.
 pub fn cell_of(
     rt: &impl Abort,
     alloc: Global,

@@ -3,7 +3,7 @@ use Rattle.hmac_core.specs.Hmac.{Holds}
 use Rattle.evm_verify.specs.Input.{values_under}
 use Rattle.evm_verify.proofs.input.feed_values.Given as goal
 
--- the values under the names so far are fed
+-- the values of the names passed so far were fed
 abbrev pub invariant-loop-name : goal.invariant-loop-name
 invariant-loop-name l =
     (key m : List ℕ) → Holds l.initial.state key m

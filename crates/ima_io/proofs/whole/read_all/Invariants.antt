@@ -1,4 +1,4 @@
--- what was read is what the source gave, and the count never fell
+-- The bytes read so far are those that the source gave, and the count never fell.
 use Rattle.std.proofs.Common.{◌-◌, ◌<◌, ◌≤◌, length, vec_len}
 use Rattle.std.specs.Io.KnownBytes.{Consumes}
 use Rattle.ima_io.proofs.whole.read_all.Given as goal

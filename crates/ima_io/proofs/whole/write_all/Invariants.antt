@@ -1,4 +1,4 @@
--- what is gone from `rest` was taken, and the count never fell
+-- The bytes missing from `rest` were taken, and the count never fell.
 use Rattle.std.proofs.Common.{◌≡◌, ◌≤◌, ℕ, List, ◌++◌, length}
 use Rattle.std.specs.Io.KnownBytes.{Appends}
 use Rattle.ima_io.proofs.whole.write_all.Given as goal

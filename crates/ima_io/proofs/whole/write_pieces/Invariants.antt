@@ -1,4 +1,4 @@
--- the pieces so far were taken, and the count never fell
+-- The pieces passed so far were taken, and the count never fell.
 use Rattle.std.proofs.Common.{◌≤◌, take}
 use Rattle.std.specs.List.{flat_map}
 use Rattle.std.specs.Io.KnownBytes.{Appends}

@@ -1,4 +1,4 @@
--- The fields so far are written.
+-- The fields passed so far were written.
 use Rattle.std.proofs.Common.{take}
 use Rattle.std.specs.List.{flat_map}
 use Rattle.ima_templates.specs.Data.{field_data}

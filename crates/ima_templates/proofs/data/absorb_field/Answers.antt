@@ -1,4 +1,4 @@
--- The length is written and then what the field holds.
+-- The length of the field is written, and then its content.
 use Rattle.std.proofs.Common.{◌≡◌, ℕ, List, Bool, cond, ◌++◌, length, subst, sym, ◌∙◌, arith}
 use Rattle.byteorder.specs.Endian.{little_bytes}
 use Rattle.ima_templates.specs.Data.{content, sized}

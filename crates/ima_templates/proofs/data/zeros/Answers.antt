@@ -1,4 +1,4 @@
--- The first of 256 zeros are so many zeros.
+-- The first `count` of 256 zeros are `count` zeros.
 use Rattle.std.proofs.lemmas.List.{take-replicate}
 use Rattle.ima_templates.proofs.data.zeros.Goals as goal
 

@@ -1,4 +1,4 @@
--- As far as the path was read, what stands behind its last slash begins at `start`.
+-- In the part of the path that was read, the last component begins at `start`.
 use Rattle.std.proofs.Common.{◌≡◌, ◌+◌, ◌==◌, not, take}
 use Rattle.std.specs.List.{suffix_len}
 use Rattle.ima_templates.proofs.shown.last_component.Given as goal

@@ -1,4 +1,4 @@
--- the pages so far are fed
+-- The pages passed so far were fed.
 use Rattle.std.proofs.Common.{◌≡◌, take}
 use Rattle.std.specs.List.{concat}
 use Rattle.hash_algos.specs.Running.{HasTaken, running_algo}

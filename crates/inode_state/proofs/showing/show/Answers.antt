@@ -1,4 +1,4 @@
--- One pass more has seen the list.
+-- One more pass has seen the list.
 use Rattle.std.proofs.Common.{◌≡◌, ◌<◌, List, length, get_or, sym, ap, ◌∙◌, add-one, arith}
 use Rattle.std.specs.Prelude.{slice_set}
 use Rattle.grow_list.specs.Shown.{Passed}

@@ -1,4 +1,4 @@
--- A length and the bytes.
+-- The length is appended, and then the bytes.
 use Rattle.ima_templates.specs.Data.{sized}
 use Rattle.list_format.proofs.AppendLemmas.{appended-2}
 use Rattle.list_format.proofs.data.append_sized.Goals as goal

@@ -1,4 +1,4 @@
--- The fields so far are appended.
+-- The fields passed so far were appended.
 use Rattle.std.proofs.Common.{◌≡◌, ◌∷◌, ◌++◌, take}
 use Rattle.std.specs.List.{flat_map}
 use Rattle.std.specs.Vec.{vec_len}

@@ -1,4 +1,4 @@
--- The head, the fields and the newline.
+-- The concatenated head, fields and newline are the line.
 use Rattle.list_format.specs.Line.{ascii_line}
 use Rattle.list_format.proofs.AppendLemmas.{appended-3}
 use Rattle.list_format.proofs.line.append_line.Goals as goal

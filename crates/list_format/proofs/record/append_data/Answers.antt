@@ -1,4 +1,4 @@
--- The length of the template data, and the template data.
+-- The length of the template data is appended, and then the template data.
 use Rattle.std.proofs.Common.{rules, ◌≢◌, ◌++◌, arith, ap, ◌∙◌}
 use Rattle.std.proofs.lemmas.Grind.{common_steps}
 use Rattle.byteorder.specs.Endian.{little_bytes}

@@ -1,4 +1,4 @@
--- The parts one after another are the record.
+-- The concatenated parts are the record.
 use Rattle.std.proofs.Common.{◌≡◌, ℕ, List, ◌++◌, ap, ◌∙◌}
 use Rattle.byteorder.specs.Endian.{little_bytes}
 use Rattle.inode_meta.specs.Words.{template_word}

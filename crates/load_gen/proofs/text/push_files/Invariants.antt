@@ -1,4 +1,4 @@
--- what is left of the files is still to come
+-- the text of the files that are left is still to come
 use Rattle.std.proofs.Common.{◌≡◌, ◌-◌, ◌++◌}
 use Rattle.load_gen.specs.Script.{files}
 use Rattle.load_gen.proofs.text.push_files.Given as goal

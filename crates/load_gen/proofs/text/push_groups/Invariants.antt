@@ -1,4 +1,4 @@
--- what is left of the groups is still to come
+-- the text of the groups that are left is still to come
 use Rattle.std.proofs.Common.{◌≡◌, ◌-◌, ◌++◌}
 use Rattle.load_gen.specs.Script.{groups}
 use Rattle.load_gen.proofs.text.push_groups.Given as goal

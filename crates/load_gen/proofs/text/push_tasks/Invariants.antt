@@ -1,4 +1,4 @@
--- what is left of the tasks is still to come
+-- the text of the tasks that are left is still to come
 use Rattle.std.proofs.Common.{◌≡◌, ◌-◌, ◌++◌}
 use Rattle.load_gen.specs.Script.{tasks}
 use Rattle.load_gen.proofs.text.push_tasks.Given as goal

@@ -1,5 +1,5 @@
 use Rattle.std.proofs.Common.{◌≡◌, ap}
-use Rattle.std.specs.Prelude.{decimal}
+use Rattle.report_text.specs.Numerals.{numeral}
 use Rattle.inode_events.specs.EndedInode.{EndedInodeValue}
 use Rattle.report_text.proofs.Pushed.{inode_head_pushed}
 use Rattle.report_text.proofs.inodes.push_head.Goals as goal
@@ -29,5 +29,5 @@ returns c =
       readers_are,
       execs_are,
     )
-    (inode_head_pushed c.args.out.now.items (decimal c.args.number) i.path (decimal i.writers)
-    (decimal i.readers) (decimal i.execs))
+    (inode_head_pushed c.args.out.now.items (numeral c.args.number) i.path (numeral i.writers)
+    (numeral i.readers) (numeral i.execs))

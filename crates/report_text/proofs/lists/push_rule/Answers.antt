@@ -1,3 +1,5 @@
+use Rattle.std.proofs.Common.{arith}
+use Rattle.report_text.proofs.Numerals.{numeral_of_wide}
 use Rattle.report_text.proofs.Pushed.{rule_pushed}
 use Rattle.report_text.proofs.lists.push_rule.Goals as goal
 
@@ -12,6 +14,7 @@ returns c =
       c.in_ok-extend_from_slice-2.ensures.items,
       c.as_bytes.ensures.value,
       c.format.ensures.text,
+      numeral_of_wide c.args.place (omega arith),
       c.in_ok-extend_from_slice.ensures.items,
     )
     (rule_pushed c.args.out.now.items c.args.place c.args.entry.now)

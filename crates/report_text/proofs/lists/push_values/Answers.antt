@@ -1,4 +1,4 @@
-use Rattle.std.specs.Prelude.{decimal}
+use Rattle.report_text.specs.Numerals.{numeral}
 use Rattle.hex.specs.Hex.{encode_lower}
 use Rattle.inode_meta.specs.declared.measurement.Bank.TheVariants.{Sha1, Sha256}
 use Rattle.pcr_bank.specs.Banks.{register}
@@ -17,6 +17,6 @@ returns c =
       c.value.ensures,
       c.from-number.ensures,
     )
-    (register_pushed c.args.out.now.items (decimal c.args.pcr)
+    (register_pushed c.args.out.now.items (numeral c.args.pcr)
     (encode_lower (register c.args.banks.now Sha1 c.args.pcr))
     (encode_lower (register c.args.banks.now Sha256 c.args.pcr)))

@@ -1,5 +1,5 @@
 use Rattle.std.proofs.Common.{◌≡◌, length, ap}
-use Rattle.std.specs.Prelude.{decimal}
+use Rattle.report_text.specs.Numerals.{numeral}
 use Rattle.std.specs.List.{count_by}
 use Rattle.run_model.specs.EndedValue.{EndedValue}
 use Rattle.report_text.specs.Report.{ending_word}
@@ -22,5 +22,5 @@ returns c =
       c.as_slice-list.ensures.value,
       list_is,
     )
-    (head_pushed c.args.out.now.items (ending_word e) (decimal (length e.list))
-    (decimal (count_by (λ x. x.violation) e.list)))
+    (head_pushed c.args.out.now.items (ending_word e) (numeral (length e.list))
+    (numeral (count_by (λ x. x.violation) e.list)))

@@ -1,5 +1,5 @@
 use Rattle.std.proofs.Common.{ℕ, List, ◌∷◌, ◌++◌, get_or, map, ap, ◌∙◌}
-use Rattle.std.specs.Prelude.{decimal}
+use Rattle.report_text.specs.Numerals.{numeral}
 use Rattle.std.specs.List.{join_with_byte}
 use Rattle.std.proofs.lemmas.List.{take_all}
 use Rattle.report_text.proofs.Joins.{numbers_on}
@@ -11,11 +11,11 @@ loop-number-preserved c =
     let i = c.loop-number.number-index in
     numbers_on _ _ _ _ ns i c.loop-number-test.true c.loop-number.invariant
     (c.in_ok-push_number.ensures
-    ∙ ap (λ l. l ++ decimal (get_or ns i 0)) c.in_ok-push.ensures.items)
+    ∙ ap (λ l. l ++ numeral (get_or ns i 0)) c.in_ok-push.ensures.items)
 
 pub returns : goal.returns
 returns c =
     c.loop-number.invariant
     ∙ ap (λ (ns : List ℕ). c.args.out.now.items
-    ++ join_with_byte 32 (c.args.words.now ∷ map decimal ns))
+    ++ join_with_byte 32 (c.args.words.now ∷ map numeral ns))
     (take_all c.loop-number.number-index c.args.numbers.now c.loop-number-test.false)

@@ -1,4 +1,4 @@
--- what is left of the lines is still to come
+-- the lines of the replies that are left are still to come
 use Rattle.std.proofs.Common.{◌≡◌, ◌++◌, drop}
 use Rattle.text_forms.specs.Words.{text_of}
 use Rattle.report_text.specs.Report.{reply_lines}

@@ -1,14 +1,10 @@
--- what is left of the lines is still to come
-use Rattle.std.proofs.Common.{◌≡◌, ◌++◌, length}
+-- the lines of the tasks that are left are still to come
+use Rattle.std.proofs.Common.{◌≡◌, ◌++◌, drop}
 use Rattle.text_forms.specs.Words.{text_of}
 use Rattle.report_text.specs.Report.{all_task_lines}
 use Rattle.report_text.proofs.tasks.push_tasks.Given as goal
 
-abbrev pub invariant-loop-task : goal.invariant-loop-task
-invariant-loop-task l = record {
-  split : l.fn.tasks.items ≡ l.yielded ++ l.task-iterator.rest.items;
-  count : l.number ≡ length l.yielded;
-  text : (l.out ++ l.piece.items)
-      ++ text_of (all_task_lines l.number l.task-iterator.rest.items)
-      ≡ l.initial.out ++ text_of (all_task_lines 0 l.fn.tasks.items);
-}
+abbrev pub invariant-loop-number : goal.invariant-loop-number
+invariant-loop-number l =
+    l.out.items ++ text_of (all_task_lines l.number (drop l.number l.tasks))
+    ≡ l.fn.out.items ++ text_of (all_task_lines 0 l.tasks)

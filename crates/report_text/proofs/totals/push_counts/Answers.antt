@@ -1,5 +1,6 @@
 use Rattle.std.proofs.Common.{◌≡◌, ap}
-use Rattle.std.specs.Prelude.{decimal, not}
+use Rattle.std.specs.Prelude.{not}
+use Rattle.report_text.specs.Numerals.{numeral}
 use Rattle.run_model.specs.EndedValue.{EndedValue}
 use Rattle.report_text.specs.Summary.{event_count, is_ok_reply, reply_count}
 use Rattle.report_text.proofs.Summed.{counts_pushed}
@@ -25,6 +26,6 @@ returns c =
       inodes_are,
       tasks_are,
     )
-    (counts_pushed c.args.out.now.items (decimal (event_count e.inodes))
-    (decimal (reply_count is_ok_reply e.tasks))
-    (decimal (reply_count (λ r. not (is_ok_reply r)) e.tasks)))
+    (counts_pushed c.args.out.now.items (numeral (event_count e.inodes))
+    (numeral (reply_count is_ok_reply e.tasks))
+    (numeral (reply_count (λ r. not (is_ok_reply r)) e.tasks)))

@@ -1,5 +1,5 @@
 use Rattle.std.proofs.Common.{◌≡◌, length, ap}
-use Rattle.std.specs.Prelude.{decimal}
+use Rattle.report_text.specs.Numerals.{numeral}
 use Rattle.std.specs.List.{count_by}
 use Rattle.run_model.specs.EndedValue.{EndedValue}
 use Rattle.report_text.proofs.Summed.{sizes_pushed}
@@ -20,5 +20,5 @@ returns c =
       c.as_slice-list.ensures.value,
       list_is,
     )
-    (sizes_pushed c.args.out.now.items (decimal c.args.number) (decimal c.args.script)
-    (decimal (length e.list)) (decimal (count_by (λ x. x.violation) e.list)))
+    (sizes_pushed c.args.out.now.items (numeral c.args.number) (numeral c.args.script)
+    (numeral (length e.list)) (numeral (count_by (λ x. x.violation) e.list)))

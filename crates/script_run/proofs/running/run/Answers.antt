@@ -17,4 +17,4 @@ returns g c =
     run_is c.args.script c.keeps.ensures c.in_ok-world.world c.in_ok-after.after
     c.in_ok-world.tasks.items c.turn_all.new.tasks.items c.in_ok-world.ending
     c.in_ok-world.ensures c.in_ok-after.ensures.still c.in_ok-after.ensures.run c.close.result
-    c.close.ensures.ended c.close.ensures.entries c.close.ensures.ends c.close.ensures.shown
+    c.rules_kept.ensures c.close.ensures.ended c.close.ensures.ends c.close.ensures.shown

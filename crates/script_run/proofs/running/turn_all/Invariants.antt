@@ -1,4 +1,4 @@
--- The constants that threads go by are those of the world.
+-- The frame that `run_threads` is given is that of the world.
 use Rattle.script_run.proofs.running.turn_all.Given as goal
 
 abbrev pub ghosts-run_threads : goal.ghosts-run_threads

@@ -1,4 +1,4 @@
--- What is split, and what isn't yet, are all files.
+-- The files that are split and those that remain are all files.
 use Rattle.std.proofs.Common.{◌≡◌, map, ◌++◌}
 use Rattle.script_scene.specs.Scene.{file_of, fs_of}
 use Rattle.script_scene.proofs.parts.split.Given as goal

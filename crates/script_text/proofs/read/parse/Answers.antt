@@ -7,7 +7,7 @@ use Rattle.script_text.specs.Heads.{is_over}
 use Rattle.script_text.proofs.ScriptKept.{script_is}
 use Rattle.script_text.proofs.read.parse.Goals as goal
 
--- what was read begins at the start
+-- the result is that of a text read from the start
 read_from : (text : List ℕ) (from d : Draft) → from ≡ start → text_of add is_over from text ≡ Ok d
     → IsScript d.script
 read_from text from d new is =

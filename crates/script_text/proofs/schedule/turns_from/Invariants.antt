@@ -4,7 +4,7 @@ use Rattle.script_text.specs.Tasks.{turns_from}
 use Rattle.script_text.proofs.Schedules.{onto}
 use Rattle.script_text.proofs.schedule.turns_from.Given as goal
 
--- the turns so far, and behind them those of the words that are left
+-- the turns so far, followed by those of the remaining words
 abbrev pub invariant-loop-word : goal.invariant-loop-word
 invariant-loop-word l = onto l.turns.items (turns_from l.tasks (words l.rest))
     ≡ turns_from l.tasks (words l.numbers)

@@ -1,4 +1,4 @@
--- What the closed lists and the tasks leave.
+-- The final state of the closed lists and the tasks.
 use Rattle.std.proofs.Common.{◌∙◌, List, length, refl, subst, ap, arith}
 use Rattle.std.specs.List.{list_any}
 use Rattle.std.proofs.lemmas.List.{length-map}

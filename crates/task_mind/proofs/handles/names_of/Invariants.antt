@@ -2,7 +2,7 @@ use Rattle.std.proofs.Common.{◌≡◌, ◌+◌, ◌≤◌, drop}
 use Rattle.run_model.specs.steps.Handles.{names_of}
 use Rattle.task_mind.proofs.handles.names_of.Given as goal
 
--- so many so far, and those to come
+-- the count so far plus the names still to come is the total
 abbrev pub invariant-loop-handle : goal.invariant-loop-handle
 invariant-loop-handle l = record {
   counted : l.count + names_of l.inode l.file (drop l.handle-index l.handles)

@@ -1,6 +1,10 @@
--- The tasks have gone on.
+-- The passes so far, each of which moved a task.
 use Rattle.task_runner.specs.Parts.{HaveGone}
+use Rattle.task_runner.specs.Passes.{HavePassed}
 use Rattle.task_runner.proofs.parts.run_part.Given as goal
 
 abbrev pub invariant-loop : goal.invariant-loop
-invariant-loop g l = HaveGone g.N.Name.frame l.fn.tasks l.tasks
+invariant-loop g l = record {
+  gone : HaveGone g.N.Name.frame l.fn.tasks l.tasks;
+  passes : HavePassed g.N.Name.frame l.counter l.fn.tasks l.tasks;
+}

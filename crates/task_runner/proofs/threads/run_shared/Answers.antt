@@ -1,8 +1,9 @@
--- The parts ran, and the world came back.
+-- The parts have run, and the world has been taken back.
 use Rattle.std.proofs.Common.{◌≡◌, ◌++◌, drop, length, refl, sym, take, ◌∙◌, subst}
 use Rattle.std.specs.Prelude.{All, List}
 use Rattle.task_core.specs.frames.Tasks.{IsTask, Tasked}
 use Rattle.task_runner.proofs.Going.{all_tasks, front_is, gone_named, gone_none, still_runs}
+use Rattle.task_runner.proofs.Passing.{parts_named}
 use Rattle.task_runner.proofs.threads.run_shared.Goals as goal
 
 pub returns-in_err-live-clause-tasks : goal.returns-in_err-live-clause-tasks
@@ -27,9 +28,9 @@ returns-then-run_parts-clause-tasks g c =
     let back = take c.args.tasks.now.len (new ++ drop (length new) old) in
     let is : back ≡ new =
     front_is new (drop (length new) old) c.args.tasks.now.len
-    (c.run_parts.ensures.even ∙ c.as_mut_slice.ensures.len) in
+    (c.run_parts.ensures.gone.even ∙ c.as_mut_slice.ensures.len) in
     gone_named c.args.world.frame g.N.Name.frame old c.as_mut_slice.result.now new back
-    c.requires.frame c.as_mut_slice.ensures.value is c.requires.tasks c.run_parts.ensures
+    c.requires.frame c.as_mut_slice.ensures.value is c.requires.tasks c.run_parts.ensures.gone
 
 pub returns-in_err-after-clause-tasks : goal.returns-in_err-after-clause-tasks
 returns-in_err-after-clause-tasks g c =
@@ -38,9 +39,9 @@ returns-in_err-after-clause-tasks g c =
     let back = take c.args.tasks.now.len (new ++ drop (length new) old) in
     let is : back ≡ new =
     front_is new (drop (length new) old) c.args.tasks.now.len
-    (c.run_parts.ensures.even ∙ c.as_mut_slice.ensures.len) in
+    (c.run_parts.ensures.gone.even ∙ c.as_mut_slice.ensures.len) in
     gone_named c.args.world.frame g.N.Name.frame old c.as_mut_slice.result.now new back
-    c.requires.frame c.as_mut_slice.ensures.value is c.requires.tasks c.run_parts.ensures
+    c.requires.frame c.as_mut_slice.ensures.value is c.requires.tasks c.run_parts.ensures.gone
 
 pub returns-clause-still : goal.returns-clause-still
 returns-clause-still g c =
@@ -49,11 +50,22 @@ returns-clause-still g c =
     let back = take c.args.tasks.now.len (new ++ drop (length new) old) in
     let is : back ≡ new =
     front_is new (drop (length new) old) c.args.tasks.now.len
-    (c.run_parts.ensures.even ∙ c.as_mut_slice.ensures.len) in
+    (c.run_parts.ensures.gone.even ∙ c.as_mut_slice.ensures.len) in
     still_runs c.args.world c.in_ok-after.after old back
     (c.in_ok-after.ensures ∙ sym c.requires.frame)
     (gone_named c.args.world.frame g.N.Name.frame old c.as_mut_slice.result.now new back
-    c.requires.frame c.as_mut_slice.ensures.value is c.requires.tasks c.run_parts.ensures)
+    c.requires.frame c.as_mut_slice.ensures.value is c.requires.tasks c.run_parts.ensures.gone)
+
+pub returns-clause-parts : goal.returns-clause-parts
+returns-clause-parts g c =
+    let old = c.args.tasks.now.items in
+    let new = c.run_parts.new.tasks in
+    let back = take c.args.tasks.now.len (new ++ drop (length new) old) in
+    let is : back ≡ new =
+    front_is new (drop (length new) old) c.args.tasks.now.len
+    (c.run_parts.ensures.gone.even ∙ c.as_mut_slice.ensures.len) in
+    parts_named c.args.world.frame g.N.Name.frame c.args.n old c.as_mut_slice.result.now new back
+    c.requires.frame c.as_mut_slice.ensures.value is c.run_parts.ensures.parts
 
 pub returns-clause-tasks : goal.returns-clause-tasks
 returns-clause-tasks g c =
@@ -62,6 +74,6 @@ returns-clause-tasks g c =
     let back = take c.args.tasks.now.len (new ++ drop (length new) old) in
     let is : back ≡ new =
     front_is new (drop (length new) old) c.args.tasks.now.len
-    (c.run_parts.ensures.even ∙ c.as_mut_slice.ensures.len) in
+    (c.run_parts.ensures.gone.even ∙ c.as_mut_slice.ensures.len) in
     gone_named c.args.world.frame g.N.Name.frame old c.as_mut_slice.result.now new back
-    c.requires.frame c.as_mut_slice.ensures.value is c.requires.tasks c.run_parts.ensures
+    c.requires.frame c.as_mut_slice.ensures.value is c.requires.tasks c.run_parts.ensures.gone

@@ -1,8 +1,10 @@
--- The tasks look, and rounds of them end the run.
+-- The tasks look at all lists, and rounds of them end the run.
 use Rattle.std.proofs.Common.{sym, subst}
 use Rattle.task_core.specs.frames.Frame.{Frame}
 use Rattle.task_core.specs.frames.Runs.{AreTasks}
-use Rattle.task_core.proofs.laws_of_turns.Turning.{still_more}
+use Rattle.run_model.specs.Rounds.{RoundsTo}
+use Rattle.run_model.specs.Scene.{Scene}
+use Rattle.task_core.proofs.laws_of_turns.Turning.{scene_same, still_more}
 use Rattle.task_core.specs.laws_of_turns.Runs.{moment_in}
 use Rattle.task_runner.proofs.Going.{runs_still}
 use Rattle.task_runner.proofs.Stopping.{none_stirs, settled_runs}
@@ -47,6 +49,26 @@ returns-clause-stops g c =
     none_stirs c.args.world c.settle.new.world old c.settle.new.tasks.items
     (moment_in c.run_rounds.new.world c.run_rounds.new.tasks.items) looked
     c.in_ok-run_rounds.ensures.stops
+
+pub returns-clause-parts : goal.returns-clause-parts
+returns-clause-parts g c =
+    let old = c.args.tasks.now.items in
+    let looked = still_more c.args.world c.in_ok-after.after c.settle.new.world old
+    c.run_shared.new.tasks.items c.settle.new.tasks.items c.in_ok-after.ensures.still
+    (settled_runs c.in_ok-after.after c.settle.new.world c.run_shared.new.tasks.items
+    c.settle.new.tasks.items c.settle.ensures.frame c.settle.ensures.tasks c.settle.ensures.same) in
+    record {
+      mid = c.run_shared.new.tasks.items;
+      parts = c.in_ok-after.ensures.parts;
+      back = c.settle.new.world;
+      looked = c.settle.new.tasks.items;
+      minds = c.settle.ensures.same;
+      rounds = subst (λ (x : Scene). RoundsTo x
+          (moment_in c.settle.new.world c.settle.new.tasks.items)
+          (moment_in c.run_rounds.new.world c.run_rounds.new.tasks.items))
+          (scene_same c.args.world c.settle.new.world old c.settle.new.tasks.items looked)
+          c.in_ok-run_rounds.ensures.run;
+    }
 
 pub returns-clause-tasks : goal.returns-clause-tasks
 returns-clause-tasks g c =

@@ -1,9 +1,11 @@
--- A turn more.
+-- One more turn.
 use Rattle.std.proofs.Common.{◌≡◌, ◌<◌, ◌≤◌, ℕ, List, take, length, sym, ◌∙◌, ap, subst, arith, slice_index_or}
 use Rattle.std.proofs.lemmas.List.{take_all, take_more}
 use Rattle.run_model.specs.Turns.{turns_of}
 use Rattle.task_core.specs.laws_of_turns.Runs.{HasTurned, moment_in, scene_in}
 use Rattle.task_core.proofs.laws_of_turns.Turning.{still_more, turn_is_more}
+use Rattle.task_core.proofs.SharedSteps.{on_err}
+use Rattle.task_runner.specs.Stops.{StopsIn}
 use Rattle.task_runner.proofs.Running.{no_turns, still_even}
 use Rattle.task_runner.proofs.turns.run_schedule.Goals as goal
 
@@ -24,6 +26,17 @@ pub returns-in_err-turn_at-clause-still : goal.returns-in_err-turn_at-clause-sti
 returns-in_err-turn_at-clause-still g c =
     still_more c.args.world.now c.loop-k.world c.turn_at.new.world c.args.tasks.now.items
     c.loop-k.tasks.items c.turn_at.new.tasks.items c.loop-k.invariant.still c.turn_at.ensures.still
+
+pub returns-in_err-turn_at-clause-err : goal.returns-in_err-turn_at-clause-err
+returns-in_err-turn_at-clause-err g c =
+    on_err c.from_residual.result
+    (StopsIn (scene_in c.args.world.now c.args.tasks.now.items)
+    (moment_in c.args.world.now c.args.tasks.now.items) c.args.turns.now
+    (moment_in c.turn_at.new.world c.turn_at.new.tasks.items)) (record {
+      count = c.loop-k.k-index;
+      left = omega arith;
+      run = c.in_err-turn_at.ensures.err ∙ c.loop-k.invariant.run;
+    })
 
 pub loop-k-preserved : goal.loop-k-preserved
 loop-k-preserved g c =

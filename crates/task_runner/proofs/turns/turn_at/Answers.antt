@@ -1,10 +1,12 @@
 -- The step of the task is a turn.
+use Rattle.std.proofs.Common.{◌≡◌}
 use Rattle.std.specs.Prelude.{slice_set}
-use Rattle.std.proofs.lemmas.Result.{IfOk-weaker}
+use Rattle.std.proofs.lemmas.Result.{IfOk-weaker, on_err_weaker}
 use Rattle.run_model.specs.declared.turn.Turn.{Turn}
 use Rattle.task_core.specs.laws_of_turns.Runs.{GoesTo, IsTurn}
 use Rattle.task_core.proofs.laws_of_turns.Stepping.{step_is_turn}
 use Rattle.task_runner.proofs.Running.{task_there}
+use Rattle.task_runner.proofs.Stopped.{moment_same}
 use Rattle.task_runner.proofs.turns.turn_at.Goals as goal
 
 pub returns-clause-turned : goal.returns-clause-turned
@@ -24,6 +26,15 @@ returns-clause-turned g c =
     (λ (r : Turn). IsTurn c.args.world.now c.step.new.world tasks
     (slice_set tasks c.args.k c.step.new.self) c.args.k r)
     law.1 c.step.ensures.go
+
+pub returns-clause-err : goal.returns-clause-err
+returns-clause-err g c =
+    let t = c.index_mut-task.result.now in
+    on_err_weaker c.step.result
+    (λ (w : (c.step.new.world.state ≡ c.args.world.now.state)
+    × (c.step.new.self.mind.thought ≡ t.mind.thought)).
+    moment_same c.args.world.now c.step.new.world c.args.tasks.now.items c.args.k t
+    c.step.new.self c.index_mut-task.ensures.value w.0 w.1) c.step.ensures.err
 
 pub returns-clause-still : goal.returns-clause-still
 returns-clause-still g c =

@@ -1,4 +1,4 @@
--- The constants that threads go by are those of the world.
+-- The frame that `are_apart` is given is that of the world.
 use Rattle.worked_runs.proofs.locks.inodes_are_apart.Given as goal
 
 abbrev pub ghosts-are_apart : goal.ghosts-are_apart

@@ -1,5 +1,4 @@
-use Rattle.world_close.specs.Closed.{journal_name}
 use Rattle.world_close.proofs.lists.close_lists.Given as goal
 
-abbrev pub ghost-close_stations : goal.ghost-close_stations
-ghost-close_stations g a = journal_name g.frame
+abbrev pub ghost-take_back : goal.ghost-take_back
+ghost-take_back g a = g.frame

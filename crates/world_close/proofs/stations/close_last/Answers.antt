@@ -4,8 +4,8 @@ use Rattle.task_frame.specs.World.{StationValue}
 use Rattle.world_close.proofs.Rowing.{column_others}
 use Rattle.world_close.proofs.stations.close_last.Goals as goal
 
-pub close_cell-ended-requires : goal.close_cell-ended-requires
-close_cell-ended-requires g c =
+pub close-ended-requires : goal.close-ended-requires
+close-ended-requires g c =
     let column = c.in_ok-column.ensures.column in
     let column_is = c.in_ok-column.column.items in
     subst (λ (v : StationValue). HasPasses v.cell column_is) (sym c.station.view_is)

@@ -1,4 +1,4 @@
--- The last inode comes under its lock, and those in front of it are left.
+-- The last inode is put under its lock, and those before it remain.
 use Rattle.std.proofs.Common.{◌≡◌, ℕ, ap, arith, length, length-append, subst}
 use Rattle.world_close.specs.frames.World.{IsStation}
 use Rattle.world_locks.proofs.Locking.{each_before, last_is}

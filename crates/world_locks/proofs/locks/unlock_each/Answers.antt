@@ -1,4 +1,4 @@
--- One inode more comes out of its lock.
+-- One more inode is taken out of its lock.
 use Rattle.std.proofs.Common.{ap, arith, length, length-append}
 use Rattle.std.proofs.lemmas.List.{length_push}
 use Rattle.world_locks.proofs.Locking.{each_more}

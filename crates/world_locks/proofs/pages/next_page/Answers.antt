@@ -1,4 +1,4 @@
--- The deed is one of the two that go on with a collection.
+-- The deed is one of the two that continue a collection.
 use Rattle.std.proofs.Common.{List, Some, sym, subst}
 use Rattle.std.specs.Prelude.{IfOk}
 use Rattle.ima_templates.specs.declared.entry.Entry.{Entry}

@@ -1,4 +1,4 @@
--- Behind the look the deed may be done, and what it leaves is left of the cell before it.
+-- After the look the deed may be done, and its effect is one on the cell before the look.
 use Rattle.std.proofs.Common.{ℕ, List}
 use Rattle.inode_cell.specs.Answers.{piece_told}
 use Rattle.inode_cell.specs.declared.answers.Piece.{Piece}

@@ -1,76 +1,8 @@
-use Rattle.std.proofs.Common.{◌+◌, ◌-◌, arith, refl}
-use Rattle.std.specs.Prelude.{max}
-use Rattle.world_start.proofs.Fresh.{below_max, fresh_all, fresh_as, fresh_drop, fresh_take}
+use Rattle.std.proofs.Common.{arith}
 use Rattle.world_start.proofs.cells.start_cells.Goals as goal
-
-pub returns-clause-listers : goal.returns-clause-listers
-returns-clause-listers c =
-    let book = c.in_ok-book.book in
-    fresh_take book.name (λ k. k + 1) c.args.count (c.args.count + c.args.tasks)
-    c.in_ok-book.listers.items c.split_off.new.self.items (omega arith)
-    c.in_ok-task_listers.ensures.items
-    (record {
-      even = let n = c.in_ok-book.ensures.count in omega arith;
-      each = c.in_ok-book.ensures.passes;
-    })
-
-pub returns-clause-task_listers : goal.returns-clause-task_listers
-returns-clause-task_listers c =
-    let book = c.in_ok-book.book in
-    fresh_drop book.name (λ k. k + 1) c.args.count (c.args.count + c.args.tasks) c.args.tasks
-    c.in_ok-book.listers.items c.in_ok-task_listers.task_listers.items refl
-    c.in_ok-task_listers.ensures.tail
-    (record {
-      even = let n = c.in_ok-book.ensures.count in omega arith;
-      each = c.in_ok-book.ensures.passes;
-    })
 
 pub returns-clause-task_signallers : goal.returns-clause-task_signallers
 returns-clause-task_signallers c = record {
   even = let n = c.in_ok-sems.ensures.count in omega arith;
   each = c.in_ok-sems.ensures.passes;
 }
-
-pub returns-clause-task_appenders : goal.returns-clause-task_appenders
-returns-clause-task_appenders c =
-    let name = c.in_ok-rules.rules.appended.name in
-    let callers = c.appenders_of-appenders.ensures in
-    let above = below_max (c.args.tasks + c.args.count) in
-    fresh_take name (λ k. k) c.args.tasks c.appenders_of-appenders.result
-    c.in_ok-rules.task_appenders.items c.split_off-2.new.self.items (omega arith)
-    c.in_ok-counters.ensures.items
-    (fresh_all name (λ k. k) c.appenders_of-appenders.result c.in_ok-rules.task_appenders.items
-    c.in_ok-rules.ensures.count c.in_ok-rules.ensures.passes)
-
-pub returns-clause-counters : goal.returns-clause-counters
-returns-clause-counters c =
-    let name = c.in_ok-rules.rules.appended.name in
-    let callers = c.appenders_of-appenders.ensures in
-    let above = below_max (c.args.tasks + c.args.count) in
-    fresh_take name (λ k. c.args.tasks + k) c.args.count
-    (c.appenders_of-appenders.result - c.args.tasks) c.in_ok-counters.counters.items
-    c.split_off-3.new.self.items (omega arith) c.in_ok-idle.ensures.items
-    (fresh_drop name (λ k. k) c.args.tasks c.appenders_of-appenders.result
-    (c.appenders_of-appenders.result - c.args.tasks) c.in_ok-rules.task_appenders.items
-    c.in_ok-counters.counters.items (omega arith) c.in_ok-counters.ensures.tail
-    (fresh_all name (λ k. k) c.appenders_of-appenders.result c.in_ok-rules.task_appenders.items
-    c.in_ok-rules.ensures.count c.in_ok-rules.ensures.passes))
-
-pub returns-clause-idle : goal.returns-clause-idle
-returns-clause-idle c =
-    let name = c.in_ok-rules.rules.appended.name in
-    let callers = c.appenders_of-appenders.ensures in
-    let above = below_max (c.args.tasks + c.args.count) in
-    let behind = fresh_drop name (λ k. c.args.tasks + k) c.args.count
-    (c.appenders_of-appenders.result - c.args.tasks)
-    (max 1 (c.args.tasks + c.args.count) - (c.args.tasks + c.args.count))
-    c.in_ok-counters.counters.items c.in_ok-idle.idle.items (omega arith)
-    c.in_ok-idle.ensures.tail
-    (fresh_drop name (λ k. k) c.args.tasks c.appenders_of-appenders.result
-    (c.appenders_of-appenders.result - c.args.tasks) c.in_ok-rules.task_appenders.items
-    c.in_ok-counters.counters.items (omega arith) c.in_ok-counters.ensures.tail
-    (fresh_all name (λ k. k) c.appenders_of-appenders.result c.in_ok-rules.task_appenders.items
-    c.in_ok-rules.ensures.count c.in_ok-rules.ensures.passes)) in
-    fresh_as name (λ k. c.args.tasks + (c.args.count + k)) (λ k. c.args.tasks + c.args.count + k)
-    (max 1 (c.args.tasks + c.args.count) - (c.args.tasks + c.args.count))
-    c.in_ok-idle.idle.items (λ k. omega arith) behind

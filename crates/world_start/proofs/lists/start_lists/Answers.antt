@@ -1,9 +1,10 @@
-use Rattle.std.proofs.Common.{◌≡◌, ℕ, ◌+◌, ◌-◌, ◌<◌, [], List, length, arith, sym, subst, ◌∙◌, ap}
+use Rattle.std.proofs.Common.{◌≡◌, ℕ, ◌+◌, ◌-◌, ◌<◌, [], List, length, map, refl, arith, sym, subst, ◌∙◌, ap}
 use Rattle.std.specs.Prelude.{All, max}
 use Rattle.grow_list.specs.Shown.{Passed}
 use Rattle.ima_templates.specs.declared.entry.Entry.{Entry}
 use Rattle.policy_cell.specs.declared.cell.RuleEntry.{RuleEntry}
 use Rattle.policy_text.specs.RuleValue.{RuleValue}
+use Rattle.world_close.specs.frames.Tasks.{PassesValue}
 use Rattle.world_deeds.specs.Parts.{frame_by}
 use Rattle.world_start.specs.Start.{IsFrameOf}
 use Rattle.world_start.specs.Started.{AreFresh}
@@ -96,52 +97,49 @@ returns-clause-passes c =
     let k = c.in_ok-cells.cells in
     let n : c.len-count.result ≡ length c.args.inodes.items =
     omega (arith, c.len-count.ensures, c.args.inodes.ok) in
-    let p = c.in_ok-passes.ensures in
-    let w = c.new-columns.ensures in
+    let p = c.in_ok-stations.ensures in
+    let passes = c.in_ok-stations.passes.items in
     first_passes c.args.settings c.args.boot c.args.inodes.items c.args.supers.items c.args.tasks
     c.new-seats.result c.in_ok-stations.stations.items k.book k.sems k.rules
-    c.in_ok-stations.ensures.stations c.in_ok-passes.passes.items
-    c.in_ok-stations.rows.items k.task_signallers.items k.task_listers.items
-    k.task_appenders.items (p.rows ∙ w.rows) (p.sems ∙ w.sems) (p.book ∙ w.book)
-    (p.rules ∙ w.rules) c.in_ok-stations.ensures.rows e.task_signallers
+    p.stations passes (map (λ (q : PassesValue). q.inodes) passes) k.task_signallers.items
+    k.task_listers.items k.task_appenders.items refl p.sems p.book p.rules p.rows
+    e.task_signallers
     (subst (λ (m : ℕ). AreFresh k.book.name (λ j. m + j + 1) c.args.tasks k.task_listers.items)
     n e.task_listers) e.task_appenders
 
-pub start_stations-requires-clause-places : goal.start_stations-requires-clause-places
-start_stations-requires-clause-places c =
+pub start_inodes-requires-clause-places : goal.start_inodes-requires-clause-places
+start_inodes-requires-clause-places c =
     ap length c.new-seats.ensures.places ∙ c.requires.even
 
-pub start_stations-requires-clause-listers : goal.start_stations-requires-clause-listers
-start_stations-requires-clause-listers c =
+pub start_inodes-requires-clause-listers : goal.start_inodes-requires-clause-listers
+start_inodes-requires-clause-listers c =
     let e = c.in_ok-cells.ensures in
     let k = c.in_ok-cells.cells in
     let n : c.len-count.result ≡ length c.args.inodes.items =
     omega (arith, c.len-count.ensures, c.args.inodes.ok) in
     ap length c.new-seats.ensures.listers ∙ e.listers.even ∙ n
 
-pub start_stations-requires-clause-counters : goal.start_stations-requires-clause-counters
-start_stations-requires-clause-counters c =
+pub start_inodes-requires-clause-counters : goal.start_inodes-requires-clause-counters
+start_inodes-requires-clause-counters c =
     let e = c.in_ok-cells.ensures in
     let k = c.in_ok-cells.cells in
     let n : c.len-count.result ≡ length c.args.inodes.items =
     omega (arith, c.len-count.ensures, c.args.inodes.ok) in
     ap length c.new-seats.ensures.counters ∙ e.counters.even ∙ n
 
-pub start_stations-requires-clause-unused : goal.start_stations-requires-clause-unused
-start_stations-requires-clause-unused c =
+pub start_inodes-requires-clause-unused : goal.start_inodes-requires-clause-unused
+start_inodes-requires-clause-unused c =
     let e = c.in_ok-cells.ensures in
     let k = c.in_ok-cells.cells in
     subst (λ (l : List (Passed Entry)). All (λ (q : Passed Entry). q.mine ≡ []) l)
     (sym c.new-seats.ensures.listers)
     (unused k.book.name (λ j. j + 1) c.len-count.result k.listers.items e.listers)
 
-pub gather-requires : goal.gather-requires
-gather-requires c =
-    let e = c.in_ok-cells.ensures in
-    let w = c.new-columns.ensures in
-    let rows = ap length w.rows ∙ c.in_ok-stations.ensures.rows.0 in
-    record {
-      sems = ap length w.sems ∙ e.task_signallers.even ∙ sym rows;
-      book = ap length w.book ∙ e.task_listers.even ∙ sym rows;
-      rules = ap length w.rules ∙ e.task_appenders.even ∙ sym rows;
-    }
+pub start_inodes-requires-clause-signallers : goal.start_inodes-requires-clause-signallers
+start_inodes-requires-clause-signallers c = c.in_ok-cells.ensures.task_signallers.even
+
+pub start_inodes-requires-clause-task_listers : goal.start_inodes-requires-clause-task_listers
+start_inodes-requires-clause-task_listers c = c.in_ok-cells.ensures.task_listers.even
+
+pub start_inodes-requires-clause-appenders : goal.start_inodes-requires-clause-appenders
+start_inodes-requires-clause-appenders c = c.in_ok-cells.ensures.task_appenders.even

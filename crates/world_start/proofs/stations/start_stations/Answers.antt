@@ -3,12 +3,11 @@ use Rattle.std.specs.Prelude.{All, List}
 use Rattle.std.proofs.lemmas.List.Elements.{All-head}
 use Rattle.ima_templates.specs.declared.entry.Entry.{Entry}
 use Rattle.inode_events.specs.declared.image.Image.{Image}
-use Rattle.inode_events.specs.declared.settings.Settings.{Settings}
 use Rattle.inode_events.specs.declared.told.Event.{Event}
 use Rattle.grow_list.specs.Shown.{Passed}
 use Rattle.world_close.specs.frames.World.{StationValue}
 use Rattle.world_close.proofs.Listing.{all_at}
-use Rattle.world_start.specs.Started.{AreRows, IsFile, IsStarted, StartsBefore}
+use Rattle.world_start.specs.Started.{AreRows, IsFile, StartsBefore}
 use Rattle.world_start.proofs.Starting.{rows_more, started_all, started_more, started_none}
 use Rattle.world_start.proofs.stations.start_stations.Goals as goal
 
@@ -44,7 +43,7 @@ loop-file-preserved c =
           c.next-seat.new.self stations c.in-Some.file c.next-seat.result.place
           c.next-seat.result.listed c.next-seat.result.counted s c.in-Some.ensures.items
           c.next-seat.ensures.places c.next-seat.ensures.listers c.next-seat.ensures.counters
-          (subst (λ (x : Settings). IsStarted x c.args.tasks s) c.in_ok-copy.ensures e.station)
+          e.station
           e.file e.place e.listed e.counted old.before);
       rows = subst (λ (l : List StationValue). AreRows l c.args.tasks
           c.share_out.new.rows.items) (sym c.in_ok-push.ensures.items)

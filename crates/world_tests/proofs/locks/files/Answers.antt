@@ -1,4 +1,4 @@
--- Both are files.
+-- Both files are ones that a world may have.
 use Rattle.std.proofs.Common.{◌≡◌, ℕ, All, List, [], ◌∷◌, ◌++◌, length, sym, ◌∙◌, ap, subst}
 use Rattle.std.proofs.lemmas.List.Elements.{All-cons, All-nil}
 use Rattle.inode_events.specs.declared.image.Image.{Image}

@@ -1,4 +1,4 @@
--- the pieces so far
+-- The result has the bytes of the pieces passed so far.
 use Rattle.std.proofs.Common.{◌≡◌, take}
 use Rattle.std.specs.List.{flat_map}
 use Rattle.ima_io.proofs.pieces.Pieces.joined.Given as goal

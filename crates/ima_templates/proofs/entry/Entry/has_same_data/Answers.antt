@@ -1,4 +1,4 @@
--- At one template the fields decide.
+-- Under the same template, comparing the fields decides.
 use Rattle.std.proofs.Common.{rules, ◌≡◌, ap, subst, sym, ◌∙◌}
 use denote.Enum.Bare.{same_true}
 use Rattle.pcr_bank.specs.meta.contracts.measurement.Template.{the_type}

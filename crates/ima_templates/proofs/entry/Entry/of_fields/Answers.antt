@@ -1,4 +1,4 @@
--- The digests that are kept are those of the fields.
+-- The stored digests are the template digests of the fields.
 use Rattle.std.proofs.Common.{◌∙◌}
 use Rattle.pcr_bank.specs.hashes.Hash.{hash}
 use Rattle.pcr_bank.specs.hashes.declared.algo.Algo.TheVariants.{Sha1, Sha256}

@@ -35,7 +35,7 @@ enter-requires-clause-known c =
       labelled = c.mends-mends.result;
     })
 
--- memory ran out
+-- the invariant holds if memory ran out, since nothing changed
 pub invariant_of-self : goal.invariant_of-self
 invariant_of-self c = rw c.in_err-mend_on.ensures.err c.self-2.invariant
 

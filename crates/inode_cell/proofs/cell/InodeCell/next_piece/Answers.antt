@@ -10,7 +10,7 @@ use Rattle.inode_cell.proofs.GrantLemmas.{none_open, piece_open}
 use Rattle.inode_cell.proofs.Guarding.{next_is_small}
 use Rattle.inode_cell.proofs.cell.InodeCell.next_piece.Goals as goal
 
--- the deed may be done behind the journal that is kept
+-- the deed may be done next in the journal that the cell keeps
 may : (inside v : CellValue) (d : Deed) → inside ≡ v → May v.inode (past v.list) d
     → May inside.inode (past inside.list) d
 may inside v d e m = subst (λ (w : CellValue). May w.inode (past w.list) d) (sym e) m

@@ -20,7 +20,7 @@ pub enter-requires-clause-told : goal.enter-requires-clause-told
 enter-requires-clause-told c = placed_back c.self.inside.kept.inode (past c.self.inside.kept.list)
     (Added 0) c.args.deed c.args.told (change c).told
 
--- memory ran out
+-- the invariant holds if memory ran out, since nothing changed
 pub invariant_of-self : goal.invariant_of-self
 invariant_of-self c = rw c.in_err-rewrite.ensures.err c.self.invariant
 

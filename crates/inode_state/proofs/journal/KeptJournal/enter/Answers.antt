@@ -16,12 +16,12 @@ use Rattle.inode_state.specs.Fields.{inode_in}
 use Rattle.inode_state.specs.Value.{KeptValue, birth_in}
 use Rattle.inode_state.proofs.journal.KeptJournal.enter.Goals as goal
 
--- the list with the event more has a length of 64 bits
+-- the length of the list with the event appended fits in 64 bits
 fits : (list new : List Event) (e : Event) (n : ℕ) → new ≡ list ++ e ∷ [] → n ≡ length new
     → n < 2 ^ 64 → length list + 1 < 2 ^ 64
 fits list new e n l is small = omega (arith, ap length l, length_push list e)
 
--- and the event at its end
+-- the last element of the list is the event that was appended
 there : (list new : List Event) (e x : Event) (n : ℕ) → new ≡ list ++ e ∷ [] → n ≡ length new
     → Some x ≡ slice_get new (n - 1) → x ≡ e
 there list new e x n l is at =
@@ -43,7 +43,7 @@ advance-requires c =
       room = search rules;
     }
 
--- the birth stays, and so do path and settings
+-- the birth, the path and the settings stay
 birth : (c : goal.After-advance) → birth_in c.push-place.new.self.list
     ≡ birth_in c.self.inside.journal.list
 birth c = ap birth_in c.push-place.ensures.list

@@ -61,7 +61,7 @@ invariant_of-kept c =
     ∙ c.reserve.ensures.list.callers ∙ c.in_ok-journal.ensures.list.2)) (omega arith))
     (c.born-state.ensures i nobody)
 
--- as many passes as tasks, before and after they are shown the birth
+-- there are as many passes as tasks, before and after they see the birth
 rest : (c : goal.After-show) → length c.remove-own.new.self.items ≡ c.args.tasks
 rest c =
     let longer : length c.in_ok-journal.passes.items ≡ suc (length c.remove-own.new.self.items) =

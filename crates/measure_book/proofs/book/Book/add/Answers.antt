@@ -1,4 +1,4 @@
--- The book with one entry more.
+-- The book after one more entry keeps its invariant.
 use Rattle.std.proofs.Common.{◌≡◌, ℕ, [], ◌∷◌, ◌++◌, Option, None, refl, sym, ap, subst, ◌∙◌}
 use Rattle.grow_list.specs.Shown.{Grown}
 use Rattle.ima_templates.specs.IsEntry.{IsEntry}

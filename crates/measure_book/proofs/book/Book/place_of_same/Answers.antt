@@ -1,4 +1,4 @@
--- The walk goes through the bucket of the entry's key, from the last place to the first.
+-- The walk visits the bucket of the entry's key, from the last index to the first.
 use Rattle.std.proofs.Common.{◌≡◌, ◌<◌, ℕ, suc, false, length, sym, ap, subst, ◌∙◌, arith, Option, None, Some}
 use Rattle.std.proofs.lemmas.List.{length-map}
 use Rattle.grow_list.specs.Shown.{Grown}

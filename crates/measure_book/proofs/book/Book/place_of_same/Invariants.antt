@@ -1,4 +1,4 @@
--- The candidate lies in the bucket, and the walk from it leads to the place.
+-- The candidate is in the bucket, and the walk from it on leads to the result.
 use Rattle.std.proofs.Common.{◌≡◌, length}
 use Rattle.measure_book.specs.Key.{stands_at}
 use Rattle.measure_book.specs.Places.{last_below}

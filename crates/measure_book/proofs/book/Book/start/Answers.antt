@@ -1,4 +1,4 @@
--- The own pass is the first of those that the list gives, and adds the first entry.
+-- The book's own pass is the first of those that the list creates, and it adds the first entry.
 use Rattle.std.proofs.Common.{◌≡◌, List, [], ◌∷◌, ◌++◌, length, refl, sym, ap, subst, ◌∙◌, arith}
 use Rattle.grow_list.specs.Shown.{Passed, fresh}
 use Rattle.grow_list.specs.Shown.{HasEach}

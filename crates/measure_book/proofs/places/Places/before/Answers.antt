@@ -1,4 +1,4 @@
--- The place has a key, and the link beside it is that of the key's bucket.
+-- The entry at the index has a key, and its link leads to the previous index in that key's bucket.
 use Rattle.std.proofs.Common.{◌≡◌, ◌<◌, true, sym, subst, ◌∙◌, arith, length, None}
 use Rattle.std.proofs.lemmas.List.{get_or_read}
 use Rattle.measure_book.specs.Places.{PlacesValue, last_below, meets}

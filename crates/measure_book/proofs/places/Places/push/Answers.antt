@@ -1,4 +1,4 @@
--- The table with one key more.
+-- The table after one more key keeps its invariant.
 use Rattle.std.proofs.Common.{rules, ◌≡◌, ℕ, ◌+◌, ◌*◌, ◌≤◌, List, ◌∷◌, [], ◌++◌, length, sym, ap, subst, ◌∙◌, Option}
 use Rattle.std.proofs.lemmas.List.{with_items_is}
 use Rattle.measure_book.specs.Places.{PlacesValue, displaced, linked}

@@ -1,4 +1,4 @@
--- The wider table has the keys so far.
+-- The wider table has the keys passed so far.
 use Rattle.std.proofs.Common.{◌≡◌, ◌*◌, take}
 use Rattle.measure_book.proofs.places.Places.reserve.Given as goal
 

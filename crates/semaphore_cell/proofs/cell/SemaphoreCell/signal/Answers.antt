@@ -1,4 +1,4 @@
--- The cell with one post or one wait more.
+-- The cell with one more post or wait.
 use Rattle.std.proofs.Common.{◌≡◌, ℕ, ◌+◌, ◌-◌, ◌<◌, ◌≤◌, length, All, cond, get_or, Some, None, refl, sym, ap, subst, ◌∙◌, arith}
 use Rattle.std.specs.Prelude.{nat_lt}
 use Rattle.std.proofs.lemmas.Bool.{lt-ltb}
@@ -48,7 +48,7 @@ invariant_of-self c =
     c.push-place.ensures.list c.push-place.ensures.numbers c.push-place.ensures.kept.0
     c.push-place.ensures.kept.1 refl
 
--- with something left, a wait is told that it is done
+-- a wait for a semaphore above 0 is done
 may_wait : (n : ℕ) → 0 < n → cond (nat_lt 0 n) (Some told.Done) None ≡ Some told.Done
 may_wait n some = ap (λ b. cond b (Some told.Done) None) (lt-ltb 0 n some)
 
@@ -67,7 +67,7 @@ invariant_of-self-then-self-sem-gt0 c =
     (λ s. left_wait s c.in-Wait.sem c.args.who (past c.self.inside.journal.list)) refl)
     c.push.ensures.list c.push.ensures.numbers c.push.ensures.kept.0 c.push.ensures.kept.1 refl
 
--- the entries of the pass stand in the journal
+-- the entries of the pass lie within the journal
 below_both : (g h : Grown Event) (p q : Passed Event) → g ≡ h → p ≡ q
     → All (λ x. x.0 < length h.list) q.mine
     → All (λ x. x.0 < length g.list) p.mine

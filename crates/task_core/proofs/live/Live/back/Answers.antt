@@ -1,4 +1,4 @@
--- The lists that come out of their locks make a world of the same constants.
+-- The lists that are taken out of their locks make a world with the same constants.
 use Rattle.std.proofs.Common.{sym, subst}
 use Rattle.task_frame.specs.Frame.{Frame}
 use Rattle.world_ended.specs.closes.Closed.{AreIdle}

@@ -1,4 +1,4 @@
--- The step that is due is ready, and what became of it is a turn on the lists that it met.
+-- The step that is due is ready, and the turn is one on the lists that it met.
 use Rattle.std.proofs.Common.{None, refl}
 use Rattle.inode_events.specs.declared.deed.Deed.TheVariants as deed
 use Rattle.inode_events.specs.declared.told.Told.TheVariants as told

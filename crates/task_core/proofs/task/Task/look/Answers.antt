@@ -1,4 +1,4 @@
--- A look at all lists of the world keeps the task and the world.
+-- A look at all lists of the world preserves the task and the world.
 use Rattle.std.proofs.Common.{◌∙◌, ap}
 use Rattle.task_core.proofs.Looks.{frame_looked, idle_looked, look_names, look_opens, looked_made, looked_still, parts_looked, state_looked}
 use Rattle.task_core.specs.WorldFields.{frame_in, world_of}

@@ -1,4 +1,4 @@
--- A task that has made no step is one of each world whose passes it has.
+-- A task that has made no step is a task of every world whose passes it has.
 use Rattle.task_core.proofs.Fresh.{new_task}
 use Rattle.task_core.proofs.task.Task.new.Goals as goal
 

@@ -1,4 +1,4 @@
--- Behind its turn the task is one of the world still.
+-- After its turn the task is still one of the world.
 use Rattle.std.proofs.Common.{◌≡◌, ◌∙◌, ap, sym, subst}
 use Rattle.std.specs.Option.{option_copied}
 use Rattle.task_core.proofs.Turns.{blocked_still, left_still, moved_still, over_still, task_same}

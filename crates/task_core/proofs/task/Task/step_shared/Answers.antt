@@ -1,5 +1,4 @@
--- Behind its turn the task is one of the world still, and the turn was one on the lists that it
--- met.
+-- After its turn the task is still one of the world, and the turn was one on the lists that it met.
 use Rattle.std.proofs.Common.{◌≡◌, ◌∙◌, ap, refl, sym, subst}
 use Rattle.std.specs.Prelude.{Ok}
 use Rattle.std.specs.Option.{option_copied}

@@ -5,12 +5,12 @@ use Rattle.run_model.specs.History.{call_at, who_at}
 use Rattle.task_core.specs.TaskFields.{who_of}
 use Rattle.task_core.proofs.task.Task.who.Goals as goal
 
--- nothing is made of nothing
+-- the map of an absent option is absent
 absent : {X W : Type 0} (o : Option X) (f : X → W) → is_none o ≡ true → None ≡ option_map f o
 absent None f h = refl
 absent (Some x) f h = cc
 
--- what is made of something, whatever it is
+-- the map of a present option is present, whatever its value
 present : {X W : Type 0} (o : Option X) (w : W) → is_none o ≡ false → Some w
     ≡ option_map (λ _. w) o
 present None w h = cc

@@ -1,4 +1,4 @@
--- A check on the inode of the number, which is there, behind two looks at the appended rules.
+-- A check on the inode of the number, which is there, after two looks at the appended rules.
 use Rattle.std.proofs.Common.{◌<◌, length, refl, arith}
 use Rattle.inode_events.specs.Checks.{no_action}
 use Rattle.inode_events.specs.declared.deed.Deed.TheVariants as deed

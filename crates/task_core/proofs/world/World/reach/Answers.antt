@@ -1,4 +1,4 @@
--- The step that is due is ready, and what became of it is a turn.
+-- The step that is due is ready, and its result is a turn.
 use Rattle.std.proofs.Common.{None, refl}
 use Rattle.inode_events.specs.declared.deed.Deed.TheVariants as deed
 use Rattle.inode_events.specs.declared.told.Told.TheVariants as told

@@ -1,4 +1,4 @@
--- The lists of a world are those of its constants.
+-- The lists of a world belong to its constants.
 use Rattle.std.proofs.Common.{◌∙◌, ap, subst}
 use Rattle.task_core.proofs.Closing.{are_rules, are_signals, are_stations, is_book}
 use Rattle.task_frame.specs.Frame.{Frame}

@@ -1,4 +1,4 @@
--- The parts are those of the frame.
+-- The parts belong to the frame.
 use Rattle.task_core.proofs.world.World.start.Goals as goal
 
 pub invariant_of-world : goal.invariant_of-world

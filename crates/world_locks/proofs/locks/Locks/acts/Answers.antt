@@ -1,5 +1,5 @@
 -- A deed on the inode whose lock is held.
-use Rattle.std.proofs.Common.{◌≡◌, ◌<◌, ◌≤◌, ◌∙◌, ap, arith, length}
+use Rattle.std.proofs.Common.{◌≡◌, ◌∙◌, ap}
 use Rattle.task_mind.specs.Steps.{deed_in}
 use Rattle.world_locks.proofs.Opening.{deed_opened, pass_of, ready_of}
 use Rattle.world_locks.specs.Kept.{NumberedStation}

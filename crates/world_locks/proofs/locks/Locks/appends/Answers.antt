@@ -1,4 +1,4 @@
--- A rule that was appended by the task's pass of the rules.
+-- A rule appended by the task's pass of the rules.
 use Rattle.world_locks.proofs.Opening.{appends_opened}
 use Rattle.world_locks.proofs.locks.Locks.appends.Goals as goal
 

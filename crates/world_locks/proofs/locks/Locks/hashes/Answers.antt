@@ -1,4 +1,5 @@
--- A page that is hashed behind the lock, as a deed that met the measurement list as it was seen.
+-- A page that is hashed after the lock is released, as a deed that met the measurement list as its
+-- task last saw it.
 use Rattle.std.proofs.Common.{◌≡◌, ◌∙◌, Ok, Err, Some, None, ap}
 use Rattle.std.proofs.lemmas.Result.{err_from_is_err_and}
 use Rattle.task_mind.specs.Steps.{deed_in}

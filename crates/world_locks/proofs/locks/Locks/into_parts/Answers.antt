@@ -1,4 +1,4 @@
--- The lists that come out of their locks have the constants.
+-- The lists that are taken out of their locks have the same constants.
 use Rattle.world_locks.proofs.Locking.{frame_kept}
 use Rattle.world_locks.proofs.locks.Locks.into_parts.Goals as goal
 

@@ -1,4 +1,4 @@
--- A check of the inode under its lock, behind two looks at the appended rules.
+-- A check of the inode under its lock, after two looks at the appended rules.
 use Rattle.std.proofs.Common.{◌<◌, List, length, subst, sym}
 use Rattle.inode_events.specs.Checks.{no_action}
 use Rattle.inode_events.specs.declared.deed.Deed.TheVariants as deed

@@ -1,4 +1,4 @@
--- A page is taken of the inode under its lock.
+-- A page of the inode under its lock is taken.
 use Rattle.std.proofs.Common.{ℕ, List, [], refl, subst, sym}
 use Rattle.std.specs.Prelude.{Result}
 use Rattle.std.specs.declared.alloc.AllocError.{AllocError}

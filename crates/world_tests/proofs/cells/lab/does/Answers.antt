@@ -1,4 +1,4 @@
--- What a step leaves of the names.
+-- A step keeps the names of the journal and of the pass.
 use Rattle.std.proofs.Common.{[]}
 use Rattle.world_tests.proofs.cells.lab.does.Goals as goal
 

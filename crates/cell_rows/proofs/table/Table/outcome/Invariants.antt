@@ -1,7 +1,0 @@
-use Rattle.cell_rows.specs.Sound.{IsRoom}
-use Rattle.cell_rows.proofs.table.Table.outcome.Given as goal
-
-abbrev pub invariant-loop-line : goal.invariant-loop-line
-invariant-loop-line l =
-    (goal.iterator-loop-line).can_next l.line-iterator ×
-    (goal.iterator-loop-line).is_finite l.line-iterator × IsRoom l.room

@@ -1,5 +1,0 @@
-use Rattle.rule_laws.proofs.Risen.{law_rise_by_look}
-use Rattle.rule_laws.proofs.rise_by_look.Goals as goal
-
-pub returns : goal.returns
-returns c = law_rise_by_look

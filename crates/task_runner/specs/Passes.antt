@@ -1,0 +1,106 @@
+-- How threads run the tasks of a world that they share: in parts, by passes over each part.
+use Rattle.std.specs.Prelude.{◌≡◌, ℕ, zero, suc, ◌*◌, ◌<◌, ◌≤◌, ◌⊎◌, Bool, true, false, List, length, Option, Some, None, slice_get, slice_set}
+use Rattle.std.specs.Fork.{slice_chunk}
+use Rattle.std.specs.List.{list_any}
+use Rattle.run_model.specs.Rounds.{RoundsTo, is_moved}
+use Rattle.run_model.specs.declared.turn.Turn.{Turn}
+use Rattle.task_core.specs.Shared.{StepsTo}
+use Rattle.task_core.specs.ends.Settled.{HaveSameMinds}
+use Rattle.task_core.specs.frames.Frame.{Frame}
+use Rattle.task_core.specs.frames.Tasks.{Tasked}
+use Rattle.task_core.specs.frames.World.{WorldValue}
+use Rattle.task_core.specs.laws_of_turns.Runs.{moment_in, scene_in}
+use Rattle.world_locks.specs.Met.{mines_of}
+
+-- ---- one step
+
+-- the task made no turn: it is where it was, and no list has an entry more of it
+pub record HasStayed (t t2 : Tasked) : Type 0 where
+  pub number : t2.number ≡ t.number
+  pub program : t2.mind.program ≡ t.mind.program
+  pub thought : t2.mind.thought ≡ t.mind.thought
+  pub mines : mines_of t2.passes ≡ mines_of t.passes
+
+-- the task made a turn with this answer, or none
+abbrev pub SteppedBy : Frame → Tasked → Tasked → Option Turn → Type 0
+SteppedBy frame t t2 (Some r) = StepsTo frame t t2 r
+SteppedBy frame t t2 None = HasStayed t t2
+
+-- task k made a turn with this answer, or none, and the others are as they were
+pub record StepsAt (frame : Frame) (old new : List Tasked) (k : ℕ) (r : Option Turn)
+    : Type 0 where
+  pub before : Tasked
+  pub after : Tasked
+  pub at : slice_get old k ≡ Some before
+  pub written : new ≡ slice_set old k after
+  pub step : SteppedBy frame before after r
+
+-- ---- one pass
+
+-- the first tasks made a turn each, with these answers, and the others none
+pub record HaveStepped (frame : Frame) (old new : List Tasked) (turns : List Turn)
+    : Type 0 where
+  pub even : length new ≡ length old
+  pub each : (k : ℕ) (t t2 : Tasked) → slice_get old k ≡ Some t → slice_get new k ≡ Some t2
+      → SteppedBy frame t t2 (slice_get turns k)
+
+-- the first k tasks made a turn each, and the others none; `moved` says whether one of them moved
+pub record IsPass (frame : Frame) (old new : List Tasked) (k : ℕ) (moved : Bool)
+    : Type 0 where
+  pub turns : List Turn
+  pub count : length turns ≡ k
+  pub made : HaveStepped frame old new turns
+  pub moves : moved ≡ list_any is_moved turns
+
+-- some first tasks made a turn each, and at least one task made none
+pub record IsInPass (frame : Frame) (old new : List Tasked) : Type 0 where
+  pub count : ℕ
+  pub moved : Bool
+  pub left : count < length old
+  pub pass : IsPass frame old new count moved
+
+-- ---- a part
+
+-- n passes over all tasks, each of which moved one
+abbrev pub HavePassed : Frame → ℕ → List Tasked → List Tasked → Type 0
+HavePassed frame zero old new = new ≡ old
+HavePassed frame (suc n) old new = (mid : List Tasked)
+    × (HavePassed frame n old mid × IsPass frame mid new (length mid) true)
+
+-- a part that is over: passes that each moved a task, and a last one that moved none
+pub record IsPartOver (frame : Frame) (old new : List Tasked) : Type 0 where
+  pub count : ℕ
+  pub mid : List Tasked
+  pub before : HavePassed frame count old mid
+  pub last : IsPass frame mid new (length mid) false
+
+-- a part that ran out of memory: passes that each moved a task, and some first turns of the next
+pub record IsPartStopped (frame : Frame) (old new : List Tasked) : Type 0 where
+  pub count : ℕ
+  pub mid : List Tasked
+  pub before : HavePassed frame count old mid
+  pub next : IsInPass frame mid new
+
+-- a part that is over or ran out of memory
+abbrev pub PartEnds : Frame → List Tasked → List Tasked → Type 0
+PartEnds frame old new = IsPartOver frame old new ⊎ IsPartStopped frame old new
+
+-- the tasks were cut into at most n parts of this size, and each part has ended
+pub record HaveRunInParts (frame : Frame) (n : ℕ) (old new : List Tasked) : Type 0 where
+  pub size : ℕ
+  pub few : length old ≤ n * size
+  pub each : (k : ℕ) → k * size < length old
+      → PartEnds frame (slice_chunk old size k) (slice_chunk new size k)
+
+-- ---- the run
+
+-- The tasks have run in at most n parts. Then each has looked at all lists of the world that was
+-- taken back, and rounds of all tasks have ended the run.
+pub record HasRunOnThreads (world after : WorldValue) (n : ℕ) (old new : List Tasked)
+    : Type 0 where
+  pub mid : List Tasked
+  pub parts : HaveRunInParts world.frame n old mid
+  pub back : WorldValue
+  pub looked : List Tasked
+  pub minds : HaveSameMinds mid looked
+  pub rounds : RoundsTo (scene_in world old) (moment_in back looked) (moment_in after new)

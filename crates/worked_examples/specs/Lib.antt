@@ -1,0 +1,10 @@
+pub mod Shared
+pub mod Merged
+pub mod Unmodified
+pub mod Covered
+pub mod Served
+pub mod Ended
+pub mod Laws
+pub mod Labels
+pub mod Access
+pub mod Calls

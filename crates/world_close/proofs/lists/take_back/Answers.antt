@@ -1,0 +1,43 @@
+use Rattle.std.proofs.Common.{ℕ, List, ◌++◌, length, ap, subst, sym, ◌∙◌}
+use Rattle.std.proofs.lemmas.List.{length-map}
+use Rattle.grow_list.specs.Shown.{Passed}
+use Rattle.inode_events.specs.declared.told.Event.{Event}
+use Rattle.task_frame.specs.Tasks.{PassesValue}
+use Rattle.world_close.specs.Closed.{ClosedValue, journal_name}
+use Rattle.world_close.specs.Rows.{AreNamed, RowsFit}
+use Rattle.world_close.proofs.Listing.{are_named, rows_fit}
+use Rattle.world_close.proofs.lists.take_back.Goals as goal
+
+-- the requires, in order: stations, count, passes
+pub close_stations-requires : goal.close_stations-requires
+close_stations-requires g c =
+    let stations = c.requires.0 in
+    let count = c.requires.1.0 in
+    let passes = c.requires.1.1 in
+    let rows = c.in_ok-parted.ensures.rows in (
+      subst (λ (l : List (List (Passed Event))). RowsFit (length c.args.stations.items)
+          (journal_name g.frame) l) (sym rows)
+          (rows_fit g.frame c.args.passes.items (length c.args.stations.items) stations.even
+          passes),
+      subst (λ (n : ℕ). AreNamed (journal_name g.frame) n c.args.stations.items)
+          (sym (ap length rows ∙ length-map c.args.passes.items (λ (p : PassesValue). p.inodes)))
+          (are_named g.frame c.args.stations.items (length c.args.passes.items) count stations),
+    )
+
+pub returns : goal.returns
+returns g c =
+    let inodes = ap (λ (v : ClosedValue). v.inodes) c.closed.view_is
+    ∙ c.in_ok-closed.ensures.inodes_are in
+    let book = ap (λ (v : ClosedValue). v.book) c.closed.view_is in
+    let counters = ap (λ (v : ClosedValue). v.rules) c.closed.view_is
+    ∙ c.in_ok-closed.ensures.rules_are in
+    record {
+      book = c.in_ok-closed.closed.book;
+      closed = c.in_ok-closed.ensures.closed;
+      inodes_are = inodes;
+      listers_are = c.in_ok-listers.ensures
+          ∙ (λ i. book i ++ c.in_ok-parted.ensures.book i);
+      signals_are = c.in_ok-parted.ensures.sems;
+      appenders_are = c.in_ok-appenders.ensures
+          ∙ (λ i. c.in_ok-parted.ensures.rules i ++ counters i ++ c.args.idle.items);
+    }

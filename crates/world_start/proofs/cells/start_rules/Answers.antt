@@ -1,0 +1,48 @@
+use Rattle.std.proofs.Common.{◌+◌, ◌-◌, arith, refl}
+use Rattle.std.specs.Prelude.{max}
+use Rattle.world_start.proofs.Fresh.{below_max, fresh_all, fresh_as, fresh_drop, fresh_take}
+use Rattle.world_start.proofs.cells.start_rules.Goals as goal
+
+pub returns-clause-task_appenders : goal.returns-clause-task_appenders
+returns-clause-task_appenders c =
+    let name = c.in_ok-rules.rules.appended.name in
+    let callers = c.appenders_of-appenders.ensures in
+    let above = below_max (c.args.tasks + c.args.count) in
+    fresh_take name (λ k. k) c.args.tasks c.appenders_of-appenders.result
+    c.in_ok-rules.task_appenders.items c.split_off.new.self.items (omega arith)
+    c.in_ok-counters.ensures.items
+    (fresh_all name (λ k. k) c.appenders_of-appenders.result c.in_ok-rules.task_appenders.items
+    c.in_ok-rules.ensures.count c.in_ok-rules.ensures.passes)
+
+pub returns-clause-counters : goal.returns-clause-counters
+returns-clause-counters c =
+    let name = c.in_ok-rules.rules.appended.name in
+    let callers = c.appenders_of-appenders.ensures in
+    let above = below_max (c.args.tasks + c.args.count) in
+    fresh_take name (λ k. c.args.tasks + k) c.args.count
+    (c.appenders_of-appenders.result - c.args.tasks) c.in_ok-counters.counters.items
+    c.split_off-2.new.self.items (omega arith) c.in_ok-idle.ensures.items
+    (fresh_drop name (λ k. k) c.args.tasks c.appenders_of-appenders.result
+    (c.appenders_of-appenders.result - c.args.tasks) c.in_ok-rules.task_appenders.items
+    c.in_ok-counters.counters.items (omega arith) c.in_ok-counters.ensures.tail
+    (fresh_all name (λ k. k) c.appenders_of-appenders.result c.in_ok-rules.task_appenders.items
+    c.in_ok-rules.ensures.count c.in_ok-rules.ensures.passes))
+
+pub returns-clause-idle : goal.returns-clause-idle
+returns-clause-idle c =
+    let name = c.in_ok-rules.rules.appended.name in
+    let callers = c.appenders_of-appenders.ensures in
+    let above = below_max (c.args.tasks + c.args.count) in
+    let behind = fresh_drop name (λ k. c.args.tasks + k) c.args.count
+    (c.appenders_of-appenders.result - c.args.tasks)
+    (max 1 (c.args.tasks + c.args.count) - (c.args.tasks + c.args.count))
+    c.in_ok-counters.counters.items c.in_ok-idle.idle.items (omega arith)
+    c.in_ok-idle.ensures.tail
+    (fresh_drop name (λ k. k) c.args.tasks c.appenders_of-appenders.result
+    (c.appenders_of-appenders.result - c.args.tasks) c.in_ok-rules.task_appenders.items
+    c.in_ok-counters.counters.items (omega arith) c.in_ok-counters.ensures.tail
+    (fresh_all name (λ k. k) c.appenders_of-appenders.result c.in_ok-rules.task_appenders.items
+    c.in_ok-rules.ensures.count c.in_ok-rules.ensures.passes)) in
+    fresh_as name (λ k. c.args.tasks + (c.args.count + k)) (λ k. c.args.tasks + c.args.count + k)
+    (max 1 (c.args.tasks + c.args.count) - (c.args.tasks + c.args.count))
+    c.in_ok-idle.idle.items (λ k. omega arith) behind
