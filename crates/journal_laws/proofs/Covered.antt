@@ -53,7 +53,7 @@ contains_one place v h =
     let z : h.0 ≡ 0 = omega (arith, h.1) in subst (λ (k : ℕ). get_or (place ∷ []) k v ≡ v) z h.2
 
 -- an empty list contains nothing
-contains_none : (v : ℕ) → Contains {X = ℕ} [] v → ⊥
+pub contains_none : (v : ℕ) → Contains {X = ℕ} [] v → ⊥
 contains_none v h = omega (arith, h.1)
 
 -- the violation in an event's outcome is in the list
@@ -104,10 +104,28 @@ walk_any i f b (e ∷ later) h l p =
     (longer f later b l) (λ grant placed a c d k. tt)
     (walk_any i f b later h.1 l p)
 
+-- the content is these bytes, and nothing was written since the digests in force and the open
+-- collection began
+pub record Unwritten (i : Inode) (bytes : List ℕ) (p : List Event) : Type 0 where
+  pub same : content p ≡ bytes
+  pub clean_digests : DigestsClean p (in_force i p)
+  pub clean_collecting : CollectionClean p (collecting i p)
+
+-- while the guard holds, nothing was written
+guarded_unwritten : (i : Inode) (bytes : List ℕ) (p : List Event) → Guarded i bytes p
+    → Unwritten i bytes p
+guarded_unwritten i bytes p gu =
+    record {
+      same = gu.same;
+      clean_digests = gu.clean_digests;
+      clean_collecting =
+          gu.clean_collecting;
+    }
+
 -- the entry that a take's grant names shows the content
 take_shows : (i : Inode) (list : List Entry) (f g : ℕ) (p : List Event) (bytes : List ℕ) (who : Who)
     (grant : Grant) (placed : Placed)
-    → Follows i p who (deed.Take g) (told.Grant grant) → Fresh i p → Guarded i bytes p
+    → Follows i p who (deed.Take g) (told.Grant grant) → Fresh i p → Unwritten i bytes p
     → StandsIn list (adds i (deed.Take g) (told.Grant grant) p)
     → IsFirstIn list (finds i (deed.Take g) (told.Grant grant) p) → IsMeasuredPath Ima i.path
     → All IsNamed list
@@ -142,7 +160,7 @@ take_shows i list f g p bytes who grant placed h fr gu st fi path kept names_it 
 finish_shows : (i : Inode) (list : List Entry) (f g : ℕ) (p : List Event) (bytes : List ℕ)
     (who : Who) (grant : Grant) (placed : Placed)
     → Follows i p who (deed.Finish g) (told.Grant grant) → Stages i p → Fresh i p
-    → Guarded i bytes p
+    → Unwritten i bytes p
     → StandsIn list (adds i (deed.Finish g) (told.Grant grant) p)
     → IsFirstIn list (finds i (deed.Finish g) (told.Grant grant) p) → IsMeasuredPath Ima i.path
     → All IsNamed list
@@ -178,9 +196,9 @@ finish_shows i list f g p bytes who grant placed h s fr gu st fi path kept names
           (subst (λ (o : Option Listed). IsFirstIn list o) founds fi) path kept
 
 -- the entry that any grant of the file names shows the content
-event_shows : (i : Inode) (list : List Entry) (f : ℕ) (p : List Event) (bytes : List ℕ) (who : Who)
+pub event_shows : (i : Inode) (list : List Entry) (f : ℕ) (p : List Event) (bytes : List ℕ) (who : Who)
     (d : Deed) (t : Told) (grant : Grant) (placed : Placed)
-    → Follows i p who d t → Stages i p → Fresh i p → Guarded i bytes p
+    → Follows i p who d t → Stages i p → Fresh i p → Unwritten i bytes p
     → StandsIn list (adds i d t p) → IsFirstIn list (finds i d t p) → IsMeasuredPath Ima i.path
     → All IsNamed list
     → t ≡ told.Grant grant → grant_places f d t ≡ place_of placed ∷ [] → grant.placed ≡ Some placed
@@ -237,14 +255,15 @@ walk_guarded i list f check before bytes (e ∷ later) h l v alive reads listed 
           (places_granted f later) h.0 lt
           (λ grant placed a n names_it k. event_shows i list f (later ++ check ∷ before) bytes e.who
           e.deed e.told grant placed h.0 (stages i (later ++ check ∷ before) h.1)
-          (freshness_lem i (later ++ check ∷ before) h.1) ih.0 listed.0 listed.1 path kept a n
+          (freshness_lem i (later ++ check ∷ before) h.1)
+          (guarded_unwritten i bytes (later ++ check ∷ before) ih.0) listed.0 listed.1 path kept a n
           names_it) ih.1,
     )
 
 -- ---- at the check
 
 -- a reader isn't a writer
-reader_no_writer : (o : Option How) → holds is_reader o ≡ true → holds is_writer o ≡ false
+pub reader_no_writer : (o : Option How) → holds is_reader o ≡ true → holds is_writer o ≡ false
 reader_no_writer None h = refl
 reader_no_writer (Some (how.Read create)) h = refl
 reader_no_writer (Some (how.Write read create)) h = cc
@@ -276,7 +295,7 @@ quiet_check r w place must g func action rules t m e v = at (nat_lt 0 w) refl wh
       )
 
 -- without a writer, nothing was written since the collection of the digests in force began
-clean_digests_at : (i : Inode) (p : List Event) → writers p ≡ 0 → (o : Option Digests)
+pub clean_digests_at : (i : Inode) (p : List Event) → writers p ≡ 0 → (o : Option Digests)
     → DigestsIs i p o → DigestsClean p o
 clean_digests_at i p none None h = tt
 clean_digests_at i p none (Some x) h = at (modified_since x.begin p) refl where
@@ -285,7 +304,7 @@ clean_digests_at i p none (Some x) h = at (modified_since x.begin p) refl where
   at false e = e
 
 -- without a writer, nothing was written since the open collection began
-clean_collecting_at : (i : Inode) (p : List Event) → writers p ≡ 0 → (o : Option Collection)
+pub clean_collecting_at : (i : Inode) (p : List Event) → writers p ≡ 0 → (o : Option Collection)
     → CollectionIs i p o → CollectionClean p o
 clean_collecting_at i p none None h = tt
 clean_collecting_at i p none (Some c) h = at (modified_since c.begin p) refl where

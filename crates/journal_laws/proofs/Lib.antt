@@ -13,6 +13,7 @@ pub mod Guards
 pub mod Holding
 pub mod Covering
 pub mod Covered
+pub mod Executed
 pub mod Bridge
 pub mod Owning
 pub mod OwnHolding

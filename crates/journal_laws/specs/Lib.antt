@@ -1,5 +1,6 @@
 pub mod Standing
 pub mod Laws
+pub mod Executed
 pub mod Own
 pub mod OwnLaws
 pub mod Asked

@@ -7,6 +7,7 @@
 #![tactic(auto)]
 
 ghost use Rattle.journal_laws.specs.Laws.{Admission, CloseLabel, CollectionStands, Coverage, EarlierLegal, FewCollections, Freshness, HeldAsCounted, StageCollects};
+ghost use Rattle.journal_laws.specs.Executed.{Executed, NeverBoth};
 
 /// Every earlier part of a legal journal is legal.
 pub fn earlier_legal()
@@ -58,4 +59,16 @@ pub fn few_collections()
 /// violation of the inode from the check or later.
 pub fn covered_reads()
     ensures { Coverage }
+{}
+
+/// No inode is executed and open for writing at the same time.
+pub fn never_executed_and_written()
+    ensures { NeverBoth }
+{}
+
+/// While a file is held as an execution, as what the kernel reads itself is, nothing disturbs it:
+/// no write is made or tried from its count on, its checks tell no violation, each entry that its
+/// grants name has the digest of its content, and in mode enforce they admit it exactly if it fits.
+pub fn executed_is_undisturbed()
+    ensures { Executed }
 {}

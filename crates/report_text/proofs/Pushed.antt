@@ -148,7 +148,7 @@ inode_pushed o t g k i =
 
 -- ---- a reply
 
-reply_filled : (r : Reply) → is_filled (reply_words r) ≡ true
+pub reply_filled : (r : Reply) → is_filled (reply_words r) ≡ true
 reply_filled reply.Done = refl
 reply_filled (reply.Bytes n digest) = refl
 reply_filled reply.NotFound = refl

@@ -19,6 +19,8 @@ mod totals;
 
 pub use call_steps as steps;
 pub use print::{report, report_in_pieces};
+pub use push::{push_number, push_numbers};
 pub use run_model as model;
 pub use std::alloc::AllocError as OutOfMemory;
+pub use tasks::push_reply;
 pub use totals::summary;

@@ -22,6 +22,7 @@ pub fn cut(alloc: Global, out: &mut Pieces, piece: Vec<u8>) -> Result<Vec<u8>, O
     Ok(Vec::new(alloc))
 }
 
+/// Prints a number in decimal.
 #[tactic(auto, using(crate::proofs::Numerals::numeral_of_word))]
 pub fn push_number(out: &mut Vec<u8>, n: u64) -> Result<(), OutOfMemory>
     ensures { OnOk result (out.new.items ≡ out.old.items ++ numeral n) }
@@ -29,7 +30,7 @@ pub fn push_number(out: &mut Vec<u8>, n: u64) -> Result<(), OutOfMemory>
     out.extend_from_slice(Buffer::new().format(n).as_bytes())
 }
 
-// Prints the words, and then each number after a space.
+/// Prints the words, and then each number after a space.
 pub fn push_numbers(out: &mut Vec<u8>, words: &[u8], numbers: &[u64]) -> Result<(), OutOfMemory>
     ensures { OnOk result (out.new.items
         ≡ out.old.items ++ join_with_byte 32 (words.now ∷ map numeral numbers.now)) }

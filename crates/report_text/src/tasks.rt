@@ -79,7 +79,8 @@ fn push_answer(out: &mut Vec<u8>, call: u64, reply: &Reply) -> Result<(), OutOfM
     Ok(())
 }
 
-fn push_reply(out: &mut Vec<u8>, reply: &Reply) -> Result<(), OutOfMemory>
+/// Prints a reply: its word, and what belongs to it.
+pub fn push_reply(out: &mut Vec<u8>, reply: &Reply) -> Result<(), OutOfMemory>
     ensures { OnOk result (out.new.items
         ≡ out.old.items ++ join_with_byte 32 (reply_words reply.now)) }
 {

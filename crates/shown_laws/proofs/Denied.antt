@@ -45,28 +45,28 @@ use Rattle.shown_laws.specs.Places.{Stood}
 -- ---- lists
 
 -- an element of the front is at the same place of the whole list
-get_left : {A : Type 0} (xs ys : List A) (k : ℕ) (x : A) → slice_get xs k ≡ Some x
+pub get_left : {A : Type 0} (xs ys : List A) (k : ℕ) (x : A) → slice_get xs k ≡ Some x
     → slice_get (xs ++ ys) k ≡ Some x
 get_left [] ys k x h = absurd (cc)
 get_left (y ∷ xs) ys zero x h = h
 get_left (y ∷ xs) ys (suc k) x h = get_left xs ys k x h
 
 -- an element of the whole list is in the front or in the rest
-get_parts : {A : Type 0} (xs ys : List A) (k : ℕ) (x : A) → slice_get (xs ++ ys) k ≡ Some x
+pub get_parts : {A : Type 0} (xs ys : List A) (k : ℕ) (x : A) → slice_get (xs ++ ys) k ≡ Some x
     → (slice_get xs k ≡ Some x) ⊎ ((j : ℕ) × (slice_get ys j ≡ Some x))
 get_parts [] ys k x h = inr (k, h)
 get_parts (y ∷ xs) ys zero x h = inl h
 get_parts (y ∷ xs) ys (suc k) x h = get_parts xs ys k x h
 
 -- a list has an element at each place below its length
-get_within : {A : Type 0} (xs : List A) (k : ℕ) → k < length xs
+pub get_within : {A : Type 0} (xs : List A) (k : ℕ) → k < length xs
     → (x : A) × (slice_get xs k ≡ Some x)
 get_within [] k l = absurd (omega arith)
 get_within (x ∷ xs) zero l = (x, refl)
 get_within (x ∷ xs) (suc k) l = get_within xs k (omega arith)
 
 -- the map of a list has the image of an element at the same place
-map_get : {A B : Type 0} (f : A → B) (xs : List A) (k : ℕ) (x : A) → slice_get xs k ≡ Some x
+pub map_get : {A B : Type 0} (f : A → B) (xs : List A) (k : ℕ) (x : A) → slice_get xs k ≡ Some x
     → slice_get (map f xs) k ≡ Some (f x)
 map_get f [] k x h = absurd (cc)
 map_get f (y ∷ xs) zero x h = λ i. Some (f (same_Some y x h i))
@@ -74,7 +74,7 @@ map_get f (y ∷ xs) (suc k) x h = map_get f xs k x h
 
 -- ---- there is a reply to each answered call, and to no other
 
-abbrev IsEven : Thought → Type 0
+abbrev pub IsEven : Thought → Type 0
 IsEven t = length t.replies ≡ t.mind.at
 
 even_next : (c : Call) (t : Thought) (g : Progress) (place : ℕ) (n : Next) → IsEven t
@@ -89,7 +89,7 @@ even_step mode p t a (Some c) e =
     even_next c t (progress_of p.cred.admin c t.mind) a.place
     (next mode c (progress_of p.cred.admin c t.mind).due a.told a.action) e
 
-even : (mode : Mode) (p : Program) (h : List Answer) → IsEven (thought mode p h)
+pub even : (mode : Mode) (p : Program) (h : List Answer) → IsEven (thought mode p h)
 even mode p [] = refl
 even mode p (a ∷ h) =
     even_step mode p (thought mode p h) a (call_at p (thought mode p h).mind) (even mode p h)
@@ -256,7 +256,7 @@ record IsDeedOf (who : Who) (o : Option Step) (a : Answer) (x : ℕ × Event) : 
   pub is : o ≡ Some step
   pub event_is : event who (deed_in step) a.told ≡ x.1
 
-one_there : (b : Bool) (y : ℕ × Event) (j : ℕ) (x : ℕ × Event)
+pub one_there : (b : Bool) (y : ℕ × Event) (j : ℕ) (x : ℕ × Event)
     → slice_get (if b then y ∷ [] else []) j ≡ Some x → y ≡ x
 one_there true y zero x h = same_Some y x h
 one_there true y (suc j) x h = absurd (cc)
@@ -412,7 +412,7 @@ denied_by scene run n p t i k journal who d g file cause r s at here caller gran
               (subst (λ (u : Thought). Answers before.mind.at (reply.Denied cause) u) stands later)
 
 -- an event of the past is at some place of the journal
-place_of : (journal later p : List Event) (e : Event) → past journal ≡ later ++ e ∷ p
+pub place_of : (journal later p : List Event) (e : Event) → past journal ≡ later ++ e ∷ p
     → (k : ℕ) × (slice_get journal k ≡ Some e)
 unfolding past
 place_of journal later p e is = (

@@ -1,14 +1,13 @@
 -- The laws of journals at each place of a shown run.
-use Rattle.std.proofs.Common.{◌≡◌, ℕ, zero, suc, List, [], ◌∷◌, ◌++◌, Option, Some, None, refl, sym, ◌∙◌, ap, subst, arith}
+use Rattle.std.proofs.Common.{◌≡◌, ℕ, zero, suc, List, [], ◌∷◌, Option, Some, None, refl, sym, ◌∙◌, ap, subst, arith}
 use Rattle.std.specs.Prelude.{All, slice_get}
 use Rattle.std.proofs.lemmas.List.Elements.{All-contains, All-head, All-tail}
 use Rattle.std.proofs.lemmas.Option.{get_or_from_slice_get, same_Some, slice_get_within}
 use Rattle.ima_templates.specs.Path.{IsMeasuredPath}
-use Rattle.ima_templates.specs.declared.entry.Entry.{Entry}
 use Rattle.inode_meta.specs.declared.measurement.Template.TheVariants.{Ima}
 use Rattle.inode_events.specs.Inode.{Inode}
 use Rattle.inode_events.specs.Legal.{EachFollows, IsBorn, Legal}
-use Rattle.inode_events.specs.Listing.{AreIn, IsListed, mentions}
+use Rattle.inode_events.specs.Listing.{IsListed}
 use Rattle.inode_events.specs.Merged.{Journal}
 use Rattle.inode_events.specs.Integrity.{attributes, label, label_in, labelled_with}
 use Rattle.inode_events.specs.Past.{past}
@@ -23,6 +22,7 @@ use Rattle.journal_laws.proofs.Admitting.{admits_lem}
 use Rattle.journal_laws.proofs.Closings.{labelled}
 use Rattle.journal_laws.proofs.Counting.{few_takes}
 use Rattle.journal_laws.proofs.Covered.{covered, follows_at}
+use Rattle.journal_laws.proofs.Executed.{listed_before}
 use Rattle.journal_laws.proofs.Labels.{label-put}
 use Rattle.journal_laws.specs.Laws.{labelled_close}
 use Rattle.journal_laws.proofs.Fresh.{fresh_at}
@@ -63,12 +63,6 @@ legal_there scene ending run inode p shown s = (
       (journal_has (λ (j : Journal). Legal j.inode j.events) scene scene.stations run.journals
       s.number s.station s.journal shown.legal s.at s.journal_at).1)),
 )
-
--- if all events are listed, so are those before any place
-listed_before : (inode : Inode) (list : List Entry) (later p : List Event)
-    → IsListed inode list (later ++ p) → IsListed inode list p
-listed_before inode list [] p listed = listed
-listed_before inode list (e ∷ later) p listed = listed_before inode list later p listed.2
 
 pub listed_there : (scene : Scene) (ending : Ending) (run : Run) (inode : Inode) (p : List Event)
     → IsShown scene ending run → Stood scene run inode p → IsListed inode run.list p

@@ -1,0 +1,5 @@
+pub mod Tracking
+pub mod Following
+pub mod Journals
+pub mod Sound
+mod Examples
