@@ -4,25 +4,25 @@
 Tries the edits bench/damage/CRATE/NAME.edit, all or those named: each damages a definition or a
 body of CRATE, and the proofs must refuse it. They have the form of must-fail edits: a line
 `file: PATH`, with a PATH below src/, specs/ or proofs/ of the crate, and then pairs of lines
-`old: TEXT` and `new: TEXT`. Each old TEXT stands in that file exactly once; further pairs apply to
+`old: TEXT` and `new: TEXT`. Each old TEXT is in that file exactly once; further pairs apply to
 what the earlier ones made.
 
 The edits are made one at a time in a copy of the repository, where `rt check` then runs, and put
 back. A line for each edit says `refused`, `GOT THROUGH`, `not judged: WHY` or `cannot be applied:
 WHY`; the lines of a crate come once all its edits were tried and the crate was proved again without
 them. The last line counts them: what cannot be applied isn't judged either. The status is 0 where
-every edit was refused, 2 where the arguments are wrong or there is no rt, and else 1.
+every edit was refused, 2 if the arguments are wrong or there is no rt, and else 1.
 
---above    where the crate itself lets an edit through, also check the crates that stand on it,
+--above    if the crate itself lets an edit through, also check the crates that use it,
            directly or not, in the order of crates.txt, until one refuses it: `refused by CRATE`
 --jobs N   try the edits of N crates at a time (1), each in a copy of its own; a check takes 1 to
            4 GB of memory
 --list     only say of each edit which file it damages and whether it can be applied, with status 1
-           where one can't; nothing is checked
+           if one can't; nothing is checked
 
 It is quickest after `./imakern` or `rt all check` has proved the crates, since the copies take
-along what those left in crates/*/out (as hard links, where the temporary folder is on the same file
-system; TMPDIR chooses it). What isn't there is proved first, in each copy anew. While it runs,
+along what those left in crates/*/out (as hard links, if the temporary folder is on the same file
+system; TMPDIR chooses it). What isn't there is proved first, in each copy. While it runs,
 nothing else should change or prove the crates. Ctrl-C ends the checks and removes the copies.
 """
 import argparse
@@ -65,7 +65,7 @@ class Stopped(Exception):
 # ---- crates and edits
 
 def read_crates():
-    """Returns, for each crate of crates.txt in its order, the crates of the file it stands on."""
+    """Returns, for each crate of crates.txt in its order, the crates of the file that it uses."""
     with open(os.path.join(TOP, 'crates.txt'), encoding='utf-8') as file:
         rows = [line.partition('#')[0].partition(':') for line in file]
     found = {row[0].split()[0]: row[2].split() for row in rows if row[0].strip()}
@@ -73,7 +73,7 @@ def read_crates():
 
 
 def all_below(crates, name):
-    """Returns the crates that this one stands on, directly or not."""
+    """Returns the crates that this one uses, directly or not."""
     found, left = set(), [name]
     while left:
         new = set(crates[left.pop()]) - found
@@ -119,7 +119,7 @@ class Edit:
                 old = line[len('old: '):]
             elif line.startswith('new:'):
                 if not path or not old:
-                    raise BadEdit("a 'new:' line stands before any 'file:' or 'old:' line")
+                    raise BadEdit("a 'new:' line is before any 'file:' or 'old:' line")
                 new = line[len('new:'):]
                 found.append((path, old, new[1:] if new.startswith(' ') else new))
                 old = ''
@@ -269,7 +269,7 @@ class Copy:
                     if os.path.isdir(source):
                         shutil.copytree(source, target, copy_function=link_or_copy)
                 except OSError:
-                    # it is proved anew
+                    # it is proved once more
                     shutil.rmtree(target, ignore_errors=True)
             self.taken.add(name)
 

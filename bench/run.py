@@ -5,7 +5,7 @@ It needs the two programs crates/imakern/out/imakern and crates/kit_hashes/out/k
 `rt ci` leaves there (`./imakern` builds the first, `rt run </dev/null` in crates/kit_hashes the
 second). Each time is the mean user time over RUNS rounds (7), in which the program and the hashes
 take turns, so that other work on the machine slows both. It prints a line for each measurement, and
-ends with status 1 where one is above its limit. bench/README.md says what is measured and why.
+ends with status 1 if one is above its limit. bench/README.md says what is measured and why.
 """
 import os, re, resource, select, subprocess, sys, tempfile, time
 from collections import Counter
@@ -19,7 +19,7 @@ HEAD = ['imakern 1', EXT4]
 FILE = 'file /f%d fs=0 ino=%d gen=1 uid=0 gid=0 mode=100644 content=fill:%d:%02x'
 TASK = 'task uid=0 euid=0 gid=0 egid=0'
 RULE = 'rule measure func=FILE_CHECK mask=MAY_READ'
-PIECE = 4096  # a collection reads a file by so many bytes
+PIECE = 4096  # a collection reads a file in pieces of this many bytes
 failed = []
 
 

@@ -8,9 +8,9 @@ to no byte and lengthens it again to 262,144 bytes, 250 times, and closes it. In
 task opens a file of its own of three bytes, writes, reads, sets its length and closes it, 100
 times. RUNS (41) runs on four threads, as many on one, and as many times four runs on one thread
 each at once make a block; three blocks follow one another. It prints medians and least times, and
-ends with status 1 where a ratio of medians is above its limit. Run it with nothing else on the
+ends with status 1 if a ratio of medians is above its limit. Run it with nothing else on the
 machine: a quarter of what four runs at once take is the least that the machine gave just then, and
-where that is more than a quarter of one run, others had a part of its processors.
+if that is more than a quarter of one run, others had a part of its processors.
 """
 import os, statistics, subprocess, sys, time
 

@@ -2,7 +2,8 @@
 """bench/tutorial.py [PROGRAM [PAGE]]: does what the tutorial says, and compares what is printed.
 
 PROGRAM (default crates/imakern/out/imakern) is on the PATH as `imakern`, in a temporary folder in
-which `examples` and `bench` are the repository's. PAGE (default docs/TUTORIAL.md) is read from top to bottom:
+which `examples` and `bench` are the repository's. PAGE (default docs/TUTORIAL.md) is read from top
+to bottom:
 
 - A fenced block with two words after its fence, as ```script first.script, is written to the file
   that the second word names.
