@@ -67,7 +67,7 @@ pub fn never_executed_and_written()
 {}
 
 /// While a file is held as an execution, as what the kernel reads itself is, nothing disturbs it:
-/// no write is made or tried from its count on, its checks tell no violation, each entry that its
+/// no write is made or tried from its count on, its checks find no violation, each entry that its
 /// grants name has the digest of its content, and in mode enforce they admit it exactly if it fits.
 pub fn executed_is_undisturbed()
     ensures { Executed }
