@@ -2,10 +2,11 @@
 """bench/examples.py [write] [PROGRAM]: are the examples and what is stored of them the same?
 
 Each script of examples/ has its report beside it (NAME.report), and each other example its output
-(NAME.output): a policy that of `policy`, a list text that of `list`, and labels.script that of
-`label`. threads.script has none, since its runs differ. In a policy the comment
-`# refused (CAUSE): LINE` says that `policy` refuses LINE, and why. All of this is compared with
-what the program prints.
+(NAME.output): a policy that of `policy`, a list text that of `list`, a text of buffers that of
+`buffers`, a carry text that of `carry`, and labels.script, audit.script and loads.script those of
+`label`, `audit` and `loads`. threads.script has none, since its runs differ. In a policy the
+comment `# refused (CAUSE): LINE` says that `policy` refuses LINE, and why. All of this is compared
+with what the program prints.
 
 The gate compares it too. crates/worked_runs sees only its own folder, so the family
 data/examples.cases repeats each example with its output, status and note, and its stdout names
@@ -24,8 +25,9 @@ WORKED = os.path.join(TOP, 'crates', 'worked_runs')
 WRITE = sys.argv[1:2] == ['write']
 BUILT = os.path.join(TOP, 'crates', 'imakern', 'out', 'imakern')
 PROGRAM = (sys.argv[2 if WRITE else 1:] or [BUILT])[0]
-COMMANDS = {'script': 'run', 'policy': 'policy', 'list': 'list'}
-OTHER_COMMAND = {'labels.script': 'label'}
+COMMANDS = {'script': 'run', 'policy': 'policy', 'list': 'list', 'buffers': 'buffers',
+            'carry': 'carry'}
+OTHER_COMMAND = {'labels.script': 'label', 'audit.script': 'audit', 'loads.script': 'loads'}
 RUNS_DIFFER = {'threads.script'}
 differing = []
 

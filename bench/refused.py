@@ -1,13 +1,13 @@
 #!/usr/bin/env python3
 """bench/refused.py [--most N] [PROGRAM]: runs with each of their allocations refused once.
 
-It runs three scripts and `gen 1`, each as often as it allocates memory, and refuses one allocation
+It runs a few cases and `gen 1`, each as often as it allocates memory, and refuses one allocation
 a run (refused.c, which `cc` compiles into the temporary folder). A run has to end with status 7,
 nothing written and `out of memory`, or as it does when nothing is refused. With --most only N
 allocations of each are refused, spread evenly over the run.
 
-The program is crates/imakern/out/imakern, which ./imakern builds, or PROGRAM. The scripts are cases
-of crates/worked_runs. A line for each command counts the ends; status 1: a run ended otherwise.
+The program is crates/imakern/out/imakern, which ./imakern builds, or PROGRAM. The cases are of
+crates/worked_runs. A line for each command counts the ends; status 1: a run ended otherwise.
 """
 import argparse, os, subprocess, sys, tempfile
 from concurrent.futures import ThreadPoolExecutor
@@ -20,6 +20,8 @@ CASES = [
     ('measuring', 'a read of a measured file'),
     ('appraisal', 'a file with a new label is read while another writer closes it'),
     ('repeats', 'a reader and then a writer'),
+    ('buffers', 'each caller by its own ids, on four threads'),
+    ('audit', "a close writes the label by the script's algorithm"),
 ]
 
 
@@ -32,12 +34,13 @@ def arguments():
 
 
 def case(family, name):
-    """The input of a case, and how it has to end when nothing is refused."""
+    """The words and the input of a case, and how it has to end when nothing is refused."""
     with open(os.path.join(DATA, family + '.cases'), 'rb') as file:
         text = file.read()
-    _, part = text.split(b'>>> ' + name.encode() + b'\nrun\n')
+    _, part = text.split(b'>>> ' + name.encode() + b'\n')
+    words, part = part.split(b'\n', 1)
     script, wanted = part.split(b'--- writes 0\n')[:2]
-    return script, (0, wanted.split(b'>>> ')[0], b'')
+    return words.decode().split(' '), script, (0, wanted.split(b'>>> ')[0], b'')
 
 
 class Command:
@@ -86,8 +89,8 @@ def main():
                         os.path.join(BENCH, 'refused.c')], check=True)
         well = True
         for family, name in CASES:
-            script, wanted = case(family, name)
-            command = Command(given, library, ['run'], script)
+            words, script, wanted = case(family, name)
+            command = Command(given, library, words, script)
             if command.usual != wanted:
                 sys.exit('%s: ends otherwise than the case' % name)
             well = command.refuse_each(name) and well

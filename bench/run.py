@@ -1,5 +1,6 @@
 #!/usr/bin/env python3
-"""bench/run.py [RUNS]: what `run` and `gen` cost beside the hashes that they have to compute.
+"""bench/run.py [RUNS]: what `run`, `gen`, `buffers` and `carry` cost beside the hashes that they
+compute, and what `loads` costs beside `run`.
 
 It needs the two programs crates/imakern/out/imakern and crates/kit_hashes/out/kit_hashes, which
 `rt ci` leaves there (`./imakern` builds the first, `rt run </dev/null` in crates/kit_hashes the
@@ -52,6 +53,12 @@ def small_calls(calls, count, rules=(RULE,)):
     return text(HEAD, files(count, 100), rules, tasks, ['rounds'])
 
 
+def modules(calls):
+    """So many `module` calls of one small file that is measured, by 16 tasks in turn."""
+    tasks = [TASK] + ['module /f0'] * (calls // 16)
+    return text(HEAD, files(1, 100), ['rule measure func=MODULE_CHECK'], tasks * 16, ['rounds'])
+
+
 def generated(number):
     """The script that `gen NUMBER` runs, after docs/FORMATS.md."""
     x = number
@@ -76,6 +83,30 @@ def generated(number):
                 at, size = draw(1000), 1 + draw(100)
                 lines += ['open 0 /f%d w' % f, 'write 0 %d fill:%d:%02x' % (at, size, t), 'close 0']
     return text(lines, ['rounds'])
+
+
+def record(k):
+    """The carried record of an entry by MD5 with a name of one byte: 41 bytes."""
+    digest = b'md5:\0' + k.to_bytes(16, 'little')
+    data = b'\x15\0\0\0' + digest + b'\2\0\0\0a\0'
+    return b'\0\x0a\0\0\0\1' + len(data).to_bytes(4, 'little') + data
+
+
+def carry_text(count):
+    """A carry text whose list has so many entries."""
+    body = b''.join(record(k) for k in range(count))
+    form = b'IMAL\1\0\0\0' + count.to_bytes(8, 'little') + (24 + len(body)).to_bytes(8, 'little')
+    carried = 'carried hex:' + (form + body).hex()
+    return text(['imacarry 1', carried, 'boot fill:32:00', 'end'])
+
+
+def buffers(callers, each, value, rules=()):
+    """Callers that measure so many buffers each, all of them different, on one thread."""
+    lines = ['imabuffers 1'] + list(rules) + ['rule measure func=CRITICAL_DATA']
+    for c in range(callers):
+        lines.append('caller uid=0 euid=0 gid=0 egid=0')
+        lines += ['critical c%02d.%03d %s' % (c, k, value % (k % 256)) for k in range(each)]
+    return text(lines, ['threads 1'])
 
 
 # ---- what a run has to hash, from its script and its report
@@ -140,6 +171,14 @@ def needed(script, report):
     return needs
 
 
+def needed_by_buffers(count, size):
+    """The hashes of so many buffers of this size, each with a name of 7 bytes and each added: the
+    value by SHA-256, the template data and the extends by both banks."""
+    data = 4 + len('sha256:') + 1 + 32 + 4 + 7 + 1 + 4 + size
+    return Counter({('sha256', size): count, ('sha256', data): count, ('sha1', data): count,
+                    ('sha256', 64): count, ('sha1', 40): count})
+
+
 def events_of(report):
     return sum(int(n) for n in re.findall(r'(?m)^events (\d+)$', report))
 
@@ -198,18 +237,22 @@ def judge(name, value, limit, shown):
 
 def against_hashes(name, words, data, script, report):
     """The user time of a run against that of its hashes and a microsecond for each event."""
-    needs = needed(script.decode(), report)
+    of_hashes(name, words, data, needed(script.decode(), report), events_of(report), 'events')
+
+
+def of_hashes(name, words, data, needs, count, what):
+    """The user time against that of these hashes and a microsecond for each of what is counted."""
     orders = ''.join('%s %d %d\n' % (algo, size, n) for (algo, size), n in sorted(needs.items()))
     ours, theirs, idle = users((words, data), ([HASHES], orders.encode()), ([HASHES], b''))
-    hashes, events = theirs - idle, events_of(report)
-    times = ours / (hashes + events * 1e-6)
-    judge(name, times, 1.2, '%.2f times: %.1f ms for %.1f ms of hashes and %d events' % (
-        times, ours * 1e3, hashes * 1e3, events))
+    hashes = theirs - idle
+    times = ours / (hashes + count * 1e-6)
+    judge(name, times, 1.2, '%.2f times: %.1f ms for %.1f ms of hashes and %d %s' % (
+        times, ours * 1e3, hashes * 1e3, count, what))
 
 
-def memory(name, script, contents):
-    report = once([IMAKERN, 'run'], script)[0]
-    held, given = peak([IMAKERN, 'run'], script), len(script) + contents + len(report)
+def memory(name, script, contents, words=(IMAKERN, 'run')):
+    output = once(words, script)[0]
+    held, given = peak(words, script), len(script) + contents + len(output)
     judge(name, held / given, 3, '%.2f times: %.1f MB for %.1f MB' % (
         held / given, held / 1e6, given / 1e6))
 
@@ -242,6 +285,57 @@ def steps():
           '%.2f times: %.2f and %.2f us' % (costs[1] / costs[0], costs[1], costs[0]))
 
 
+def carried():
+    """A list of 48,000 entries that goes on, a list half as long, and a form that is refused."""
+    carry, count = [IMAKERN, 'carry'], 48000
+    large, half = carry_text(count), carry_text(count // 2)
+    orders = ''.join('%s %d %d\n' % (algo, size, count) for algo, size in (
+        ('sha1', 31), ('sha1', 40), ('sha256', 31), ('sha256', 64)))
+    ours, fewer, theirs, idle = users(
+        (carry, large), (carry, half), ([HASHES], orders.encode()), ([HASHES], b''))
+    times = ours / (theirs - idle + count * 1e-6)
+    judge('a carried list of 48,000 entries', times, 1.3, '%.2f times: %.1f ms for %.1f ms of '
+          'hashes' % (times, ours * 1e3, (theirs - idle) * 1e3))
+    judge('48,000 entries to 24,000', ours / fewer, 2.2, '%.2f times' % (ours / fewer))
+    output = once(carry, large)[0]
+    given, held = len(large) + 24 + 41 * count + len(output), peak(carry, large)
+    judge('memory, a carried list of 48,000 entries', held / given, 3, '%.2f times: %.1f MB for '
+          '%.1f MB' % (held / given, held / 1e6, given / 1e6))
+    bad = text(['imacarry 1', 'carried fill:4194304:49', 'boot fill:32:00', 'end'])
+    refused = users((['sh', '-c', '"$0" carry || true', IMAKERN], bad))[0]
+    judge('a form of 4,194,304 bytes that is refused', refused, 0.1, '%.3f s' % refused)
+
+
+def of_buffers():
+    """What `buffers` costs: beside its hashes, at growing numbers of buffers and of rules, and in
+    memory."""
+    command = [IMAKERN, 'buffers']
+    large = buffers(64, 128, 'fill:4096:%02x')
+    of_hashes('64 callers of 128 buffers of 4,096 bytes', command, large,
+              needed_by_buffers(8192, 4096), 8192, 'buffers')
+    memory('their memory', large, 8192 * 4096, command)
+    most, half = buffers(64, 512, 'fill:16:%02x'), buffers(64, 256, 'fill:16:%02x')
+    whole, part = users((command, most), (command, half))
+    judge('32,768 buffers to 16,384', whole / part, 2.2, '%.2f times: %.1f and %.1f ms' % (
+        whole / part, whole * 1e3, part * 1e3))
+    other = ['rule measure func=CRITICAL_DATA uid=%d' % (k + 1) for k in range(1023)]
+    many, few = [buffers(64, 512, 'fill:16:%02x', other[:k]) for k in (1023, 9)]
+    whole, part = users((command, many), (command, few))
+    judge('32,768 buffers under 1,024 rules to 10', whole / part, 1.3,
+          '%.2f times: %.1f and %.1f ms' % (whole / part, whole * 1e3, part * 1e3))
+
+
+def kernel_reads():
+    """What `loads` costs beside `run`, at growing numbers of calls, and what memory it takes."""
+    loads = (IMAKERN, 'loads')
+    most, half = modules(32768), modules(16384)
+    whole, part, alone = users((loads, most), (loads, half), ((IMAKERN, 'run'), most))
+    for other, spent, limit in (('`run`', alone, 1.2), ('16,384', part, 2.2)):
+        judge('`loads` of 32,768 modules to ' + other, whole / spent, limit,
+              '%.2f times: %.1f and %.1f ms' % (whole / spent, whole * 1e3, spent * 1e3))
+    memory('memory of `loads` of 32,768 modules', most, 100, loads)
+
+
 def main():
     for program in (IMAKERN, HASHES):
         if not os.path.exists(program):
@@ -268,7 +362,11 @@ def main():
     memory('memory of 64 files of 262,144 bytes', large, 64 * 262144)
     memory('memory of 32,768 calls', small, 64 * 100)
     steps()
+    of_buffers()
+    carried()
+    kernel_reads()
     sys.exit('above the limit: ' + '; '.join(failed) if failed else 0)
 
 
-main()
+if __name__ == '__main__':
+    main()

@@ -2,15 +2,16 @@
 """bench/threads.py [RUNS]: what `threads 4` takes beside `threads 1`, by wall time.
 
 It needs crates/imakern/out/imakern, which `rt ci` or `./imakern` builds. There are four scripts of
-64 tasks each. In two of them each task opens, reads and closes a file of 262,144 bytes, once each a
-file of its own and once all the same one. In the third each task opens a file of its own, cuts it
-to no byte and lengthens it again to 262,144 bytes, 250 times, and closes it. In the fourth each
-task opens a file of its own of three bytes, writes, reads, sets its length and closes it, 100
-times. RUNS (41) runs on four threads, as many on one, and as many times four runs on one thread
-each at once make a block; three blocks follow one another. It prints medians and least times, and
-ends with status 1 if a ratio of medians is above its limit. Run it with nothing else on the
-machine: a quarter of what four runs at once take is the least that the machine gave just then, and
-if that is more than a quarter of one run, others had a part of its processors.
+64 tasks each, and a text of buffers. In two of them each task opens, reads and closes a file of
+262,144 bytes, once each a file of its own and once all the same one. In the third each task opens a
+file of its own, cuts it to no byte and lengthens it again to 262,144 bytes, 250 times, and closes
+it. In the fourth each task opens a file of its own of three bytes, writes, reads, sets its length
+and closes it, 100 times. The fifth text is for `buffers`: 64 callers measure 128 buffers of 4,096
+bytes each. RUNS (41) runs on four threads, as many on one, and as many times four runs on one
+thread each at once make a block; three blocks follow one another. It prints medians and least
+times, and ends with status 1 if a ratio of medians is above its limit. Run it with nothing else on
+the machine: a quarter of what four runs at once take is the least that the machine gave just then,
+and if that is more than a quarter of one run, others had a part of its processors.
 """
 import os, statistics, subprocess, sys, time
 
@@ -33,9 +34,18 @@ def script(files, length, calls, threads):
     return ('\n'.join(lines + ['threads %d' % threads]) + '\n').encode()
 
 
+def buffers(threads):
+    lines = ['imabuffers 1', 'rule measure func=CRITICAL_DATA']
+    for caller in range(64):
+        lines.append('caller uid=0 euid=0 gid=0 egid=0')
+        lines += ['critical c%d.%d fill:4096:%02x' % (caller, k, k) for k in range(128)]
+    return ('\n'.join(lines + ['threads %d' % threads]) + '\n').encode()
+
+
 def at_once(text, count):
     begun = time.perf_counter()
-    runs = [subprocess.Popen([IMAKERN, 'run'], stdin=subprocess.PIPE, stdout=subprocess.DEVNULL)
+    command = 'buffers' if text.startswith(b'imabuffers') else 'run'
+    runs = [subprocess.Popen([IMAKERN, command], stdin=subprocess.PIPE, stdout=subprocess.DEVNULL)
             for _ in range(count)]
     for run in runs:
         run.stdin.write(text)
@@ -46,8 +56,8 @@ def at_once(text, count):
     return time.perf_counter() - begun
 
 
-def measure(name, files, length, calls, limit):
-    four, one = [script(files, length, calls, threads) for threads in (4, 1)]
+def measure(name, text, limit):
+    four, one = text(4), text(1)
     at_once(four, 1), at_once(one, 1)
     fours, ones, quarters = [], [], []
     for _ in range(3):
@@ -67,9 +77,10 @@ def measure(name, files, length, calls, limit):
 
 print('%d processors' % os.cpu_count())
 met = [
-    measure('a file each', 64, 262144, READS, 0.4),
-    measure('all on one', 1, 262144, READS, 1.3),
-    measure('cut and lengthened', 64, 262144, CUTS, 0.45),
-    measure('three bytes', 64, 3, CHANGES, 1.0),
+    measure('a file each', lambda n: script(64, 262144, READS, n), 0.4),
+    measure('all on one', lambda n: script(1, 262144, READS, n), 1.3),
+    measure('cut and lengthened', lambda n: script(64, 262144, CUTS, n), 0.45),
+    measure('three bytes', lambda n: script(64, 3, CHANGES, n), 1.0),
+    measure('64 callers of buffers', buffers, 0.4),
 ]
 sys.exit(0 if all(met) else 1)

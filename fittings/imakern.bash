@@ -11,7 +11,8 @@ _imakern() {
         compopt -o filenames 2>/dev/null # fails outside of a completion, as in a test
         mapfile -t COMPREPLY < <(compgen -f -- "$word")
     elif ((COMP_CWORD == 1)); then
-        mapfile -t COMPREPLY < <(compgen -W 'list run policy label gen' -- "$word")
+        local commands='list run policy label gen buffers carry audit loads'
+        mapfile -t COMPREPLY < <(compgen -W "$commands" -- "$word")
     fi
 }
 complete -F _imakern imakern

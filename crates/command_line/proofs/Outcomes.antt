@@ -175,7 +175,16 @@ are_words = (
       is_word (codes "label") refl refl refl (λ rest. refl) refl (λ number. refl),
       (
         is_word (codes "run") refl refl refl (λ rest. refl) refl (λ number. refl),
-        tt,
+        (
+          is_word (codes "buffers") refl refl refl (λ rest. refl) refl (λ number. refl),
+          (
+            is_word (codes "carry") refl refl refl (λ rest. refl) refl (λ number. refl),
+            (
+              is_word (codes "audit") refl refl refl (λ rest. refl) refl (λ number. refl),
+              (is_word (codes "loads") refl refl refl (λ rest. refl) refl (λ number. refl), tt),
+            ),
+          ),
+        ),
       ),
     ),
   ),

@@ -13,6 +13,10 @@ lone_commands =
     ∷ (codes "policy", command.Policy)
     ∷ (codes "label", command.Label)
     ∷ (codes "run", command.Run)
+    ∷ (codes "buffers", command.Buffers)
+    ∷ (codes "carry", command.Carry)
+    ∷ (codes "audit", command.Audit)
+    ∷ (codes "loads", command.Loads)
     ∷ []
 
 -- the command that a lone word names

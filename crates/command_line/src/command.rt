@@ -15,6 +15,14 @@ pub enum Command {
     Label,
     /// Runs a script and prints the report of its run.
     Run,
+    /// Measures the buffers of a text into one list, and prints the list and each buffer's answer.
+    Buffers,
+    /// Prints the measurement list that goes on from the one that an earlier boot left.
+    Carry,
+    /// Runs a script and prints the report of its run, and its audit trail.
+    Audit,
+    /// Runs a script and prints the report of its run, and what the kernel itself has read in it.
+    Loads,
     /// Runs the generated script of a number from 1 to 1,000,000 and prints the summary of its run.
     Gen(u32),
 }
@@ -39,6 +47,10 @@ fn named(word: &str) -> Option<Command>
         "policy" => Some(Command::Policy),
         "label" => Some(Command::Label),
         "run" => Some(Command::Run),
+        "buffers" => Some(Command::Buffers),
+        "carry" => Some(Command::Carry),
+        "audit" => Some(Command::Audit),
+        "loads" => Some(Command::Loads),
         _ => None,
     }
 }

@@ -56,6 +56,10 @@ fn program<'a>(alloc: Global) -> Result<clap::Command<'a>, OutOfMemory>
     let program = with_command(alloc, program, "policy")?;
     let program = with_command(alloc, program, "label")?;
     let program = with_command(alloc, program, "run")?;
+    let program = with_command(alloc, program, "buffers")?;
+    let program = with_command(alloc, program, "carry")?;
+    let program = with_command(alloc, program, "audit")?;
+    let program = with_command(alloc, program, "loads")?;
     with_numbered(alloc, program, "gen")
 }
 

@@ -12,14 +12,18 @@ pub record EntryValue : Type 0 where
   pub sig : List ℕ
   pub violation : Bool
 
--- an entry with these fields that isn't a violation
-abbrev pub fields : ℕ → Template → Digest → List ℕ → List ℕ → EntryValue
-fields pcr template digest name sig =
+-- an entry with these fields
+abbrev pub all_fields : ℕ → Template → Digest → List ℕ → List ℕ → Bool → EntryValue
+all_fields pcr template digest name sig violation =
     record {
       pcr = pcr;
       template = template;
       digest = digest;
       name = name;
       sig = sig;
-      violation = false;
+      violation = violation;
     }
+
+-- an entry with these fields that isn't a violation
+abbrev pub fields : ℕ → Template → Digest → List ℕ → List ℕ → EntryValue
+fields pcr template digest name sig = all_fields pcr template digest name sig false

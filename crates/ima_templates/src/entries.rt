@@ -2,6 +2,8 @@
 
 ghost use Rattle.std.specs.Prelude.{◌≡◌, ◌≢◌, ◌<◌, ◌≤◌, IfOk, length};
 ghost use Rattle.ima_templates.specs.Entries.{entry_of, violation_of};
+ghost use Rattle.ima_templates.specs.EntryValue.{all_fields};
+ghost use Rattle.ima_templates.specs.IsEntry.{IsEntry};
 ghost use Rattle.ima_templates.specs.Path.{IsMeasuredPath};
 ghost use Rattle.xattr_store.specs.Attrs.{most_value};
 
@@ -55,6 +57,35 @@ pub fn violation(
         digest: shown_digest(template, &zeros, &Digest::zeros(Algo::Sha1)),
         name: Bytes::from_slice(alloc, shown_name(template, path))?,
         sig: Bytes::from_slice(alloc, &[])?,
+        violation: true,
+        sha1: [0; 20],
+        sha256: [0; 32],
+    })
+}
+
+/// The entry with these fields, such as one that an earlier boot added to its list. Unlike
+/// [`build`] and [`violation`], which take a path, it takes the name as the entry shows it, so
+/// every entry can be made.
+pub fn restore(
+    pcr: u8,
+    template: Template,
+    digest: Digest,
+    name: Bytes,
+    sig: Bytes,
+    violation: bool,
+) -> Result<Entry, OutOfMemory>
+    requires { IsEntry (all_fields pcr template digest name sig violation) }
+    ensures { IfOk result (λ e. e ≡ all_fields pcr template digest name sig violation) }
+{
+    if !violation {
+        return Entry::of_fields(pcr, template, digest, name, sig);
+    }
+    Ok(Entry {
+        pcr,
+        template,
+        digest,
+        name,
+        sig,
         violation: true,
         sha1: [0; 20],
         sha256: [0; 32],

@@ -10,7 +10,7 @@ mod entry;
 mod shown;
 
 pub use absorb::Absorb;
-pub use entries::{build, violation};
+pub use entries::{build, restore, violation};
 pub use entry::{Entry, Placed};
 pub use pcr_bank as registers;
 pub use shown::can_show;

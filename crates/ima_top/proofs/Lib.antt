@@ -1,7 +1,8 @@
 pub mod Listed
 pub mod Paths
-pub mod Registers
+pub mod Ran
 pub mod Serving
+pub mod Tabled
 pub mod Examples
 pub mod Loading
 pub mod Through

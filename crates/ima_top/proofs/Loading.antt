@@ -6,9 +6,10 @@ use Rattle.ima_top.specs.Summarized.{IsLoaded}
 use Rattle.script_text.specs.Grammar.{script_of}
 use Rattle.script_text.specs.ScriptValue.{ScriptValue}
 use Rattle.script_words.specs.declared.fault.Fault.{Fault}
+use Rattle.script_words.specs.declared.fault.LineCause.{LineCause}
 
 -- the result of reading a text is a script with all its files, rules and tasks
-abbrev IsRead : Result ScriptValue Fault → Type 0
+abbrev IsRead : Result ScriptValue (Fault LineCause) → Type 0
 IsRead r = MatchResult r IsLoad (λ f. ⊥)
 
 pub is_loaded : (number : ℕ) (text : List ℕ) (s : ScriptValue) (size : ℕ)

@@ -1,4 +1,4 @@
--- What the status says about a command that was not done.
+-- What the status says about a command.
 use Rattle.std.proofs.Common.{◌≡◌, ◌≢◌, ℕ, ◌+◌, ◌<◌, ◌≤◌, ◌↔◌, ◌⊎◌, inl, inr, Bool, true, false, List, [], ◌++◌, Option, Some, None, Err, length, length-append, refl, sym, ap, ◌∙◌, subst, arith}
 use Rattle.std.specs.Prelude.{IfSome, IsNone, IsSome}
 use Rattle.std.specs.Io.KnownBytes.{Consumes, IsAtEnd}
@@ -139,6 +139,46 @@ served_not_done o before after old new w told s line is says i t =
     let P : ℕ → Type 0 = λ n. IfSome o (λ command. OnInput (reads command) before after
     (λ input. Serves command input n old new told)) in
     subst P (sym is) (serves_any o before after old new w told i (subst told says t))
+
+-- ---- a command that was done
+
+-- the result of a command that was done is what its status says
+done_serves : (command : Command) (input : List ℕ) (old new : Option (List ℕ))
+    (told : List ℕ → Type 0) → length input ≤ most_input + 1
+    → (exit.done ≡ exit.too_long) ↔ (most_input < length input)
+    → refusal command input ≡ None → WroteWhole command input false old new
+    → Serves command input exit.done old new told
+done_serves command input old new told asked long kept wrote = record {
+  asked = asked;
+  too_long = long;
+  fits = λ h. kept;
+  refused = λ h. absurd (omega (arith, h));
+  written = λ h. wrote;
+  written_stuck = λ h. absurd (omega (arith, h));
+  written_in_part = λ h. absurd (omega (arith, h));
+  told_cause = λ h. absurd (omega (arith, h));
+}
+
+-- what the command's result says about its input, for a command that was done
+abbrev IsDone : Option (List ℕ) → Option (List ℕ) → Option (List ℕ) → Option (List ℕ) → Command
+    → Type 0
+IsDone before after old new command = OnInput (reads command) before after (λ input.
+    (length input ≤ most_input + 1)
+    × ((exit.done ≡ exit.too_long) ↔ (most_input < length input))
+    × ((refusal command input ≡ None) × WroteWhole command input false old new))
+
+-- the status of a command that was done says what its result does
+pub served_done : (o : Option Command) (before after old new : Option (List ℕ))
+    (told : List ℕ → Type 0) → IfSome o (IsDone before after old new)
+    → IfSome o (λ command. OnInput (reads command) before after
+    (λ input. Serves command input exit.done old new told))
+served_done None before after old new told i = tt
+served_done (Some command) before after old new told i = record {
+  input = i.input;
+  given = i.given;
+  unread = i.unread;
+  holds = done_serves command i.input old new told i.holds.0 i.holds.1 i.holds.2.0 i.holds.2.1;
+}
 
 -- ---- completeness
 

@@ -8,7 +8,9 @@ pub mod Answered
 pub mod Served
 pub mod Summarized
 pub use Rattle.script_text.specs.events
+pub use Rattle.list_carry.specs as carrying
 pub use Rattle.policy_text.specs as policy
 pub use Rattle.script_run.specs.scenes
 pub use Rattle.script_run.specs.frames
 pub use Rattle.script_run.specs.starts
+pub use Rattle.audit_trail.specs as trails

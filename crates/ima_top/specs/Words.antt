@@ -2,11 +2,11 @@
 use Rattle.std.specs.Prelude.{ℕ, Bool, false, List, codes, Option, Some, None}
 use Rattle.command_line.specs.declared.command.Command.{Command}
 use Rattle.ima_top.specs.commands.Table.{reads}
-use Rattle.ima_top.specs.Line.{with_newline}
 
 -- the line that is written to the note if the words don't name a command
 abbrev pub usage_line : List ℕ
-usage_line = with_newline (codes "usage: imakern list | run | policy | label | gen N")
+usage_line =
+    codes "usage: imakern list | run | policy | label | gen N | buffers | carry | audit | loads\n"
 
 -- the words name a command that reads its input
 abbrev pub reads_input : Option Command → Bool

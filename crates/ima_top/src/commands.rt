@@ -4,11 +4,17 @@ ghost use Rattle.ima_top.specs.Answered.{Answers};
 ghost use Rattle.ima_top.specs.commands.Table.{reads, refusal, IsOutput};
 ghost use Rattle.ima_top.specs.Limits.{most_input};
 
+mod audit;
 mod bad_line;
+mod buffers;
+mod carry;
+mod entries;
 mod gen_;
 mod label;
 mod list;
+mod loads;
 mod policy;
+mod ran;
 mod run;
 
 use crate::not_done::NotDone;
@@ -19,7 +25,8 @@ use std::sync::Wait;
 use std::thread::Threads;
 
 /// The line that is written to the note if the words don't name a command.
-pub const USAGE_LINE: &[u8] = b"usage: imakern list | run | policy | label | gen N\n";
+pub const USAGE_LINE: &[u8] =
+    b"usage: imakern list | run | policy | label | gen N | buffers | carry | audit | loads\n";
 
 /// Whether the command reads its input. A command that doesn't is answered as if the input were
 /// empty.
@@ -29,6 +36,7 @@ pub fn reads(command: Command) -> bool
 {
     match command {
         Command::List | Command::Policy | Command::Label | Command::Run => true,
+        Command::Buffers | Command::Carry | Command::Audit | Command::Loads => true,
         Command::Gen(_) => false,
     }
 }
@@ -49,10 +57,14 @@ pub fn answer_input<G: Gate + Sync, R: Threads + Wait + Sync>(
 {
     let output = match command {
         Command::Run => return run::answer(rt, alloc, input, gate),
+        Command::Audit => return audit::answer(rt, alloc, &input, gate),
+        Command::Loads => return loads::answer(rt, alloc, &input, gate),
         Command::List => list::answer(alloc, &input)?,
         Command::Policy => policy::answer(alloc, &input)?,
         Command::Label => label::answer(alloc, &input)?,
+        Command::Carry => carry::answer(alloc, &input)?,
         Command::Gen(number) => gen_::answer(rt, alloc, number, gate)?,
+        Command::Buffers => buffers::answer(rt, alloc, &input, gate)?,
     };
     let output = whole(alloc, output)?;
     Ok(Answer {

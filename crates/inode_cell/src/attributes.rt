@@ -14,8 +14,8 @@ use label_values::{MAX_LABEL, write_label};
 use std::alloc::AllocError as OutOfMemory;
 use xattr_store::{Attrs, Bytes, IMA_NAME, NewValue};
 
-// A call's change of one attribute. The HMAC is renewed if EVM protects the name.
-fn change_on(
+/// A call's change of one attribute. The HMAC is renewed if EVM protects the name.
+pub fn change_on(
     evm: &Evm,
     attrs: &mut Attrs,
     meta: &Meta,
@@ -39,8 +39,13 @@ fn change_on(
     }
 }
 
-// Writes the label of a digest, and renews the HMAC.
-fn label_on(evm: &Evm, attrs: &mut Attrs, meta: &Meta, digest: &Digest) -> Result<(), OutOfMemory>
+/// Writes the label of a digest, and renews the HMAC.
+pub fn label_on(
+    evm: &Evm,
+    attrs: &mut Attrs,
+    meta: &Meta,
+    digest: &Digest,
+) -> Result<(), OutOfMemory>
     ensures ok { OnOk result (attrs.new ≡ labelled_on evm.now digest.now meta.now attrs.old) }
     ensures err { OnErr result (attrs.new ≡ attrs.old) }
 {

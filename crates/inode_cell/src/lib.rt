@@ -16,6 +16,7 @@ mod setting;
 mod writing;
 
 pub use answers::{CloseTaken, Counted, Found, Piece, Set, Taken, Wrote};
+pub use attributes::{change_on, label_on};
 pub use cell::InodeCell;
 pub use checking::Checked;
 pub use grow_list as growing;

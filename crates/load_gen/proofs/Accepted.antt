@@ -3,6 +3,7 @@ use Rattle.std.proofs.Common.{◌≡◌, ℕ, true, false, List, [], ◌++◌, M
 use Rattle.std.specs.Prelude.{codes}
 use Rattle.call_steps.specs.declared.ending.Ending.TheVariants.{Rounds}
 use Rattle.script_words.specs.declared.fault.Fault.{Fault}
+use Rattle.script_words.specs.declared.fault.LineCause.{LineCause}
 use Rattle.script_text.specs.Draft.{Draft, start}
 use Rattle.script_text.specs.Grammar.{script_of, with_head}
 use Rattle.script_text.specs.Heads.{is_over}
@@ -78,6 +79,6 @@ module _ (number : ℕ) where
       let m = whole in
       let read : script_of (lines_text m.lines) ≡ Ok m.to.script =
       text_read m.lines m.to m.reads m.is.over in
-      let P : Result ScriptValue Fault → Type 0 = λ r. MatchResult r IsLoad (λ f. ⊥) in
+      let P : Result ScriptValue (Fault LineCause) → Type 0 = λ r. MatchResult r IsLoad (λ f. ⊥) in
       let R : List ℕ → Type 0 = λ t. IsAccepted t in
       subst R m.spelled (subst P (sym read) m.is.script)

@@ -60,7 +60,7 @@ impl<T: Drop> From<AllocFailed<T>> for PolicyErr {
 }
 
 /// Why a line gave no rule, before the line's number is known.
-#[derive(Clone, Copy, Debug, PartialEq, Eq)]
+#[derive(Clone, Copy)]
 pub enum LineErr {
     /// The line doesn't conform to the grammar.
     Refused(RuleCause),

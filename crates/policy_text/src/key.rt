@@ -31,7 +31,7 @@ pub enum Key {
 }
 
 /// The form of a token after the name of its key.
-#[derive(Clone, Copy, Debug, PartialEq, Eq)]
+#[derive(Clone, Copy)]
 pub enum Shape {
     /// An arbitrary value.
     Valued,

@@ -1,23 +1,22 @@
 //! Parsing a rule, token by token.
 
-ghost use Rattle.std.specs.Prelude.{◌≡◌, ◌<◌, Some, IsTrue, ok_or, true};
+ghost use Rattle.std.specs.Prelude.{◌≡◌, IsTrue, ok_or, true};
 ghost use Rattle.text_forms.specs.Tokens.{tokens};
 ghost use Rattle.policy_text.specs.declared.fault.RuleCause.TheVariants as cause;
 ghost use Rattle.policy_text.specs.declared.key.Key.TheVariants as key;
 ghost use Rattle.policy_text.specs.Gives.{LineGives};
 ghost use Rattle.policy_text.specs.Grammar.{is_skipped, plain_rule, rule_of, with_key, with_token};
 ghost use Rattle.policy_text.specs.Key.{row, with_id};
-ghost use Rattle.policy_text.specs.RuleValue.{has_algos, is_appraise, is_id, is_mask_bit, is_measure, is_named_template};
+ghost use Rattle.policy_text.specs.RuleValue.{is_appraise, is_id, is_measure};
 
 use crate::fault::{LineErr, RuleCause};
 use crate::key::{Key, is_unsupported_key, key_of};
-use crate::rule::{Act, IdTest, MaskTest, Rule};
+use crate::rule::{Act, IdTest, Rule};
 use crate::values::{
     act_of, algos_of, func_of, id_of, is_unsupported_template, is_unsupported_type, mask_of,
     template_of,
 };
-use hash_algos::AlgoSet;
-use inode_meta::{Need, Template};
+use inode_meta::Need;
 use std::alloc::Global;
 use text_forms::{Tokens, is_word, magic_of, number_of, uuid_of};
 use xattr_store::Bytes;
@@ -141,71 +140,69 @@ impl Rule {
         requires { (row key).belongs self.act ≡ true }
         ensures { LineGives result (ok_or ((row key).read value.now self) cause.BadValue) }
     {
-        let bad = RuleCause::BadValue;
         match key {
-            Key::Func => {
-                let mut rule = self;
-                rule.func = Some(func_of(value).ok_or(bad)?);
-                Ok(rule)
-            }
-            Key::Mask => {
-                let mask = mask_of(value).ok_or(bad)?;
-                Ok(self.with_mask(mask))
-            }
-            Key::FsMagic => {
-                let magic = magic_of(value).ok_or(bad)?;
-                Ok(self.with_magic(magic))
-            }
-            Key::FsUuid => {
-                let uuid = uuid_of(value).ok_or(bad)?;
-                Ok(self.with_uuid(uuid))
-            }
+            Key::Func => self.with_func(value),
+            Key::Mask => self.with_mask(value),
+            Key::FsMagic => self.with_magic(value),
+            Key::FsUuid => self.with_uuid(value),
             Key::FsName => self.with_name(alloc, value),
             Key::Uid | Key::Euid | Key::Gid | Key::Egid | Key::Fowner | Key::Fgroup => {
-                let test = id_of(value).ok_or(bad)?;
-                Ok(self.with_id(key, test))
+                match id_of(value) {
+                    Some(test) => Ok(self.with_id(key, test)),
+                    None => Err(LineErr::Refused(RuleCause::BadValue)),
+                }
             }
             Key::AppraiseType => self.with_type(value),
             Key::AppraiseFlag => self.with_flag(value),
-            Key::AppraiseAlgos => {
-                let algos = algos_of(value).ok_or(bad)?;
-                Ok(self.with_algos(algos))
-            }
+            Key::AppraiseAlgos => self.with_algos(value),
             Key::Directio => self.with_directio(value),
-            Key::Pcr => {
-                let pcr = number_of(value, 10, 23).ok_or(bad)?;
-                Ok(self.with_pcr(pcr as u8))
-            }
-            Key::Template => {
-                let template = template_of(value).ok_or(bad)?;
-                Ok(self.with_template(template))
-            }
+            Key::Pcr => self.with_pcr(value),
+            Key::Template => self.with_template(value),
         }
     }
 
-    fn with_mask(self, mask: MaskTest) -> Rule
-        requires { IsTrue (is_mask_bit mask.bits) }
-        ensures { result ≡ record self { mask = Some mask } }
+    fn with_func(self, value: &[u8]) -> Result<Rule, LineErr>
+        ensures { LineGives result (ok_or ((row key.Func).read value.now self) cause.BadValue) }
     {
+        let Some(func) = func_of(value) else {
+            return Err(LineErr::Refused(RuleCause::BadValue));
+        };
+        let mut rule = self;
+        rule.func = Some(func);
+        Ok(rule)
+    }
+
+    fn with_mask(self, value: &[u8]) -> Result<Rule, LineErr>
+        ensures { LineGives result (ok_or ((row key.Mask).read value.now self) cause.BadValue) }
+    {
+        let Some(mask) = mask_of(value) else {
+            return Err(LineErr::Refused(RuleCause::BadValue));
+        };
         let mut rule = self;
         rule.mask = Some(mask);
-        rule
+        Ok(rule)
     }
 
-    fn with_magic(self, magic: u64) -> Rule
-        ensures { result ≡ record self { fsmagic = Some magic } }
+    fn with_magic(self, value: &[u8]) -> Result<Rule, LineErr>
+        ensures { LineGives result (ok_or ((row key.FsMagic).read value.now self) cause.BadValue) }
     {
+        let Some(magic) = magic_of(value) else {
+            return Err(LineErr::Refused(RuleCause::BadValue));
+        };
         let mut rule = self;
         rule.fsmagic = Some(magic);
-        rule
+        Ok(rule)
     }
 
-    fn with_uuid(self, uuid: u128) -> Rule
-        ensures { result ≡ record self { fsuuid = Some uuid } }
+    fn with_uuid(self, value: &[u8]) -> Result<Rule, LineErr>
+        ensures { LineGives result (ok_or ((row key.FsUuid).read value.now self) cause.BadValue) }
     {
+        let Some(uuid) = uuid_of(value) else {
+            return Err(LineErr::Refused(RuleCause::BadValue));
+        };
         let mut rule = self;
         rule.fsuuid = Some(uuid);
-        rule
+        Ok(rule)
     }
 
     fn with_name(self, alloc: Global, name: &[u8]) -> Result<Rule, LineErr>
@@ -274,33 +271,40 @@ impl Rule {
         Ok(rule)
     }
 
-    fn with_algos(self, algos: AlgoSet) -> Rule
-        requires appraise { is_appraise self.act ≡ true }
-        requires filled { IsTrue (has_algos algos) }
-        ensures { result ≡ record self { algos = Some algos } }
+    fn with_algos(self, value: &[u8]) -> Result<Rule, LineErr>
+        requires { is_appraise self.act ≡ true }
+        ensures { LineGives result
+            (ok_or ((row key.AppraiseAlgos).read value.now self) cause.BadValue) }
     {
+        let Some(algos) = algos_of(value) else {
+            return Err(LineErr::Refused(RuleCause::BadValue));
+        };
         let mut rule = self;
         rule.algos = Some(algos);
-        rule
+        Ok(rule)
     }
 
-    fn with_pcr(self, pcr: u8) -> Rule
-        requires measure { is_measure self.act ≡ true }
-        requires limit { pcr < 24 }
-        ensures { result ≡ record self { pcr = Some pcr } }
+    fn with_pcr(self, value: &[u8]) -> Result<Rule, LineErr>
+        requires { is_measure self.act ≡ true }
+        ensures { LineGives result (ok_or ((row key.Pcr).read value.now self) cause.BadValue) }
     {
+        let Some(pcr) = number_of(value, 10, 23) else {
+            return Err(LineErr::Refused(RuleCause::BadValue));
+        };
         let mut rule = self;
-        rule.pcr = Some(pcr);
-        rule
+        rule.pcr = Some(pcr as u8);
+        Ok(rule)
     }
 
-    fn with_template(self, template: Template) -> Rule
-        requires measure { is_measure self.act ≡ true }
-        requires named { IsTrue (is_named_template template) }
-        ensures { result ≡ record self { template = Some template } }
+    fn with_template(self, value: &[u8]) -> Result<Rule, LineErr>
+        requires { is_measure self.act ≡ true }
+        ensures { LineGives result (ok_or ((row key.Template).read value.now self) cause.BadValue) }
     {
+        let Some(template) = template_of(value) else {
+            return Err(LineErr::Refused(RuleCause::BadValue));
+        };
         let mut rule = self;
         rule.template = Some(template);
-        rule
+        Ok(rule)
     }
 }

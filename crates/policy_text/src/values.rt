@@ -1,5 +1,6 @@
-ghost use Rattle.std.specs.Prelude.{◌≡◌, IfSome, IsTrue};
+ghost use Rattle.std.specs.Prelude.{◌≡◌, map, IfSome, IsTrue};
 ghost use Rattle.std.specs.Option.{option_map};
+ghost use Rattle.text_forms.specs.Tables.{look_up};
 ghost use Rattle.policy_text.specs.RuleValue.{has_algos, is_id, is_mask_bit, is_named_template};
 ghost use Rattle.policy_text.specs.Values.{act_of, algos_of, func_of, id_number_of, id_of, is_unsupported_template, is_unsupported_type, mask_bits_of, mask_of, template_of};
 
@@ -8,70 +9,63 @@ use hash_algos::{AlgoSet, by_name};
 use inode_meta::Template;
 use text_forms::number_of;
 
+// The actions by their names.
+const ACTS: [(&[u8], Act); 8] = [
+    (b"measure", Act::Measure),
+    (b"dont_measure", Act::DontMeasure),
+    (b"appraise", Act::Appraise),
+    (b"dont_appraise", Act::DontAppraise),
+    (b"audit", Act::Audit),
+    (b"dont_audit", Act::DontAudit),
+    (b"hash", Act::Hash),
+    (b"dont_hash", Act::DontHash),
+];
+
+// The hooks by their main names and their aliases.
+const FUNCS: [(&[u8], Func); 16] = [
+    (b"BPRM_CHECK", Func::BprmCheck),
+    (b"MMAP_CHECK", Func::MmapCheck),
+    (b"FILE_MMAP", Func::MmapCheck),
+    (b"FILE_CHECK", Func::FileCheck),
+    (b"PATH_CHECK", Func::FileCheck),
+    (b"CREDS_CHECK", Func::CredsCheck),
+    (b"MODULE_CHECK", Func::ModuleCheck),
+    (b"FIRMWARE_CHECK", Func::FirmwareCheck),
+    (b"KEXEC_KERNEL_CHECK", Func::KexecKernelCheck),
+    (b"KEXEC_INITRAMFS_CHECK", Func::KexecInitramfsCheck),
+    (b"KEXEC_CMDLINE", Func::KexecCmdline),
+    (b"KEY_CHECK", Func::KeyCheck),
+    (b"CRITICAL_DATA", Func::CriticalData),
+    (b"SETXATTR_CHECK", Func::SetxattrCheck),
+    (b"POLICY_CHECK", Func::PolicyCheck),
+    (b"MMAP_CHECK_REQPROT", Func::MmapCheckReqprot),
+];
+
+// The entry of a table under this word, if there is one.
+fn look_up<T: Copy>(mut table: &[(&[u8], T)], word: &[u8]) -> Option<T>
+    ensures { result ≡ look_up (map (λ e. (e.0.now, e.1)) table.entry.now) word.now }
+{
+    while let [entry, rest @ ..] = table {
+        if word == entry.0 {
+            return Some(entry.1);
+        }
+        table = rest;
+    }
+    None
+}
+
 /// The action with this name, such as `dont_measure`.
 pub fn act_of(word: &[u8]) -> Option<Act>
     ensures { result ≡ act_of word.now }
 {
-    if word == b"measure".as_slice() {
-        Some(Act::Measure)
-    } else if word == b"dont_measure".as_slice() {
-        Some(Act::DontMeasure)
-    } else if word == b"appraise".as_slice() {
-        Some(Act::Appraise)
-    } else if word == b"dont_appraise".as_slice() {
-        Some(Act::DontAppraise)
-    } else if word == b"audit".as_slice() {
-        Some(Act::Audit)
-    } else if word == b"dont_audit".as_slice() {
-        Some(Act::DontAudit)
-    } else if word == b"hash".as_slice() {
-        Some(Act::Hash)
-    } else if word == b"dont_hash".as_slice() {
-        Some(Act::DontHash)
-    } else {
-        None
-    }
+    look_up(&ACTS, word)
 }
 
 /// The hook with this name, which may be its main name or an alias.
 pub fn func_of(word: &[u8]) -> Option<Func>
     ensures { result ≡ func_of word.now }
 {
-    if word == b"BPRM_CHECK".as_slice() {
-        Some(Func::BprmCheck)
-    } else if word == b"MMAP_CHECK".as_slice() {
-        Some(Func::MmapCheck)
-    } else if word == b"FILE_MMAP".as_slice() {
-        Some(Func::MmapCheck)
-    } else if word == b"FILE_CHECK".as_slice() {
-        Some(Func::FileCheck)
-    } else if word == b"PATH_CHECK".as_slice() {
-        Some(Func::FileCheck)
-    } else if word == b"CREDS_CHECK".as_slice() {
-        Some(Func::CredsCheck)
-    } else if word == b"MODULE_CHECK".as_slice() {
-        Some(Func::ModuleCheck)
-    } else if word == b"FIRMWARE_CHECK".as_slice() {
-        Some(Func::FirmwareCheck)
-    } else if word == b"KEXEC_KERNEL_CHECK".as_slice() {
-        Some(Func::KexecKernelCheck)
-    } else if word == b"KEXEC_INITRAMFS_CHECK".as_slice() {
-        Some(Func::KexecInitramfsCheck)
-    } else if word == b"KEXEC_CMDLINE".as_slice() {
-        Some(Func::KexecCmdline)
-    } else if word == b"KEY_CHECK".as_slice() {
-        Some(Func::KeyCheck)
-    } else if word == b"CRITICAL_DATA".as_slice() {
-        Some(Func::CriticalData)
-    } else if word == b"SETXATTR_CHECK".as_slice() {
-        Some(Func::SetxattrCheck)
-    } else if word == b"POLICY_CHECK".as_slice() {
-        Some(Func::PolicyCheck)
-    } else if word == b"MMAP_CHECK_REQPROT".as_slice() {
-        Some(Func::MmapCheckReqprot)
-    } else {
-        None
-    }
+    look_up(&FUNCS, word)
 }
 
 fn mask_bits_of(word: &[u8]) -> Option<u8>

@@ -7,7 +7,7 @@ use Rattle.std.specs.Ordering.{match_ordering}
 use Rattle.std.specs.declared.cmp.Ordering.{Ordering}
 use Rattle.std.specs.declared.cmp.Ordering.TheVariants.{Less, Equal, Greater}
 use Rattle.std.specs.Str.{bytes_eq}
-use Rattle.hash_algos.specs.declared.digest.Digest.{Digest}
+use Rattle.call_steps.specs.hashes.declared.digest.Digest.{Digest}
 use Rattle.inode_meta.specs.declared.identity.Meta.{Meta}
 use Rattle.inode_meta.specs.declared.step.Who.{Who}
 use Rattle.inode_events.specs.Inode.{Inode}
@@ -24,10 +24,10 @@ use Rattle.evm_verify.specs.Changes.{protects}
 use Rattle.evm_verify.specs.Input.{any_present, evm_input, evm_name, evm_value, protected_names}
 use Rattle.evm_verify.specs.Setup.{Setup}
 use Rattle.evm_verify.specs.Status.{evm_status, renewed, renewed_under}
-use Rattle.label_values.specs.Labels.{label_of}
-use Rattle.label_values.specs.Verdicts.{is_old}
+use Rattle.inode_events.specs.labels.Labels.{label_of}
+use Rattle.inode_events.specs.labels.Verdicts.{is_old}
 use Rattle.report_text.specs.Ranges.{IsClean, IsDeed}
-use Rattle.xattr_store.specs.Attrs.{Pair, byte_order, put, without}
+use Rattle.ima_templates.specs.xattrs.Attrs.{Pair, byte_order, put, without}
 
 -- the names of the attributes are words
 abbrev pub AreNamed : List Pair → Type 0

@@ -25,7 +25,7 @@ use Rattle.run_model.specs.History.{Answer, call_at, event, event_in, own, own_r
 use Rattle.run_model.specs.Scene.{Program, Scene, mode_of}
 use Rattle.run_model.specs.Served.{Run, Served}
 use Rattle.report_text.specs.Ranges.{IsDeed}
-use Rattle.policy_text.specs.RuleValue.{IsRule}
+use Rattle.call_steps.specs.policy.RuleValue.{IsRule}
 use Rattle.report_laws.specs.Law.{IsNamedCall}
 use Rattle.report_laws.proofs.NoRules.{some_at}
 use Rattle.report_laws.proofs.Own.{is_there, some_same, same_number}

@@ -6,9 +6,9 @@ use Rattle.std.specs.Int.{to_be_bytes, w32}
 use Rattle.std.specs.List.{AllByRecursion}
 use Rattle.hex.specs.Hex.{IsBytes}
 use Rattle.sha2.specs.Sha256.{digest_bytes, final_hash, initial_hash_256, sha256}
-use Rattle.hash_algos.proofs.HashLemmas.{length-hash}
-use Rattle.hash_algos.specs.Digest.{HasDigestSize}
-use Rattle.hash_algos.specs.declared.algo.Algo.TheVariants.{Sha256}
+use Rattle.call_steps.proofs.about_hashes.HashLemmas.{length-hash}
+use Rattle.call_steps.specs.hashes.Digest.{HasDigestSize}
+use Rattle.call_steps.specs.hashes.declared.algo.Algo.TheVariants.{Sha256}
 use Rattle.ima_templates.specs.declared.entry.Placed.{Placed}
 use Rattle.inode_meta.specs.declared.appraisal.EvmStatus.{EvmStatus}
 use Rattle.inode_meta.specs.declared.appraisal.Mode.{Mode}
@@ -30,9 +30,9 @@ use Rattle.inode_events.specs.declared.told.Event.{Event}
 use Rattle.inode_events.specs.declared.told.Grant.{Grant}
 use Rattle.inode_events.specs.declared.told.Told.{Told}
 use Rattle.inode_events.specs.declared.told.Told.TheVariants as told
-use Rattle.label_values.specs.declared.verdict.Verdict.{Verdict}
-use Rattle.label_values.specs.declared.verdict.Verdict.TheVariants.{Deny, Pass}
-use Rattle.xattr_store.specs.Attrs.{value}
+use Rattle.inode_events.specs.labels.declared.verdict.Verdict.{Verdict}
+use Rattle.inode_events.specs.labels.declared.verdict.Verdict.TheVariants.{Deny, Pass}
+use Rattle.ima_templates.specs.xattrs.Attrs.{value}
 use Rattle.call_steps.specs.Mind.{Mind, Progress, Step, begun, moved, progress_of}
 use Rattle.call_steps.specs.Mind.{Nothing, Does, Checks, Signals, Appends}
 use Rattle.call_steps.specs.Steps.{admitted, after_chunk, after_close, after_count, after_finish, after_take, asks_in, at_once, close_held, course_of, first, goes, granted, has_read, if_free, if_readable, if_writable, next, next_by, refused_by, reply_of, take}

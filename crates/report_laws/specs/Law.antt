@@ -1,10 +1,10 @@
--- The law that a report determines the run that it shows.
-use Rattle.std.specs.Prelude.{◌≡◌, map}
+-- The laws that a report determines the run that it shows, and so does a text that begins with it.
+use Rattle.std.specs.Prelude.{◌≡◌, ℕ, List, ◌++◌, map}
 use Rattle.std.specs.List.{AllByRecursion}
 use Rattle.call_steps.specs.declared.call.Call.{Call}
 use Rattle.call_steps.specs.declared.call.Call.TheVariants as call
 use Rattle.call_steps.specs.declared.ending.Ending.{Ending}
-use Rattle.policy_text.specs.RuleValue.{IsRule}
+use Rattle.call_steps.specs.policy.RuleValue.{IsRule}
 use Rattle.run_model.specs.EndedValue.{ended_of}
 use Rattle.run_model.specs.Scene.{Program, Scene, Station}
 use Rattle.run_model.specs.Served.{Run}
@@ -12,7 +12,7 @@ use Rattle.run_model.specs.Shown.{IsShown}
 use Rattle.shown_laws.specs.Places.{HasForms}
 use Rattle.report_text.specs.Ranges.{IsChange, IsClean}
 use Rattle.report_text.specs.Report.{report_of}
-use Rattle.xattr_store.specs.Attrs.{Pair}
+use Rattle.ima_templates.specs.xattrs.Attrs.{Pair}
 
 -- the two runs have the same journal for each inode, the same list, the same appended rules, and
 -- the same replies for each task
@@ -42,4 +42,13 @@ ReportDetermines =
     (scene : Scene) (ending : Ending) (a b : Run) → HasNames scene
     → IsShown scene ending a → IsShown scene ending b
     → report_of (ended_of scene a) ≡ report_of (ended_of scene b)
+    → IsSameRun a b
+
+-- two runs shown by one script are the same run if equal texts begin with their reports, whatever
+-- follows: a report ends at its first line `end`
+abbrev pub BeginningDetermines : Type 0
+BeginningDetermines =
+    (scene : Scene) (ending : Ending) (a b : Run) (x y : List ℕ) → HasNames scene
+    → IsShown scene ending a → IsShown scene ending b
+    → report_of (ended_of scene a) ++ x ≡ report_of (ended_of scene b) ++ y
     → IsSameRun a b

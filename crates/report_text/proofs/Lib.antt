@@ -10,3 +10,5 @@ pub mod Joins
 pub mod Pushed
 mod Examples
 pub mod Summed
+pub use Rattle.run_model.proofs.about_growing
+pub use Rattle.text_forms.proofs as about_forms

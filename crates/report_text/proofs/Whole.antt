@@ -351,7 +351,7 @@ lines_tell a b p q s e =
 
 -- ---- every word is clean
 
-rows_append : (a b : List Line) → list_all is_line a ≡ true → list_all is_line b ≡ true
+pub rows_append : (a b : List Line) → list_all is_line a ≡ true → list_all is_line b ≡ true
     → list_all is_line (a ++ b) ≡ true
 rows_append a b h k = rw (list_all-append is_line a b, h, k) refl
 
@@ -395,7 +395,7 @@ entry_kept e h =
     (pcr_kept e.pcr)
     (rw (hex_kept (template_digest e bank.Sha1).bytes, template_kept e.template) (fields_kept e h))
 
-entries_kept : (es : List Entry) → AllByRecursion (λ (e : Entry). IsClean e.name) es
+pub entries_kept : (es : List Entry) → AllByRecursion (λ (e : Entry). IsClean e.name) es
     → list_all is_line (map entry_words es) ≡ true
 entries_kept [] h = refl
 entries_kept (e ∷ es) h = rw (entry_kept e h.0) (entries_kept es h.1)
@@ -410,7 +410,7 @@ pcr_at_kept banks n true =
     ) refl
 pcr_at_kept banks n false = refl
 
-pcr_to_kept : (list : List Entry) (banks : Banks) (n : ℕ)
+pub pcr_to_kept : (list : List Entry) (banks : Banks) (n : ℕ)
     → list_all is_line (pcr_lines_to list banks n) ≡ true
 pcr_to_kept list banks zero = refl
 pcr_to_kept list banks (suc n) =
@@ -478,7 +478,8 @@ run_kept true d = refl
 run_kept false true = refl
 run_kept false false = refl
 
-report_kept : (e : Ended) → Fits e → list_all is_line (report_lines e) ≡ true
+-- each line of a report has at least one word, and no word has a space or a newline
+pub report_kept : (e : Ended) → Fits e → list_all is_line (report_lines e) ≡ true
 report_kept e h =
     rw (
       run_kept e.stuck (list_all (λ t. t.done) e.tasks),

@@ -5,3 +5,4 @@ pub mod Printed
 pub mod Report
 pub mod Summary
 pub mod Ranges
+pub use Rattle.run_model.specs as model

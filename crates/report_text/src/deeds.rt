@@ -1,6 +1,6 @@
 // The words of an event's deed.
 
-ghost use Rattle.std.specs.Prelude.{◌≡◌, ◌∷◌, ◌++◌, OnOk, codes};
+ghost use Rattle.std.specs.Prelude.{◌≡◌, [], ◌∷◌, ◌++◌, OnOk, codes};
 ghost use Rattle.std.specs.List.{join_with_byte};
 ghost use Rattle.policy_text.specs.ValueTexts.{func_word};
 ghost use Rattle.report_text.specs.Texts.{acts_text, rules_text};
@@ -10,6 +10,7 @@ use crate::acts::{push_acts, push_rules};
 use crate::push::{push_number, push_numbers};
 use inode_events::{Change, Deed, How};
 use inode_meta::Template;
+use policy_text::{Action, Func};
 use std::alloc::AllocError as OutOfMemory;
 use std::io::Write;
 use xattr_store::Bytes;
@@ -27,23 +28,13 @@ pub fn push_deed(
 {
     match deed {
         Deed::Birth => out.extend_from_slice(b"birth"),
-        Deed::Count { how } => {
-            out.extend_from_slice(b"count ")?;
-            out.extend_from_slice(how_text(*how).as_bytes())
-        }
+        Deed::Count { how } => push_count(out, *how),
         Deed::Check {
             file,
             func,
             action,
             rules,
-        } => {
-            push_numbers(out, b"check", &[*file])?;
-            out.extend_from_slice(b" ")?;
-            out.extend_from_slice(func.word().as_bytes())?;
-            push_rules(out, grows, *rules)?;
-            push_acts(out, default, action)?;
-            Ok(())
-        }
+        } => push_check(out, default, grows, *file, *func, action, *rules),
         Deed::Take { file } => push_numbers(out, b"take", &[*file]),
         Deed::Chunk { file } => push_numbers(out, b"chunk", &[*file]),
         Deed::Finish { file } => push_numbers(out, b"finish", &[*file]),
@@ -56,12 +47,7 @@ pub fn push_deed(
             )
         }
         Deed::Trunc { file, len } => push_numbers(out, b"trunc", &[*file, *len]),
-        Deed::SetAttr { name, value, .. } => {
-            out.extend_from_slice(b"set-attr ")?;
-            out.extend_from_slice(name.as_slice())?;
-            out.extend_from_slice(b" ")?;
-            push_length(out, value.get())
-        }
+        Deed::SetAttr { name, value, .. } => push_set_attr(out, name.as_slice(), value.get()),
         Deed::SetMeta { change } => push_change(out, *change),
         Deed::Close { file } => push_numbers(out, b"close", &[*file]),
         Deed::CloseTake { file } => push_numbers(out, b"close-take", &[*file]),
@@ -70,6 +56,44 @@ pub fn push_deed(
         Deed::Post(sem) => push_numbers(out, b"post", &[u64::from(*sem)]),
         Deed::Wait(sem) => push_numbers(out, b"wait", &[u64::from(*sem)]),
     }
+}
+
+fn push_count(out: &mut Vec<u8>, how: How) -> Result<(), OutOfMemory>
+    ensures { OnOk result (out.new.items
+        ≡ out.old.items ++ join_with_byte 32 (codes "count" ∷ how_words how)) }
+{
+    out.extend_from_slice(b"count ")?;
+    out.extend_from_slice(how_text(how).as_bytes())
+}
+
+fn push_check(
+    out: &mut Vec<u8>,
+    default: Template,
+    grows: bool,
+    file: u64,
+    func: Func,
+    action: &Action,
+    rules: u64,
+) -> Result<(), OutOfMemory>
+    ensures { OnOk result (out.new.items ≡ out.old.items ++ join_with_byte 32
+        (deed_words default grows (Deed.Check file func action.now rules))) }
+{
+    push_numbers(out, b"check", &[file])?;
+    out.extend_from_slice(b" ")?;
+    out.extend_from_slice(func.word().as_bytes())?;
+    push_rules(out, grows, rules)?;
+    push_acts(out, default, action)?;
+    Ok(())
+}
+
+fn push_set_attr(out: &mut Vec<u8>, name: &[u8], value: &Option<Bytes>) -> Result<(), OutOfMemory>
+    ensures { OnOk result (out.new.items ≡ out.old.items ++ join_with_byte 32
+        (codes "set-attr" ∷ name.now ∷ length_word value.now ∷ [])) }
+{
+    out.extend_from_slice(b"set-attr ")?;
+    out.extend_from_slice(name)?;
+    out.extend_from_slice(b" ")?;
+    push_length(out, value)
 }
 
 fn how_text(how: How) -> &'static str

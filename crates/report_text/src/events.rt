@@ -52,7 +52,7 @@ fn push_event(
     Ok(())
 }
 
-// Prints a step as `TASK.CALL.STEP`.
+/// Prints a step as `TASK.CALL.STEP`.
 pub fn push_who(out: &mut Vec<u8>, who: Who) -> Result<(), OutOfMemory>
     ensures { OnOk result (out.new.items ≡ out.old.items ++ who_word who) }
 {

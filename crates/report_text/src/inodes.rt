@@ -1,6 +1,6 @@
 // The section of the inodes: their heads, attributes and journals.
 
-ghost use Rattle.std.specs.Prelude.{◌≡◌, [], ◌∷◌, ◌++◌, length, OnOk, codes};
+ghost use Rattle.std.specs.Prelude.{◌≡◌, [], ◌∷◌, ◌++◌, length, IfOk, OnOk, codes};
 ghost use Rattle.report_text.specs.Numerals.{numeral};
 ghost use Rattle.std.specs.List.{flat_map};
 ghost use Rattle.text_forms.specs.Words.{text_of};
@@ -46,12 +46,29 @@ pub fn push_inodes_in_pieces(
     let mut piece = Vec::new(alloc);
     let mut number = 0;
     for inode in inodes {
-        push_inode(&mut piece, default, grows, number, &inode)?;
-        piece = cut(alloc, out, piece)?;
+        piece = push_next(alloc, out, piece, default, grows, number, &inode)?;
         number += 1;
     }
     out.push(piece)?;
     Ok(())
+}
+
+// Prints an inode after the piece so far, and returns the text to go on with.
+fn push_next(
+    alloc: Global,
+    out: &mut Pieces,
+    piece: Vec<u8>,
+    default: Template,
+    grows: bool,
+    number: u64,
+    inode: &EndedInode,
+) -> Result<Vec<u8>, OutOfMemory>
+    ensures { IfOk result (λ rest. out.new ++ rest.items ≡ out.old
+        ++ (piece.items ++ text_of (inode_lines default grows number inode.now))) }
+{
+    let mut piece = piece;
+    push_inode(&mut piece, default, grows, number, inode)?;
+    cut(alloc, out, piece)
 }
 
 fn push_inode(

@@ -18,6 +18,9 @@ mod tolds;
 mod totals;
 
 pub use call_steps as steps;
+pub use events::push_who;
+pub use ima_io as outer;
+pub use lists::{push_entries, push_registers, push_values};
 pub use print::{report, report_in_pieces};
 pub use push::{push_number, push_numbers};
 pub use run_model as model;

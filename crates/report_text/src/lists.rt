@@ -18,6 +18,7 @@ use policy_text::print_rule;
 use run_model::RuleEntry;
 use std::alloc::{AllocError as OutOfMemory, Global};
 
+/// Prints the entries as lines of `ascii_runtime_measurements`.
 pub fn push_entries(out: &mut Vec<u8>, list: &[Entry]) -> Result<(), OutOfMemory>
     ensures { OnOk result (out.new.items ≡ out.old.items ++ flat_map ascii_line list.now) }
 {
@@ -27,7 +28,7 @@ pub fn push_entries(out: &mut Vec<u8>, list: &[Entry]) -> Result<(), OutOfMemory
     Ok(())
 }
 
-// Prints the registers that at least one entry extends, in rising order.
+/// Prints the registers that at least one entry extends, in rising order.
 pub fn push_registers(out: &mut Vec<u8>, list: &[Entry], banks: &Banks) -> Result<(), OutOfMemory>
     ensures { OnOk result (out.new.items
         ≡ out.old.items ++ text_of (pcr_lines list.now banks.now)) }
@@ -57,7 +58,7 @@ fn push_register(out: &mut Vec<u8>, banks: &Banks, pcr: u8, named: bool) -> Resu
     }
 }
 
-// Prints the value of a register in both banks, one line each.
+/// Prints the value of a register in both banks, one line each.
 pub fn push_values(out: &mut Vec<u8>, banks: &Banks, pcr: u8) -> Result<(), OutOfMemory>
     requires { pcr < 24 }
     ensures { OnOk result (out.new.items

@@ -5,13 +5,15 @@ ghost use Rattle.report_text.specs.Numerals.{numeral};
 ghost use Rattle.std.specs.List.{count_by, flat_map, list_all};
 ghost use Rattle.list_format.specs.Line.{ascii_line};
 ghost use Rattle.text_forms.specs.Words.{text_of};
-ghost use Rattle.report_text.specs.Report.{appended_lines, ending_word, head_lines, pcr_lines, report_of};
+ghost use Rattle.report_text.specs.Report.{all_inode_lines, all_task_lines, appended_lines, ending_word, head_lines, pcr_lines, report_of};
 
 use crate::inodes::{push_inodes, push_inodes_in_pieces};
 use crate::lists::{push_appended, push_entries, push_registers};
 use crate::push::push_numbers;
 use crate::tasks::{push_tasks, push_tasks_in_pieces};
 use ima_io::Pieces;
+use inode_events::EndedInode;
+use inode_meta::Template;
 use list_format::violations;
 use run_model::{Ended, EndedTask};
 use std::alloc::{AllocError as OutOfMemory, Global};
@@ -34,8 +36,7 @@ pub fn report(alloc: Global, e: &Ended) -> Result<Vec<u8>, OutOfMemory>
 pub fn report_in_pieces(alloc: Global, e: Ended) -> Result<Pieces, OutOfMemory>
     ensures { IfOk result (λ text. text ≡ report_of e) }
 {
-    let mut out = Pieces::new(alloc);
-    out.push(head(alloc, &e)?)?;
+    let first = head(alloc, &e)?;
     let Ended {
         template,
         grows,
@@ -43,6 +44,26 @@ pub fn report_in_pieces(alloc: Global, e: Ended) -> Result<Pieces, OutOfMemory>
         tasks,
         ..
     } = e;
+    let text = pieces(alloc, first, template, grows, inodes, tasks)?;
+    Ok(text)
+}
+
+// The pieces of a report, of which the first is before the inodes.
+fn pieces(
+    alloc: Global,
+    first: Vec<u8>,
+    template: Template,
+    grows: bool,
+    inodes: Vec<EndedInode>,
+    tasks: Vec<EndedTask>,
+) -> Result<Pieces, OutOfMemory>
+    ensures { IfOk result (λ text. text ≡ first.items
+        ++ text_of (all_inode_lines template grows 0 inodes.items)
+        ++ text_of (all_task_lines 0 tasks.items)
+        ++ codes "end\n") }
+{
+    let mut out = Pieces::new(alloc);
+    out.push(first)?;
     push_inodes_in_pieces(alloc, &mut out, template, grows, inodes)?;
     push_tasks_in_pieces(alloc, &mut out, tasks)?;
     out.push(end(alloc)?)?;

@@ -10,6 +10,7 @@ use Rattle.text_forms.specs.Words.{is_clean, is_clean_byte, is_visible, words}
 use Rattle.text_forms.proofs.Tells.{line_split, words_back}
 use Rattle.text_forms.proofs.Visible.{all_weaker, flat_from_visible}
 use Rattle.script_words.specs.declared.fault.Fault.{Fault}
+use Rattle.script_words.specs.declared.fault.LineCause.{LineCause}
 use Rattle.script_words.specs.Line.{all_fields, cut, cut_line, head_and_text, is_skipped}
 use Rattle.script_words.specs.Read.{fault_at, from_ended, step_over}
 use Rattle.script_text.specs.Draft.{Draft}
@@ -107,7 +108,7 @@ abbrev pub run : Draft → List Line → Made
 run d [] = Ok d
 run d (l ∷ ls) = add d (words_text l) >>= λ e. run e ls
 
-abbrev Folded : ℕ → Draft → List (List ℕ) → Result Draft Fault
+abbrev Folded : ℕ → Draft → List (List ℕ) → Result Draft (Fault LineCause)
 Folded n d texts = from_ended add is_over n d texts
 
 one_by_one : (n : ℕ) (d : Draft) (line : List ℕ) (texts : List (List ℕ))

@@ -4,6 +4,7 @@ use Rattle.std.specs.List.{list_all}
 use Rattle.std.proofs.lemmas.List.Folds.{list_all-append}
 use Rattle.text_forms.specs.Lines.{◌>>=◌}
 use Rattle.script_words.specs.declared.fault.Fault.{Fault}
+use Rattle.script_words.specs.declared.fault.LineCause.{LineCause}
 use Rattle.script_words.specs.declared.fault.LineCause.TheVariants as cause
 use Rattle.script_words.specs.Line.{fields}
 use Rattle.script_words.specs.Read.{from_ended}
@@ -84,6 +85,6 @@ one_line w ws h d e begins plain others is at makes = record {
 pub text_read : (ls : List Line) (d : Draft) → Reads start ls d → is_over d ≡ true
     → script_of (lines_text ls) ≡ Ok d.script
 text_read ls d h over =
-    ap (λ (r : Result Draft Fault). r >>= λ e. Ok e.script)
+    ap (λ (r : Result Draft (Fault LineCause)). r >>= λ e. Ok e.script)
     (ap (λ (ts : List (List ℕ)). from_ended add is_over 1 start ts) (lines_of ls h.lines)
     ∙ folded ls 1 start d h.lines h.made over)

@@ -1,5 +1,5 @@
 -- The turns of a script lead to a run of the script, with all that is promised of it.
-use Rattle.std.proofs.Common.{◌≡◌, ℕ, ◌<◌, ◌||◌, true, false, nat_le, nat_lt, All, List, [], ◌∷◌, length, map, Result, Ok, Err, IfOk, refl, ap, sym, subst, ◌∙◌}
+use Rattle.std.proofs.Common.{◌≡◌, ℕ, ◌<◌, ◌||◌, true, false, nat_le, nat_lt, All, List, [], ◌∷◌, ◌++◌, length, map, Result, Ok, Err, IfOk, refl, ap, sym, subst, ◌∙◌}
 use Rattle.std.specs.List.{AllByRecursion, list_all}
 use Rattle.std.proofs.lemmas.List.{length-map}
 use Rattle.std.proofs.lemmas.List.Elements.{All-from_recursion}
@@ -21,7 +21,7 @@ use Rattle.script_text.specs.Forms.{IsScript, is_ending}
 use Rattle.script_text.specs.Limits.{most_threads, most_turns}
 use Rattle.script_text.proofs.Holding.{left_true, right_true}
 use Rattle.script_text.specs.ScriptValue.{ScriptValue}
-use Rattle.report_laws.proofs.Runs.{report_determines}
+use Rattle.report_laws.proofs.Ends.{beginning_determines}
 use Rattle.report_text.specs.Report.{report_of}
 use Rattle.shown_laws.proofs.Denied.{denied_there}
 use Rattle.shown_laws.proofs.Sound.{admitted_there, covered_there, fresh_there, labelled_there, rare_there}
@@ -166,10 +166,10 @@ module _ (s : ScriptValue) (kept : IsScript s) (world world2 : WorldValue)
         for_files = kept.template;
         run = run_at m;
         promised = p;
-        only = λ other shown same.
-            report_determines (scene_of s kept.template) s.ending other (run_at m)
+        only = λ other x y shown same.
+            beginning_determines (scene_of s kept.template) s.ending other (run_at m) x y
             (script_names s kept rules kept.template) shown p.shown
-            (same ∙ ap (λ (x : EndedValue). report_of x) p.leaves);
+            (same ∙ ap (λ (z : EndedValue). report_of z ++ y) p.leaves);
       }
 
   -- a successful close returns the state that a run of the script leaves

@@ -3,10 +3,10 @@ use Rattle.std.proofs.Common.{◌≡◌, ℕ, true, List, [], ◌∷◌, codes, 
 use Rattle.std.specs.List.{AllByRecursion, list_all}
 use Rattle.std.proofs.lemmas.Bool.Decides.{nat_tests}
 use Rattle.std.proofs.lemmas.List.Elements.{All-from_recursion}
-use Rattle.hash_algos.specs.Digest.{HasDigestSize}
-use Rattle.hash_algos.specs.Algo.{algo_size}
-use Rattle.hash_algos.specs.declared.algo.Algo.TheVariants.{Sha1}
-use Rattle.hash_algos.specs.declared.digest.Digest.{Digest}
+use Rattle.call_steps.specs.hashes.Digest.{HasDigestSize}
+use Rattle.call_steps.specs.hashes.Algo.{algo_size}
+use Rattle.call_steps.specs.hashes.declared.algo.Algo.TheVariants.{Sha1}
+use Rattle.call_steps.specs.hashes.declared.digest.Digest.{Digest}
 use Rattle.ima_templates.specs.IsEntry.{IsEntry}
 use Rattle.ima_templates.specs.Path.{IsGraphic, IsMeasuredPath}
 use Rattle.policy_text.specs.meta.declared.measurement.Template.{Template}
@@ -18,7 +18,7 @@ use Rattle.script_text.specs.ScriptValue.{ScriptValue}
 use Rattle.script_text.specs.Settings.{boot_algo}
 use Rattle.script_text.specs.declared.blocks.FileBlock.{FileBlock}
 use Rattle.script_text.proofs.Holding.{left_true, right_true}
-use Rattle.text_forms.specs.Words.{is_visible}
+use Rattle.policy_text.specs.forms.Words.{is_visible}
 use Rattle.script_scene.specs.Scene.{IsForFiles, boot_by, scene_of, station_of}
 use Rattle.script_scene.proofs.Paths.{measured_path}
 use Rattle.shown_laws.specs.Places.{HasForms}

@@ -16,9 +16,9 @@ use Rattle.script_text.specs.declared.blocks.FileBlock.{FileBlock}
 use Rattle.script_text.specs.declared.blocks.TaskBlock.{TaskBlock}
 use Rattle.script_text.proofs.Holding.{left_true, right_true}
 use Rattle.script_scene.specs.Scene.{IsForFiles, program_of, scene_of, station_of}
-use Rattle.text_forms.specs.Tokens.{is_filled}
-use Rattle.text_forms.specs.Words.{is_clean, is_visible, is_word}
-use Rattle.xattr_store.specs.Attrs.{Pair}
+use Rattle.policy_text.specs.forms.Tokens.{is_filled}
+use Rattle.policy_text.specs.forms.Words.{is_clean, is_visible, is_word}
+use Rattle.ima_templates.specs.xattrs.Attrs.{Pair}
 use Rattle.script_run.specs.Run.{AreRulesKept, KeepsRule}
 use Rattle.script_run.proofs.Fits.{at_most}
 use Rattle.script_run.proofs.Forms.{script_forms}

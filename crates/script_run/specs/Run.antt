@@ -1,5 +1,5 @@
 -- The run of a script, the state that it leaves, and what is proved of both.
-use Rattle.std.specs.Prelude.{◌≡◌, ℕ, ◌<◌, ◌≤◌, false, All, List, length}
+use Rattle.std.specs.Prelude.{◌≡◌, ℕ, ◌<◌, ◌≤◌, ◌++◌, false, All, List, length}
 use Rattle.std.specs.List.{AllByRecursion}
 use Rattle.ima_templates.specs.Replay.{replay}
 use Rattle.ima_templates.specs.registers.Banks.{register}
@@ -58,9 +58,11 @@ pub record HasRun (s : ScriptValue) (e : EndedValue) : Type 0 where
   pub for_files : IsForFiles s
   pub run : Run
   pub promised : Promised (scene_of s for_files) s.ending run e
-  -- each run that may be shown for the script and has the same report is this run
-  pub only : (other : Run) → IsShown (scene_of s for_files) s.ending other
-      → report_of (ended_of (scene_of s for_files) other) ≡ report_of e → IsSameRun other run
+  -- each run that may be shown for the script is this run if its report begins a text that the
+  -- report of `e` begins too, whatever follows the reports
+  pub only : (other : Run) (x y : List ℕ) → IsShown (scene_of s for_files) s.ending other
+      → report_of (ended_of (scene_of s for_files) other) ++ x ≡ report_of e ++ y
+      → IsSameRun other run
 
 -- ---- the rules that tasks append
 

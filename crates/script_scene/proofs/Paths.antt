@@ -6,9 +6,9 @@ use Rattle.std.proofs.lemmas.List.{length-drop}
 use Rattle.std.proofs.lemmas.List.Sums.{suffix_len_is}
 use Rattle.std.proofs.lemmas.Bool.Decides.{nat_tests}
 use Rattle.inode_meta.specs.declared.measurement.Template.TheVariants.{Ima}
-use Rattle.text_forms.specs.Paths.{is_path}
-use Rattle.text_forms.specs.Words.{is_word, is_visible}
-use Rattle.text_forms.specs.Tokens.{is_filled}
+use Rattle.run_model.specs.policy.forms.Paths.{is_path}
+use Rattle.run_model.specs.policy.forms.Words.{is_word, is_visible}
+use Rattle.run_model.specs.policy.forms.Tokens.{is_filled}
 use Rattle.ima_templates.specs.Path.{IsMeasuredPath, IsGraphic, last_component}
 
 -- the left one of two tests that hold

@@ -3,7 +3,7 @@ use Rattle.std.proofs.Common.{◌≡◌, true, subst}
 use Rattle.std.proofs.Math.Bool.{Bool-set}
 use Rattle.script_text.specs.evm.Setup.{Setup}
 use Rattle.run_model.specs.events.declared.settings.Settings.{Settings}
-use Rattle.policy_text.specs.RuleValue.{is_named_template}
+use Rattle.run_model.specs.policy.RuleValue.{is_named_template}
 use Rattle.script_text.specs.Files.{setup_of}
 use Rattle.script_text.specs.ScriptValue.{ScriptValue}
 use Rattle.script_scene.specs.Scene.{IsForFiles, settings_of}

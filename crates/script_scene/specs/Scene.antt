@@ -7,8 +7,8 @@ use Rattle.inode_meta.specs.declared.measurement.Template.{Template}
 use Rattle.inode_meta.specs.Registers.{default_pcr}
 use Rattle.run_model.specs.events.declared.image.Image.{Image}
 use Rattle.run_model.specs.events.declared.settings.Settings.{Settings}
-use Rattle.policy_text.specs.RuleValue.{is_named_template}
-use Rattle.policy_text.specs.declared.access.Super.{Super}
+use Rattle.run_model.specs.policy.RuleValue.{is_named_template}
+use Rattle.run_model.specs.policy.declared.access.Super.{Super}
 use Rattle.run_model.specs.Scene.{Program, Scene, Station, no_super}
 use Rattle.script_text.specs.Files.{setup_of}
 use Rattle.script_text.specs.ScriptValue.{ScriptValue}

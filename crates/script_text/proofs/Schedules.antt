@@ -34,6 +34,6 @@ module _ (tasks : ℕ) (turns : List ℕ) (w : List ℕ) (ws : List (List ℕ))
   turn_on t h =
       rw (onto_again turns t (turns_from tasks ws)) (rw (one_more tasks t w ws h) at so_far)
 
-  pub turn_stops : (e : LineErr) → LineFails e (turn_of tasks w) → LineFails e whole
+  pub turn_stops : (e : LineErr LineCause) → LineFails e (turn_of tasks w) → LineFails e whole
   turn_stops (err.Refused c) h = sym (rw h at so_far)
   turn_stops err.OutOfMemory h = tt

@@ -61,10 +61,11 @@ line_kept d line h =
     given IsDraft (head_of (cut_line line).0) cause.BadWord (λ k. placed k (cut_line line).1 d)
     (λ k _. placed_kept k (cut_line line).1 d h)
 
-abbrev Reads : Result Draft Fault → Type 0
+abbrev Reads : Result Draft (Fault LineCause) → Type 0
 Reads r = IfOk r IsDraft
 
-then_kept : (n : ℕ) (r : Result Draft LineCause) (f : Draft → Result Draft Fault) → Keeps r
+then_kept : (n : ℕ) (r : Result Draft LineCause) (f : Draft → Result Draft (Fault LineCause))
+    → Keeps r
     → ((d : Draft) → IsDraft d → Reads (f d)) → Reads (at_line fault_at n r >>= f)
 then_kept n (Err c) f h k = tt
 then_kept n (Ok d) f h k = k d h
@@ -74,7 +75,7 @@ over_kept : (b : Bool) (d : Draft) (line : List ℕ) → IsDraft d
 over_kept true d line h = h
 over_kept false d line h = line_kept d line h
 
-if_ends : (b : Bool) (d : Draft) (f : Fault) → IsDraft d → Reads (if b then Ok d else Err f)
+if_ends : (b : Bool) (d : Draft) (f : Fault LineCause) → IsDraft d → Reads (if b then Ok d else Err f)
 if_ends true d f h = h
 if_ends false d f h = tt
 
@@ -103,7 +104,7 @@ start_is = (
   record { counted = lit≤ tt; all = lit≤ tt; few = lit≤ tt },
 )
 
-whole : (r : Result Draft Fault) (d : Draft) → Reads r → r ≡ Ok d → IsDraft d
+whole : (r : Result Draft (Fault LineCause)) (d : Draft) → Reads r → r ≡ Ok d → IsDraft d
 whole (Err f) d h e = absurd (cc e)
 whole (Ok x) d h e = let same : x ≡ d = cc e in subst IsDraft same h
 

@@ -3,6 +3,7 @@
 use Rattle.std.specs.Prelude.{ℕ, List, Option, Result, Ok, Err, ok_or, if◌then◌else◌}
 use Rattle.text_forms.specs.Lines.{◌>>=◌}
 use Rattle.script_words.specs.declared.fault.Fault.{Fault}
+use Rattle.script_words.specs.declared.fault.LineCause.{LineCause}
 use Rattle.script_words.specs.declared.fault.LineCause.TheVariants as cause
 use Rattle.script_words.specs.Line.{all_fields, cut_line, fields}
 use Rattle.script_words.specs.Read.{text_of}
@@ -50,5 +51,5 @@ headed l d = ok_or (head_of l.0) cause.BadWord >>= λ h. placed h l.1 d
 unfoldable pub add : Draft → List ℕ → Made
 add d line = headed (cut_line line) d
 
-abbrev pub script_of : List ℕ → Result ScriptValue Fault
+abbrev pub script_of : List ℕ → Result ScriptValue (Fault LineCause)
 script_of text = text_of add is_over start text >>= λ d. Ok d.script

@@ -17,3 +17,4 @@ pub use Rattle.evm_verify.specs as evm
 pub use Rattle.label_values.specs as labels
 pub use Rattle.call_steps.specs as steps
 pub use Rattle.call_steps.specs.events
+pub use Rattle.script_words.specs as script_lines

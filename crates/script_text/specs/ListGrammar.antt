@@ -78,5 +78,5 @@ add d line = let l = cut_line line in ok_or (head_of l.0) cause.BadWord >>= λ h
 abbrev pub is_over : ListDraft → Bool
 is_over d = d.at == 2
 
-abbrev pub list_of : List ℕ → Result (List Listed) Fault
+abbrev pub list_of : List ℕ → Result (List Listed) (Fault LineCause)
 list_of text = text_of add is_over start text >>= λ d. Ok d.files

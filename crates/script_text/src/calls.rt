@@ -1,10 +1,9 @@
 //! The lines of calls.
 
-ghost use Rattle.std.specs.Prelude.{◌≡◌, map, ok_or, option_map};
+ghost use Rattle.std.specs.Prelude.{◌≡◌, [], ◌∷◌, map, IfOk};
 ghost use Rattle.std.specs.Option.{option_copied};
-ghost use Rattle.script_words.specs.declared.fault.LineCause.TheVariants as cause;
 ghost use Rattle.script_words.specs.Gives.{LineGives};
-ghost use Rattle.script_text.specs.Calls.{added_rule, call_of, chmod_of, chown_of, close_of, exec_of, flags_of, ftruncate_of, inode_at, mapping_of, mmap_of, mread_of, name_of, open_of, opened, inode_in, read_of, removexattr_of, setxattr_of, small_in, write_of};
+ghost use Rattle.script_text.specs.Calls.{added_rule, call_of, chmod_of, chown_of, close_of, exec_of, flags_of, ftruncate_of, inode_at, mapping_of, mmap_of, mread_of, open_of, opened, inode_in, read_of, removexattr_of, setxattr_of, small_in, write_of};
 
 use crate::files::is_filled;
 use crate::head::CallWord;
@@ -16,8 +15,9 @@ use script_words::{
     LineCause, LineErr, descriptor_of, id_of, mode_of, offset_of, portion_of, rule_of, small_of,
     value_of,
 };
-use std::alloc::Global;
+use std::alloc::{AllocError as OutOfMemory, Global};
 use text_forms::{is_path, is_word};
+use xattr_store::Bytes;
 
 // The most bytes that one call writes, and the most to which an attribute is set.
 const WRITE: usize = MOST_BYTES as usize;
@@ -36,10 +36,6 @@ pub fn call_of(
     ensures { LineGives result
         (call_of word (option_copied text.entry) (map (λ w. w.now) fields.now) paths.now) }
 {
-    if let CallWord::AddRule = word {
-        let rule = BoxedRule::new(alloc, rule_of(alloc, text)?)?;
-        return Ok(Call::AddRule { rule });
-    }
     match word {
         CallWord::Open => open_of(fields, paths),
         CallWord::Read => read_of(fields),
@@ -71,8 +67,16 @@ pub fn call_of(
         CallWord::Firmware => Ok(Call::Firmware {
             inode: inode_in(fields, paths)?,
         }),
-        CallWord::AddRule => Err(LineErr::Refused(LineCause::BadField)),
+        CallWord::AddRule => added_rule(alloc, text),
     }
+}
+
+fn added_rule(alloc: Global, text: Option<&[u8]>) -> Result<Call, LineErr>
+    ensures { LineGives result (added_rule (option_copied text.entry)) }
+{
+    let rule = rule_of(alloc, text)?;
+    let rule = BoxedRule::new(alloc, rule)?;
+    Ok(Call::AddRule { rule })
 }
 
 // The number of the path's file.
@@ -272,16 +276,6 @@ fn exec_of(fields: &[&[u8]], paths: &Paths) -> Result<Call, LineErr>
     Ok(Call::Exec { run, inode })
 }
 
-// A name of 1 to 255 visible bytes.
-fn name_of(alloc: Global, text: &[u8]) -> Result<BoxedBytes, LineErr>
-    ensures { LineGives result (ok_or (name_of text.now) cause.BadField) }
-{
-    if !is_word(text, 255) {
-        return Err(LineErr::Refused(LineCause::BadField));
-    }
-    Ok(BoxedBytes::from_slice(alloc, text)?)
-}
-
 fn setxattr_of(alloc: Global, fields: &[&[u8]], paths: &Paths) -> Result<Call, LineErr>
     ensures { LineGives result (setxattr_of (map (λ w. w.now) fields.now) paths.now) }
 {
@@ -291,11 +285,26 @@ fn setxattr_of(alloc: Global, fields: &[&[u8]], paths: &Paths) -> Result<Call, L
     if is_filled(more) {
         return Err(LineErr::Refused(LineCause::BadField));
     }
-    let name = name_of(alloc, name)?;
+    setxattr_words(alloc, path, name, value, paths)
+}
+
+// The call of a `setxattr` line with these words. A name has 1 to 255 visible bytes.
+fn setxattr_words(
+    alloc: Global,
+    path: &[u8],
+    name: &[u8],
+    value: &[u8],
+    paths: &Paths,
+) -> Result<Call, LineErr>
+    ensures { LineGives result
+        (setxattr_of (path.now ∷ name.now ∷ value.now ∷ []) paths.now) }
+{
+    if !is_word(name, 255) {
+        return Err(LineErr::Refused(LineCause::BadField));
+    }
     let value = value_of(alloc, value, 0, SET)?;
-    let value = BoxedValue::new(alloc, Some(value))?;
     let inode = inode_at(path, paths)?;
-    Ok(Call::SetAttr { inode, name, value })
+    Ok(attr_call(alloc, inode, name, Some(value))?)
 }
 
 fn removexattr_of(alloc: Global, fields: &[&[u8]], paths: &Paths) -> Result<Call, LineErr>
@@ -304,9 +313,24 @@ fn removexattr_of(alloc: Global, fields: &[&[u8]], paths: &Paths) -> Result<Call
     let [path, name] = fields else {
         return Err(LineErr::Refused(LineCause::BadField));
     };
-    let name = name_of(alloc, name)?;
+    if !is_word(name, 255) {
+        return Err(LineErr::Refused(LineCause::BadField));
+    }
     let inode = inode_at(path, paths)?;
-    let value = BoxedValue::new(alloc, None)?;
+    Ok(attr_call(alloc, inode, name, None)?)
+}
+
+// The call that sets an attribute, or removes it if there is no value.
+fn attr_call(
+    alloc: Global,
+    inode: u32,
+    name: &[u8],
+    value: Option<Bytes>,
+) -> Result<Call, OutOfMemory>
+    ensures { IfOk result (λ c. c ≡ Call.SetAttr inode name.now value) }
+{
+    let value = BoxedValue::new(alloc, value)?;
+    let name = BoxedBytes::from_slice(alloc, name)?;
     Ok(Call::SetAttr { inode, name, value })
 }
 

@@ -1,4 +1,5 @@
-ghost use Rattle.std.specs.Prelude.{◌≡◌};
+ghost use Rattle.std.specs.Prelude.{◌≡◌, map};
+ghost use Rattle.text_forms.specs.Tables.{look_up};
 ghost use Rattle.script_text.specs.Heads.{call_word_of, head_of, in_order, rank, repeats, section_of};
 
 /// The kind of a line of a script, by its first word.
@@ -59,94 +60,74 @@ pub fn head_of(word: &[u8]) -> Option<Head>
     }
 }
 
+// The calls by the words with which their lines begin.
+const CALLS: [(&[u8], CallWord); 19] = [
+    (b"open", CallWord::Open),
+    (b"read", CallWord::Read),
+    (b"write", CallWord::Write),
+    (b"ftruncate", CallWord::Ftruncate),
+    (b"close", CallWord::Close),
+    (b"mmap", CallWord::Mmap),
+    (b"mread", CallWord::Mread),
+    (b"munmap", CallWord::Munmap),
+    (b"exec", CallWord::Exec),
+    (b"endexec", CallWord::Endexec),
+    (b"setxattr", CallWord::SetAttr),
+    (b"removexattr", CallWord::RemoveAttr),
+    (b"chmod", CallWord::Chmod),
+    (b"chown", CallWord::Chown),
+    (b"post", CallWord::Post),
+    (b"wait", CallWord::Wait),
+    (b"addrule", CallWord::AddRule),
+    (b"module", CallWord::Module),
+    (b"firmware", CallWord::Firmware),
+];
+
+// The other lines by their first words.
+const SECTIONS: [(&[u8], Head); 18] = [
+    (b"imakern", Head::Imakern),
+    (b"hash", Head::Hash),
+    (b"template", Head::Template),
+    (b"boot", Head::Boot),
+    (b"appraise", Head::Appraise),
+    (b"evm", Head::Evm),
+    (b"evm_xattrs", Head::EvmXattrs),
+    (b"evm_format", Head::EvmFormat),
+    (b"fs", Head::Fs),
+    (b"file", Head::File),
+    (b"absent", Head::Absent),
+    (b"attr", Head::Attr),
+    (b"seal", Head::Seal),
+    (b"rule", Head::Rule),
+    (b"task", Head::Task),
+    (b"schedule", Head::Schedule),
+    (b"rounds", Head::Rounds),
+    (b"threads", Head::Threads),
+];
+
+// The entry of a table under this word, if there is one.
+fn look_up<T: Copy>(mut table: &[(&[u8], T)], word: &[u8]) -> Option<T>
+    ensures { result ≡ look_up (map (λ e. (e.0.now, e.1)) table.entry.now) word.now }
+{
+    while let [entry, rest @ ..] = table {
+        if word == entry.0 {
+            return Some(entry.1);
+        }
+        table = rest;
+    }
+    None
+}
+
 fn call_word_of(word: &[u8]) -> Option<CallWord>
     ensures { result ≡ call_word_of word.now }
 {
-    if word == b"open".as_slice() {
-        Some(CallWord::Open)
-    } else if word == b"read".as_slice() {
-        Some(CallWord::Read)
-    } else if word == b"write".as_slice() {
-        Some(CallWord::Write)
-    } else if word == b"ftruncate".as_slice() {
-        Some(CallWord::Ftruncate)
-    } else if word == b"close".as_slice() {
-        Some(CallWord::Close)
-    } else if word == b"mmap".as_slice() {
-        Some(CallWord::Mmap)
-    } else if word == b"mread".as_slice() {
-        Some(CallWord::Mread)
-    } else if word == b"munmap".as_slice() {
-        Some(CallWord::Munmap)
-    } else if word == b"exec".as_slice() {
-        Some(CallWord::Exec)
-    } else if word == b"endexec".as_slice() {
-        Some(CallWord::Endexec)
-    } else if word == b"setxattr".as_slice() {
-        Some(CallWord::SetAttr)
-    } else if word == b"removexattr".as_slice() {
-        Some(CallWord::RemoveAttr)
-    } else if word == b"chmod".as_slice() {
-        Some(CallWord::Chmod)
-    } else if word == b"chown".as_slice() {
-        Some(CallWord::Chown)
-    } else if word == b"post".as_slice() {
-        Some(CallWord::Post)
-    } else if word == b"wait".as_slice() {
-        Some(CallWord::Wait)
-    } else if word == b"addrule".as_slice() {
-        Some(CallWord::AddRule)
-    } else if word == b"module".as_slice() {
-        Some(CallWord::Module)
-    } else if word == b"firmware".as_slice() {
-        Some(CallWord::Firmware)
-    } else {
-        None
-    }
+    look_up(&CALLS, word)
 }
 
 fn section_of(word: &[u8]) -> Option<Head>
     ensures { result ≡ section_of word.now }
 {
-    if word == b"imakern".as_slice() {
-        Some(Head::Imakern)
-    } else if word == b"hash".as_slice() {
-        Some(Head::Hash)
-    } else if word == b"template".as_slice() {
-        Some(Head::Template)
-    } else if word == b"boot".as_slice() {
-        Some(Head::Boot)
-    } else if word == b"appraise".as_slice() {
-        Some(Head::Appraise)
-    } else if word == b"evm".as_slice() {
-        Some(Head::Evm)
-    } else if word == b"evm_xattrs".as_slice() {
-        Some(Head::EvmXattrs)
-    } else if word == b"evm_format".as_slice() {
-        Some(Head::EvmFormat)
-    } else if word == b"fs".as_slice() {
-        Some(Head::Fs)
-    } else if word == b"file".as_slice() {
-        Some(Head::File)
-    } else if word == b"absent".as_slice() {
-        Some(Head::Absent)
-    } else if word == b"attr".as_slice() {
-        Some(Head::Attr)
-    } else if word == b"seal".as_slice() {
-        Some(Head::Seal)
-    } else if word == b"rule".as_slice() {
-        Some(Head::Rule)
-    } else if word == b"task".as_slice() {
-        Some(Head::Task)
-    } else if word == b"schedule".as_slice() {
-        Some(Head::Schedule)
-    } else if word == b"rounds".as_slice() {
-        Some(Head::Rounds)
-    } else if word == b"threads".as_slice() {
-        Some(Head::Threads)
-    } else {
-        None
-    }
+    look_up(&SECTIONS, word)
 }
 
 impl Head {

@@ -64,11 +64,16 @@ impl Model for ListDraft {
 }
 
 impl Grammar for ListDraft {
+    ghost use Rattle.script_words.specs.declared.fault.LineCause.TheVariants.{NoEnd};
     ghost use Rattle.script_text.specs.ListGrammar.{add, is_over};
+
+    type Cause = LineCause;
 
     ghost step = { add };
 
     ghost ends = { is_over };
+
+    ghost no_end = { NoEnd };
 
     fn add_line(&mut self, alloc: Global, line: &[u8]) -> Result<(), LineErr> {
         let (word, text) = cut_line(line);
@@ -79,6 +84,10 @@ impl Grammar for ListDraft {
 
     fn may_end(&self) -> bool {
         self.at == 2
+    }
+
+    fn no_end() -> LineCause {
+        LineCause::NoEnd
     }
 }
 

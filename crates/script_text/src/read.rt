@@ -26,12 +26,17 @@ pub fn parse(alloc: Global, text: &[u8]) -> Result<Script, ScriptErr>
 }
 
 impl Grammar for Draft {
+    ghost use Rattle.script_words.specs.declared.fault.LineCause.TheVariants.{NoEnd};
     ghost use Rattle.script_text.specs.Grammar.{add};
     ghost use Rattle.script_text.specs.Heads.{is_over};
+
+    type Cause = LineCause;
 
     ghost step = { add };
 
     ghost ends = { is_over };
+
+    ghost no_end = { NoEnd };
 
     #[tactic(auto, unfolding(crate::specs::Grammar::add))]
     fn add_line(&mut self, alloc: Global, line: &[u8]) -> Result<(), LineErr> {
@@ -42,6 +47,10 @@ impl Grammar for Draft {
 
     fn may_end(&self) -> bool {
         self.is_over()
+    }
+
+    fn no_end() -> LineCause {
+        LineCause::NoEnd
     }
 }
 

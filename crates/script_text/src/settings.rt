@@ -1,6 +1,6 @@
 //! The settings of a script, and its file systems.
 
-ghost use Rattle.std.specs.Prelude.{◌≡◌, ◌++◌, ok_or, map, codes};
+ghost use Rattle.std.specs.Prelude.{◌≡◌, [], ◌∷◌, ◌++◌, ok_or, map, codes};
 ghost use Rattle.std.specs.Option.{option_copied};
 ghost use Rattle.policy_text.specs.Key.{starts};
 ghost use Rattle.text_forms.specs.FileSystems.{magic_of, uuid_of};
@@ -104,6 +104,13 @@ impl Draft {
         let [value] = fields else {
             return Err(LineErr::Refused(LineCause::BadField));
         };
+        self.keyed(alloc, value)
+    }
+
+    #[tactic(auto, unfolding(crate::specs::Settings::with_key))]
+    fn keyed(&mut self, alloc: Global, value: &[u8]) -> Result<(), LineErr>
+        ensures { LineMakes result (with_key (value.now ∷ []) self.old) self.new }
+    {
         self.key = Some(value_of(alloc, value, 1, KEY)?);
         Ok(())
     }

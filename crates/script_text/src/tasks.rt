@@ -98,7 +98,9 @@ impl Draft {
         if appends && !self.has_room() {
             return Err(LineErr::Refused(LineCause::TooMany));
         }
-        let sum = sum_of(self.sum, call_bytes(&call)).ok_or(LineCause::TooLarge)?;
+        let Some(sum) = sum_of(self.sum, call_bytes(&call)) else {
+            return Err(LineErr::Refused(LineCause::TooLarge));
+        };
         call_on_last(&mut self.tasks, call)?;
         self.calls += 1;
         if appends {
@@ -157,7 +159,8 @@ fn call_on_last(tasks: &mut Vec<TaskBlock>, call: Call) -> Result<(), OutOfMemor
     }
 }
 
-fn cred_in(fields: &[&[u8]]) -> Option<Cred>
+/// The credentials in the words of a task, `admin` among them if it is the fifth.
+pub fn cred_in(fields: &[&[u8]]) -> Option<Cred>
     ensures { result ≡ cred_in (map (λ w. w.now) fields.now) }
 {
     let [uid, euid, gid, egid, more @ ..] = fields else {
@@ -228,7 +231,8 @@ fn appends(call: &Call) -> bool
     }
 }
 
-fn threads_of(text: &[u8]) -> Option<u32>
+/// The number of threads, 1 to 16.
+pub fn threads_of(text: &[u8]) -> Option<u32>
     ensures { result ≡ threads_of text.now }
 {
     match short_number_of(text, 10, THREADS)? {

@@ -7,7 +7,7 @@ use Rattle.script_words.specs.declared.fault.LineCause.{LineCause}
 use Rattle.script_words.specs.declared.fault.LineCause.TheVariants as cause
 use Rattle.script_words.specs.Forms.{descriptor_of, id_of, mode_of, place_among, portion_of, small_of}
 use Rattle.script_words.specs.Line.{cut_line, fields, is_skipped}
-use Rattle.script_words.specs.Read.{fault_at, text_of}
+use Rattle.script_words.specs.Read.{fault_at, text_by, text_of}
 use Rattle.script_words.specs.Value.{value_of}
 
 numbers : (descriptor_of (codes "255") ≡ Some 255) × (descriptor_of (codes "256") ≡ None)
@@ -64,3 +64,12 @@ texts : (text_of counts two 0 (codes "a\n# c\n\na\n") ≡ Ok 2)
     × (text_of counts two 0 (codes "a\na\n#") ≡ Err (fault_at 3 cause.NoEnd))
     × (text_of counts two 0 [] ≡ Err (fault_at 1 cause.NoEnd))
 texts = (refl, refl, refl, refl, refl, refl)
+
+-- the same grammar with numbers as causes: 5 for a line, and 7 for the end
+abbrev numbered : ℕ → List ℕ → Result ℕ ℕ
+numbered n line = if bytes_eq line (codes "a") then Ok (n + 1) else Err 5
+
+own_causes : (text_by 7 numbered two 0 (codes "a\na\n") ≡ Ok 2)
+    × (text_by 7 numbered two 0 (codes "a\nb\na") ≡ Err (fault_at 2 5))
+    × (text_by 7 numbered two 0 (codes "a\na") ≡ Err (fault_at 2 7))
+own_causes = (refl, refl, refl)

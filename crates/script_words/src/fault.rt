@@ -64,44 +64,45 @@ impl Display for LineCause {
     }
 }
 
-/// The first bad line of a text, and why it is refused.
+/// The first bad line of a text, and why it is refused. The cause is of the grammar's own kind; most
+/// grammars have no other causes than [`LineCause`].
 #[derive(Clone, Copy, Debug, PartialEq, Eq)]
-pub struct Fault {
+pub struct Fault<C = LineCause> {
     /// The number of the line, counted from 1; skipped lines count too.
     pub line: u32,
     /// Why the line is refused.
-    pub cause: LineCause,
+    pub cause: C,
 }
 
 /// Why reading a text failed.
 #[derive(Clone, Copy, Debug, PartialEq, Eq)]
-pub enum ScriptErr {
+pub enum ScriptErr<C = LineCause> {
     /// The text isn't in the grammar.
-    Refused(Fault),
+    Refused(Fault<C>),
     /// Memory ran out.
     OutOfMemory,
 }
 
-impl From<OutOfMemory> for ScriptErr {
+impl<C> From<OutOfMemory> for ScriptErr<C> {
     ghost from_gives = { λ _ e. e ≡ OutOfMemory };
 
-    fn from(_e: OutOfMemory) -> ScriptErr {
+    fn from(_e: OutOfMemory) -> ScriptErr<C> {
         ScriptErr::OutOfMemory
     }
 }
 
 /// Why reading a line failed, before the line's number is known.
 #[derive(Clone, Copy, Debug, PartialEq, Eq)]
-pub enum LineErr {
+pub enum LineErr<C = LineCause> {
     /// The line isn't in the grammar.
-    Refused(LineCause),
+    Refused(C),
     /// Memory ran out.
     OutOfMemory,
 }
 
-impl LineErr {
+impl<C> LineErr<C> {
     /// The error of a text whose line of this number has this error.
-    pub fn at(self, line: u32) -> ScriptErr
+    pub fn at(self, line: u32) -> ScriptErr<C>
         ensures { result ≡ err_at line self }
     {
         match self {
@@ -119,18 +120,18 @@ impl From<LineCause> for LineErr {
     }
 }
 
-impl From<OutOfMemory> for LineErr {
+impl<C> From<OutOfMemory> for LineErr<C> {
     ghost from_gives = { λ _ e. e ≡ line.OutOfMemory };
 
-    fn from(_e: OutOfMemory) -> LineErr {
+    fn from(_e: OutOfMemory) -> LineErr<C> {
         LineErr::OutOfMemory
     }
 }
 
-impl<T: Drop> From<AllocFailed<T>> for LineErr {
+impl<T: Drop, C> From<AllocFailed<T>> for LineErr<C> {
     ghost from_gives = { λ _ e. e ≡ line.OutOfMemory };
 
-    fn from(_e: AllocFailed<T>) -> LineErr {
+    fn from(_e: AllocFailed<T>) -> LineErr<C> {
         LineErr::OutOfMemory
     }
 }

@@ -1,30 +1,39 @@
 ghost use Rattle.std.specs.Prelude.{◌≡◌, ◌-◌, ◌<◌, ◌^◌, length};
 ghost use Rattle.script_words.specs.Gives.{Gives, LineMakes};
-ghost use Rattle.script_words.specs.Read.{text_of};
+ghost use Rattle.script_words.specs.Read.{text_by};
 
-use crate::fault::{Fault, LineCause, LineErr, ScriptErr};
+use crate::fault::{Fault, LineErr, ScriptErr};
 use crate::line::{cut, is_skipped};
 use std::alloc::Global;
 
 /// A state that is built line by line.
 pub trait Grammar: Drop {
     ghost use Rattle.std.specs.Prelude.{ℕ, Bool, List, Result};
-    ghost use Rattle.script_words.specs.declared.fault.LineCause.{LineCause};
+
+    /// Why a line is refused.
+    type Cause: Drop;
 
     /// The state after a line that isn't skipped, or the first cause for which it is refused.
-    ghost step: { Self → List ℕ → Result Self LineCause };
+    ghost step: { Self → List ℕ → Result Self Self.Cause };
 
     /// Whether the text may end in this state.
     ghost ends: { Self → Bool };
 
+    /// Why a text is refused that may not end where it ends.
+    ghost no_end: { Self.Cause };
+
     /// Takes one more line, which is neither empty nor a comment. A state that refused a line must
     /// not be used any further.
-    fn add_line(&mut self, alloc: Global, line: &[u8]) -> Result<(), LineErr>
+    fn add_line(&mut self, alloc: Global, line: &[u8]) -> Result<(), LineErr<Self::Cause>>
         ensures { LineMakes result (step self.old line.now) self.new };
 
     /// Whether the text may end here.
     fn may_end(&self) -> bool
         ensures { result ≡ ends self.now };
+
+    /// The cause for a text that may not end where it ends.
+    fn no_end() -> Self::Cause
+        ensures { result ≡ no_end };
 }
 
 /// The state that a text makes of `start`, or its first bad line with the first cause that holds of
@@ -32,9 +41,9 @@ pub trait Grammar: Drop {
 ///
 /// Each line ends in a newline. A text that doesn't end in one, or that may not end after its last
 /// line, is refused at the number of its newlines plus one.
-pub fn read_text<T: Grammar>(alloc: Global, start: T, text: &[u8]) -> Result<T, ScriptErr>
+pub fn read_text<T: Grammar>(alloc: Global, start: T, text: &[u8]) -> Result<T, ScriptErr<T::Cause>>
     requires { length text.now < 2 ^ 32 - 1 }
-    ensures { Gives result (text_of T.step T.ends start text.now) }
+    ensures { Gives result (text_by T.no_end T.step T.ends start text.now) }
 {
     let mut state = start;
     let mut number = 1u32;
@@ -54,7 +63,7 @@ pub fn read_text<T: Grammar>(alloc: Global, start: T, text: &[u8]) -> Result<T, 
     } else {
         Err(ScriptErr::Refused(Fault {
             line: number,
-            cause: LineCause::NoEnd,
+            cause: T::no_end(),
         }))
     }
 }

@@ -4,7 +4,7 @@ use Rattle.std.specs.Prelude.{◌==◌, reverse, slice_get, unwrap_or}
 use Rattle.std.proofs.lemmas.Bool.{eq-eqb}
 use Rattle.std.proofs.lemmas.List.{append-nil, reverse-append}
 use Rattle.std.proofs.lemmas.Option.{same_Some}
-use Rattle.inode_meta.specs.declared.step.Who.{Who}
+use Rattle.inode_events.specs.meta.declared.step.Who.{Who}
 use Rattle.call_steps.specs.policy.declared.access.Action.{Action}
 use Rattle.inode_events.specs.Inode.{Inode}
 use Rattle.inode_events.specs.declared.deed.Deed.{Deed}

@@ -3,7 +3,7 @@ use Rattle.std.proofs.Common.{◌≡◌, ℕ, suc, ◌<◌, ◌≤◌, Bool, tru
 use Rattle.std.specs.Prelude.{◌==◌, option_map}
 use Rattle.std.proofs.lemmas.Bool.{eqb-true, ne_eqb, cond-true, cond-false}
 use Rattle.std.proofs.lemmas.Option.{same_Some}
-use Rattle.inode_meta.specs.declared.step.Who.{Who}
+use Rattle.inode_events.specs.meta.declared.step.Who.{Who}
 use Rattle.call_steps.specs.templates.declared.entry.Placed.{Placed}
 use Rattle.inode_events.specs.Callers.{caller_of}
 use Rattle.ending_laws.specs.laws_of_journals.Standing.{event_at}

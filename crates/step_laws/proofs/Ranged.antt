@@ -2,7 +2,7 @@
 use Rattle.std.proofs.Common.{◌≡◌, ℕ, zero, suc, ◌<◌, Bool, true, false, cond, List, [], ◌∷◌, ◌++◌, length, Option, Some, None, refl, sym, subst, arith, inl, inr}
 use Rattle.std.specs.Prelude.{◌⊎◌, option_map, slice_get, unwrap_or}
 use Rattle.std.proofs.lemmas.List.{append-nil}
-use Rattle.inode_meta.specs.declared.appraisal.Mode.{Mode}
+use Rattle.inode_events.specs.meta.declared.appraisal.Mode.{Mode}
 use Rattle.call_steps.specs.policy.declared.access.Action.{Action}
 use Rattle.inode_events.specs.Past.{past}
 use Rattle.inode_events.specs.declared.deed.How.{How}

@@ -6,7 +6,7 @@ use Rattle.std.proofs.lemmas.List.{append-nil}
 use Rattle.inode_events.specs.labels.declared.verdict.Cause.{Cause}
 use Rattle.inode_events.specs.labels.declared.verdict.Verdict.{Verdict}
 use Rattle.inode_events.specs.labels.declared.verdict.Verdict.TheVariants.{Deny}
-use Rattle.inode_meta.specs.declared.appraisal.Slot.{Slot}
+use Rattle.inode_events.specs.meta.declared.appraisal.Slot.{Slot}
 use Rattle.call_steps.specs.policy.declared.access.Action.{Action}
 use Rattle.call_steps.specs.policy.declared.rule.Func.{Func}
 use Rattle.inode_events.specs.Checks.{asks}

@@ -22,7 +22,7 @@ use Rattle.run_model.specs.Scene.{Program}
 use Rattle.run_model.specs.Turns.{State}
 use Rattle.run_model.specs.declared.turn.Turn.TheVariants as turns
 use Rattle.task_frame.specs.Frame.{Frame, inode_in, mode_in}
-use Rattle.task_frame.specs.Tasks.{HasPlayed, IsTask, PassesValue, Tasked}
+use Rattle.task_frame.specs.Tasks.{ArePassesOf, HasPlayed, IsTask, PassesValue, Tasked}
 use Rattle.task_frame.specs.declared.gathered.Gathered.{Gathered}
 use Rattle.world_locks.proofs.laws_of_tasks.Blocking.{task_of_who}
 use Rattle.world_locks.proofs.laws_of_tasks.Readying.{ready_by_look}
@@ -115,6 +115,13 @@ module _ (frame : Frame) (t : Tasked) (is : IsTask frame t) where
       (ready_by_look frame t is.history i s q list d is.played here at
       (subst (λ (n : ℕ). HasLooked (inode_in frame s) (n + 1) q.seen list q.mine) number looked)
       on)
+
+  -- the task's passes are those of the caller of its step
+  pub passes_ready : (w : Who) → w ≡ who → ArePassesOf frame w.task t.passes
+  passes_ready w e =
+      let number = task_of_who t.number t.mind.program t.mind.thought.mind in
+      subst (λ (x : Who). ArePassesOf frame x.task t.passes) (sym e)
+      (subst (λ (n : ℕ). ArePassesOf frame n t.passes) (sym number) is.played.passes)
 
   -- the step is ready for any `Who`, action and slot that equal the task's
   ready_by : (w : Who) (action : ActionValue) (slot : Slot) (i : ℕ) (d : Deed) → w ≡ who

@@ -113,6 +113,10 @@ fn end(world: World, tasks: Vec<Task>) -> Result<Ended, OutOfMemory>
 {
     let stuck = are_stuck(tasks.as_slice(), &world.sems);
     let grows = may_grow(tasks.as_slice());
+    let Ok((passes, ended)) = part(world.alloc, tasks) else {
+        drop(world);
+        return Err(OutOfMemory);
+    };
     let World {
         stations,
         book,
@@ -125,7 +129,6 @@ fn end(world: World, tasks: Vec<Task>) -> Result<Ended, OutOfMemory>
         alloc,
     } = world;
     let in_force = rules.rules().rules().len();
-    let (passes, ended) = part(alloc, tasks)?;
     let lists = close_lists(alloc, stations, book, sems, rules, idle, passes)?;
     let Lists {
         inodes,

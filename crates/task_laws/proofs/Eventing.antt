@@ -8,7 +8,7 @@ use Rattle.std.proofs.lemmas.Option.{get_or_from_slice_get, same_Some, slice_get
 use mathlib.Core.List.{IsPrefix}
 use Rattle.grow_list.proofs.Prefixes.{prefix_append, prefix_length, prefix_trans}
 use Rattle.grow_list.specs.Shown.{Passed}
-use Rattle.ima_templates.specs.declared.entry.Entry.{Entry}
+use Rattle.call_steps.specs.templates.declared.entry.Entry.{Entry}
 use Rattle.inode_meta.specs.declared.step.Who.{Who}
 use Rattle.inode_events.specs.Asked.{asked, list_after, made, outcome}
 use Rattle.inode_events.specs.Past.{past}

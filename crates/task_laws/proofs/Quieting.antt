@@ -4,7 +4,7 @@ use Rattle.std.specs.Prelude.{slice_get}
 use Rattle.std.proofs.lemmas.List.{append-nil}
 use Rattle.grow_list.proofs.Prefixes.{prefix_refl}
 use Rattle.grow_list.specs.Shown.{Passed}
-use Rattle.ima_templates.specs.declared.entry.Entry.{Entry}
+use Rattle.call_steps.specs.templates.declared.entry.Entry.{Entry}
 use Rattle.inode_meta.specs.declared.step.Who.{Who}
 use Rattle.inode_events.specs.declared.told.Event.{Event}
 use Rattle.call_steps.specs.Mind.{Mind, Step}

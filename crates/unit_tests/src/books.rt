@@ -5,10 +5,10 @@ ghost use Rattle.std.specs.Prelude.{◌≡◌, ◌≢◌, IfOk};
 ghost use Rattle.grow_list.specs.Shown.{fresh};
 
 use hash_algos::{Algo, Digest};
+use ima_templates::registers::Bank;
 use ima_templates::{Entry, Placed, build, can_show, violation};
-use inode_meta::Template;
 use measure_book::{Book, Pass};
-use pcr_bank::Bank;
+use policy_text::meta::Template;
 use std::alloc::{AllocError as OutOfMemory, Global};
 use std::marker::{Brand, Model, PhantomData};
 use std::process::Abort;

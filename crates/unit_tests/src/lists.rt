@@ -6,10 +6,10 @@
 // rest. The registers of the one are in a case of `worked_runs`.
 
 use hash_algos::{Algo, Digest};
+use ima_templates::registers::Banks;
 use ima_templates::{Entry, build, can_show, violation};
-use inode_meta::{Bank, Template};
 use list_format::{ascii, binary};
-use pcr_bank::Banks;
+use policy_text::meta::{Bank, Template};
 use std::alloc::{AllocError as OutOfMemory, Global};
 use std::process::Abort;
 use std::test::Fail;

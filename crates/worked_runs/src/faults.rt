@@ -3,14 +3,15 @@ ghost use Rattle.std.specs.Prelude.{◌<◌};
 
 use crate::cases::Case;
 use crate::outcome::{Outcome, answer, none, served};
-use ima_io::{MemSink, MemSource};
+use ima_top::outer::{MemSink, MemSource};
 use ima_top::{DONE, MOST_INPUT, READ_FAULT, REFUSED, TOO_LONG, USAGE, WRITE_FAULT};
 use std::alloc::{AllocError as OutOfMemory, Global};
 use std::sync::Wait;
 use std::thread::Threads;
 
 // What is told of words that are no command.
-const FORMS: &str = "usage: imakern list | run | policy | label | gen N\n";
+const FORMS: &str =
+    "usage: imakern list | run | policy | label | gen N | buffers | carry | audit | loads\n";
 
 /// Of each kind of fault, whether every try ended as it has to.
 #[derive(Clone, Copy, Debug)]

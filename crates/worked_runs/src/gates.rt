@@ -1,7 +1,10 @@
-// Gates: one that sees which steps pass it, and one at which two tasks wait for each other.
+// Gates: one that sees which steps pass it, and one at which two tasks, or two callers, wait for
+// each other.
 use crate::outcome::answer_behind;
-use ima_io::{Gate, Who};
 use ima_top::DONE;
+use ima_top::buffers::{measure_all, parse};
+use ima_top::outer::{Gate, Who};
+use ima_top::scripts::ScriptErr;
 use std::alloc::{AllocError as OutOfMemory, Global};
 use std::hint;
 use std::sync::Wait;
@@ -28,6 +31,18 @@ const SIGNALS: &str = "imakern 1\n\
     task uid=0 euid=0 gid=0 egid=0\npost 0\n\
     task uid=0 euid=0 gid=0 egid=0\nwait 0\n";
 
+// Two callers, each of which measures a buffer of its own.
+const BUFFERS: &str = "imabuffers 1\n\
+    rule measure func=CRITICAL_DATA\n\
+    caller uid=0 euid=0 gid=0 egid=0\ncritical a txt:a\n\
+    caller uid=0 euid=0 gid=0 egid=0\ncritical b txt:b\n";
+
+// A caller whose buffers are measured, and one whose buffers aren't.
+const CALLERS: &str = "imabuffers 1\n\
+    rule measure func=CRITICAL_DATA uid=0\n\
+    caller uid=0 euid=0 gid=0 egid=0\ncritical a txt:a\ncritical a txt:a\n\
+    caller uid=1 euid=0 gid=0 egid=0\ncritical b txt:b\n";
+
 // Two tasks that post.
 const POSTS: &str = "imakern 1\n\
     task uid=0 euid=0 gid=0 egid=0\npost 0\n\
@@ -51,10 +66,11 @@ impl Gate for Watch<'_> {
     }
 }
 
-// Whether the run of this script, with this ending, passes its gate by these steps.
+// Whether the command's run of this text, with this ending, passes its gate by these steps.
 fn is_passed_by<R: Threads + Wait + Sync>(
     rt: &R,
     alloc: Global,
+    words: &str,
     script: &str,
     ending: &str,
     steps: &[Step],
@@ -65,7 +81,7 @@ fn is_passed_by<R: Threads + Wait + Sync>(
         other: AtomicBool::new(false),
     };
     let input = format!(in alloc; "{script}{ending}\n")?;
-    let got = answer_behind(rt, alloc, "run", input.as_bytes(), &gate)?;
+    let got = answer_behind(rt, alloc, words, input.as_bytes(), &gate)?;
     let all = gate.at.load(Ordering::SeqCst) == steps.len();
     Ok(got.status == DONE && all && !gate.other.load(Ordering::SeqCst))
 }
@@ -94,11 +110,17 @@ pub fn turns_pass<R: Threads + Wait + Sync>(rt: &R, alloc: Global) -> Result<boo
         (SIGNALS, "rounds", &[(0, 0, 0), (1, 0, 0)]),
     ];
     for (script, ending, steps) in rows {
-        if !is_passed_by(rt, alloc, script, ending, steps)? {
+        if !is_passed_by(rt, alloc, "run", script, ending, steps)? {
             return Ok(false);
         }
     }
     Ok(true)
+}
+
+/// Whether each buffer passes the gate before it is measured, also one that no rule wants measured.
+pub fn buffers_pass<R: Threads + Wait + Sync>(rt: &R, alloc: Global) -> Result<bool, OutOfMemory> {
+    let steps = [(0, 0, 0), (0, 1, 0), (1, 0, 0)];
+    is_passed_by(rt, alloc, "buffers", CALLERS, "threads 1", &steps)
 }
 
 // Lets the first step of each of two tasks wait for that of the other.
@@ -110,6 +132,15 @@ struct Meeting {
 }
 
 impl Meeting {
+    // Before either comes.
+    fn new() -> Meeting {
+        Meeting {
+            first: AtomicBool::new(false),
+            second: AtomicBool::new(false),
+            missed: AtomicBool::new(false),
+        }
+    }
+
     // Sets the one flag, and waits for the other.
     fn meet(&self, own: &AtomicBool, other: &AtomicBool) {
         own.store(true, Ordering::SeqCst);
@@ -118,9 +149,10 @@ impl Meeting {
         }
     }
 
-    // Whether both came.
-    fn is_passed(&self) -> bool {
-        self.first.load(Ordering::SeqCst) && self.second.load(Ordering::SeqCst)
+    // Whether each saw the other. None if one of them didn't come.
+    fn is_met(&self) -> Option<bool> {
+        let both = self.first.load(Ordering::SeqCst) && self.second.load(Ordering::SeqCst);
+        both.then_some(!self.missed.load(Ordering::SeqCst))
     }
 }
 
@@ -152,15 +184,49 @@ pub fn tasks_meet<R: Threads + Wait + Sync>(
     alloc: Global,
     ending: &str,
 ) -> Result<Option<bool>, OutOfMemory> {
-    let gate = Meeting {
-        first: AtomicBool::new(false),
-        second: AtomicBool::new(false),
-        missed: AtomicBool::new(false),
-    };
-    let input = format!(in alloc; "{POSTS}{ending}\n")?;
-    let got = answer_behind(rt, alloc, "run", input.as_bytes(), &gate)?;
-    if got.status != DONE || !gate.is_passed() {
+    meet(rt, alloc, "run", POSTS, ending)
+}
+
+/// Whether two callers that wait for each other before their first buffers meet there. None if the
+/// run doesn't end well, or a caller doesn't come to the gate.
+pub fn callers_meet<R: Threads + Wait + Sync>(
+    rt: &R,
+    alloc: Global,
+    ending: &str,
+) -> Result<Option<bool>, OutOfMemory> {
+    meet(rt, alloc, "buffers", BUFFERS, ending)
+}
+
+/// Whether they meet if `measure_all` is called without a command around it.
+pub fn measured_callers_meet<R: Threads + Wait + Sync>(
+    rt: &R,
+    alloc: Global,
+    ending: &str,
+) -> Result<Option<bool>, ScriptErr> {
+    let gate = Meeting::new();
+    let input = format!(in alloc; "{BUFFERS}{ending}\n")?;
+    let bytes = input.as_bytes();
+    if bytes.len() > 1_000_000 {
         return Ok(None);
     }
-    Ok(Some(!gate.missed.load(Ordering::SeqCst)))
+    let text = parse(alloc, bytes)?;
+    let _run = measure_all(rt, alloc, &text, &gate)?;
+    Ok(gate.is_met())
+}
+
+// Whether the two meet in the command's run of this text, with this ending.
+fn meet<R: Threads + Wait + Sync>(
+    rt: &R,
+    alloc: Global,
+    words: &str,
+    text: &str,
+    ending: &str,
+) -> Result<Option<bool>, OutOfMemory> {
+    let gate = Meeting::new();
+    let input = format!(in alloc; "{text}{ending}\n")?;
+    let got = answer_behind(rt, alloc, words, input.as_bytes(), &gate)?;
+    if got.status != DONE {
+        return Ok(None);
+    }
+    Ok(gate.is_met())
 }

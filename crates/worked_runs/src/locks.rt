@@ -1,4 +1,4 @@
-// Steps of two tasks on threads, while a third thread holds the file of the one.
+// Steps of two tasks on threads, while a third thread holds the file of one of them.
 ghost use Rattle.std.specs.Prelude.{◌≡◌, ◌<◌, All, length};
 ghost use Rattle.std.specs.Thread.{IsSync};
 ghost use Rattle.ima_top.specs.frames.Tasks.{IsTask};
@@ -14,7 +14,7 @@ use std::sync::atomic::{AtomicBool, Ordering};
 use std::thread;
 use std::thread::{Threads, join};
 
-// Two tasks, each of which opens a file of its own.
+// Two tasks, each of which opens the file of its own number.
 const OPENS: &str = "imakern 1\n\
     fs magic=0xef53 uuid=00000000-0000-0000-0000-000000000001 name=ext4 versions\n\
     file /a fs=0 ino=12 gen=1 uid=0 gid=0 mode=100644 content=txt:abc\n\
@@ -26,25 +26,25 @@ const OPENS: &str = "imakern 1\n\
 // What the threads tell each other.
 #[derive(Drop)]
 struct Flags {
-    // The first file is held.
+    // The file is held.
     held: AtomicBool,
-    // The first task has made a step.
-    first: AtomicBool,
-    // The second task has made its steps.
-    second: AtomicBool,
-    // While the first file was held, the second task made its steps, and the first none.
+    // The task that opens the held file has made a step.
+    waiting: AtomicBool,
+    // The other task has made its steps.
+    free: AtomicBool,
+    // While the file was held, the other task made its steps, and the task that opens it none.
     apart: AtomicBool,
 }
 
-// Holds the first file till the second task has made its steps.
-fn hold<N: Name, R: Wait>(rt: &R, live: &Live<N>, flags: &Flags)
-    requires { 0 < length N.frame.sites }
+// Holds the file of this number till the task that opens the other has made its steps.
+fn hold<N: Name, R: Wait>(rt: &R, live: &Live<N>, flags: &Flags, inode: u32)
+    requires { inode < length N.frame.sites }
 {
-    live.hold(rt, 0, || {
+    live.hold(rt, inode, || {
         flags.held.store(true, Ordering::SeqCst);
-        let second = sees(&flags.second);
-        let first = flags.first.load(Ordering::SeqCst);
-        flags.apart.store(second && !first, Ordering::SeqCst);
+        let free = sees(&flags.free);
+        let waiting = flags.waiting.load(Ordering::SeqCst);
+        flags.apart.store(free && !waiting, Ordering::SeqCst);
     });
 }
 
@@ -59,21 +59,27 @@ fn step<N: Name, R: Wait>(rt: &R, live: &Live<N>, task: &mut Task) -> bool
     }
 }
 
-// Once the first file is held: one step of the first task, and both of the second. Answers whether
-// they moved.
-fn step_behind<N: Name, R: Wait>(rt: &R, live: &Live<N>, flags: &Flags, task: Task) -> bool
+// Once the file of this number is held: one step of the task that opens it, or both of the other.
+// Answers whether they moved.
+fn step_while_held<N: Name, R: Wait>(
+    rt: &R,
+    live: &Live<N>,
+    flags: &Flags,
+    inode: u32,
+    task: Task,
+) -> bool
     requires { IsTask N.frame task }
 {
     let mut task = task;
     let held = sees(&flags.held);
-    let is_first = task.who().is_some_and(|who| who.task == 0);
+    let waits = task.who().is_some_and(|who| who.task == inode);
     let begun = step(rt, live, &mut task);
-    if is_first {
-        flags.first.store(true, Ordering::SeqCst);
+    if waits {
+        flags.waiting.store(true, Ordering::SeqCst);
         return held && begun;
     }
     let done = step(rt, live, &mut task);
-    flags.second.store(true, Ordering::SeqCst);
+    flags.free.store(true, Ordering::SeqCst);
     held && begun && done
 }
 
@@ -82,6 +88,7 @@ fn step_all<N: Name, R: Threads + Wait + Sync>(
     rt: &R,
     live: &Live<N>,
     flags: &Flags,
+    inode: u32,
     tasks: Vec<Task>,
 ) -> bool
     requires { All (IsTask N.frame) tasks.items }
@@ -91,7 +98,7 @@ fn step_all<N: Name, R: Threads + Wait + Sync>(
         tasks,
         &|task: Task| -> bool
             requires { IsTask N.frame task }
-        { step_behind(rt, live, flags, task) },
+        { step_while_held(rt, live, flags, inode, task) },
     );
     match moved {
         Ok(moved) => moved.iter().all(|well| *well),
@@ -99,47 +106,63 @@ fn step_all<N: Name, R: Threads + Wait + Sync>(
     }
 }
 
-// Whether the second task made its steps while the first file was held, and the first task none.
+// Whether, while the file of this number was held, the task that opens the other made its steps,
+// and the task that opens it none.
 fn are_apart<N: Name, R: Threads + Wait + Sync>(
     rt: &R,
     world: World,
+    inode: u32,
     tasks: Vec<Task>,
 ) -> Result<bool, OutOfMemory>
     requires frame { world.frame ≡ N.frame }
-    requires inode { 0 < length N.frame.sites }
+    requires inode { inode < length N.frame.sites }
     requires tasks { All (IsTask N.frame) tasks.items }
 {
     let live = world.share::<N>()?;
     let shared = &live;
     let flags = Flags {
         held: AtomicBool::new(false),
-        first: AtomicBool::new(false),
-        second: AtomicBool::new(false),
+        waiting: AtomicBool::new(false),
+        free: AtomicBool::new(false),
         apart: AtomicBool::new(false),
     };
     let told = &flags;
     let (_, moved) = join(
         rt,
         ||
-            requires { 0 < length N.frame.sites }
-        { hold(rt, shared, told) },
+            requires { inode < length N.frame.sites }
+        { hold(rt, shared, told, inode) },
         move || -> bool
             requires { IsSync R.row × All (IsTask N.frame) tasks.items }
-        { step_all(rt, shared, told, tasks) },
+        { step_all(rt, shared, told, inode, tasks) },
     );
     Ok(moved && flags.apart.load(Ordering::SeqCst))
 }
 
-/// Whether each inode lies under a lock of its own: while a thread holds one, a task makes its
-/// steps on another, and one that wants the held one waits.
+// The same of a run of its own of the script.
+fn is_apart<R: Threads + Wait + Sync>(
+    rt: &R,
+    alloc: Global,
+    inode: u32,
+) -> Result<bool, ScriptErr> {
+    let script = parse(alloc, OPENS.as_bytes())?;
+    let (world, tasks, inodes) = started(alloc, script)?;
+    if inode as usize >= inodes {
+        return Ok(false);
+    }
+    Ok(are_apart::<Brand, R>(rt, world, inode, tasks)?)
+}
+
+/// Whether each inode is under a lock of its own: while a thread holds one, a task makes its steps
+/// on the other, and one that opens the held one waits.
 pub fn inodes_are_apart<R: Threads + Wait + Sync>(
     rt: &R,
     alloc: Global,
 ) -> Result<bool, ScriptErr> {
-    let script = parse(alloc, OPENS.as_bytes())?;
-    let (world, tasks, inodes) = started(alloc, script)?;
-    if inodes == 0 {
-        return Ok(false);
+    for inode in 0..2 {
+        if !is_apart(rt, alloc, inode)? {
+            return Ok(false);
+        }
     }
-    Ok(are_apart::<Brand, R>(rt, world, tasks)?)
+    Ok(true)
 }

@@ -3,12 +3,12 @@
 //! Each file of `data/` is a family of cases: an input, and what the command has to answer. What a
 //! case must write comes from outside: from a second program that follows `docs/RULES.md` and
 //! `docs/FORMATS.md`, with the digests of Python's hashlib. The causes of refused lines, of which
-//! `settings`, `files`, `tasks`, `causes`, `words` and `over_limits` are full, were read off `docs/FORMATS.md` by
-//! hand. Two families have other sources. The cases of `kernels` were run on Debian's Linux kernels
-//! under qemu, with the versions and boot words that the first line of each script names: they have
-//! the kernel's measurement list, the registers that follow from it, and the first word of each
-//! reply. Those of `examples` repeat the files of `examples/` and what this program made of them;
-//! `bench/examples.py` compares the copies.
+//! `settings`, `files`, `tasks`, `causes`, `words` and `over_limits` are full, were read off
+//! `docs/FORMATS.md` by hand. Two families have other sources. The cases of `kernels` were run on
+//! Debian's Linux kernels under qemu, with the versions and boot words that the first line of each
+//! script names: they have the kernel's measurement list, the registers that follow from it, and
+//! the first word of each reply. Those of `examples` repeat the files of `examples/` and what this
+//! program made of them; `bench/examples.py` compares the copies.
 //!
 //! In the five families of causes the name of a refused case begins with its cause, and goes on
 //! with the lines that matter: those of a file, a file system or a task by the words in which they
@@ -18,10 +18,12 @@
 //! `spread` and `cases` read a family, `outcome` calls `serve`, `orders` fixes the order in which
 //! the steps of threads come, and `faults` cuts the input of the first case short, fails its reads
 //! and writes, and makes it too long. `gates` watches the steps of runs, and lets two tasks wait
-//! for each other; `locks` makes steps on one file while another is held. A line is printed for
-//! each case, and the status is 1 if one differs.
+//! for each other; `callers` has 64 callers measure the same buffers on 16 threads; `locks` makes
+//! steps on one file while another is held. A line is printed for each case, and the status is 1 if
+//! one differs.
 #![tactic(auto)]
 
+mod callers;
 mod cases;
 mod faults;
 mod gates;
@@ -43,7 +45,7 @@ use std::thread::Threads;
 
 // The families, and how often each of their cases is run. Those of the last one run on threads,
 // and the order of their steps is fixed, so the whole report is the same however the threads fall.
-const FAMILIES: [(&str, u32); 24] = [
+const FAMILIES: [(&str, u32); 28] = [
     ("measuring", 1),
     ("violations", 1),
     ("appraisal", 1),
@@ -52,6 +54,10 @@ const FAMILIES: [(&str, u32); 24] = [
     ("deeds", 1),
     ("calls", 1),
     ("growing", 1),
+    ("buffers", 1),
+    ("carry", 1),
+    ("audit", 1),
+    ("loads", 1),
     ("labels", 1),
     ("lists", 1),
     ("policies", 1),
@@ -81,9 +87,13 @@ fn main(rt: HostRuntime) -> Result<()> {
     let text = fs::read_to_string(&rt, "measuring.cases")?;
     let faults = faults_hold(&rt, rt.alloc(), text.as_str())?;
     let gates = gates_hold(&rt, rt.alloc())?;
+    let callers = callers_hold(&rt, rt.alloc())?;
     let apart = locks::inodes_are_apart(&rt, rt.alloc()).unwrap_or(false);
     let locks = rows_hold(&rt, "locks", &[("each file has its own", apart)])?;
-    ensure!(faults && gates && locks && !differ, "not as it should be");
+    ensure!(
+        faults && gates && callers && locks && !differ,
+        "not as it should be"
+    );
     Ok(())
 }
 
@@ -180,4 +190,21 @@ fn gates_hold<R: Print + Threads + Wait + Sync>(rt: &R, alloc: Global) -> Result
         ("they don't in rounds", rounds == Some(false)),
     ];
     rows_hold(rt, "gates", &rows)
+}
+
+// Checks how callers of buffers run side by side, and prints a line for each property.
+fn callers_hold<R: Print + Threads + Wait + Sync>(rt: &R, alloc: Global) -> Result<bool> {
+    let buffers = gates::buffers_pass(rt, alloc)?;
+    let two = gates::callers_meet(rt, alloc, "threads 2")?;
+    let one = gates::callers_meet(rt, alloc, "threads 1")?;
+    let alone = gates::measured_callers_meet(rt, alloc, "threads 2").unwrap_or(None);
+    let shared = callers::buffers_are_shared(rt, alloc).unwrap_or(false);
+    let rows = [
+        ("each buffer passes a gate", buffers),
+        ("two of them meet on two threads", two == Some(true)),
+        ("they don't on one thread", one == Some(false)),
+        ("two of them meet without a command", alone == Some(true)),
+        ("64 of them measure the same buffers", shared),
+    ];
+    rows_hold(rt, "callers", &rows)
 }

@@ -20,7 +20,7 @@ use Rattle.inode_events.specs.declared.deed.Deed.TheVariants as deed
 use Rattle.inode_events.specs.declared.told.Event.{Event}
 use Rattle.inode_events.specs.declared.told.Told.{Told}
 use Rattle.inode_meta.specs.declared.step.Who.{Who}
-use Rattle.inode_pages.specs.Content.{piece_at}
+use Rattle.inode_events.specs.pages.Content.{piece_at}
 use Rattle.inode_cell.specs.laws_of_journals.Own.{IsBy}
 use Rattle.world_deeds.proofs.about_deeds.Hashing.{close_piece_left, piece_left}
 use Rattle.world_deeds.specs.deeds.Hashed.{HasGathered}

@@ -10,7 +10,7 @@ ghost use Rattle.inode_events.specs.Asked.{outcome};
 ghost use Rattle.inode_events.specs.Integrity.{Collection as AnyCollection, collecting};
 ghost use Rattle.inode_events.specs.Past.{past};
 ghost use Rattle.inode_events.specs.State.{content};
-ghost use Rattle.inode_pages.specs.Content.{piece_at};
+ghost use Rattle.inode_events.specs.pages.Content.{piece_at};
 ghost use Rattle.world_deeds.specs.deeds.Leaving.{Leaves, told_by};
 ghost use Rattle.world_deeds.specs.laws_of_tasks.Ready.{HasLooked};
 ghost use Rattle.task_mind.specs.Steps.{deed_in};
@@ -19,8 +19,8 @@ ghost use Rattle.world_locks.specs.Pages.{IsPageDeed, taken_in};
 use grow_list::Pass;
 use inode_cell::{InodeCell, Piece};
 use inode_events::Event;
+use inode_events::pages::Page;
 use inode_meta::Who;
-use inode_pages::Page;
 use std::alloc::AllocError as OutOfMemory;
 use task_mind::Doing;
 

@@ -6,7 +6,7 @@ function! s:Detect() abort
     if line =~# '^\s*\%(#.*\)\=$'
       continue
     endif
-    if line ==# 'imakern 1' || line ==# 'imalist 1'
+    if line =~# '^\%(imakern\|imalist\|imabuffers\|imacarry\) 1$'
       set filetype=imascript
     elseif line ==# 'imakern report 1'
       set filetype=imareport
@@ -17,4 +17,4 @@ function! s:Detect() abort
   endfor
 endfunction
 
-autocmd BufRead *.script,*.list,*.report,*.policy,ima-policy call s:Detect()
+autocmd BufRead *.script,*.list,*.buffers,*.carry,*.report,*.policy,ima-policy call s:Detect()

@@ -1,4 +1,4 @@
-" Reports of `imakern run`.
+" Reports of `imakern run`, also with the trail of `imakern audit` after them.
 if exists('b:current_syntax')
   finish
 endif
@@ -38,6 +38,9 @@ syn cluster imareportAfter contains=imareportDeed,imareportOk,imareportBad
 " An entry of the list; a violation has a template digest of zeros.
 syn match imareportEntry /^[ 0-9]\d \x\{40} ima\%(-ng\|-sig\)\= .*/
 syn match imareportBad /^[ 0-9]\d 0\{40} ima\%(-ng\|-sig\)\= .*/
+" The trail of `imakern audit`.
+syn match imareportBlock /^trail \d\+$/
+syn match imareportEntry /^\%(audit\|hash\) \d\+\.\d\+ \d\+\.\d\+\.\d\+ line \d\+ \S\+ \S\+$/
 syn match imareportRule /^rule \d\+ [0-9.]\+ .*/ contains=imareportAdded,@imapolicyRule
 syn match imareportAdded /^rule \d\+ [0-9.]\+ / contained
 

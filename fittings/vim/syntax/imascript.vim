@@ -1,4 +1,5 @@
-" Scripts of `imakern run` and `imakern label`, and list texts of `imakern list`.
+" Scripts of `imakern run` and `imakern label`, list texts of `imakern list`, texts of buffers of
+" `imakern buffers`, and carry texts of `imakern carry`.
 if exists('b:current_syntax')
   finish
 endif
@@ -10,9 +11,9 @@ silent! syn clear imapolicyComment
 syn match imascriptError /^\S\+/
 syn match imascriptError /^\s\+\|\s\+$\|\s\s\+\|\t/
 syn match imascriptComment /^#.*/
-syn match imascriptHead /^imakern 1$\|^imalist 1$\|^end$/
-syn match imascriptSetting /^\%(hash\|template\|boot\|appraise\|evm\|evm_xattrs\|evm_format\) \@=/
-syn match imascriptBlock /^\%(fs\|file\|absent\|attr\|task\) \@=\|^seal$/
+syn match imascriptHead /^\%(imakern\|imalist\|imabuffers\|imacarry\) 1$\|^end$/
+syn match imascriptSetting /^\%(hash\|template\|carried\|boot\|appraise\|evm\|evm_xattrs\|evm_format\) \@=/
+syn match imascriptBlock /^\%(fs\|file\|absent\|attr\|task\|caller\|critical\) \@=\|^seal$/
 syn match imascriptCall /^\%(open\|read\|write\|ftruncate\|close\|mmap\|mread\|munmap\) \@=/
 syn match imascriptCall /^\%(exec\|endexec\|setxattr\|removexattr\|chmod\|chown\|post\|wait\) \@=/
 syn match imascriptCall /^\%(module\|firmware\) \@=/

@@ -6,9 +6,10 @@ use Rattle.script_run.specs.Run.{HasRun}
 use Rattle.script_text.specs.Grammar.{script_of}
 use Rattle.script_text.specs.ScriptValue.{ScriptValue}
 use Rattle.script_words.specs.declared.fault.Fault.{Fault}
+use Rattle.script_words.specs.declared.fault.LineCause.{LineCause}
 use Rattle.ima_top.specs.commands.BadLine.{bad_line}
 
-abbrev pub run_refusal_of : Result ScriptValue Fault → Option (List ℕ)
+abbrev pub run_refusal_of : Result ScriptValue (Fault LineCause) → Option (List ℕ)
 run_refusal_of (Ok s) = None
 run_refusal_of (Err fault) = Some (bad_line fault)
 

@@ -1,4 +1,4 @@
-// The line that names the first fault of a script or of a list text.
+// The line that names the first fault of a text of lines.
 ghost use Rattle.std.specs.Prelude.{◌≡◌, IfOk};
 ghost use Rattle.ima_top.specs.commands.BadLine.{bad_line};
 

@@ -1,22 +1,22 @@
 // The command `list`: the measurement list of the files of a list text, and its registers.
-ghost use Rattle.std.specs.Prelude.{◌≡◌, ◌∷◌, ◌≤◌, [], ◌++◌, flat_map, length, IfOk, IsTrue, OnOk};
+ghost use Rattle.std.specs.Prelude.{◌≡◌, ◌≤◌, length, IfOk, IsTrue};
 ghost use Rattle.std.specs.List.{All};
 ghost use Rattle.text_forms.specs.Paths.{is_path};
 ghost use Rattle.ima_templates.specs.Replay.{banks_of};
-ghost use Rattle.ima_templates.specs.Same.{add, place_of_same};
-ghost use Rattle.list_format.specs.Line.{ascii_line};
 ghost use Rattle.ima_top.specs.Answered.{Answers};
 ghost use Rattle.ima_top.specs.Limits.{most_input};
-ghost use Rattle.ima_top.specs.commands.List.{boot_entry, file_entry, list_refusal, IsListOutput, list_text, measured, register_line};
+ghost use Rattle.ima_top.specs.commands.List.{list_refusal, IsListOutput, list_text, measured};
 
 use crate::commands::bad_line::bad_line;
+use crate::commands::entries::entries_of;
 use crate::not_done::NotDone;
-use hash_algos::{Algo, Digest, digest_of};
+use hash_algos::{Algo, Digest};
+use ima_templates::Entry;
+use ima_templates::registers::Banks;
 use ima_templates::xattrs::Bytes;
-use ima_templates::{Entry, build};
-use inode_meta::{Bank, DEFAULT_PCR, Template};
-use list_format::ascii;
-use pcr_bank::Banks;
+use inode_meta::DEFAULT_PCR;
+use list_carry::carry_on;
+use report_text::{push_entries, push_values};
 use script_text::{ScriptErr, parse_list};
 use std::alloc::{AllocError as OutOfMemory, Global};
 
@@ -29,121 +29,31 @@ pub fn answer(alloc: Global, input: &[u8]) -> Result<Vec<u8>, NotDone>
 {
     match parse_list(alloc, input) {
         Ok(text) => {
-            let list = measured(alloc, &text.files)?;
-            Ok(list_text(alloc, &list)?)
+            let (list, banks) = measured(alloc, &text.files)?;
+            Ok(list_text(alloc, &list, &banks)?)
         }
         Err(ScriptErr::Refused(fault)) => Err(NotDone::Refused(bad_line(alloc, fault)?)),
         Err(ScriptErr::OutOfMemory) => Err(NotDone::OutOfMemory),
     }
 }
 
-// The entries of the files, after the boot aggregate. The template can show each path.
-fn measured(alloc: Global, files: &[(Bytes, Bytes)]) -> Result<Vec<Entry>, OutOfMemory>
+// The entries of the files, after a boot aggregate of zeros, and their registers. The template can
+// show each path.
+fn measured(alloc: Global, files: &[(Bytes, Bytes)]) -> Result<(Vec<Entry>, Banks), OutOfMemory>
     requires { All (λ f. IsTrue (is_path f.0)) files.now }
-    ensures { IfOk result (λ list. list.items ≡ measured files.now) }
+    ensures list { IfOk result (λ r. r.0.items ≡ measured files.now) }
+    ensures banks { IfOk result (λ r. r.1 ≡ banks_of (measured files.now)) }
 {
-    let mut list = Vec::new(alloc);
-    list.push(boot_entry(alloc)?)?;
-    for file in files {
-        let entry = file_entry(alloc, file)?;
-        add(&mut list, entry)?;
-    }
-    Ok(list)
+    let entries = entries_of(alloc, &Digest::zeros(Algo::Sha256), files)?;
+    carry_on(alloc, None, entries)
 }
 
-fn boot_entry(alloc: Global) -> Result<Entry, OutOfMemory>
-    ensures { IfOk result (λ e. e ≡ boot_entry) }
-{
-    let zeros = Digest::zeros(Algo::Sha256);
-    build(
-        alloc,
-        DEFAULT_PCR,
-        Template::ImaNg,
-        &zeros,
-        &Digest::zeros(Algo::Sha1),
-        b"boot_aggregate",
-        &[],
-    )
-}
-
-fn file_entry(alloc: Global, file: &(Bytes, Bytes)) -> Result<Entry, OutOfMemory>
-    requires { IsTrue (is_path file.now.0) }
-    ensures { IfOk result (λ e. e ≡ file_entry file.now) }
-{
-    let content = file.1.as_slice();
-    let sha256 = digest_of(Algo::Sha256, content);
-    let sha1 = digest_of(Algo::Sha1, content);
-    build(
-        alloc,
-        DEFAULT_PCR,
-        Template::ImaNg,
-        &sha256,
-        &sha1,
-        file.0.as_slice(),
-        &[],
-    )
-}
-
-// Adds the entry if it isn't in the list yet.
-fn add(list: &mut Vec<Entry>, entry: Entry) -> Result<(), OutOfMemory>
-    ensures { OnOk result (list.new.items ≡ add list.old.items entry) }
-{
-    if place_of_same(list, &entry).is_none() {
-        list.push(entry)?;
-    }
-    Ok(())
-}
-
-fn place_of_same(list: &[Entry], entry: &Entry) -> Option<usize>
-    ensures { result ≡ place_of_same list.now entry.now }
-{
-    list.iter().position(|earlier| earlier.same(entry))
-}
-
-fn list_text(alloc: Global, list: &[Entry]) -> Result<Vec<u8>, OutOfMemory>
+fn list_text(alloc: Global, list: &[Entry], banks: &Banks) -> Result<Vec<u8>, OutOfMemory>
+    requires { banks.now ≡ banks_of list.now }
     ensures { IfOk result (λ text. text.items ≡ list_text list.now) }
 {
-    let banks = banks_of(list);
-    let mut text = entry_lines(alloc, list)?;
-    push_register(alloc, &mut text, Bank::Sha1, banks.value(Bank::Sha1, 10))?;
-    push_register(
-        alloc,
-        &mut text,
-        Bank::Sha256,
-        banks.value(Bank::Sha256, 10),
-    )?;
-    Ok(text)
-}
-
-fn banks_of(list: &[Entry]) -> Banks
-    ensures { result ≡ banks_of list.now }
-{
-    let mut banks = Banks::new();
-    for entry in list {
-        entry.extend(&mut banks);
-    }
-    banks
-}
-
-fn entry_lines(alloc: Global, list: &[Entry]) -> Result<Vec<u8>, OutOfMemory>
-    ensures { IfOk result (λ text. text.items ≡ flat_map ascii_line list.now) }
-{
     let mut text = Vec::new(alloc);
-    for entry in list {
-        ascii(entry, &mut text)?;
-    }
+    push_entries(&mut text, list)?;
+    push_values(&mut text, banks, DEFAULT_PCR)?;
     Ok(text)
-}
-
-fn push_register(
-    alloc: Global,
-    text: &mut Vec<u8>,
-    bank: Bank,
-    value: &[u8],
-) -> Result<(), OutOfMemory>
-    ensures { OnOk result (text.new.items ≡ text.old.items ++ register_line bank value.now) }
-{
-    let digits = hex::encode(alloc, value)?;
-    let line = format!(in alloc; "pcr {} 10 {}\n", bank.word(), digits)?;
-    text.extend_from_slice(line.as_bytes())
 }

@@ -1,7 +1,11 @@
 use Rattle.std.proofs.Common.{map, string_bytes}
 use Rattle.command_line.specs.Words.{command_of}
-use Rattle.ima_top.proofs.Serving.{complete_not_done, served_not_done}
+use Rattle.ima_top.proofs.Serving.{complete_not_done, served_done, served_not_done}
 use Rattle.ima_top.proofs.top.serve.Goals as goal
+
+pub returns-in-Ok-clause-served : goal.returns-in-Ok-clause-served
+returns-in-Ok-clause-served g c =
+    served_done (command_of (map string_bytes c.args.words.now)) _ _ _ _ _ c.in-Ok.ensures.input
 
 pub returns-in-Err-clause-served : goal.returns-in-Err-clause-served
 returns-in-Err-clause-served g c =

@@ -7,21 +7,16 @@ use Rattle.report_text.proofs.print.report_in_pieces.Goals as goal
 pub returns : goal.returns
 returns c =
     let e = c.args.e in
-    let grows_is : c.e-2.inside.grows ≡ e.grows = ap (λ (v : EndedValue). v.grows) c.e-2.view_is in
-    let template_is : c.e-2.inside.template ≡ e.template =
-    ap (λ (v : EndedValue). v.template) c.e-2.view_is in
-    let inodes_are : c.e-2.inside.inodes.items ≡ e.inodes =
-    ap (λ (v : EndedValue). v.inodes) c.e-2.view_is in
-    let tasks_are : c.e-2.inside.tasks.items ≡ e.tasks =
-    ap (λ (v : EndedValue). v.tasks) c.e-2.view_is in
+    let grows_is : c.e.inside.grows ≡ e.grows = ap (λ (v : EndedValue). v.grows) c.e.view_is in
+    let template_is : c.e.inside.template ≡ e.template =
+    ap (λ (v : EndedValue). v.template) c.e.view_is in
+    let inodes_are : c.e.inside.inodes.items ≡ e.inodes =
+    ap (λ (v : EndedValue). v.inodes) c.e.view_is in
+    let tasks_are : c.e.inside.tasks.items ≡ e.tasks =
+    ap (λ (v : EndedValue). v.tasks) c.e.view_is in
     rw (
-      c.in_ok-push-2.ensures,
-      c.in_ok-end.ensures,
-      c.in_ok-push_tasks_in_pieces.ensures,
-      c.in_ok-push_inodes_in_pieces.ensures,
-      c.in_ok-push.ensures,
-      c.in_ok-head.ensures,
-      c.new-out.ensures,
+      c.in_ok-text.ensures,
+      c.in_ok-first.ensures,
       grows_is,
       template_is,
       inodes_are,

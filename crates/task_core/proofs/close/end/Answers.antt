@@ -34,10 +34,10 @@ close_lists-requires g c =
             (
               subst (λ (f : Frame). AreIdle f w.idle.items) is c.world.invariant.idle,
               (
-                ap length c.in_ok-passes.ensures.passes
+                ap length c.in-Ok.ensures.passes
                     ∙ length-map c.args.tasks.items (λ (t : Tasked). t.passes) ∙ c.requires.1.0,
-                passes_are g.frame c.args.tasks.items c.in_ok-passes.passes.items
-                    c.requires.1.1.0 c.in_ok-passes.ensures.passes,
+                passes_are g.frame c.args.tasks.items c.in-Ok.passes.items
+                    c.requires.1.1.0 c.in-Ok.ensures.passes,
               ),
             ),
           ),
@@ -53,16 +53,16 @@ returns g c =
     let is = ap (λ (v : WorldValue). v.frame) c.world.view_is ∙ c.requires.0 in
     let at = ap (λ (v : WorldValue). v.state) c.world.view_is in
     let own = ap (λ (l : ListsValue). l.rules) c.lists.view_is ∙ closed.rules in
-    let force = c.rules-in_force.ensures.rules ∙ c.rules-2.ensures in
+    let force = c.rules-in_force.ensures.rules ∙ c.rules.ensures in
     ended_by w.settings w.stations.items w.supers.items w.book w.sems w.rules w.tasks g.frame is
     c.world.invariant.parts tasks c.args.world.state _ at c.requires.1.1.0 c.requires.1.0
     c.requires.1.1.1
     (subst (λ (l : List PassesValue). WorldClosed g.frame w.stations.items w.book.list w.sems.list
-    w.rules.appended.list l) c.in_ok-passes.ensures.passes closed.closed)
+    w.rules.appended.list l) c.in-Ok.ensures.passes closed.closed)
     (ap (λ (l : ListsValue). l.inodes) c.lists.view_is ∙ closed.inodes)
     (ap (λ (l : ListsValue). l.list) c.lists.view_is ∙ closed.list)
     (ap (λ (l : ListsValue). l.banks) c.lists.view_is ∙ closed.banks)
-    c.in_ok-passes.ensures.ended
+    c.in-Ok.ensures.ended
     (c.are_stuck-stuck.ensures
     ∙ ap (λ (l : List Tasked). are_stuck (λ sem. left sem (past w.sems.list)) l)
     c.as_slice.ensures.value) refl own

@@ -7,8 +7,19 @@ use Rattle.task_frame.specs.Tasks.{Tasked}
 use Rattle.task_mind.specs.Steps.{deed_in}
 use Rattle.task_mind.specs.declared.step.Step.TheVariants as step
 use Rattle.task_core.proofs.SharedSteps.{appends_failed, appends_told, checks_met, does_met, nothing_met, over_met, signals_met}
-use Rattle.task_core.proofs.Turns.{checks_ready, does_ready, due_is}
+use Rattle.task_core.proofs.Turns.{checks_ready, does_ready, due_is, passes_ready}
 use Rattle.task_core.proofs.live.Live.reach.Goals as goal
+
+pub does-requires-clause-passes : goal.does-requires-clause-passes
+does-requires-clause-passes g c =
+    let t : Tasked =
+    record {
+      number = c.args.number;
+      mind = c.args.mind.now;
+      gathered = c.args.gathered.now;
+      passes = c.args.passes.now;
+    } in
+    λ κs out. passes_ready g.N.Name.frame t c.requires c.who-who.result c.who-who.ensures
 
 pub does-requires-clause-ready : goal.does-requires-clause-ready
 does-requires-clause-ready g c =
@@ -27,6 +38,17 @@ does-requires-clause-ready g c =
     c.checked.ensures
     c.slot_due.ensures st
 
+pub checks-requires-clause-passes : goal.checks-requires-clause-passes
+checks-requires-clause-passes g c =
+    let t : Tasked =
+    record {
+      number = c.args.number;
+      mind = c.args.mind.now;
+      gathered = c.args.gathered.now;
+      passes = c.args.passes.now;
+    } in
+    λ κs out. passes_ready g.N.Name.frame t c.requires c.who-who.result c.who-who.ensures
+
 pub checks-requires-clause-ready : goal.checks-requires-clause-ready
 checks-requires-clause-ready g c =
     let t : Tasked =
@@ -44,6 +66,39 @@ checks-requires-clause-ready g c =
     c.slot_due.result c.in-Some-Checks.inode c.in-Some-Checks.file c.in-Some-Checks.func
     c.in-Some-Checks.mask c.who-who.ensures c.checked.ensures
     c.slot_due.ensures st
+
+pub signals-requires-after_bounds : goal.signals-requires-after_bounds
+signals-requires-after_bounds g c =
+    let t : Tasked =
+    record {
+      number = c.args.number;
+      mind = c.args.mind.now;
+      gathered = c.args.gathered.now;
+      passes = c.args.passes.now;
+    } in
+    λ κs out. passes_ready g.N.Name.frame t c.requires c.who-who.result c.who-who.ensures
+
+pub signals-requires-in-Some-Waits-after_bounds : goal.signals-requires-in-Some-Waits-after_bounds
+signals-requires-in-Some-Waits-after_bounds g c =
+    let t : Tasked =
+    record {
+      number = c.args.number;
+      mind = c.args.mind.now;
+      gathered = c.args.gathered.now;
+      passes = c.args.passes.now;
+    } in
+    λ κs out. passes_ready g.N.Name.frame t c.requires c.who-who.result c.who-who.ensures
+
+pub appends-requires-after_bounds : goal.appends-requires-after_bounds
+appends-requires-after_bounds g c =
+    let t : Tasked =
+    record {
+      number = c.args.number;
+      mind = c.args.mind.now;
+      gathered = c.args.gathered.now;
+      passes = c.args.passes.now;
+    } in
+    λ κs out. passes_ready g.N.Name.frame t c.requires c.who-who.result c.who-who.ensures
 
 pub returns-in-None : goal.returns-in-None
 returns-in-None g c =

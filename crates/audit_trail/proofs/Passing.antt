@@ -1,0 +1,107 @@
+-- The records of one event more, by what a walk knows before it.
+use Rattle.std.proofs.Common.{◌≡◌, ℕ, ◌+◌, ◌<◌, ◌≤◌, List, [], ◌++◌, length, take, get_or, Option, Some, refl, sym, ◌∙◌, ap, arith}
+use Rattle.std.specs.Prelude.{slice_get}
+use Rattle.std.proofs.lemmas.List.{get_or_read}
+use Rattle.report_text.specs.Words.{Line}
+use Rattle.script_scene.specs.Scene.{station_of}
+use Rattle.task_frame.specs.model.Scene.{Station, no_super}
+use Rattle.task_frame.specs.model.events.EndedInode.{EndedInodeValue}
+use Rattle.task_frame.specs.model.events.Integrity.{label_in}
+use Rattle.task_frame.specs.model.events.Past.{past}
+use Rattle.task_frame.specs.model.events.State.{metadata}
+use Rattle.task_frame.specs.model.events.Verdicts.{fresh_digest}
+use Rattle.task_frame.specs.model.events.declared.deed.Deed.{Deed}
+use Rattle.task_frame.specs.model.events.declared.deed.Deed.TheVariants as deed
+use Rattle.task_frame.specs.model.events.declared.told.Event.{Event}
+use Rattle.task_frame.specs.model.events.declared.told.Told.{Told}
+use Rattle.task_frame.specs.model.events.hashes.Digest.{digest_of}
+use Rattle.task_frame.specs.model.events.Inode.{Inode}
+use Rattle.task_frame.specs.model.events.labels.Labels.{collect_algo}
+use Rattle.task_frame.specs.model.events.meta.declared.step.Who.{Who}
+use Rattle.task_frame.specs.model.matching.declared.family.Family.TheVariants.{Auditing, Hashing}
+use Rattle.task_frame.specs.model.policy.declared.access.Action.{Action}
+use Rattle.task_frame.specs.model.policy.declared.access.Super.{Super}
+use Rattle.task_frame.specs.model.policy.declared.rule.Func.{Func}
+use Rattle.audit_trail.proofs.Placed.{mapped_there}
+use Rattle.audit_trail.proofs.Standing.{past_count, past_next}
+use Rattle.audit_trail.specs.Asked.{asker_of, line_for}
+use Rattle.audit_trail.specs.Sites.{event_lines, inode_at, numbered_lines, programs_in, site_lines, station_at, stations_in}
+use Rattle.audit_trail.specs.Trail.{inode_lines, journal_lines, lines_of, step_lines}
+use Rattle.audit_trail.specs.Walk.{IsWalk, digest_at}
+use Rattle.audit_trail.specs.declared.site.Context.{Context}
+use Rattle.audit_trail.specs.declared.site.Site.{Site}
+use Rattle.audit_trail.specs.declared.walk.Walk.{Walk}
+
+-- the walk has the digest that the journal defines
+fresh_there : (i : Inode) (p : List Event) (w : Walk) → IsWalk i p w
+    → digest_at i.settings.hash w ≡ fresh_digest i p
+fresh_there i p w h =
+    λ j. digest_of (collect_algo (label_in (h.attributes j)) i.settings.hash) (h.content j)
+
+-- the records of the journal with the next event
+pub journal_next : (c : Context) (s : Site) (j : List Event) (i : ℕ) (e : Event) (w : Walk)
+    → IsWalk (inode_at c s) (past (take i j)) w → i < length j → e ≡ get_or j i e
+    → site_lines c s (past (take (i + 1) j))
+    ≡ site_lines c s (past (take i j)) ++ event_lines c s i w e
+journal_next c s j i e w h l is =
+    let within : i ≤ length j = omega arith in
+    let place : i ≡ length (past (take i j)) = sym (past_count j i within) in
+    let fresh : digest_at c.settings.now.hash w
+    ≡ fresh_digest (inode_at c s) (past (take i j)) =
+    fresh_there (inode_at c s) (past (take i j)) w h in
+    let seen : event_lines c s i w e ≡ step_lines (programs_in c) c.rules.now s.number
+    (station_at s) (metadata (past (take i j))) (fresh_digest (inode_at c s) (past (take i j)))
+    (length (past (take i j))) e.who e.deed =
+    λ k. step_lines (programs_in c) c.rules.now s.number (station_at s) (h.metadata k) (fresh k)
+    (place k) e.who e.deed in
+    ap (site_lines c s) (past_next j i e l is)
+    ∙ ap (λ (l : List Line). site_lines c s (past (take i j)) ++ l) (sym seen)
+
+-- a file and its file system, as they were read, are a station of the script
+pub site_there : (c : Context) (s : Site) (i : ℕ) → i < length c.files.now
+    → s.file.now ≡ get_or c.files.now i s.file.now → s.file.now.fs < length c.supers.now
+    → s.system.now ≡ get_or c.supers.now s.file.now.fs s.system.now
+    → slice_get (stations_in c) i ≡ Some (station_at s)
+site_there c s i l is below on =
+    let place : get_or c.supers.now s.file.now.fs no_super ≡ s.system.now =
+    sym (get_or_read c.supers.now s.file.now.fs s.system.now below on no_super) in
+    let made : Super → Option Station = λ p. Some (record {
+      path = s.file.now.path;
+      birth = s.file.now.image;
+      place = p;
+    }) in
+    mapped_there (station_of c.supers.now) c.files.now i s.file.now l is ∙ ap made place
+
+-- the records of the journal of a site are those of the inode of its number
+pub numbered : (c : Context) (s : Site) (i : ℕ) (inode : EndedInodeValue) (j : List Event)
+    → s.number ≡ i → slice_get (stations_in c) i ≡ Some (station_at s) → j ≡ inode.journal
+    → site_lines c s (past j) ≡ numbered_lines c i inode
+numbered c s i inode j is there same =
+    (λ k. journal_lines (programs_in c) c.rules.now c.settings.now (is k) (station_at s)
+    (past (same k)))
+    ∙ sym (ap (λ (o : Option Station). inode_lines (programs_in c) c.rules.now c.settings.now i o
+    inode) there)
+
+-- ---- the records of one event
+
+-- those of a check, by the lines that ask for one
+pub check_lines : (c : Context) (s : Site) (k : ℕ) (w : Walk) (e : Event) (file : ℕ) (func : Func)
+    (action : Action) (n : ℕ) (audit hash : Option ℕ) → e.deed ≡ deed.Check file func action n
+    → audit ≡ line_for Auditing (take n c.rules.now) s.system.now w.meta func
+    (asker_of (programs_in c) e.who)
+    → hash ≡ line_for Hashing (take n c.rules.now) s.system.now w.meta func
+    (asker_of (programs_in c) e.who)
+    → lines_of s.number k e.who s.file.now.path (digest_at c.settings.now.hash w) audit hash
+    ≡ event_lines c s k w e
+check_lines c s k w e file func action n audit hash is a h =
+    (λ i. lines_of s.number k e.who s.file.now.path (digest_at c.settings.now.hash w) (a i) (h i))
+    ∙ sym (ap (λ (d : Deed). step_lines (programs_in c) c.rules.now s.number (station_at s) w.meta
+    (digest_at c.settings.now.hash w) k e.who d) is)
+
+-- another deed has none
+pub no_check : (c : Context) (s : Site) (k : ℕ) (w : Walk) (who : Who) (d : Deed) (t : Told)
+    → ((file : ℕ) (func : Func) (action : Action) (n : ℕ) → d ≡ deed.Check file func action n → ⊥)
+    → [] ≡ event_lines c s k w (record { who = who; deed = d; told = t })
+no_check c s k w who (deed.Check file func action n) t other =
+    absurd (other file func action n refl)
+no_check c s k w who d t other = refl

@@ -1,0 +1,101 @@
+-- The pieces of a trail, as the code appends them, make its lines.
+use Rattle.std.proofs.Common.{◌≡◌, ℕ, suc, ◌+◌, ◌<◌, ◌≤◌, List, [], ◌∷◌, ◌++◌, length, drop, get_or, codes, sym, ◌∙◌, ap, arith, append_assoc, drop-cons, length-append}
+use Rattle.std.specs.List.{join_with_byte}
+use Rattle.std.proofs.lemmas.Grind.{flat_map-append}
+use Rattle.std.proofs.lemmas.List.{append-nil, drop_all}
+use Rattle.report_text.specs.Numerals.{numeral}
+use Rattle.report_text.specs.Texts.{line_text}
+use Rattle.report_text.specs.Words.{Line, who_word}
+use Rattle.task_frame.specs.model.events.forms.Words.{text_of}
+use Rattle.task_frame.specs.model.events.meta.declared.step.Who.{Who}
+use Rattle.audit_trail.specs.Texts.{place_text}
+use Rattle.audit_trail.specs.Trail.{record_line, trail_lines}
+
+-- ---- a record
+
+place_gather : (o i s k z w : List ℕ) → ((((o ++ i) ++ s) ++ k) ++ z) ++ w
+    ≡ o ++ ((i ++ (s ++ k)) ++ (z ++ w))
+place_gather o i s k z w = simp append_assoc
+
+-- the pieces of a place, as the code appends them, are the place
+pub place_pushed : (o : List ℕ) (i k : ℕ) (who : Who)
+    → ((((o ++ numeral i) ++ codes ".") ++ numeral k) ++ codes " ") ++ who_word who
+    ≡ o ++ place_text i k who
+place_pushed o i k who =
+    place_gather o (numeral i) (codes ".") (numeral k) (codes " ") (who_word who)
+
+record_gather : (o w s p z t n path v e : List ℕ)
+    → (((((((((o ++ w) ++ s) ++ (p ++ (s ++ z))) ++ t) ++ n) ++ s) ++ path) ++ s) ++ v) ++ e
+    ≡ o ++ ((w ++ (s ++ (p ++ (s ++ (z ++ (t ++ (n ++ (s ++ (path ++ (s ++ v)))))))))) ++ e)
+record_gather o w s p z t n path v e = simp append_assoc
+
+-- the pieces of a record, as the code appends them, are the record's line
+pub record_pushed : (o word : List ℕ) (i k : ℕ) (who : Who) (line : ℕ) (path value : List ℕ)
+    → (((((((((o ++ word) ++ codes " ") ++ place_text i k who) ++ codes " line ") ++ numeral line)
+    ++ codes " ") ++ path) ++ codes " ") ++ value) ++ codes "\n"
+    ≡ o ++ line_text (record_line word i k who line path value)
+record_pushed o word i k who line path value =
+    record_gather o word (codes " ") (numeral i ++ 46 ∷ numeral k) (who_word who) (codes " line ")
+    (numeral line) path value (codes "\n")
+
+-- the text of a single line
+pub text_of_one : (l : Line) → text_of (l ∷ []) ≡ line_text l
+text_of_one l = append-nil (line_text l)
+
+-- ---- texts and counts of more lines
+
+-- two texts, one appended after the other
+pub texts_join : (o mid new : List ℕ) (a b : List Line) → mid ≡ o ++ text_of a
+    → new ≡ mid ++ text_of b → new ≡ o ++ text_of (a ++ b)
+texts_join o mid new a b h k =
+    k ∙ ap (λ (l : List ℕ). l ++ text_of b) h ∙ append_assoc o (text_of a) (text_of b)
+    ∙ ap (λ (l : List ℕ). o ++ l) (sym (flat_map-append line_text a b))
+
+-- their numbers of lines
+pub counts_join : (m n : ℕ) (a b : List Line) → m ≡ length a → n ≡ length b
+    → m + n ≡ length (a ++ b)
+counts_join m n a b h k =
+    let both : length (a ++ b) ≡ length a + length b = length-append a b in omega arith
+
+-- the lines of one more element are counted, while those of the others are still to come
+pub counts_on : {X : Type 0} (lines : ℕ → List X → List Line) (f : ℕ → X → List Line)
+    → ((k : ℕ) (x : X) (xs : List X) → lines k (x ∷ xs) ≡ f k x ++ lines (k + 1) xs)
+    → (total count more : ℕ) (xs : List X) (i : ℕ) (x : X) → i < length xs → x ≡ get_or xs i x
+    → count + length (lines i (drop i xs)) ≡ total → more ≡ length (f i x)
+    → (count + more) + length (lines (i + 1) (drop (i + 1) xs)) ≡ total
+counts_on lines f step total count more xs i x lt is h k =
+    let one : suc i ≡ i + 1 = omega arith in
+    let here : drop i xs ≡ x ∷ drop (i + 1) xs =
+    drop-cons xs i x lt ∙ ap (λ y. y ∷ drop (suc i) xs) (sym is)
+    ∙ ap (λ (n : ℕ). x ∷ drop n xs) one in
+    let parts : length (lines i (drop i xs))
+    ≡ length (f i x) + length (lines (i + 1) (drop (i + 1) xs)) =
+    ap (λ ys. length (lines i ys)) here ∙ ap (λ (l : List Line). length l)
+    (step i x (drop (i + 1) xs))
+    ∙ length-append (f i x) (lines (i + 1) (drop (i + 1) xs)) in
+    omega arith
+
+-- after the last element, all lines are counted
+pub counts_end : {X : Type 0} (lines : ℕ → List X → List Line) → ((k : ℕ) → lines k [] ≡ [])
+    → (total count : ℕ) (xs : List X) (i : ℕ) → length xs ≤ i
+    → count + length (lines i (drop i xs)) ≡ total → count ≡ total
+counts_end lines none total count xs i le h =
+    let over : length (lines i (drop i xs)) ≡ 0 =
+    ap (λ ys. length (lines i ys)) (drop_all i xs le)
+    ∙ ap (λ (l : List Line). length l) (none i) in
+    omega arith
+
+-- ---- the whole trail
+
+-- the pieces of the trail, as the code appends them, are the trail
+pub trail_pushed : (count : ℕ) (body : List ℕ) (ls : List Line) → count ≡ length ls
+    → body ≡ text_of ls
+    → (((([] ++ join_with_byte 32 (codes "trail" ∷ numeral count ∷ [])) ++ codes "\n") ++ body)
+    ++ codes "end\n") ≡ text_of (trail_lines ls)
+trail_pushed count body ls c b =
+    (λ i. (((([] ++ join_with_byte 32 (codes "trail" ∷ numeral (c i) ∷ [])) ++ codes "\n") ++ b i)
+    ++ codes "end\n"))
+    ∙ append_assoc (line_text (codes "trail" ∷ numeral (length ls) ∷ [])) (text_of ls)
+    (codes "end\n")
+    ∙ ap (λ (l : List ℕ). line_text (codes "trail" ∷ numeral (length ls) ∷ []) ++ l)
+    (sym (flat_map-append line_text ls ((codes "end" ∷ []) ∷ [])))

@@ -1,0 +1,220 @@
+-- Examples of rules, texts and answers, each with its value.
+use Rattle.std.proofs.Common.{◌≡◌, ◌<◌, true, false, [], ◌∷◌, ◌++◌, codes, Ok, Err, Some, None, refl, lit<, arith}
+use Rattle.script_text.specs.events.meta.declared.appraisal.Need.TheVariants as need
+use Rattle.script_text.specs.events.meta.declared.identity.Cred.{Cred}
+use Rattle.script_text.specs.events.meta.declared.measurement.Template.TheVariants.{Ima, ImaBuf}
+use Rattle.script_text.specs.steps.hashes.declared.algo.Algo.TheVariants.{Md5, Sha256}
+use Rattle.script_text.specs.steps.policy.RuleValue.{RuleValue}
+use Rattle.script_text.specs.steps.policy.declared.rule.Act.{Act}
+use Rattle.script_text.specs.steps.policy.declared.rule.Act.TheVariants as act
+use Rattle.script_text.specs.steps.policy.declared.rule.Func.TheVariants as func
+use Rattle.script_text.specs.steps.policy.declared.rule.IdTest.TheVariants.{Is, Above, Below}
+use Rattle.script_text.specs.script_lines.declared.fault.LineCause.TheVariants as cause
+use Rattle.script_text.specs.script_lines.Read.{fault_at}
+use Rattle.script_text.specs.Draft.{change_last}
+use Rattle.buffer_measure.specs.Answers.{IsAnswer, Rises}
+use Rattle.buffer_measure.specs.Draft.{Draft, no_buffers}
+use Rattle.buffer_measure.specs.Entries.{boot_entry, entry_for}
+use Rattle.buffer_measure.specs.Forms.{is_buffer, is_caller}
+use Rattle.buffer_measure.specs.Grammar.{add, buffers_of, placed, with_caller, with_cred, with_critical, with_hash, with_head, with_line, with_threads, with_version}
+use Rattle.buffer_measure.specs.Text.{CallerValue}
+use Rattle.buffer_measure.specs.Wanted.{wanted}
+use Rattle.buffer_measure.specs.declared.answer.Answer.TheVariants.{Skipped, Added, Already}
+
+-- ---- rules
+
+-- a line for critical data with only an action
+abbrev line : Act → RuleValue
+line act = record {
+  act = act;
+  func = Some func.CriticalData;
+  mask = None;
+  fsmagic = None;
+  fsuuid = None;
+  fsname = None;
+  uid = None;
+  euid = None;
+  gid = None;
+  egid = None;
+  fowner = None;
+  fgroup = None;
+  need = need.Any;
+  blacklist = false;
+  algos = None;
+  directio = false;
+  pcr = None;
+  template = None;
+}
+
+abbrev measure : RuleValue
+measure = line act.Measure
+
+abbrev dont : RuleValue
+dont = line act.DontMeasure
+
+abbrev caller : Cred
+caller = record { uid = 5; euid = 6; gid = 7; egid = 8; admin = false }
+
+-- the register of the line, or else register 10; the template has no effect
+registers : (wanted (measure ∷ []) caller ≡ Some 10)
+    × (wanted (record measure { pcr = Some 0 } ∷ []) caller ≡ Some 0)
+    × (wanted (record measure { pcr = Some 23; template = Some Ima } ∷ []) caller ≡ Some 23)
+    × (wanted (record measure { directio = true } ∷ []) caller ≡ Some 10)
+    × (wanted [] caller ≡ None)
+registers = (refl, refl, refl, refl, refl)
+
+-- the first line of the family decides
+first_line : (wanted (dont ∷ measure ∷ []) caller ≡ None)
+    × (wanted (measure ∷ dont ∷ []) caller ≡ Some 10)
+    × (wanted (record measure { pcr = Some 11 } ∷ record measure { pcr = Some 12 } ∷ []) caller
+    ≡ Some 11)
+    × (wanted (line act.Appraise ∷ line act.DontAppraise ∷ line act.Audit ∷ line act.DontAudit
+    ∷ line act.Hash ∷ line act.DontHash ∷ measure ∷ []) caller ≡ Some 10)
+first_line = (refl, refl, refl, refl)
+
+-- a line without a function, or with another one, is passed over
+functions : (wanted (record measure { func = None; pcr = Some 11 } ∷ measure ∷ []) caller
+    ≡ Some 10)
+    × (wanted (record dont { func = None } ∷ measure ∷ []) caller ≡ Some 10)
+    × (wanted (record measure { func = Some func.FileCheck } ∷ []) caller ≡ None)
+    × (wanted (record dont { func = Some func.KexecCmdline } ∷ measure ∷ []) caller ≡ Some 10)
+functions = (refl, refl, refl, refl)
+
+-- a line with a condition that only a file can meet is passed over
+of_files : (wanted (record dont { mask = Some (record { exact = true; bits = 4 }) } ∷ measure ∷ [])
+    caller ≡ Some 10)
+    × (wanted (record dont { fsmagic = Some 0 } ∷ measure ∷ []) caller ≡ Some 10)
+    × (wanted (record dont { fsuuid = Some 0 } ∷ measure ∷ []) caller ≡ Some 10)
+    × (wanted (record dont { fsname = Some (codes "ext4") } ∷ measure ∷ []) caller ≡ Some 10)
+    × (wanted (record dont { fowner = Some (Is 0) } ∷ measure ∷ []) caller ≡ Some 10)
+    × (wanted (record dont { fgroup = Some (Is 0) } ∷ measure ∷ []) caller ≡ Some 10)
+of_files = (refl, refl, refl, refl, refl, refl)
+
+-- each ID is compared with its own condition
+ids : (wanted (record measure { uid = Some (Is 5) } ∷ []) caller ≡ Some 10)
+    × (wanted (record measure { uid = Some (Is 6) } ∷ []) caller ≡ None)
+    × (wanted (record measure { euid = Some (Above 5) } ∷ []) caller ≡ Some 10)
+    × (wanted (record measure { euid = Some (Above 6) } ∷ []) caller ≡ None)
+    × (wanted (record measure { gid = Some (Below 8) } ∷ []) caller ≡ Some 10)
+    × (wanted (record measure { gid = Some (Below 7) } ∷ []) caller ≡ None)
+    × (wanted (record measure { egid = Some (Is 8) } ∷ []) caller ≡ Some 10)
+    × (wanted (record measure { egid = Some (Is 7) } ∷ []) caller ≡ None)
+    × (wanted (record dont { uid = Some (Is 0) } ∷ measure ∷ []) caller ≡ Some 10)
+ids = (refl, refl, refl, refl, refl, refl, refl, refl, refl)
+
+-- ---- texts
+
+empty_text : (buffers_of (codes "imabuffers 1\n#\n\nthreads 1\n") ≡ Ok no_buffers)
+    × (buffers_of (codes "imabuffers 1\nhash md5\nthreads 1\n")
+    ≡ Ok (record no_buffers { hash = Md5 }))
+unfolding add placed with_head with_version with_hash with_threads
+empty_text = (refl, refl)
+
+abbrev first_caller : CallerValue
+first_caller = record {
+  cred = record { uid = 0; euid = 1; gid = 2; egid = 3; admin = false };
+  lines = [];
+}
+
+abbrev second_caller : CallerValue
+second_caller = record { cred = caller; lines = [] }
+
+callers_text : buffers_of (codes "imabuffers 1\ncaller uid=0 euid=1 gid=2 egid=3\n"
+    ++ codes "caller uid=5 euid=6 gid=7 egid=8\nthreads 16\n")
+    ≡ Ok (record no_buffers { callers = first_caller ∷ second_caller ∷ []; threads = 16 })
+unfolding add placed with_head with_version with_caller with_cred with_threads
+callers_text = refl
+
+-- a draft with two callers
+abbrev two_callers : Draft
+two_callers = record {
+  text = record no_buffers { callers = first_caller ∷ second_caller ∷ [] };
+  at = 4;
+  lines = 7;
+  sum = 9;
+}
+
+-- a buffer is that of the last caller, and its bytes count
+buffers : (with_critical (codes "k" ∷ codes "txt:abc" ∷ []) two_callers
+    ≡ Ok (record {
+      text = record no_buffers {
+        callers = first_caller
+            ∷ record second_caller { lines = (codes "k", codes "abc") ∷ [] } ∷ [];
+      };
+      at = 4;
+      lines = 8;
+      sum = 12;
+    }))
+    × (with_critical (codes "k" ∷ codes "txt:" ∷ []) (record two_callers { lines = 32768 })
+    ≡ Err cause.TooMany)
+    × (with_critical (codes "k" ∷ codes "txt:abc" ∷ []) (record two_callers { sum = 33554430 })
+    ≡ Err cause.TooLarge)
+    × (with_critical (codes "k" ∷ codes "txt:abc" ∷ codes "x" ∷ []) two_callers
+    ≡ Err cause.BadField)
+    × (with_critical (codes "k" ∷ []) two_callers ≡ Err cause.BadField)
+    × (with_critical ([] ∷ codes "txt:" ∷ []) two_callers ≡ Err cause.BadField)
+unfolding with_critical with_line change_last
+buffers = (refl, refl, refl, refl, refl, refl)
+
+refused : (buffers_of (codes "imakern 1\n") ≡ Err (fault_at 1 cause.BadWord))
+    × (buffers_of (codes "imabuffers 2\n") ≡ Err (fault_at 1 cause.BadField))
+    × (buffers_of (codes "threads 1\n") ≡ Err (fault_at 1 cause.OutOfPlace))
+    × (buffers_of (codes "imabuffers 1\ncritical k txt:\n") ≡ Err (fault_at 2 cause.OutOfPlace))
+    × (buffers_of (codes "imabuffers 1\nhash md5\nhash md5\n")
+    ≡ Err (fault_at 3 cause.OutOfPlace))
+    × (buffers_of (codes "imabuffers 1\nthreads 17\n") ≡ Err (fault_at 2 cause.BadField))
+    × (buffers_of (codes "imabuffers 1\nthreads 0\n") ≡ Err (fault_at 2 cause.BadField))
+    × (buffers_of (codes "imabuffers 1\nthreads 1\nthreads 1\n")
+    ≡ Err (fault_at 3 cause.OutOfPlace))
+    × (buffers_of (codes "imabuffers 1\nthreads 1") ≡ Err (fault_at 2 cause.NoEnd))
+    × (buffers_of (codes "imabuffers 1\n") ≡ Err (fault_at 2 cause.NoEnd))
+unfolding add placed with_head with_version with_hash with_threads
+refused = (refl, refl, refl, refl, refl, refl, refl, refl, refl, refl)
+
+-- a caller has four words, and a buffer a name and a value
+refused_blocks : (buffers_of (codes "imabuffers 1\ncaller uid=0 euid=0 gid=0 egid=0 admin\n")
+    ≡ Err (fault_at 2 cause.BadField))
+    × (buffers_of (codes "imabuffers 1\ncaller uid=00 euid=0 gid=0 egid=0\n")
+    ≡ Err (fault_at 2 cause.BadField))
+    × (buffers_of (codes "imabuffers 1\ncaller uid=0 euid=0 gid=0 egid=0\ncritical k abc\n")
+    ≡ Err (fault_at 3 cause.BadField))
+    × (buffers_of (codes "imabuffers 1\ncaller uid=0 euid=0 gid=0 egid=0\nhash md5\n")
+    ≡ Err (fault_at 3 cause.OutOfPlace))
+unfolding add placed with_head with_version with_caller with_cred with_critical
+refused_blocks = (refl, refl, refl, refl)
+
+-- a buffer has a name, and no caller has the right of an administrator
+forms : (is_buffer (codes "k", []) ≡ true) × (is_buffer ([], codes "abc") ≡ false)
+    × (is_caller (record { cred = caller; lines = [] }) ≡ true)
+    × (is_caller (record { cred = record caller { admin = true }; lines = [] }) ≡ false)
+forms = (refl, refl, refl, refl)
+
+-- ---- entries and answers
+
+entries : ((entry_for Md5 11 (codes "kernel", codes "abc")).pcr ≡ 11)
+    × ((entry_for Md5 11 (codes "kernel", codes "abc")).template ≡ ImaBuf)
+    × ((entry_for Md5 11 (codes "kernel", codes "abc")).digest.algo ≡ Md5)
+    × ((entry_for Md5 11 (codes "kernel", codes "abc")).name ≡ codes "kernel")
+    × ((entry_for Md5 11 (codes "kernel", codes "abc")).sig ≡ codes "abc")
+    × ((boot_entry Md5).pcr ≡ 10) × ((boot_entry Md5).digest.algo ≡ Md5)
+    × ((boot_entry Md5).name ≡ codes "boot_aggregate")
+entries = (refl, refl, refl, refl, refl, refl, refl, refl)
+
+-- an answer is `Skipped` exactly if no line wants the buffer measured
+skipped : (IsAnswer Sha256 [] (Some 10) (codes "k", []) Skipped → ⊥)
+    × (IsAnswer Sha256 [] None (codes "k", []) (Added 1) → ⊥)
+    × (IsAnswer Sha256 [] None (codes "k", []) (Already 1) → ⊥)
+    × IsAnswer Sha256 [] None (codes "k", []) Skipped
+skipped = ((λ h. h), (λ h. h), (λ h. h), tt)
+
+-- places that are named before may be named again, but none below them is added
+rising : Rises (Added 1 ∷ Already 1 ∷ Skipped ∷ Already 0 ∷ Added 2 ∷ Already 1 ∷ [])
+    × (Rises (Added 2 ∷ Added 1 ∷ []) → ⊥) × (Rises (Already 2 ∷ Added 2 ∷ []) → ⊥)
+rising = (
+  (
+    ((lit< tt, tt), tt),
+    (((lit< tt, tt), tt), (tt, (((lit< tt, tt), tt), ((tt, tt), ((tt, tt), tt))))),
+  ),
+  (λ r. let low : 2 < 1 = r.0.0.0 in omega (arith, low)),
+  (λ r. let low : 2 < 2 = r.0.0.0 in omega (arith, low)),
+)

@@ -1,0 +1,10 @@
+pub mod Lists
+pub mod Answering
+pub mod Callers
+pub mod Closing
+pub mod Starting
+pub mod Kept
+pub mod Printing
+pub mod Alone
+pub mod Determining
+mod Examples

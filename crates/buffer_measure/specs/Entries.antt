@@ -1,0 +1,20 @@
+-- The entries of a run of buffers.
+use Rattle.std.specs.Prelude.{ℕ, [], codes}
+use Rattle.script_text.specs.events.meta.Registers.{default_pcr}
+use Rattle.script_text.specs.events.meta.declared.measurement.Template.TheVariants.{ImaNg, ImaBuf}
+use Rattle.script_text.specs.steps.hashes.Digest.{digest_of, zero_digest}
+use Rattle.script_text.specs.steps.hashes.declared.algo.Algo.{Algo}
+use Rattle.script_text.specs.steps.hashes.declared.algo.Algo.TheVariants.{Sha1}
+use Rattle.script_text.specs.steps.templates.Entries.{entry_of}
+use Rattle.script_text.specs.steps.templates.declared.entry.Entry.{Entry}
+use Rattle.buffer_measure.specs.Text.{Buffer}
+
+-- the first entry: a boot aggregate of zeros by the text's algorithm
+abbrev pub boot_entry : Algo → Entry
+boot_entry hash =
+    entry_of default_pcr ImaNg (zero_digest hash) (zero_digest Sha1) (codes "boot_aggregate") []
+
+-- the entry of a buffer, which shows its digest by the text's algorithm, its name and its bytes
+abbrev pub entry_for : Algo → ℕ → Buffer → Entry
+entry_for hash pcr line =
+    entry_of pcr ImaBuf (digest_of hash line.1) (zero_digest Sha1) line.0 line.1

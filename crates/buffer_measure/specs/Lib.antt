@@ -1,0 +1,16 @@
+pub mod Text
+pub mod Limits
+pub mod Draft
+pub mod Heads
+pub mod Grammar
+pub mod Forms
+pub mod TextInside
+pub mod DraftInside
+pub mod Wanted
+pub mod Entries
+pub mod Answers
+pub mod Run
+pub mod Answered
+pub mod Kept
+pub mod Print
+pub mod Alone

@@ -1,0 +1,46 @@
+// The entries of a run of buffers.
+
+ghost use Rattle.std.specs.Prelude.{◌≡◌, ◌<◌, true, IfOk};
+ghost use Rattle.buffer_measure.specs.Entries.{boot_entry, entry_for};
+ghost use Rattle.buffer_measure.specs.Forms.{is_buffer};
+
+use script_text::hashes::{Algo, Digest, digest_of};
+use script_text::meta::{DEFAULT_PCR, Template};
+use script_text::templates::{Entry, build};
+use script_text::xattrs::Bytes;
+use std::alloc::{AllocError as OutOfMemory, Global};
+
+/// The first entry of the list: a boot aggregate of zeros by this algorithm.
+pub fn boot_entry(alloc: Global, hash: Algo) -> Result<Entry, OutOfMemory>
+    ensures { IfOk result (λ e. e ≡ boot_entry hash) }
+{
+    let boot = Digest::zeros(hash);
+    let sha1 = Digest::zeros(Algo::Sha1);
+    build(
+        alloc,
+        DEFAULT_PCR,
+        Template::ImaNg,
+        &boot,
+        &sha1,
+        b"boot_aggregate",
+        &[],
+    )
+}
+
+/// The entry of a buffer in this register, with its digest by this algorithm.
+pub fn entry_for(
+    alloc: Global,
+    hash: Algo,
+    pcr: u8,
+    line: &(Bytes, Bytes),
+) -> Result<Entry, OutOfMemory>
+    requires pcr { pcr < 24 }
+    requires line { is_buffer line.now ≡ true }
+    ensures { IfOk result (λ e. e ≡ entry_for hash pcr line.now) }
+{
+    let name = line.0.as_slice();
+    let value = line.1.as_slice();
+    let digest = digest_of(hash, value);
+    let sha1 = Digest::zeros(Algo::Sha1);
+    build(alloc, pcr, Template::ImaBuf, &digest, &sha1, name, value)
+}

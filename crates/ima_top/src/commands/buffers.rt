@@ -1,0 +1,51 @@
+// The command `buffers`: the run that measures the buffers of a text into one list.
+ghost use Rattle.std.specs.Prelude.{◌≤◌, length, IfOk};
+ghost use Rattle.ima_top.specs.Answered.{Answers};
+ghost use Rattle.ima_top.specs.Limits.{most_input};
+ghost use Rattle.ima_top.specs.commands.Buffers.{buffers_refusal, IsBuffersOutput, IsPrintedRun};
+
+use crate::commands::bad_line::bad_line;
+use crate::not_done::NotDone;
+use buffer_measure::{BufferText, measure_all, parse, print, print_determines, runs_alone};
+use ima_io::Gate;
+use script_text::ScriptErr;
+use std::alloc::{AllocError as OutOfMemory, Global};
+use std::sync::Wait;
+use std::thread::Threads;
+
+/// The run of the text's callers, printed, or the line that names the text's first fault. Each
+/// buffer passes the gate before it is measured.
+#[tactic(auto, unfolding(crate::specs::commands::Buffers::buffers_refusal, crate::specs::commands::Buffers::IsBuffersOutput))]
+pub fn answer<G: Gate + Sync, R: Threads + Wait + Sync>(
+    rt: &R,
+    alloc: Global,
+    input: &[u8],
+    gate: &G,
+) -> Result<Vec<u8>, NotDone>
+    requires { length input.now ≤ most_input }
+    ensures { Answers result (buffers_refusal input.now)
+        (λ output. IsBuffersOutput input.now output.items) }
+{
+    match parse(alloc, input) {
+        Ok(text) => Ok(measured(rt, alloc, &text, gate)?),
+        Err(ScriptErr::Refused(fault)) => Err(NotDone::Refused(bad_line(alloc, fault)?)),
+        Err(ScriptErr::OutOfMemory) => Err(NotDone::OutOfMemory),
+    }
+}
+
+// Measures the buffers, and prints the run.
+fn measured<G: Gate + Sync, R: Threads + Wait + Sync>(
+    rt: &R,
+    alloc: Global,
+    text: &BufferText,
+    gate: &G,
+) -> Result<Vec<u8>, OutOfMemory>
+    ensures { IfOk result (λ output. IsPrintedRun text.now output.items) }
+{
+    text.keeps();
+    runs_alone();
+    print_determines();
+    let run = measure_all(rt, alloc, text, gate)?;
+    let output = print(alloc, &run)?;
+    Ok(output)
+}

@@ -1,0 +1,61 @@
+// What `audit` and `loads` have in common: the run of a script, and its report with a further text.
+ghost use Rattle.std.specs.Prelude.{◌≡◌, ◌≤◌, ◌++◌, length, IfOk, IsOkAnd};
+ghost use Rattle.report_text.specs.Report.{report_of};
+ghost use Rattle.script_text.specs.Grammar.{script_of};
+ghost use Rattle.ima_top.specs.Answered.{Answers};
+ghost use Rattle.ima_top.specs.Limits.{most_input};
+ghost use Rattle.ima_top.specs.commands.Ran.{IsLeftBy, script_refusal};
+
+use crate::commands::Answer;
+use crate::commands::bad_line::bad_line;
+use crate::not_done::NotDone;
+use ima_io::Gate;
+use report_text::model::Ended;
+use report_text::report_in_pieces;
+use script_run::run;
+use script_text::{Script, ScriptErr, parse};
+use std::alloc::{AllocError as OutOfMemory, Global};
+use std::sync::Wait;
+use std::thread::Threads;
+
+/// The script of the input, or the line that names its first fault.
+#[tactic(auto, unfolding(crate::specs::commands::Ran::script_refusal))]
+pub fn script(alloc: Global, input: &[u8]) -> Result<Script, NotDone>
+    requires { length input.now ≤ most_input }
+    ensures { Answers result (script_refusal input.now) (λ s. script_of input.now ≡ Ok s) }
+{
+    match parse(alloc, input) {
+        Ok(script) => Ok(script),
+        Err(ScriptErr::Refused(fault)) => Err(NotDone::Refused(bad_line(alloc, fault)?)),
+        Err(ScriptErr::OutOfMemory) => Err(NotDone::OutOfMemory),
+    }
+}
+
+/// The state that the run of the script leaves. A run consumes its script, so a text that needs
+/// both is made of a script that is parsed once more.
+pub fn ran<G: Gate + Sync, R: Threads + Wait + Sync>(
+    rt: &R,
+    alloc: Global,
+    input: &[u8],
+    gate: &G,
+) -> Result<Ended, NotDone>
+    requires { length input.now ≤ most_input }
+    ensures { Answers result (script_refusal input.now)
+        (λ ended. IsOkAnd (script_of input.now) (λ s. IsLeftBy s ended)) }
+{
+    let script = script(alloc, input)?;
+    script.keeps();
+    let ended = run(rt, alloc, script, gate)?;
+    Ok(ended)
+}
+
+/// The report of a run that left this state, and then the text.
+pub fn report_and(alloc: Global, ended: Ended, text: Vec<u8>) -> Result<Answer, OutOfMemory>
+    ensures stuck { IfOk result (λ answer. answer.stuck ≡ ended.stuck) }
+    ensures output { IfOk result (λ answer. answer.output ≡ report_of ended ++ text.items) }
+{
+    let stuck = ended.stuck;
+    let mut output = report_in_pieces(alloc, ended)?;
+    output.push(text)?;
+    Ok(Answer { output, stuck })
+}

@@ -1,0 +1,15 @@
+//! The table of the kernel's reads: a line for each answered call by which the kernel reads a
+//! module or a firmware file, with the place in the measurement list that the call's grant names.
+//!
+//! What holds of these calls are the laws of `kernel_read_laws`. [`measured_reads_are_listed`] ties
+//! them to the lines of the table.
+#![tactic(auto)]
+
+mod calls;
+mod law;
+mod lines;
+mod places;
+mod table;
+
+pub use law::measured_reads_are_listed;
+pub use table::loads;

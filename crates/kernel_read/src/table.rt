@@ -1,0 +1,35 @@
+// The table.
+
+ghost use Rattle.std.specs.Prelude.{◌≡◌, IfOk};
+ghost use Rattle.kernel_read.specs.Table.{calls_of, loads_text};
+
+use crate::lines::push_tasks;
+use crate::places::places;
+use report_text::model::Ended;
+use report_text::push_numbers;
+use script_text::Script;
+use std::alloc::{AllocError as OutOfMemory, Global};
+
+/// The table of the kernel's reads of a run of the script: `loads` with the number of its lines, a
+/// line for each answered call by which the kernel reads a module or a firmware file, and `end`.
+pub fn loads(alloc: Global, script: &Script, ended: &Ended) -> Result<Vec<u8>, OutOfMemory>
+    ensures { IfOk result (λ text. text.items ≡ loads_text (calls_of script.now) ended.now) }
+{
+    let tasks = script.tasks.as_slice();
+    let inodes = ended.inodes.as_slice();
+    let rows = places(alloc, tasks, inodes)?;
+    let mut lines = Vec::new(alloc);
+    let count = push_tasks(
+        &mut lines,
+        tasks,
+        ended.tasks.as_slice(),
+        rows.as_slice(),
+        inodes,
+    )?;
+    let mut out = Vec::new(alloc);
+    push_numbers(&mut out, b"loads", &[count])?;
+    out.extend_from_slice(b"\n")?;
+    out.extend_from_slice(lines.as_slice())?;
+    out.extend_from_slice(b"end\n")?;
+    Ok(out)
+}

@@ -1,0 +1,13 @@
+pub mod Cut
+pub mod Contents
+pub mod Entries
+pub mod Form
+pub mod Reading
+pub mod Books
+pub mod Kept
+pub mod Text
+pub mod TextInside
+pub mod Draft
+pub mod DraftInside
+pub mod Heads
+pub mod Grammar

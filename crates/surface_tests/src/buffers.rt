@@ -1,0 +1,56 @@
+// Texts of buffers, the runs of their callers, and what is printed of them.
+
+ghost use Rattle.std.specs.Prelude.{◌-◌, ◌<◌, ◌^◌, length};
+
+use ima_top::scripts::{hashes, meta, policy, registers, templates, xattrs};
+use ima_top::{buffers, outer, scripts};
+use std::alloc::Global;
+use std::sync::Wait;
+use std::thread::Threads;
+
+pub fn text_fields(text: &buffers::BufferText, caller: &buffers::BufferCaller) {
+    let _hash: hashes::Algo = text.hash;
+    let _rules: &policy::Policy = &text.rules;
+    let _callers: &Vec<buffers::BufferCaller> = &text.callers;
+    let _threads: u32 = text.threads;
+    let _cred: &meta::Cred = &caller.cred;
+    let _lines: &Vec<(xattrs::Bytes, xattrs::Bytes)> = &caller.lines;
+}
+
+pub fn run_fields(run: &buffers::BufferRun, answer: buffers::Answer) {
+    let _list: &Vec<templates::Entry> = &run.list;
+    let _banks: &registers::Banks = &run.banks;
+    let _answers: &Vec<buffers::Answers> = &run.answers;
+    match answer {
+        buffers::Answer::Skipped | buffers::Answer::Added(_) | buffers::Answer::Already(_) => {}
+    }
+}
+
+// "The answers to a caller's buffers are a small type over a vector"
+pub fn answers(answers: Vec<buffers::Answer>) -> Vec<buffers::Answer> {
+    buffers::Answers::from_vec(answers).into_vec()
+}
+
+pub fn parse(alloc: Global, b: &[u8]) -> Result<buffers::BufferText, scripts::ScriptErr>
+    requires { length b.now < 2 ^ 32 - 1 }
+{
+    buffers::parse(alloc, b)
+}
+
+pub fn wanted(p: &policy::Policy, cred: &meta::Cred) -> Option<u8> {
+    buffers::wanted(p, cred)
+}
+
+// "Only calls that take a lock or start threads take the runtime, before the allocator"
+pub fn measure_all<G: outer::Gate + Sync, R: Threads + Wait + Sync>(
+    rt: &R,
+    alloc: Global,
+    t: &buffers::BufferText,
+    gate: &G,
+) -> Result<buffers::BufferRun, buffers::OutOfMemory> {
+    buffers::measure_all(rt, alloc, t, gate)
+}
+
+pub fn print(alloc: Global, r: &buffers::BufferRun) -> Result<Vec<u8>, buffers::OutOfMemory> {
+    buffers::print(alloc, r)
+}

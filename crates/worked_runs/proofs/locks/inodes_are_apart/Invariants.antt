@@ -1,5 +1,0 @@
--- The frame that `are_apart` is given is that of the world.
-use Rattle.worked_runs.proofs.locks.inodes_are_apart.Given as goal
-
-abbrev pub ghosts-are_apart : goal.ghosts-are_apart
-ghosts-are_apart g a = record { frame = a.world.frame }
