@@ -1,6 +1,6 @@
 -- How a turn ends on a world that threads share.
 use Rattle.std.proofs.Common.{◌≡◌, ℕ, Option, Some, None, refl, sym, ◌∙◌, ap, subst}
-use Rattle.std.specs.Prelude.{IfOk, OnErr, Result, Ok, Err}
+use Rattle.std.specs.Prelude.{IfOk, OnErr, Result, Ok, Err, slice_get}
 use Rattle.call_steps.specs.Mind.{Step}
 use Rattle.call_steps.specs.Mind.{Appends, Checks, Does, Nothing, Signals}
 use Rattle.inode_events.specs.declared.deed.Deed.{Deed}
@@ -15,12 +15,14 @@ use Rattle.run_model.specs.History.{Thought, hear, step_at, who_at}
 use Rattle.run_model.specs.Turns.{State, go, go_step}
 use Rattle.run_model.specs.declared.turn.Turn.{Turn}
 use Rattle.run_model.specs.declared.turn.Turn.TheVariants as turns
+use Rattle.task_core.proofs.Blocks.{check_blocks, deed_blocks, err_fails, no_answer, over_ends, signal_blocks, told_moves}
 use Rattle.task_core.proofs.Turns.{appends_fail, appends_turn, check_turn, does_turn, signals_turn}
-use Rattle.task_core.specs.Shared.{IsIdle, ReachesMet, StepsTo}
+use Rattle.task_core.specs.Shared.{IsBlockedBy, IsBlockedOn, IsIdle, ReachesMet, StepsTo}
 use Rattle.world_locks.specs.deeds.declared.listed.Checks.{Checks as Asked}
-use Rattle.task_frame.specs.Frame.{Frame, mode_in, scene_of}
+use Rattle.task_frame.specs.Frame.{Frame, Site, mode_in, scene_of}
 use Rattle.task_frame.specs.Tasks.{PassesValue, Tasked}
 use Rattle.task_frame.specs.declared.gathered.Gathered.{Gathered}
+use Rattle.world_locks.proofs.laws_of_tasks.Blocking.{task_of_who}
 use Rattle.world_locks.specs.laws_of_tasks.Plays.{task_after, task_left}
 use Rattle.task_mind.specs.Value.{TaskValue}
 use Rattle.world_locks.proofs.about_acts.Sharing.{nothing_tells}
@@ -46,6 +48,11 @@ module _ (frame : Frame) (t : Tasked) (passes : PassesValue) (w : Who)
   abbrev asks : Option Step
   asks = step_at t.mind.program t.mind.thought.mind
 
+  -- the step is one of the task's number
+  w_task : w.task ≡ t.number
+  w_task =
+      ap (λ (x : Who). x.task) w_is ∙ task_of_who t.number t.mind.program t.mind.thought.mind
+
   -- a turn with a deed on an inode
   pub does_met : {E : Type 0} (i : ℕ) (d : Deed) (g : Gathered) (r : Result (Option Answered) E)
       (x : Result Reached E) → asks ≡ Some (Does i d)
@@ -56,6 +63,11 @@ module _ (frame : Frame) (t : Tasked) (passes : PassesValue) (w : Who)
     reaches = does_turn frame t m.old (state_seen passes) passes w w_is i d g r x st m.event m.told
         is;
     idle = λ idle. event_idle frame i w d t.passes passes t.gathered g r m (idle_told r x is idle);
+    blocked = λ b. subst (λ (z : Option Step). IsBlockedBy frame t.number t.passes passes z)
+        (sym st)
+        (subst (λ (n : ℕ). (s : Site) → slice_get frame.sites i ≡ Some s
+        → IsBlockedOn frame n i s d t.passes passes) w_task
+        (deed_blocks frame t.passes passes w i d t.gathered g r m (no_answer r (sym is ∙ b))));
   }
 
   -- a turn with a check
@@ -69,6 +81,8 @@ module _ (frame : Frame) (t : Tasked) (passes : PassesValue) (w : Who)
     reaches = check_turn frame t m.old (state_seen passes) passes w w_is i asked cred r x st c
         m.check is;
     idle = λ idle. check_idle frame i w cred asked t.passes passes r m (idle_told r x is idle);
+    blocked = λ b. subst (λ (z : Option Step). IsBlockedBy frame t.number t.passes passes z)
+        (sym st) (check_blocks frame t.passes passes w i cred asked r m (no_answer r (sym is ∙ b)));
   }
 
   -- a turn with a post or a wait
@@ -81,6 +95,8 @@ module _ (frame : Frame) (t : Tasked) (passes : PassesValue) (w : Who)
     reaches = signals_turn frame t m.old (state_seen passes) passes w w_is d r x st m.signals m.told
         is;
     idle = λ idle. signals_idle t.passes passes w d r m (idle_told r x is idle);
+    blocked = λ b. subst (λ (z : Option Step). IsBlockedBy frame t.number t.passes passes z)
+        (sym st) (signal_blocks frame t.passes passes w d r m (no_answer r (sym is ∙ b)));
   }
 
   -- a turn with an appended rule
@@ -92,6 +108,7 @@ module _ (frame : Frame) (t : Tasked) (passes : PassesValue) (w : Who)
     reaches = appends_turn frame t m.old (state_seen passes) passes w w_is rule a st m.appends
         m.told;
     idle = λ idle. absurd idle;
+    blocked = λ b. absurd (told_moves a b);
   }
 
   -- a turn with an appended rule that ran out of memory
@@ -102,6 +119,7 @@ module _ (frame : Frame) (t : Tasked) (passes : PassesValue) (w : Who)
     reaches = appends_fail frame t (state_seen passes) (state_seen passes) passes w w_is
         (refl, same);
     idle = λ idle. ap (λ (p : PassesValue). mines_of p) same;
+    blocked = λ b. absurd (err_fails e b);
   }
 
 -- a turn with a step that does nothing
@@ -113,6 +131,7 @@ nothing_met frame t a st e k f = record {
   old = state_seen t.passes;
   reaches = nothing_tells frame t (state_seen t.passes) a st e k f;
   idle = λ idle. absurd idle;
+  blocked = λ b. absurd (told_moves a b);
 }
 
 -- a turn of a program that is over
@@ -127,6 +146,7 @@ over_met frame t st = record {
         (state_seen t.passes) t.mind.thought) (sym st);
   };
   idle = λ idle. refl;
+  blocked = λ b. absurd (over_ends b);
 }
 
 -- ---- the task after the turn
@@ -210,6 +230,21 @@ module _ (frame : Frame) (t0 t t2 : Tasked) (room : HasRoom t0 t) where
         (sym room.thought i) in
         same ∙ s.goes programs;
   }
+
+  -- what blocks the step is the same as without the additional room
+  pub blocked_with : (passes : PassesValue)
+      → IsBlockedBy frame t.number t.passes passes (step_at t.mind.program t.mind.thought.mind)
+      → IsBlockedBy frame t0.number t0.passes passes
+      (step_at t0.mind.program t0.mind.thought.mind)
+  blocked_with passes b =
+      let due : step_at t.mind.program t.mind.thought.mind
+      ≡ step_at t0.mind.program t0.mind.thought.mind =
+      λ i. step_at (room.program i) (room.thought i).mind in
+      subst (λ (n : ℕ). IsBlockedBy frame n t0.passes passes
+      (step_at t0.mind.program t0.mind.thought.mind)) room.number
+      (subst (λ (p : PassesValue). IsBlockedBy frame t.number p passes
+      (step_at t0.mind.program t0.mind.thought.mind)) room.passes
+      (subst (λ (z : Option Step). IsBlockedBy frame t.number t.passes passes z) due b))
 
   -- if the task made no step, its passes have no new entries
   pub idle_adds : {E : Type 0} (passes : PassesValue) (g : Gathered) (y : Result Reached E)

@@ -1,8 +1,10 @@
 //! The step of a task on a world that threads share.
 
 ghost use Rattle.std.specs.Prelude.{◌≡◌, false, IfOk, OnErr};
+ghost use Rattle.run_model.specs.History.{step_at};
 ghost use Rattle.run_model.specs.Rounds.{is_moved};
-ghost use Rattle.task_core.specs.Shared.{ReachesMet, StepsTo};
+ghost use Rattle.run_model.specs.declared.turn.Turn.TheVariants as Turn;
+ghost use Rattle.task_core.specs.Shared.{IsBlockedBy, ReachesMet, StepsTo};
 ghost use Rattle.task_frame.specs.Tasks.{IsTask};
 ghost use Rattle.world_locks.specs.Met.{mines_of};
 
@@ -81,6 +83,7 @@ impl<N: Name> Live<N> {
 impl Task {
     /// Makes one step of the task on a world that threads share. The step is a turn on the lists
     /// that it found, and after it the task's passes have seen these lists as the turn left them.
+    /// After `Blocked`, the list that blocks the step is the one that the task's pass has seen now.
     /// After `Blocked`, or if memory runs out, no entry of the task was added, and the task is
     /// unchanged except for what its passes have seen.
     pub fn step_shared<N: Name, R: Wait>(
@@ -93,6 +96,9 @@ impl Task {
         ensures still { IsTask N.frame self.new }
         ensures number { self.new.number ≡ self.old.number }
         ensures program { self.new.mind.program ≡ self.old.mind.program }
+        ensures blocked { IfOk result (λ r. r ≡ Turn.Blocked → IsBlockedBy N.frame self.old.number
+            self.old.passes self.new.passes
+            (step_at self.old.mind.program self.old.mind.thought.mind)) }
         ensures idle { IfOk result (λ r. is_moved r ≡ false
             → mines_of self.new.passes ≡ mines_of self.old.passes) }
         ensures err { OnErr result ((self.new.mind.thought ≡ self.old.mind.thought)

@@ -3,7 +3,7 @@ use Rattle.std.proofs.Common.{◌≡◌, ◌∙◌, ap, refl, sym, subst}
 use Rattle.std.specs.Prelude.{Ok}
 use Rattle.std.specs.Option.{option_copied}
 use Rattle.run_model.specs.declared.turn.Turn.TheVariants as turns
-use Rattle.task_core.proofs.SharedSteps.{HasRoom, blocked_steps, idle_adds, moved_steps, on_err, over_steps, steps_with}
+use Rattle.task_core.proofs.SharedSteps.{HasRoom, blocked_steps, blocked_with, idle_adds, moved_steps, on_err, over_steps, steps_with}
 use Rattle.task_core.proofs.Turns.{blocked_still, left_still, moved_still, over_still, task_same}
 use Rattle.task_frame.specs.Tasks.{IsTask, Tasked}
 use Rattle.world_locks.specs.laws_of_tasks.Plays.{task_after, task_left}
@@ -173,6 +173,30 @@ returns-in-Blocked-clause-go g c =
     steps_with g.N.Name.frame c.args.self.now t t2 room turns.Blocked
     (blocked_steps g.N.Name.frame t t2 c.reach.new.passes c.reach.new.gathered c.reach.result
     c.in_ok-reach.field-0 c.in_ok-reach.was c.in-Blocked.is c.reach.ensures refl)
+
+pub returns-in-Blocked-clause-blocked : goal.returns-in-Blocked-clause-blocked
+returns-in-Blocked-clause-blocked g c =
+    let s = c.self.inside in
+    let t : Tasked =
+    record {
+      number = s.number;
+      mind = c.reserve.new.self;
+      gathered = s.gathered;
+      passes = s.passes;
+    } in
+    let room : HasRoom c.args.self.now t =
+    record {
+      number = ap (λ (x : Tasked). x.number) c.self.view_is;
+      program = c.reserve.ensures.same.program
+          ∙ ap (λ (x : Tasked). x.mind.program) c.self.view_is;
+      thought = c.reserve.ensures.same.thought
+          ∙ ap (λ (x : Tasked). x.mind.thought) c.self.view_is;
+      passes = ap (λ (x : Tasked). x.passes) c.self.view_is;
+    } in
+    λ b. blocked_with g.N.Name.frame c.args.self.now t
+    (task_left t c.reach.new.passes c.reach.new.gathered) room c.reach.new.passes
+    (c.reach.ensures.blocked
+    (c.in_ok-reach.was ∙ ap (λ (z : Reached). Ok z) c.in-Blocked.is))
 
 pub returns-in-Blocked-clause-idle : goal.returns-in-Blocked-clause-idle
 returns-in-Blocked-clause-idle g c =

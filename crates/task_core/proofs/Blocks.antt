@@ -1,0 +1,121 @@
+-- Which list blocks a step on a world that threads share, as its task's pass has seen it.
+use Rattle.std.proofs.Common.{◌≡◌, ℕ, ◌+◌, List, length, Option, Some, None, refl, sym, ◌∙◌, ap, subst}
+use Rattle.std.specs.Prelude.{IfOk, Result, Ok, Err, slice_get}
+use Rattle.std.proofs.lemmas.List.{append-nil}
+use Rattle.grow_list.specs.Shown.{Passed}
+use Rattle.ima_templates.specs.declared.entry.Entry.{Entry}
+use Rattle.inode_events.specs.Asked.{outcome}
+use Rattle.inode_events.specs.Past.{past}
+use Rattle.inode_events.specs.Semaphores.{semaphore_says}
+use Rattle.inode_events.specs.declared.deed.Deed.{Deed}
+use Rattle.inode_events.specs.declared.told.Event.{Event}
+use Rattle.inode_meta.specs.declared.identity.Cred.{Cred}
+use Rattle.inode_meta.specs.declared.step.Who.{Who}
+use Rattle.run_model.specs.Turns.{State}
+use Rattle.task_core.specs.Shared.{IsBlockedOn}
+use Rattle.task_frame.specs.Frame.{Frame, Site, inode_in}
+use Rattle.task_frame.specs.Tasks.{PassesValue}
+use Rattle.task_frame.specs.declared.gathered.Gathered.{Gathered}
+use Rattle.task_frame.specs.declared.gathered.Gathered.TheVariants as gathered
+use Rattle.world_locks.proofs.laws_of_tasks.Eventing.{get_set}
+use Rattle.world_locks.specs.Met.{CheckMet, EventMet, SignalsMet, state_seen}
+use Rattle.world_locks.specs.acts.Acting.{EventIn, IsPlacedAt, IsSaid, told_in, told_of}
+use Rattle.world_locks.specs.acts.Checking.{CheckIn}
+use Rattle.world_locks.specs.acts.Sharing.{SignalsOn}
+use Rattle.world_locks.specs.acts.Turning.{reached_by}
+use Rattle.world_locks.specs.acts.declared.answers.Answered.{Answered}
+use Rattle.world_locks.specs.acts.declared.answers.Reached.{Reached}
+use Rattle.world_locks.specs.acts.declared.answers.Reached.TheVariants as reached
+use Rattle.world_locks.specs.deeds.declared.listed.Checks.{Checks as Asked}
+use Rattle.world_locks.specs.laws_of_tasks.Events.{EventOn}
+use Rattle.world_locks.specs.laws_of_tasks.Ready.{HasLooked}
+
+-- a turn with an answer wasn't blocked
+pub told_moves : {E : Type 0} (a : Answered)
+    → ◌≡◌ {A = Result Reached E} (Ok (reached.Told a)) (Ok reached.Blocked) → ⊥
+told_moves a e = cc
+
+-- a turn of a program that was over wasn't blocked
+pub over_ends : {E : Type 0}
+    → ◌≡◌ {A = Result Reached E} (Ok reached.Over) (Ok reached.Blocked) → ⊥
+over_ends e = cc
+
+-- a turn that ran out of memory wasn't blocked
+pub err_fails : {E : Type 0} (x : E)
+    → ◌≡◌ {A = Result Reached E} (Err x) (Ok reached.Blocked) → ⊥
+err_fails x e = cc
+
+-- a turn that was blocked had no answer
+pub no_answer : {E : Type 0} (r : Result (Option Answered) E)
+    → ◌≡◌ {A = Result Reached E} (reached_by r) (Ok reached.Blocked) → r ≡ Ok None
+no_answer (Ok (Some a)) e = absurd (cc)
+no_answer (Ok None) e = refl
+no_answer (Err x) e = absurd (cc)
+
+module _ (frame : Frame) (passes passes2 : PassesValue) (w : Who) where
+  -- a deed without an outcome is blocked by the journal that its task's pass has seen
+  event_blocks : (i : ℕ) (s : Site) (d : Deed) (old : State) (g g2 : Gathered)
+      → EventOn frame i s w d old (state_seen passes2) passes passes2 g g2 None
+      → ((journal : List Event) → slice_get old.journals i ≡ Some journal
+      → None ≡ outcome (inode_in frame s) old.list d (past journal))
+      → IsBlockedOn frame w.task i s d passes passes2
+  event_blocks i s d old g g2 e none =
+      let seen : e.pass2.seen ≡ e.journal = e.seen ∙ append-nil e.journal in
+      let list : passes2.book.seen ≡ old.list = ap (λ (x : State). x.list) e.state in
+      record {
+        pass = e.pass;
+        pass_at = e.pass_at;
+        pass2 = e.pass2;
+        pass2_at = ap (λ (qs : List (Passed Event)). slice_get qs i) e.inodes
+            ∙ get_set passes.inodes i e.pass2 e.pass e.pass_at;
+        looked = subst (λ (xs : List Event). HasLooked (inode_in frame s) (w.task + 1) e.pass.seen
+            xs e.pass.mine) (sym seen) e.looked;
+        told = ap (λ (xs : List Entry). outcome (inode_in frame s) xs d (past e.pass2.seen)) list
+            ∙ ap (λ (xs : List Event). outcome (inode_in frame s) old.list d (past xs)) seen
+            ∙ sym (none e.journal e.journal_at);
+      }
+
+  -- a blocked deed on this inode
+  pub deed_blocks : {E : Type 0} (i : ℕ) (d : Deed) (g g2 : Gathered)
+      (r : Result (Option Answered) E) → EventMet frame i w d passes passes2 g g2 r → r ≡ Ok None
+      → (s : Site) → slice_get frame.sites i ≡ Some s
+      → IsBlockedOn frame w.task i s d passes passes2
+  deed_blocks {E} i d g g2 r m e s at =
+      let event : EventOn frame i s w d m.old (state_seen passes2) passes passes2 g g2 None =
+      subst (λ (x : Option Site). EventIn frame i x w d m.old (state_seen passes2) passes passes2 g
+      g2 None) at
+      (subst (λ (y : Result (Option Answered) E). EventIn frame i (slice_get frame.sites i) w d
+      m.old (state_seen passes2) passes passes2 g g2 (told_in y)) e m.event) in
+      let said : IsSaid frame i d m.old None =
+      subst (λ (y : Result (Option Answered) E). IfOk y (λ o. IsSaid frame i d m.old o)) e m.told in
+      event_blocks i s d m.old g g2 event (λ journal there. (said s journal at there).0)
+
+  -- a check is blocked only if there is no such inode
+  pub check_blocks : {E : Type 0} (i : ℕ) (cred : Cred) (asked : Asked)
+      (r : Result (Option Answered) E) → CheckMet frame i w cred asked passes passes2 r
+      → r ≡ Ok None → slice_get frame.sites i ≡ None
+  check_blocks {E} i cred asked r m e =
+      by_site (slice_get frame.sites i)
+      (subst (λ (y : Result (Option Answered) E). CheckIn frame i (slice_get frame.sites i) w cred
+      asked m.old (state_seen passes2) passes passes2 gathered.Nothing y) e
+      (m.check gathered.Nothing)) where
+        by_site : (x : Option Site) → CheckIn {E = E} frame i x w cred asked m.old
+            (state_seen passes2) passes passes2 gathered.Nothing (Ok None) → x ≡ None
+        by_site None c = refl
+        by_site (Some s) c = absurd c.told
+
+  -- a wait is blocked by the count of its semaphore
+  pub signal_blocks : {E : Type 0} (d : Deed) (r : Result (Option Answered) E)
+      → SignalsMet passes passes2 w d r → r ≡ Ok None
+      → semaphore_says (past passes2.sems.seen) d ≡ None
+  signal_blocks {E} d r m e =
+      let on : SignalsOn m.old (state_seen passes2) passes passes2 w d None =
+      subst (λ (y : Result (Option Answered) E). SignalsOn m.old (state_seen passes2) passes passes2
+      w d (told_in y)) e m.signals in
+      let none : None ≡ semaphore_says (past m.old.signals) d =
+      (subst (λ (y : Result (Option Answered) E). IfOk y (λ o.
+      (told_of o ≡ semaphore_says (past m.old.signals) d)
+      × IsPlacedAt (length m.old.signals) o)) e m.told).0 in
+      ap (λ (xs : List Event). semaphore_says (past xs) d)
+      (ap (λ (x : State). x.signals) on.state ∙ append-nil m.old.signals)
+      ∙ sym none
