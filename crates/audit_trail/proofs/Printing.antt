@@ -3,13 +3,16 @@ use Rattle.std.proofs.Common.{◌≡◌, ℕ, suc, ◌+◌, ◌<◌, ◌≤◌, 
 use Rattle.std.specs.List.{join_with_byte}
 use Rattle.std.proofs.lemmas.Grind.{flat_map-append}
 use Rattle.std.proofs.lemmas.List.{append-nil, drop_all}
+use Rattle.hex.specs.Hex.{encode_lower}
 use Rattle.report_text.specs.Numerals.{numeral}
 use Rattle.report_text.specs.Texts.{line_text}
 use Rattle.report_text.specs.Words.{Line, who_word}
 use Rattle.task_frame.specs.model.events.forms.Words.{text_of}
+use Rattle.task_frame.specs.model.events.hashes.Algo.{algo_name}
+use Rattle.task_frame.specs.model.events.hashes.declared.digest.Digest.{Digest}
 use Rattle.task_frame.specs.model.events.meta.declared.step.Who.{Who}
-use Rattle.audit_trail.specs.Texts.{place_text}
-use Rattle.audit_trail.specs.Trail.{record_line, trail_lines}
+use Rattle.audit_trail.specs.Texts.{front_text, place_text}
+use Rattle.audit_trail.specs.Trail.{digest_word, record_line, trail_lines}
 
 -- ---- a record
 
@@ -24,19 +27,39 @@ pub place_pushed : (o : List ℕ) (i k : ℕ) (who : Who)
 place_pushed o i k who =
     place_gather o (numeral i) (codes ".") (numeral k) (codes " ") (who_word who)
 
+front_gather : (o w s p t n path : List ℕ) → ((((((o ++ w) ++ s) ++ p) ++ t) ++ n) ++ s) ++ path
+    ≡ o ++ (w ++ (s ++ (p ++ (t ++ (n ++ (s ++ path))))))
+front_gather o w s p t n path = simp append_assoc
+
+-- the pieces of a record up to its value, as the code appends them
+pub front_pushed : (o word : List ℕ) (i k : ℕ) (who : Who) (line : ℕ) (path : List ℕ)
+    → ((((((o ++ word) ++ codes " ") ++ place_text i k who) ++ codes " line ") ++ numeral line)
+    ++ codes " ") ++ path
+    ≡ o ++ front_text word i k who line path
+front_pushed o word i k who line path =
+    front_gather o word (codes " ") (place_text i k who) (codes " line ") (numeral line) path
+
 record_gather : (o w s p z t n path v e : List ℕ)
-    → (((((((((o ++ w) ++ s) ++ (p ++ (s ++ z))) ++ t) ++ n) ++ s) ++ path) ++ s) ++ v) ++ e
+    → ((o ++ (w ++ (s ++ ((p ++ (s ++ z)) ++ (t ++ (n ++ (s ++ path))))))) ++ (s ++ v)) ++ e
     ≡ o ++ ((w ++ (s ++ (p ++ (s ++ (z ++ (t ++ (n ++ (s ++ (path ++ (s ++ v)))))))))) ++ e)
 record_gather o w s p z t n path v e = simp append_assoc
 
--- the pieces of a record, as the code appends them, are the record's line
+-- they, the value and a newline are the record's line
 pub record_pushed : (o word : List ℕ) (i k : ℕ) (who : Who) (line : ℕ) (path value : List ℕ)
-    → (((((((((o ++ word) ++ codes " ") ++ place_text i k who) ++ codes " line ") ++ numeral line)
-    ++ codes " ") ++ path) ++ codes " ") ++ value) ++ codes "\n"
+    → ((o ++ front_text word i k who line path) ++ 32 ∷ value) ++ codes "\n"
     ≡ o ++ line_text (record_line word i k who line path value)
 record_pushed o word i k who line path value =
     record_gather o word (codes " ") (numeral i ++ 46 ∷ numeral k) (who_word who) (codes " line ")
     (numeral line) path value (codes "\n")
+
+named_gather : (o name digits : List ℕ) → o ++ 32 ∷ name ++ 58 ∷ digits
+    ≡ o ++ 32 ∷ (name ++ codes ":" ++ digits)
+named_gather o name digits = simp append_assoc
+
+-- a space, the algorithm, a colon and the digits are a space and the digest's word
+pub named_joined : (o : List ℕ) (d : Digest) → o ++ 32 ∷ algo_name d.algo ++ 58
+    ∷ encode_lower d.bytes ≡ o ++ 32 ∷ digest_word d
+named_joined o d = named_gather o (algo_name d.algo) (encode_lower d.bytes)
 
 -- the text of a single line
 pub text_of_one : (l : Line) → text_of (l ∷ []) ≡ line_text l
@@ -90,12 +113,10 @@ counts_end lines none total count xs i le h =
 -- the pieces of the trail, as the code appends them, are the trail
 pub trail_pushed : (count : ℕ) (body : List ℕ) (ls : List Line) → count ≡ length ls
     → body ≡ text_of ls
-    → (((([] ++ join_with_byte 32 (codes "trail" ∷ numeral count ∷ [])) ++ codes "\n") ++ body)
-    ++ codes "end\n") ≡ text_of (trail_lines ls)
+    → (([] ++ join_with_byte 32 (codes "trail" ∷ numeral count ∷ [])) ++ codes "\n")
+    ++ (body ++ codes "end\n") ≡ text_of (trail_lines ls)
 trail_pushed count body ls c b =
-    (λ i. (((([] ++ join_with_byte 32 (codes "trail" ∷ numeral (c i) ∷ [])) ++ codes "\n") ++ b i)
-    ++ codes "end\n"))
-    ∙ append_assoc (line_text (codes "trail" ∷ numeral (length ls) ∷ [])) (text_of ls)
-    (codes "end\n")
+    (λ i. (([] ++ join_with_byte 32 (codes "trail" ∷ numeral (c i) ∷ [])) ++ codes "\n")
+    ++ (b i ++ codes "end\n"))
     ∙ ap (λ (l : List ℕ). line_text (codes "trail" ∷ numeral (length ls) ∷ []) ++ l)
     (sym (flat_map-append line_text ls ((codes "end" ∷ []) ∷ [])))

@@ -2,12 +2,15 @@
 
 ghost use Rattle.std.specs.Prelude.{◌≡◌, map, slice_get, take};
 ghost use Rattle.script_scene.specs.Scene.{program_of};
-ghost use Rattle.task_frame.specs.model.matching.Decision.{is_done};
+ghost use Rattle.task_frame.specs.model.matching.Decision.{is_done, place_of_first};
+ghost use Rattle.task_frame.specs.model.matching.declared.family.Family.{Family as AnyFamily};
+ghost use Rattle.task_frame.specs.model.matching.declared.family.Family.TheVariants.{Auditing, Hashing};
+ghost use Rattle.task_frame.specs.model.policy.declared.access.Access.{Access as AnyAccess};
 ghost use Rattle.audit_trail.specs.Asked.{asker_by, asker_of, asking_line, asks, line_for, mask_of};
 ghost use Rattle.audit_trail.specs.Sites.{programs_in};
 
 use crate::site::Context;
-use report_text::model::matching::{Family, Index};
+use report_text::model::matching::Index;
 use script_scene::scripts::TaskBlock;
 use script_scene::scripts::meta::{Cred, Meta, Who};
 use script_scene::scripts::policy::{Access, Act, Func, Rule, Super};
@@ -63,39 +66,49 @@ fn asks(rules: &[Rule], line: usize) -> bool
     }
 }
 
-// The first line of the family that matches the access, if it is one of the first `count` lines and
-// asks for something.
-fn asking_line(rules: &Index, count: u64, family: Family, access: &Access<'_>) -> Option<usize>
-    ensures { result ≡ asking_line family (take count rules.now) access.now }
+// The line that decides for a family, if it is one of the first `count` lines and asks for
+// something.
+fn asking_line(rules: &[Rule], count: u64, decider: Option<usize>) -> Option<usize>
+    ensures { (f : AnyFamily) (a : AnyAccess) → decider ≡ place_of_first f rules.now a
+        → result ≡ asking_line f (take count rules.now) a }
 {
-    let Some(line) = rules.decider(family, access) else {
+    let Some(line) = decider else {
         return None;
     };
     if line as u64 >= count {
         return None;
     }
-    if asks(rules.rules(), line) {
-        Some(line)
-    } else {
-        None
-    }
+    if asks(rules, line) { Some(line) } else { None }
 }
 
-// The same line for the access that a check makes, to an inode with this metadata on this file
+// The lines of the families `audit` and `hash` that ask for something of the access.
+fn asking_lines(rules: &Index, count: u64, access: &Access<'_>) -> (Option<usize>, Option<usize>)
+    ensures audit { result.0 ≡ asking_line Auditing (take count rules.now) access.now }
+    ensures hash { result.1 ≡ asking_line Hashing (take count rules.now) access.now }
+{
+    let found = rules.deciders(access);
+    let audit = asking_line(rules.rules(), count, found.auditing);
+    let hash = asking_line(rules.rules(), count, found.hashing);
+    (audit, hash)
+}
+
+// The same lines for the access that a check makes, to an inode with this metadata on this file
 // system. `count` is the number of rules that the check names.
-fn line_for(
+fn lines_by(
     rules: &Index,
     count: u64,
-    family: Family,
     system: &Super,
     meta: &Meta,
     func: Func,
     asker: Option<(Cred, u8)>,
-) -> Option<usize>
-    ensures { result ≡ line_for family (take count rules.now) system.now meta.now func asker }
+) -> (Option<usize>, Option<usize>)
+    ensures audit { result.0 ≡ line_for Auditing (take count rules.now) system.now meta.now func
+        asker }
+    ensures hash { result.1 ≡ line_for Hashing (take count rules.now) system.now meta.now func
+        asker }
 {
     let Some((cred, mask)) = asker else {
-        return None;
+        return (None, None);
     };
     let access = Access {
         func,
@@ -105,7 +118,7 @@ fn line_for(
         group: meta.gid,
         place: system,
     };
-    asking_line(rules, count, family, &access)
+    asking_lines(rules, count, &access)
 }
 
 // The lines of the families `audit` and `hash` that ask for a record of the check of this step.
@@ -117,14 +130,11 @@ pub fn lines_for(
     func: Func,
     count: u64,
 ) -> (Option<usize>, Option<usize>)
-    ensures audit { result.0 ≡ line_for Family.Auditing (take count context.now.rules.now)
+    ensures audit { result.0 ≡ line_for Auditing (take count context.now.rules.now)
         system.now meta.now func (asker_of (programs_in context.now) who) }
-    ensures hash { result.1 ≡ line_for Family.Hashing (take count context.now.rules.now)
+    ensures hash { result.1 ≡ line_for Hashing (take count context.now.rules.now)
         system.now meta.now func (asker_of (programs_in context.now) who) }
 {
-    let rules = context.rules;
     let asker = asker(context.tasks, who);
-    let audit = line_for(rules, count, Family::Auditing, system, meta, func, asker);
-    let hash = line_for(rules, count, Family::Hashing, system, meta, func, asker);
-    (audit, hash)
+    lines_by(context.rules, count, system, meta, func, asker)
 }

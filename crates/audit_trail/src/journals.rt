@@ -19,7 +19,6 @@ use std::alloc::{AllocError as OutOfMemory, Global};
 // Prints the records of the event, if it is a check, and returns how many. The walk has passed the
 // events before it.
 fn push_event(
-    alloc: Global,
     out: &mut Vec<u8>,
     context: &Context<'_>,
     site: &Site<'_>,
@@ -43,7 +42,7 @@ fn push_event(
         return Ok(0);
     }
     let digest = walk.digest_now(context.settings.hash);
-    let count = push_records(alloc, out, site, place, event.who, &digest, lines)?;
+    let count = push_records(out, site, place, event.who, &digest, lines)?;
     Ok(count)
 }
 
@@ -66,7 +65,7 @@ fn push_events(
 {
     let mut count = 0;
     for (place, event) in journal.iter().enumerate() {
-        count += push_event(alloc, out, context, site, place as u64, walk, event)?;
+        count += push_event(out, context, site, place as u64, walk, event)?;
         walk.advance(alloc, context.settings, event)?;
     }
     Ok(count)

@@ -16,4 +16,5 @@ mod taken;
 mod text;
 mod walk;
 
+pub use std::alloc::AllocError as OutOfMemory;
 pub use text::trail;

@@ -1,26 +1,17 @@
 // The records of a check, as they are printed.
 
-ghost use Rattle.std.specs.Prelude.{◌≡◌, ◌+◌, ◌≤◌, ◌++◌, codes, length, vec_len, IfOk, OnOk};
-ghost use Rattle.hex.specs.Hex.{encode_lower};
-ghost use Rattle.report_text.specs.Texts.{line_text};
+ghost use Rattle.std.specs.Prelude.{◌≡◌, ◌+◌, ◌≤◌, ◌∷◌, ◌++◌, length, vec_len, IfOk, OnOk};
 ghost use Rattle.task_frame.specs.model.events.forms.Words.{text_of};
-ghost use Rattle.audit_trail.specs.Texts.{place_text};
-ghost use Rattle.audit_trail.specs.Trail.{audit_line, digest_word, hash_line, if_line, label_word, lines_of, record_line};
+ghost use Rattle.audit_trail.specs.Texts.{front_text, place_text};
+ghost use Rattle.audit_trail.specs.Trail.{audit_line, hash_line, if_line, label_word, lines_of};
 
 use crate::site::Site;
+use list_format::{append_hex, append_named_digest};
 use report_text::{push_number, push_who};
 use script_scene::scripts::hashes::Digest;
 use script_scene::scripts::labels::{MAX_LABEL, write_label};
 use script_scene::scripts::meta::Who;
-use std::alloc::{AllocError as OutOfMemory, Global};
-
-// Prints the bytes in lower-case hexadecimal.
-fn push_hex(alloc: Global, out: &mut Vec<u8>, bytes: &[u8]) -> Result<(), OutOfMemory>
-    ensures { OnOk result (out.new.items ≡ out.old.items ++ encode_lower bytes.now) }
-{
-    let digits = hex::encode(alloc, bytes)?;
-    out.extend_from_slice(digits.as_bytes())
-}
+use std::alloc::AllocError as OutOfMemory;
 
 // Prints the place of a check: `I.K TASK.CALL.STEP`.
 fn push_place(out: &mut Vec<u8>, inode: u64, place: u64, who: Who) -> Result<(), OutOfMemory>
@@ -33,18 +24,17 @@ fn push_place(out: &mut Vec<u8>, inode: u64, place: u64, who: Who) -> Result<(),
     push_who(out, who)
 }
 
-// Prints a record with its newline.
-fn push_record(
+// Prints a record up to its value: the word, the check, the line and the path.
+fn push_front(
     out: &mut Vec<u8>,
     word: &[u8],
     site: &Site<'_>,
     place: u64,
     who: Who,
     line: u64,
-    value: &[u8],
 ) -> Result<(), OutOfMemory>
-    ensures { OnOk result (out.new.items ≡ out.old.items ++ line_text (record_line word.now
-        site.now.number place who line site.now.file.now.path value.now)) }
+    ensures { OnOk result (out.new.items ≡ out.old.items ++ front_text word.now
+        site.now.number place who line site.now.file.now.path) }
 {
     out.extend_from_slice(word)?;
     out.extend_from_slice(b" ")?;
@@ -53,37 +43,20 @@ fn push_record(
     push_number(out, line)?;
     out.extend_from_slice(b" ")?;
     out.extend_from_slice(site.file.path.as_slice())?;
-    out.extend_from_slice(b" ")?;
-    out.extend_from_slice(value)?;
-    out.extend_from_slice(b"\n")?;
     Ok(())
 }
 
-// The digest as `ALGO:HEX`.
-fn digest_word(alloc: Global, digest: &Digest) -> Result<Vec<u8>, OutOfMemory>
-    ensures { IfOk result (λ word. word.items ≡ digest_word digest.now) }
-{
-    let mut word = Vec::new(alloc);
-    word.extend_from_slice(digest.algo().name().as_bytes())?;
-    word.extend_from_slice(b":")?;
-    push_hex(alloc, &mut word, digest.as_slice())?;
-    Ok(word)
-}
-
-// The label of the digest in hexadecimal.
-fn label_word(alloc: Global, digest: &Digest) -> Result<Vec<u8>, OutOfMemory>
-    ensures { IfOk result (λ word. word.items ≡ label_word digest.now) }
+// Prints a space and the label of the digest in hexadecimal.
+fn push_label(out: &mut Vec<u8>, digest: &Digest) -> Result<(), OutOfMemory>
+    ensures { OnOk result (out.new.items ≡ out.old.items ++ 32 ∷ label_word digest.now) }
 {
     let mut label = [0; MAX_LABEL];
     let len = write_label(digest, &mut label);
-    let mut word = Vec::new(alloc);
-    push_hex(alloc, &mut word, &label[..len])?;
-    Ok(word)
+    append_hex(out, b' ', &label[..len])
 }
 
 // Prints the record of the family `audit`, if there is a line, and returns how many were printed.
 fn push_audit(
-    alloc: Global,
     out: &mut Vec<u8>,
     site: &Site<'_>,
     place: u64,
@@ -100,22 +73,14 @@ fn push_audit(
     let Some(line) = line else {
         return Ok(0);
     };
-    let word = digest_word(alloc, digest)?;
-    push_record(
-        out,
-        b"audit",
-        site,
-        place,
-        who,
-        line as u64,
-        word.as_slice(),
-    )?;
+    push_front(out, b"audit", site, place, who, line as u64)?;
+    append_named_digest(digest, out)?;
+    out.extend_from_slice(b"\n")?;
     Ok(1)
 }
 
 // Prints the record of the family `hash`, if there is a line, and returns how many were printed.
 fn push_hash(
-    alloc: Global,
     out: &mut Vec<u8>,
     site: &Site<'_>,
     place: u64,
@@ -132,15 +97,15 @@ fn push_hash(
     let Some(line) = line else {
         return Ok(0);
     };
-    let word = label_word(alloc, digest)?;
-    push_record(out, b"hash", site, place, who, line as u64, word.as_slice())?;
+    push_front(out, b"hash", site, place, who, line as u64)?;
+    push_label(out, digest)?;
+    out.extend_from_slice(b"\n")?;
     Ok(1)
 }
 
 // Prints the records of a check, by the lines of the two families that ask for one, and returns how
 // many were printed.
 pub fn push_records(
-    alloc: Global,
     out: &mut Vec<u8>,
     site: &Site<'_>,
     place: u64,
@@ -154,7 +119,7 @@ pub fn push_records(
         site.now.number place who site.now.file.now.path digest.now lines.0 lines.1)) }
     ensures grows { IfOk result (λ n. vec_len out.old + n ≤ vec_len out.new) }
 {
-    let audits = push_audit(alloc, out, site, place, who, digest, lines.0)?;
-    let hashes = push_hash(alloc, out, site, place, who, digest, lines.1)?;
+    let audits = push_audit(out, site, place, who, digest, lines.0)?;
+    let hashes = push_hash(out, site, place, who, digest, lines.1)?;
     Ok(audits + hashes)
 }

@@ -31,11 +31,11 @@ fn trail_by(
 {
     let mut lines = Vec::new(alloc);
     let count = push_inodes(alloc, &mut lines, context, inodes)?;
+    lines.extend_from_slice(b"end\n")?;
     let mut out = Vec::new(alloc);
     push_numbers(&mut out, b"trail", &[count])?;
     out.extend_from_slice(b"\n")?;
     out.extend_from_slice(lines.as_slice())?;
-    out.extend_from_slice(b"end\n")?;
     Ok(out)
 }
 

@@ -12,4 +12,5 @@ mod places;
 mod table;
 
 pub use law::measured_reads_are_listed;
+pub use std::alloc::AllocError as OutOfMemory;
 pub use table::loads;

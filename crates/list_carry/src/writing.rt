@@ -38,6 +38,7 @@ fn append_form(list: &[Entry], out: &mut Vec<u8>) -> Result<(), OutOfMemory>
     ensures kept { take (vec_len out.old) out.new.items ≡ out.old.items }
 {
     let whole = form_length(list)?;
+    out.reserve(whole as usize)?;
     append_header(list.len() as u64, whole, out)?;
     append_records(list, out)
 }

@@ -1,18 +1,17 @@
-use Rattle.std.proofs.Common.{◌≡◌, ℕ, List, ◌++◌, codes, Option, sym, ◌∙◌, ap}
-use Rattle.report_text.specs.Texts.{line_text}
+use Rattle.std.proofs.Common.{ℕ, List, ◌∷◌, ◌++◌, codes, Option, sym, ◌∙◌, ap}
 use Rattle.task_frame.specs.model.events.forms.Words.{text_of}
-use Rattle.audit_trail.proofs.Printing.{text_of_one}
-use Rattle.audit_trail.specs.Trail.{audit_line, digest_word, if_line, record_line}
+use Rattle.audit_trail.proofs.Printing.{named_joined, record_pushed, text_of_one}
+use Rattle.audit_trail.specs.Trail.{audit_line, digest_word, if_line}
 use Rattle.audit_trail.proofs.records.push_audit.Goals as goal
 
 pub returns-clause-text : goal.returns-clause-text
 returns-clause-text c =
-    let value : c.as_slice.result.now ≡ digest_word c.args.digest.now =
-    c.as_slice.ensures.value ∙ c.in_ok-word.ensures in
-    c.in_ok-push_record.ensures
-    ∙ ap (λ (v : List ℕ). c.args.out.now.items ++ line_text (record_line (codes "audit")
-    c.args.site.now.number c.args.place c.args.who c.in-Some.line c.args.site.now.file.now.path v))
-    value
+    c.in_ok-extend_from_slice.ensures.items
+    ∙ ap (λ (l : List ℕ). l ++ codes "\n") (c.in_ok-append_named_digest.ensures.ok
+    ∙ named_joined _ c.args.digest.now
+    ∙ ap (λ (l : List ℕ). l ++ 32 ∷ digest_word c.args.digest.now) c.in_ok-push_front.ensures)
+    ∙ record_pushed c.args.out.now.items (codes "audit") c.args.site.now.number c.args.place
+    c.args.who c.in-Some.line c.args.site.now.file.now.path (digest_word c.args.digest.now)
     ∙ ap (λ (l : List ℕ). c.args.out.now.items ++ l)
     (sym (text_of_one (audit_line c.args.site.now.number c.args.place c.args.who
     c.args.site.now.file.now.path c.args.digest.now c.in-Some.line)))
