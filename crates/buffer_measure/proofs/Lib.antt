@@ -5,6 +5,7 @@ pub mod Closing
 pub mod Starting
 pub mod Kept
 pub mod Printing
+pub mod Parting
 pub mod Alone
 pub mod Determining
 mod Examples

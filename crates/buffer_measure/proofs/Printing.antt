@@ -50,22 +50,31 @@ head_pushed o n =
     head_gather o (codes "imakern buffers 1\n") (codes "list ") (numeral n)
     (codes " violations 0") (codes "\n")
 
-run_gather : (h e p c z : List ℕ) → (((([] ++ h) ++ e) ++ p) ++ c) ++ z
-    ≡ h ++ (e ++ (p ++ (c ++ z)))
-run_gather h e p c z = simp append_assoc
-
-lines_append : (a b : List Line) → text_of (a ++ b) ≡ text_of a ++ text_of b
+-- the text of some lines and then of others
+pub lines_append : (a b : List Line) → text_of (a ++ b) ≡ text_of a ++ text_of b
 lines_append a b = flat_map-append line_text a b
 
--- the sections one after another, of which the second is the entries
-pub run_pushed : (h es p c : List Line) (e : List ℕ) → text_of es ≡ e
-    → (((([] ++ text_of h) ++ e) ++ text_of p) ++ text_of c) ++ codes "end\n"
-    ≡ text_of (h ++ (es ++ (p ++ (c ++ (codes "end" ∷ []) ∷ []))))
-run_pushed h es p c e is =
+rest_gather : (o p c z : List ℕ) → ((o ++ p) ++ c) ++ z ≡ o ++ (p ++ (c ++ z))
+rest_gather o p c z = simp append_assoc
+
+-- the sections after the list
+pub rest_pushed : (o : List ℕ) (p c : List Line)
+    → ((o ++ text_of p) ++ text_of c) ++ codes "end\n"
+    ≡ o ++ text_of (p ++ (c ++ (codes "end" ∷ []) ∷ []))
+rest_pushed o p c =
     let z : List Line = (codes "end" ∷ []) ∷ [] in
-    run_gather (text_of h) e (text_of p) (text_of c) (codes "end\n")
-    ∙ ap (λ (l : List ℕ). text_of h ++ (l ++ (text_of p ++ (text_of c ++ codes "end\n")))) (sym is)
-    ∙ ap (λ (l : List ℕ). text_of h ++ (text_of es ++ (text_of p ++ l))) (sym (lines_append c z))
-    ∙ ap (λ (l : List ℕ). text_of h ++ (text_of es ++ l)) (sym (lines_append p (c ++ z)))
-    ∙ ap (λ (l : List ℕ). text_of h ++ l) (sym (lines_append es (p ++ (c ++ z))))
-    ∙ sym (lines_append h (es ++ (p ++ (c ++ z))))
+    rest_gather o (text_of p) (text_of c) (codes "end\n")
+    ∙ ap (λ (l : List ℕ). o ++ (text_of p ++ l)) (sym (lines_append c z))
+    ∙ ap (λ (l : List ℕ). o ++ l) (sym (lines_append p (c ++ z)))
+
+run_gather : (h e r : List ℕ) → (([] ++ h) ++ e) ++ r ≡ h ++ (e ++ r)
+run_gather h e r = simp append_assoc
+
+-- the sections one after another, of which the second is the entries
+pub run_pushed : (h es r : List Line) (e : List ℕ) → text_of es ≡ e
+    → (([] ++ text_of h) ++ e) ++ text_of r ≡ text_of (h ++ (es ++ r))
+run_pushed h es r e is =
+    run_gather (text_of h) e (text_of r)
+    ∙ ap (λ (l : List ℕ). text_of h ++ (l ++ text_of r)) (sym is)
+    ∙ ap (λ (l : List ℕ). text_of h ++ l) (sym (lines_append es r))
+    ∙ sym (lines_append h (es ++ r))

@@ -13,4 +13,5 @@ pub mod Run
 pub mod Answered
 pub mod Kept
 pub mod Print
+pub mod Parts
 pub mod Alone

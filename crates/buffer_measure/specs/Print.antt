@@ -4,6 +4,8 @@ use Rattle.report_text.specs.Numerals.{numeral}
 use Rattle.report_text.specs.Report.{entry_words, pcr_lines}
 use Rattle.report_text.specs.Words.{Line}
 use Rattle.script_text.specs.events.forms.Words.{text_of}
+use Rattle.script_text.specs.steps.registers.declared.banks.Banks.{Banks}
+use Rattle.script_text.specs.steps.templates.declared.entry.Entry.{Entry}
 use Rattle.buffer_measure.specs.Forms.{IsBufferText}
 use Rattle.buffer_measure.specs.Run.{IsRunOf, RunValue}
 use Rattle.buffer_measure.specs.Text.{BufferValue}
@@ -35,13 +37,15 @@ head_lines entries =
     (codes "imakern" ∷ codes "buffers" ∷ codes "1" ∷ [])
     ∷ (codes "list" ∷ numeral entries ∷ codes "violations" ∷ codes "0" ∷ []) ∷ []
 
+-- the lines after the list
+abbrev pub rest_lines : List Entry → Banks → List (List Answer) → List Line
+rest_lines list banks answers =
+    pcr_lines list banks ++ (all_caller_lines 0 answers ++ (codes "end" ∷ []) ∷ [])
+
 abbrev pub run_lines : RunValue → List Line
 run_lines run =
     head_lines (length run.list)
-    ++ (map entry_words run.list
-    ++ (pcr_lines run.list run.banks
-    ++ (all_caller_lines 0 run.answers
-    ++ (codes "end" ∷ []) ∷ [])))
+    ++ (map entry_words run.list ++ rest_lines run.list run.banks run.answers)
 
 abbrev pub printed : RunValue → List ℕ
 printed run = text_of (run_lines run)

@@ -5,13 +5,18 @@ ghost use Rattle.std.specs.List.{join_with_byte};
 ghost use Rattle.report_text.specs.Numerals.{numeral};
 ghost use Rattle.report_text.specs.Texts.{line_text};
 ghost use Rattle.script_text.specs.events.forms.Words.{text_of};
-ghost use Rattle.buffer_measure.specs.Print.{all_caller_lines, answer_lines, answer_words, caller_lines, head_lines, printed};
+ghost use Rattle.buffer_measure.specs.Print.{all_caller_lines, answer_lines, answer_words, caller_lines, head_lines, printed, rest_lines};
 
 use crate::answer::Answer;
 use crate::answers::Answers;
+use crate::parts::push_lines;
 use crate::run::BufferRun;
+use report_text::outer::Pieces;
 use report_text::{push_entries, push_number, push_numbers, push_registers};
+use script_text::registers::Banks;
+use script_text::templates::Entry;
 use std::alloc::{AllocError as OutOfMemory, Global};
+use std::thread::Threads;
 
 /// Prints a run in lines that end in a newline: its list, in the form of
 /// `ascii_runtime_measurements`, the registers that an entry extends, and each caller with its
@@ -23,10 +28,66 @@ pub fn print(alloc: Global, r: &BufferRun) -> Result<Vec<u8>, OutOfMemory>
     let list = r.list.as_slice();
     push_head(&mut out, list.len() as u64)?;
     push_entries(&mut out, list)?;
-    push_registers(&mut out, list, &r.banks)?;
-    push_callers(&mut out, r.answers.as_slice())?;
-    out.extend_from_slice(b"end\n")?;
+    push_rest(&mut out, list, &r.banks, r.answers.as_slice())?;
     Ok(out)
+}
+
+/// Prints a run as [`print`] does, in pieces. The lines of the list are made in at most `threads`
+/// parts, each on a thread of its own if one can be created.
+pub fn print_in_pieces<R: Threads + Sync>(
+    rt: &R,
+    alloc: Global,
+    r: &BufferRun,
+    threads: usize,
+) -> Result<Pieces, OutOfMemory>
+    ensures { IfOk result (λ out. out ≡ printed r.now) }
+{
+    let list = r.list.as_slice();
+    let mut out = Pieces::new(alloc);
+    out.push(head_of(alloc, list.len() as u64)?)?;
+    push_lines(rt, alloc, &mut out, list, threads)?;
+    out.push(rest_of(alloc, list, &r.banks, r.answers.as_slice())?)?;
+    Ok(out)
+}
+
+// The first two lines, of a run whose list has this number of entries.
+fn head_of(alloc: Global, entries: u64) -> Result<Vec<u8>, OutOfMemory>
+    ensures { IfOk result (λ out. out.items ≡ text_of (head_lines entries)) }
+{
+    let mut out = Vec::new(alloc);
+    push_head(&mut out, entries)?;
+    Ok(out)
+}
+
+// The lines after the list.
+fn rest_of(
+    alloc: Global,
+    list: &[Entry],
+    banks: &Banks,
+    callers: &[Answers],
+) -> Result<Vec<u8>, OutOfMemory>
+    ensures { IfOk result (λ out. out.items
+        ≡ text_of (rest_lines list.now banks.now callers.now)) }
+{
+    let mut out = Vec::new(alloc);
+    push_rest(&mut out, list, banks, callers)?;
+    Ok(out)
+}
+
+// Prints the lines after the list: the registers, the callers and `end`.
+fn push_rest(
+    out: &mut Vec<u8>,
+    list: &[Entry],
+    banks: &Banks,
+    callers: &[Answers],
+) -> Result<(), OutOfMemory>
+    ensures { OnOk result (out.new.items
+        ≡ out.old.items ++ text_of (rest_lines list.now banks.now callers.now)) }
+{
+    push_registers(out, list, banks)?;
+    push_callers(out, callers)?;
+    out.extend_from_slice(b"end\n")?;
+    Ok(())
 }
 
 // Prints the first two lines, of a run whose list has this number of entries.

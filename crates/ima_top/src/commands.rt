@@ -59,12 +59,12 @@ pub fn answer_input<G: Gate + Sync, R: Threads + Wait + Sync>(
         Command::Run => return run::answer(rt, alloc, input, gate),
         Command::Audit => return audit::answer(rt, alloc, &input, gate),
         Command::Loads => return loads::answer(rt, alloc, &input, gate),
+        Command::Buffers => return buffers::answer(rt, alloc, &input, gate),
         Command::List => list::answer(alloc, &input)?,
         Command::Policy => policy::answer(alloc, &input)?,
         Command::Label => label::answer(alloc, &input)?,
         Command::Carry => carry::answer(alloc, &input)?,
         Command::Gen(number) => gen_::answer(rt, alloc, number, gate)?,
-        Command::Buffers => buffers::answer(rt, alloc, &input, gate)?,
     };
     let output = whole(alloc, output)?;
     Ok(Answer {

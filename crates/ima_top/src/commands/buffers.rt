@@ -1,13 +1,16 @@
 // The command `buffers`: the run that measures the buffers of a text into one list.
-ghost use Rattle.std.specs.Prelude.{◌≤◌, length, IfOk};
+ghost use Rattle.std.specs.Prelude.{◌≡◌, ◌≤◌, false, length, IfOk};
 ghost use Rattle.ima_top.specs.Answered.{Answers};
 ghost use Rattle.ima_top.specs.Limits.{most_input};
 ghost use Rattle.ima_top.specs.commands.Buffers.{buffers_refusal, IsBuffersOutput, IsPrintedRun};
 
+use crate::commands::Answer;
 use crate::commands::bad_line::bad_line;
 use crate::not_done::NotDone;
-use buffer_measure::{BufferText, measure_all, parse, print, print_determines, runs_alone};
-use ima_io::Gate;
+use buffer_measure::{
+    BufferText, measure_all, parse, print_determines, print_in_pieces, runs_alone,
+};
+use ima_io::{Gate, Pieces};
 use script_text::ScriptErr;
 use std::alloc::{AllocError as OutOfMemory, Global};
 use std::sync::Wait;
@@ -21,31 +24,37 @@ pub fn answer<G: Gate + Sync, R: Threads + Wait + Sync>(
     alloc: Global,
     input: &[u8],
     gate: &G,
-) -> Result<Vec<u8>, NotDone>
+) -> Result<Answer, NotDone>
     requires { length input.now ≤ most_input }
     ensures { Answers result (buffers_refusal input.now)
-        (λ output. IsBuffersOutput input.now output.items) }
+        (λ answer. (answer.stuck ≡ false) × IsBuffersOutput input.now answer.output) }
 {
     match parse(alloc, input) {
-        Ok(text) => Ok(measured(rt, alloc, &text, gate)?),
+        Ok(text) => {
+            let output = measured(rt, alloc, &text, gate)?;
+            Ok(Answer {
+                output,
+                stuck: false,
+            })
+        }
         Err(ScriptErr::Refused(fault)) => Err(NotDone::Refused(bad_line(alloc, fault)?)),
         Err(ScriptErr::OutOfMemory) => Err(NotDone::OutOfMemory),
     }
 }
 
-// Measures the buffers, and prints the run.
+// Measures the buffers, and prints the run, on as many threads as the text says.
 fn measured<G: Gate + Sync, R: Threads + Wait + Sync>(
     rt: &R,
     alloc: Global,
     text: &BufferText,
     gate: &G,
-) -> Result<Vec<u8>, OutOfMemory>
-    ensures { IfOk result (λ output. IsPrintedRun text.now output.items) }
+) -> Result<Pieces, OutOfMemory>
+    ensures { IfOk result (λ output. IsPrintedRun text.now output) }
 {
     text.keeps();
     runs_alone();
     print_determines();
     let run = measure_all(rt, alloc, text, gate)?;
-    let output = print(alloc, &run)?;
+    let output = print_in_pieces(rt, alloc, &run, text.threads() as usize)?;
     Ok(output)
 }

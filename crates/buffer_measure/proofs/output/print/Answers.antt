@@ -1,7 +1,7 @@
 use Rattle.std.proofs.Common.{◌≡◌, ap, length, map}
-use Rattle.report_text.specs.Report.{entry_words, pcr_lines}
+use Rattle.report_text.specs.Report.{entry_words}
 use Rattle.report_text.proofs.Pushed.{entries_text}
-use Rattle.buffer_measure.specs.Print.{all_caller_lines, head_lines}
+use Rattle.buffer_measure.specs.Print.{head_lines, rest_lines}
 use Rattle.buffer_measure.specs.Run.{RunValue}
 use Rattle.buffer_measure.proofs.Printing.{run_pushed}
 use Rattle.buffer_measure.proofs.output.print.Goals as goal
@@ -14,10 +14,8 @@ returns c =
     let answers_are : c.r.inside.answers.items ≡ r.answers =
     ap (λ (v : RunValue). v.answers) c.r.view_is in
     rw (
-      c.in_ok-extend_from_slice.ensures.items,
-      c.in_ok-push_callers.ensures,
+      c.in_ok-push_rest.ensures,
       c.as_slice.ensures.value,
-      c.in_ok-push_registers.ensures,
       c.in_ok-push_entries.ensures,
       c.in_ok-push_head.ensures,
       c.new-out.ensures.items,
@@ -26,5 +24,5 @@ returns c =
       banks_are,
       answers_are,
     )
-    (run_pushed (head_lines (length r.list)) (map entry_words r.list) (pcr_lines r.list r.banks)
-    (all_caller_lines 0 r.answers) _ (entries_text r.list))
+    (run_pushed (head_lines (length r.list)) (map entry_words r.list)
+    (rest_lines r.list r.banks r.answers) _ (entries_text r.list))
