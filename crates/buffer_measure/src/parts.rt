@@ -11,6 +11,9 @@ use std::alloc::{AllocError as OutOfMemory, Global};
 use std::thread;
 use std::thread::Threads;
 
+// The words of a line beside the value rarely take more bytes.
+const MOST_OTHER: usize = 192;
+
 /// Prints the entries as lines of `ascii_runtime_measurements`. The lines are made in at most
 /// `threads` parts, each on a thread of its own if one can be created.
 pub fn push_lines<R: Threads + Sync>(
@@ -51,13 +54,25 @@ fn parts_of<R: Threads + Sync>(
     )
 }
 
-// The lines of the entries.
+// The lines of the entries. Their room is reserved at once: while a vector of several megabytes
+// grows, other threads wait for their own memory.
 fn lines_of(alloc: Global, entries: &[Entry]) -> Result<Vec<u8>, OutOfMemory>
     ensures { IfOk result (λ text. text.items ≡ entries_text entries.now) }
 {
-    let mut text = Vec::new(alloc);
+    let mut text = Vec::with_capacity(alloc, room_for(entries))?;
     push_entries(&mut text, entries)?;
     Ok(text)
+}
+
+// About as many bytes as the lines of the entries have: two digits for each byte of a value, and
+// the other words. Only the speed depends on it.
+fn room_for(entries: &[Entry]) -> usize {
+    let mut room = 0usize;
+    for entry in entries {
+        let digits = entry.sig.as_slice().len().saturating_mul(2);
+        room = room.saturating_add(digits).saturating_add(MOST_OTHER);
+    }
+    room
 }
 
 // Appends the parts in order. Memory has run out if one of them wasn't made.
