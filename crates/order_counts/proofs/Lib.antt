@@ -1,0 +1,11 @@
+pub mod Lists
+pub mod Ways
+pub mod Before
+pub mod Turns
+pub mod Spread
+pub mod Listed
+pub mod Apart
+pub mod Adding
+pub mod Whole
+pub mod Counting
+pub mod Examples

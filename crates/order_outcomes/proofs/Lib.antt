@@ -1,0 +1,10 @@
+pub mod Placing
+pub mod Walking
+pub mod Reading
+pub mod Printing
+pub mod Still
+pub mod Moving
+pub mod Telling
+pub mod Schedules
+pub mod Examples
+pub use Rattle.order_counts.proofs as about_counts

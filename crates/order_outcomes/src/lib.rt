@@ -1,0 +1,21 @@
+//! The orders in which the steps of a script's tasks can fall, and the outcomes of their runs.
+//!
+//! `specs/Orders.antt` says what an order of a script is, and `specs/Outcome.antt` what of a run is
+//! its outcome: neither the places of entries nor those of events are in it. [`outcome_of`] tells
+//! the outcome by the state that a run leaves, and [`made_of`] how much the run has made, which tells
+//! whether its last turn has moved its task.
+#![tactic(auto)]
+
+mod calls;
+pub mod laws;
+mod lines;
+mod made;
+mod outcome;
+mod sets;
+
+pub use lines::Kind;
+pub use made::{Made, made_of};
+pub use order_counts as counts;
+pub use outcome::outcome_of;
+pub use report_text as reports;
+pub use script_text as scripts;

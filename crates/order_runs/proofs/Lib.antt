@@ -1,0 +1,4 @@
+pub mod Scenes
+pub mod Stepping
+pub mod Rowing
+pub mod Layering

@@ -1,0 +1,38 @@
+use Rattle.std.proofs.Common.{List, [], length, ◌<◌, sym, subst}
+use Rattle.std.proofs.lemmas.List.{take_all}
+use Rattle.order_outcomes.specs.scripts.Limits.{most_turns}
+use Rattle.order_runs.specs.Steps.{IsKept, IsStep}
+use Rattle.order_runs.specs.declared.ways.Way.{Way}
+use Rattle.order_runs.proofs.Layering.{step_more, step_none}
+use Rattle.order_runs.proofs.rows.advance.Goals as goal
+
+pub advance_one-requires-clause-kept : goal.advance_one-requires-clause-kept
+advance_one-requires-clause-kept g c κs within =
+    let way : Way = c.way-item.result in
+    subst (IsKept c.args.play.now) (sym c.way-item.is)
+    (c.requires.kept c.loop-way.way-index way c.loop-way-test.true)
+
+pub advance_one-requires-clause-turns : goal.advance_one-requires-clause-turns
+advance_one-requires-clause-turns g c κs within =
+    let way : Way = c.way-item.result in
+    subst (λ (w : Way). length w.counted.order < most_turns) (sym c.way-item.is)
+    (c.requires.turns c.loop-way.way-index way c.loop-way-test.true)
+
+pub loop-way-init : goal.loop-way-init
+loop-way-init g c =
+    subst (λ (ways : List Way). IsStep c.args.play.now [] c.args.rows.now.items ways
+    c.args.rows.now.items) (sym c.new-next.ensures.items)
+    (step_none c.args.play.now c.args.rows.now.items)
+
+pub loop-way-preserved : goal.loop-way-preserved
+loop-way-preserved g c =
+    step_more c.args.play.now c.args.layer.now c.loop-way.way-index c.way-item.result
+    c.args.rows.now.items c.loop-way.next.items c.loop-way.rows.items
+    c.advance_one.new.next.items c.advance_one.new.rows.items c.loop-way-test.true c.way-item.is
+    c.loop-way.invariant c.in_ok-advance_one.ensures
+
+pub returns : goal.returns
+returns g c =
+    subst (λ (ways : List Way). IsStep c.args.play.now ways c.args.rows.now.items
+    c.loop-way.next.items c.loop-way.rows.items)
+    (take_all c.loop-way.way-index c.args.layer.now c.loop-way-test.false) c.loop-way.invariant

@@ -1,0 +1,52 @@
+use Rattle.std.proofs.Common.{◌≡◌, ◌+◌, ℕ, not, All, List, length, sym, ap, subst, ◌∙◌, arith}
+use Rattle.order_outcomes.specs.Orders.{moved}
+use Rattle.order_outcomes.specs.counts.Layers.{Spreads}
+use Rattle.order_outcomes.specs.counts.Orders.{rests}
+use Rattle.order_outcomes.specs.reports.model.Rounds.{numbers}
+use Rattle.order_outcomes.specs.reports.model.Turns.{start_of}
+use Rattle.order_runs.specs.Steps.{AreEqual, IsKept, counted_ways}
+use Rattle.order_runs.specs.declared.ways.Way.{Way}
+use Rattle.order_runs.proofs.Stepping.{rests_more, spreads_more, with_kept}
+use Rattle.order_runs.proofs.ways.spread.Goals as goal
+
+pub loop-task-preserved : goal.loop-task-preserved
+loop-task-preserved g c =
+    let scene = c.args.play.now in
+    let way = c.args.way.now in
+    let n = c.loop-task.task in
+    let longer = c.in_ok-longer.longer in
+    let mid = c.loop-task.next.items in
+    let k = c.requires.kept in
+    record {
+      spreads = λ m leads kept.
+          subst (λ (ways : List Way). Spreads (moved scene) AreEqual (start_of scene) m
+          way.counted (numbers (n + 1)) (counted_ways c.args.next.now.items) (counted_ways ways))
+          (sym c.in_ok-any.ensures.ways)
+          (spreads_more scene way n m longer (c.in_ok-longer.ensures m leads)
+          c.args.next.now.items mid (c.loop-task.invariant.kept kept)
+          (c.loop-task.invariant.spreads m leads kept));
+      kept = λ kept.
+          subst (λ (ways : List Way). All (IsKept scene) ways) (sym c.in_ok-any.ensures.ways)
+          (with_kept scene way n (moved scene k.at n) longer
+          (c.in_ok-longer.ensures k.at k.leads) mid (c.loop-task.invariant.kept kept));
+      none = λ m leads.
+          c.in_ok-any.ensures.any
+          ∙ rests_more scene way n m longer (c.in_ok-longer.ensures m leads) c.loop-task.any
+          (c.loop-task.invariant.none m leads);
+    }
+
+pub returns : goal.returns
+returns g c =
+    let scene = c.args.play.now in
+    let way = c.args.way.now in
+    let end : c.loop-task.task ≡ length scene.programs =
+    omega (arith, c.tasks-task-end.ensures, c.loop-task-test.false, c.loop-task.auto.task-end) in
+    λ m leads. record {
+      spreads = λ kept.
+          subst (λ (j : ℕ). Spreads (moved scene) AreEqual (start_of scene) m way.counted
+          (numbers j) (counted_ways c.args.next.now.items)
+          (counted_ways c.loop-task.next.items)) end (c.loop-task.invariant.spreads m leads kept);
+      kept = c.loop-task.invariant.kept;
+      none = c.loop-task.invariant.none m leads
+          ∙ ap (λ j. not (rests (moved scene) (numbers j) m)) end;
+    }

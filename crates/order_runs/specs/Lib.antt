@@ -1,0 +1,4 @@
+pub mod Plays
+pub mod Steps
+pub mod Tables
+pub use Rattle.order_outcomes.specs as outcomes

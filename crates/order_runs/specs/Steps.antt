@@ -1,0 +1,114 @@
+-- What is kept of a way, and what a step of counting makes of the ways of one length.
+use Rattle.std.specs.Prelude.{◌≡◌, ℕ, ◌<◌, not, Bool, All, List, [], ◌∷◌, ◌++◌, ◌⊎◌, map, Option, Some, None, slice_get, slice_set}
+use Rattle.order_outcomes.specs.Made.{made_of}
+use Rattle.order_outcomes.specs.Orders.{left_at, moment_after, moved, outcome_at}
+use Rattle.order_outcomes.specs.counts.Layers.{Advances, AllAdvance, IsJoined, Spreads, StandsAt, with_turn}
+use Rattle.order_outcomes.specs.counts.Orders.{rests}
+use Rattle.order_outcomes.specs.counts.Rows.{Counted}
+use Rattle.order_outcomes.specs.reports.model.Rounds.{all_tasks}
+use Rattle.order_outcomes.specs.reports.model.Scene.{Scene}
+use Rattle.order_outcomes.specs.reports.model.Turns.{Moment, start_of}
+use Rattle.order_runs.specs.declared.rows.Row.{Row}
+use Rattle.order_runs.specs.declared.ways.Way.{Way}
+
+-- ---- ways
+
+-- each turn of the way moves its task, and how much is made after it is kept
+pub record IsKept (scene : Scene) (way : Way) : Type 0 where
+  pub at : Moment
+  pub leads : moment_after scene way.counted.order ≡ Some at
+  pub made : way.made ≡ made_of (left_at scene at)
+
+abbrev pub counted_ways : List Way → List Counted
+counted_ways ways = map (λ (w : Way). w.counted) ways
+
+-- no two moments are met as one but equal ones
+abbrev pub AreEqual : Moment → Moment → Type 0
+AreEqual a b = a ≡ b
+
+-- the turn of the task leads to no moment, or on by the longer way
+abbrev pub IsTurned : Scene → Way → ℕ → Option Moment → Option Way → Type 0
+IsTurned scene way task None None = Unit {0}
+IsTurned scene way task (Some m) (Some longer) =
+    (longer.counted ≡ with_turn way.counted task) × IsKept scene longer
+IsTurned scene way task _ _ = ⊥
+
+-- the ways with the longer one, if there is one
+abbrev pub with_way : List Way → Option Way → List Way
+with_way ways None = ways
+with_way ways (Some way) = ways ++ way ∷ []
+
+-- the ways on from one way, which ends if there are none
+pub record IsSpread (scene : Scene) (way : Way) (m : Moment) (old new : List Way) (any : Bool)
+    : Type 0 where
+  pub spreads : All (IsKept scene) old
+      → Spreads (moved scene) AreEqual (start_of scene) m way.counted (all_tasks scene)
+      (counted_ways old) (counted_ways new)
+  pub kept : All (IsKept scene) old → All (IsKept scene) new
+  pub none : any ≡ not (rests (moved scene) (all_tasks scene) m)
+
+-- ---- rows
+
+abbrev pub counted_rows : List Row → List Counted
+counted_rows rows = map (λ (r : Row). r.counted) rows
+
+-- the row has the outcome of its order
+abbrev pub HasOutcome : Scene → Row → Type 0
+HasOutcome scene row = (m : Moment) × ((moment_after scene row.counted.order ≡ Some m)
+    × (row.outcome ≡ outcome_at scene m))
+
+-- no row has the outcome
+abbrev pub HasNone : List Row → List ℕ → Type 0
+HasNone rows outcome = All (λ (r : Row). r.outcome ≡ outcome → ⊥) rows
+
+-- an order joined the row of its outcome
+pub record IsJoinedTo (old : List Row) (row : Row) (new : List Row) : Type 0 where
+  pub place : ℕ
+  pub before : Row
+  pub after : Row
+  pub at : slice_get old place ≡ Some before
+  pub same : before.outcome ≡ row.outcome
+  pub kept : after.outcome ≡ before.outcome
+  pub joined : IsJoined before.counted row.counted after.counted
+  pub set : new ≡ slice_set old place after
+
+-- an order is counted in the row of its outcome, or in a new one
+abbrev pub IsRowAdded : List Row → Row → List Row → Type 0
+IsRowAdded old row new =
+    ((new ≡ old ++ row ∷ []) × HasNone old row.outcome) ⊎ IsJoinedTo old row new
+
+-- no two rows have the same outcome
+abbrev pub AreApart : List Row → Type 0
+AreApart rows = (a b : ℕ) (x y : Row) → a < b → slice_get rows a ≡ Some x
+    → slice_get rows b ≡ Some y → x.outcome ≡ y.outcome → ⊥
+
+-- ---- layers
+
+-- the ways on from one way and the rows after them
+pub record IsAdvanced (scene : Scene) (way : Way) (next : List Way) (rows : List Row)
+    (next' : List Way) (rows' : List Row) : Type 0 where
+  pub advances : All (IsKept scene) next → All (HasOutcome scene) rows
+      → Advances (moved scene) (all_tasks scene) (start_of scene) (outcome_at scene) AreEqual
+      way.counted (counted_ways next) (counted_rows rows) (counted_ways next')
+      (counted_rows rows')
+  pub kept : All (IsKept scene) next → All (IsKept scene) next'
+  pub outcomes : All (HasOutcome scene) rows → All (HasOutcome scene) rows'
+  pub apart : All (HasOutcome scene) rows → AreApart rows → AreApart rows'
+
+-- the ways on from all ways of a layer, and the rows after them
+pub record IsStep (scene : Scene) (layer : List Way) (rows : List Row) (next : List Way)
+    (rows' : List Row) : Type 0 where
+  pub advances : All (HasOutcome scene) rows
+      → AllAdvance (moved scene) (all_tasks scene) (start_of scene) (outcome_at scene) AreEqual
+      (counted_ways layer) [] (counted_rows rows) (counted_ways next) (counted_rows rows')
+  pub kept : All (IsKept scene) next
+  pub outcomes : All (HasOutcome scene) rows → All (HasOutcome scene) rows'
+  pub apart : All (HasOutcome scene) rows → AreApart rows → AreApart rows'
+
+-- the ways after k turns, and the rows of the orders that have ended
+pub record IsLayer (scene : Scene) (k : ℕ) (layer : List Way) (rows : List Row) : Type 0 where
+  pub stands : StandsAt (moved scene) (all_tasks scene) (start_of scene) (outcome_at scene)
+      AreEqual k (counted_ways layer) (counted_rows rows)
+  pub kept : All (IsKept scene) layer
+  pub outcomes : All (HasOutcome scene) rows
+  pub apart : AreApart rows

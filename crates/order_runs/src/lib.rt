@@ -1,0 +1,16 @@
+//! Every order in which the steps of a script's tasks can fall, in rows: one for each outcome, with
+//! the number of the orders that have it and the first of them.
+//!
+//! An order is run from the start, by the schedule that its turns make, each time that a turn is
+//! added to it. Orders are counted turn by turn: the ways of one length are a layer, from which the
+//! next one is made.
+#![tactic(auto)]
+
+mod play;
+mod rows;
+mod ways;
+
+pub use order_outcomes as outcomes;
+pub use play::Play;
+pub use rows::{MOST_TURNS, Row, Stopped, rows_of};
+pub use ways::Way;

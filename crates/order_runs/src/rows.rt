@@ -1,0 +1,196 @@
+//! The rows of a play.
+
+ghost use Rattle.std.specs.Prelude.{◌≡◌, ℕ, suc, ◌<◌, ◌≤◌, [], ◌∷◌, ◌++◌, All, length, slice_get, IfOk, IsSomeAnd, MatchOption, OnOk};
+ghost use Rattle.order_outcomes.specs.scripts.Limits.{most_turns};
+ghost use Rattle.order_runs.specs.Steps.{AreApart, HasNone, HasOutcome, IsAdvanced, IsKept, IsLayer, IsRowAdded, IsStep};
+ghost use Rattle.order_runs.specs.Tables.{IsTable};
+
+use crate::play::Play;
+use crate::ways::{Way, root, spread};
+use order_outcomes::counts::Counted;
+use order_outcomes::outcome_of;
+use order_outcomes::reports::model::events::templates::xattrs::Bytes;
+use order_outcomes::reports::outer::Gate;
+use std::alloc::{AllocError as OutOfMemory, Global};
+use std::sync::Wait;
+use std::thread::Threads;
+
+/// The most turns of an order, which are those of a schedule.
+pub const MOST_TURNS: u32 = 1_048_576;
+
+/// Why there are no rows.
+#[derive(Clone, Copy, Debug, PartialEq, Eq)]
+pub enum Stopped {
+    /// There are more moments than may be met, more turns than a schedule may have, or more orders
+    /// than 128 bits can count.
+    TooMany,
+    /// Memory ran out.
+    OutOfMemory,
+}
+
+impl From<OutOfMemory> for Stopped {
+    ghost use Rattle.order_runs.specs.declared.rows.Stopped.TheVariants as stopped;
+
+    ghost from_gives = { λ _ why. why ≡ stopped.OutOfMemory };
+
+    fn from(_error: OutOfMemory) -> Stopped {
+        Stopped::OutOfMemory
+    }
+}
+
+/// An outcome, with the number of the orders that have it and the first of them.
+#[derive(Debug, Drop)]
+pub struct Row {
+    /// The first order, with the number of the orders.
+    pub counted: Counted,
+    /// The outcome.
+    pub outcome: Bytes,
+}
+
+// The place of the row with this outcome.
+fn place_of(rows: &[Row], outcome: &[u8]) -> Option<usize>
+    ensures { MatchOption result (HasNone rows.now outcome.now)
+        (λ place. IsSomeAnd (slice_get rows.now place) (λ row. row.outcome ≡ outcome.now)) }
+{
+    for (place, row) in rows.iter().enumerate() {
+        if row.outcome.as_slice() == outcome {
+            return Some(place);
+        }
+    }
+    None
+}
+
+fn push_row(rows: &mut Vec<Row>, row: Row) -> Result<(), OutOfMemory>
+    ensures { OnOk result (rows.new.items ≡ rows.old.items ++ row ∷ []) }
+{
+    rows.push(row)?;
+    Ok(())
+}
+
+// Counts the order in the row of its outcome, or makes that row.
+fn add_row(alloc: Global, rows: &mut Vec<Row>, row: Row) -> Result<(), Stopped>
+    ensures { OnOk result (IsRowAdded rows.old.items row rows.new.items) }
+{
+    match place_of(rows.as_slice(), row.outcome.as_slice()) {
+        Some(place) => {
+            let Some(joined) = rows[place].counted.join(alloc, &row.counted)? else {
+                return Err(Stopped::TooMany);
+            };
+            rows[place].counted = joined;
+            Ok(())
+        }
+        None => {
+            push_row(rows, row)?;
+            Ok(())
+        }
+    }
+}
+
+// The row of an order alone.
+fn row_of<G: Gate + Sync, R: Threads + Wait + Sync>(
+    rt: &R,
+    alloc: Global,
+    play: &Play,
+    way: &Way,
+    gate: &G,
+) -> Result<Row, OutOfMemory>
+    requires kept { IsKept play.now way.now }
+    requires turns { length way.now.counted.order ≤ most_turns }
+    ensures counted { IfOk result (λ row. row.counted ≡ way.now.counted) }
+    ensures outcome { IfOk result (HasOutcome play.now) }
+{
+    let ended = play.left_by(rt, alloc, &way.counted.order, gate)?;
+    let outcome = outcome_of(alloc, &ended)?;
+    let counted = way.counted.copy(alloc)?;
+    Ok(Row { counted, outcome })
+}
+
+// Adds the ways that are one turn longer. If there are none, the way is an order, which is counted
+// in the rows.
+fn advance_one<G: Gate + Sync, R: Threads + Wait + Sync>(
+    rt: &R,
+    alloc: Global,
+    play: &Play,
+    way: &Way,
+    next: &mut Vec<Way>,
+    rows: &mut Vec<Row>,
+    gate: &G,
+) -> Result<(), Stopped>
+    requires kept { IsKept play.now way.now }
+    requires turns { length way.now.counted.order < most_turns }
+    ensures { OnOk result (IsAdvanced play.now way.now next.old.items rows.old.items
+        next.new.items rows.new.items) }
+{
+    let any = spread(rt, alloc, play, way, next, gate)?;
+    if !any {
+        let row = row_of(rt, alloc, play, way, gate)?;
+        add_row(alloc, rows, row)?;
+    }
+    Ok(())
+}
+
+// The ways that are one turn longer than those of the layer. Those that are orders are counted in
+// the rows.
+fn advance<G: Gate + Sync, R: Threads + Wait + Sync>(
+    rt: &R,
+    alloc: Global,
+    play: &Play,
+    layer: &[Way],
+    rows: &mut Vec<Row>,
+    room: usize,
+    gate: &G,
+) -> Result<Vec<Way>, Stopped>
+    requires kept { All (IsKept play.now) layer.now }
+    requires turns { All (λ way. length way.counted.order < most_turns) layer.now }
+    ensures { IfOk result (λ next. IsStep play.now layer.now rows.old.items next.items
+        rows.new.items) }
+{
+    let mut next = Vec::new(alloc);
+    for way in layer {
+        advance_one(rt, alloc, play, way, &mut next, rows, gate)?;
+        if next.len() > room {
+            return Err(Stopped::TooMany);
+        }
+    }
+    Ok(next)
+}
+
+// The way without turns.
+fn first_layer<G: Gate + Sync, R: Threads + Wait + Sync>(
+    rt: &R,
+    alloc: Global,
+    play: &Play,
+    gate: &G,
+) -> Result<Vec<Way>, OutOfMemory>
+    ensures { IfOk result (λ layer. IsLayer play.now 0 layer.items []) }
+{
+    let mut layer = Vec::new(alloc);
+    layer.push(root(rt, alloc, play, gate)?)?;
+    Ok(layer)
+}
+
+/// The rows of the play. At most `most` moments are met.
+pub fn rows_of<G: Gate + Sync, R: Threads + Wait + Sync>(
+    rt: &R,
+    alloc: Global,
+    play: &Play,
+    most: usize,
+    gate: &G,
+) -> Result<Vec<Row>, Stopped>
+    ensures { IfOk result (λ rows. IsTable play.now rows.items) }
+{
+    let mut rows = Vec::new(alloc);
+    let mut layer = first_layer(rt, alloc, play, gate)?;
+    let mut room = most;
+    for turn in 0..MOST_TURNS {
+        if room < layer.len() {
+            return Err(Stopped::TooMany);
+        }
+        room -= layer.len();
+        layer = advance(rt, alloc, play, layer.as_slice(), &mut rows, room, gate)?;
+        if layer.is_empty() {
+            return Ok(rows);
+        }
+    }
+    Err(Stopped::TooMany)
+}
