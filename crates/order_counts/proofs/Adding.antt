@@ -227,7 +227,8 @@ module _ {M O : Type 0} (go : M → ℕ → Option M) (start : M) (Alike : M →
       (
         subst (λ (cs : List Counted).
             Advances go tasks start outcome Alike c next cs next' rows') h.1
-            (subst (λ (cs : List Counted). Advances go tasks start outcome Alike c cs more next' rows')
+            (subst (λ (cs : List Counted).
+            Advances go tasks start outcome Alike c cs more next' rows')
             h.0 a),
         (refl, refl),
       ),

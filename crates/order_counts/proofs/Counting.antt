@@ -28,5 +28,6 @@ module _ {M O : Type 0} (go : M → ℕ → Option M) (tasks : List ℕ) (start 
 
 pub counted : (M O S : Type 0) → CountingGivesRows M O S
 counted M O S go tasks start outcome sight alike k rows counts distinct =
-    counts_on go tasks start outcome (λ a b. sight a ≡ sight b) alike rows distinct k 0 (root ∷ []) []
+    counts_on go tasks start outcome (λ a b. sight a ≡ sight b) alike rows distinct k 0
+    (root ∷ []) []
     (begins go tasks start outcome (λ a b. sight a ≡ sight b) alike) counts

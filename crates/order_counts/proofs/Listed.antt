@@ -1,5 +1,5 @@
 -- The list of orders has every order of at most so many turns, and nothing else.
-use Rattle.std.proofs.Common.{◌≡◌, ◌⊎◌, ℕ, zero, suc, ◌+◌, ◌≤◌, ◌==◌, Bool, true, false, ◌||◌, not, Contains, List, [], ◌∷◌, ◌++◌, flat_map, length, map, Option, Some, None, is_none, if◌then◌else◌, refl, ap, sym, subst, ◌∙◌, arith, inl, inr, eqb-true, eq-eqb}
+use Rattle.std.proofs.Common.{◌≡◌, ◌⊎◌, ℕ, zero, suc, ◌≤◌, ◌==◌, Bool, true, false, ◌||◌, Contains, List, [], ◌∷◌, ◌++◌, flat_map, length, map, Option, Some, None, is_none, if◌then◌else◌, refl, ap, sym, subst, ◌∙◌, arith, inl, inr, eqb-true, eq-eqb}
 use Rattle.std.proofs.lemmas.Bool.{and_from, and_parts, or_cases, true≢false}
 use Rattle.std.proofs.lemmas.List.Elements.{Contains-append_cases, Contains-append_left, Contains-append_right}
 use Rattle.order_counts.specs.Orders.{is_among, is_order, orders, rests}

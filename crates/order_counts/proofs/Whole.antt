@@ -1,11 +1,11 @@
 -- Counting step by step gives the rows.
-use Rattle.std.proofs.Common.{◌≡◌, ◌⊎◌, ℕ, zero, suc, ◌+◌, ◌-◌, ◌<◌, Bool, true, false, ◌||◌, ◌==◌, All, Contains, List, [], ◌∷◌, ◌++◌, append_assoc, append-nil, length, length-append, Option, Some, None, option_map, slice_get, slice_index_or, refl, ap, sym, subst, ◌∙◌, arith, inl, inr, eqb-true, eq-eqb, zero-add}
+use Rattle.std.proofs.Common.{◌≡◌, ◌⊎◌, ℕ, suc, ◌+◌, ◌-◌, ◌<◌, Bool, true, false, ◌||◌, ◌==◌, Contains, List, [], ◌∷◌, ◌++◌, append_assoc, append-nil, length, length-append, Option, Some, None, option_map, slice_get, slice_index_or, refl, ap, sym, subst, ◌∙◌, arith, inl, inr, eqb-true, eq-eqb, zero-add}
 use Rattle.std.specs.List.{list_all}
 use Rattle.std.proofs.lemmas.Bool.{true≢false, and_from, and_parts, cases_order, or_cases}
 use Rattle.std.proofs.lemmas.List.Elements.{Contains-get_or}
 use Rattle.std.proofs.lemmas.Option.{none-some, same_Some}
 use Rattle.order_counts.specs.Layers.{AddsIf, AllAdvance, AreAlike, BothOrNone, EndsIf, GoesOn, IsAdded, IsWay, Spreads, StandsAt, StandsFor, root, ways, with_turn}
-use Rattle.order_counts.specs.Orders.{comes_before, is_among, is_order, led, orders, rests}
+use Rattle.order_counts.specs.Orders.{comes_before, is_among, is_order, led, rests}
 use Rattle.order_counts.specs.Rows.{AreRows, Counted}
 use Rattle.order_counts.proofs.Before.{not_after, not_after_longer, not_itself}
 use Rattle.order_counts.proofs.Spread.{SameOutcome, SameState, all_add, first_in, in_cases, in_none, later_in, led-more, still}

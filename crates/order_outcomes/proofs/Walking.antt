@@ -10,7 +10,8 @@ use Rattle.report_text.specs.model.events.declared.told.Event.{Event}
 module _ {X Y : Type 0} (F : List X → Option Y) (f : X → Option Y) (xs : List X) (k : ℕ)
     (inv : F (drop k xs) ≡ F xs) where
   -- the next item decides, or the rest after it does
-  pub or_more : (x : X) (o : Option Y) → ((y : X) (ys : List X) → F (y ∷ ys) ≡ option_or (f y) (F ys))
+  pub or_more : (x : X) (o : Option Y)
+      → ((y : X) (ys : List X) → F (y ∷ ys) ≡ option_or (f y) (F ys))
       → k < length xs → x ≡ get_or xs k x → o ≡ f x → option_or o (F (drop (k + 1) xs)) ≡ F xs
   or_more x o step lt is e =
       ap (λ p. option_or p (F (drop (k + 1) xs))) e ∙ sym (step x (drop (k + 1) xs))

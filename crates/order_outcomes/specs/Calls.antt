@@ -1,5 +1,5 @@
--- What the journals of a run say of one call: the verdict of its grant, and whether the content that
--- it read was in the measurement list.
+-- What the journals of a run say of one call: the verdict of its grant, and whether the content
+-- that it read was in the measurement list.
 use Rattle.std.specs.Prelude.{ℕ, ◌==◌, Bool, true, false, ◌&&◌, ◌||◌, not, List, [], ◌∷◌, Option, Some, None, option_map, slice_get, bytes_eq, if◌then◌else◌}
 use Rattle.std.specs.Option.{option_or}
 use Rattle.report_text.specs.model.events.EndedInode.{EndedInodeValue}

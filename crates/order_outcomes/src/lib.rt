@@ -2,8 +2,8 @@
 //!
 //! `specs/Orders.antt` says what an order of a script is, and `specs/Outcome.antt` what of a run is
 //! its outcome: neither the places of entries nor those of events are in it. [`outcome_of`] tells
-//! the outcome by the state that a run leaves, and [`made_of`] how much the run has made, which tells
-//! whether its last turn has moved its task.
+//! the outcome by the state that a run leaves, and [`made_of`] how much the run has made, which
+//! tells whether its last turn has moved its task.
 #![tactic(auto)]
 
 mod calls;

@@ -110,7 +110,8 @@ fn push_tasks(
     ended: &Ended,
     tasks: &[EndedTask],
 ) -> Result<(), OutOfMemory>
-    ensures { OnOk result (out.new.items ≡ out.old.items ++ tasks_text ended.now.list ended.now.inodes 0 tasks.now) }
+    ensures { OnOk result (out.new.items ≡ out.old.items
+        ++ tasks_text ended.now.list ended.now.inodes 0 tasks.now) }
 {
     for (number, task) in tasks.iter().enumerate() {
         push_task(alloc, out, ended, number, task)?;

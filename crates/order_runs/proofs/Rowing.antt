@@ -30,7 +30,8 @@ got_push (x ∷ xs) y (suc k) z h = by (got_push xs y k z h)
 
 -- what is at a place has the outcome of what was there
 got_set : (rows : List Row) (k : ℕ) (before after : Row) → slice_get rows k ≡ Some before
-    → after.outcome ≡ before.outcome → (j : ℕ) (z : Row) → slice_get (slice_set rows k after) j ≡ Some z
+    → after.outcome ≡ before.outcome → (j : ℕ) (z : Row)
+    → slice_get (slice_set rows k after) j ≡ Some z
     → (x : Row) × ((slice_get rows j ≡ Some x) × (z.outcome ≡ x.outcome))
 got_set [] k before after at kept j z h = absurd (none-some before at)
 got_set (r ∷ rs) zero before after at kept zero z h = (

@@ -145,7 +145,8 @@ module _ (scene : Scene) (way : Way) (k : IsKept scene way) (n : ℕ) (made : Ma
       by : (moves scene m n ≡ true) ⊎ (moves scene m n ≡ false)
           → IsTurned scene way n (moved scene m n) (Some longer)
       by (inl moved_it) =
-          subst (λ (o : Option Moment). IsTurned scene way n o (Some longer)) (sym (next moved_it)) (
+          subst (λ (o : Option Moment). IsTurned scene way n o (Some longer))
+          (sym (next moved_it)) (
             counted,
             record {
               at = turn scene m n;

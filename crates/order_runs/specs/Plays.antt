@@ -70,7 +70,8 @@ abbrev pub IsScriptOf : Scene → ScriptValue → Type 0
 IsScriptOf scene s = scene_by s (is_named_template s.template) refl ≡ scene
 
 -- reading a text gives a play of its script, or fails as reading the script does
-abbrev pub Plays : Result Scene (ScriptErr LineCause) → Result ScriptValue (Fault LineCause) → Type 0
+abbrev pub Plays : Result Scene (ScriptErr LineCause) → Result ScriptValue (Fault LineCause)
+    → Type 0
 Plays (Ok scene) said = IsOkAnd said (IsScriptOf scene)
 Plays (Err e) said = Fails e said
 

@@ -1,5 +1,5 @@
 -- Answers and refusals that a call passes on.
-use Rattle.std.proofs.Common.{◌≡◌, ◌≢◌, ℕ, true, false, List, refl, ap, sym, ◌∙◌, arith}
+use Rattle.std.proofs.Common.{◌≡◌, ◌≢◌, ℕ, true, List, refl, ap, sym, ◌∙◌, arith}
 use Rattle.std.specs.Prelude.{Result, Ok, Err, IfErr, IfOk, IsErrAnd, IsOkAnd}
 use Rattle.std.proofs.lemmas.Bool.{true≢false}
 use Rattle.order_tables.specs.runs.Plays.{IsScriptOf}

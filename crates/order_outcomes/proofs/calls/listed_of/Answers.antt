@@ -1,8 +1,7 @@
-use Rattle.std.proofs.Common.{refl, ap, ◌∙◌}
 use Rattle.report_text.specs.model.events.EndedInode.{EndedInodeValue}
 use Rattle.report_text.specs.model.events.Past.{past}
 use Rattle.order_outcomes.specs.Calls.{listed_in, listed_of}
-use Rattle.order_outcomes.proofs.Walking.{or_end, or_more}
+use Rattle.order_outcomes.proofs.Walking.{or_end}
 use Rattle.order_outcomes.proofs.calls.listed_of.Goals as goal
 
 pub returns : goal.returns

@@ -1,4 +1,4 @@
-use Rattle.std.proofs.Common.{◌≡◌, [], List, ℕ, fold, take, refl, sym, ap, ◌∙◌}
+use Rattle.std.proofs.Common.{[], List, ℕ, take, sym, ap, ◌∙◌}
 use Rattle.std.proofs.lemmas.List.{take_all}
 use Rattle.std.proofs.lemmas.List.Sums.{fold_more}
 use Rattle.order_outcomes.specs.Outcome.{lines_of, with_line}
