@@ -1,6 +1,6 @@
 //! The lines of a list, made in parts on threads.
 
-ghost use Rattle.std.specs.Prelude.{◌≡◌, ◌+◌, ◌/◌, ◌%◌, ◌<◌, ◌++◌, IfOk, OnOk, length, min};
+ghost use Rattle.std.specs.Prelude.{◌≡◌, ◌+◌, ◌*◌, ◌/◌, ◌%◌, ◌<◌, ◌≤◌, ◌++◌, IfOk, OnOk, length, min};
 ghost use Rattle.std.specs.List.{AllByRecursion, flat_map};
 ghost use Rattle.buffer_measure.specs.Parts.{ArePartsOf, IsMade, IsPart, entries_text, part_bytes};
 
@@ -25,10 +25,19 @@ pub fn push_lines<R: Threads + Sync>(
 ) -> Result<(), OutOfMemory>
     ensures { OnOk result (out.new ≡ out.old ++ entries_text list.now) }
 {
-    let size = list.len().div_ceil(threads.max(1)).max(1);
+    let size = part_size(list.len(), threads.max(1));
     let parts = parts_of(rt, alloc, list, size)?;
     push_parts(out, parts)?;
     Ok(())
+}
+
+// The size of the parts if so many entries are cut into at most `n` of them.
+fn part_size(count: usize, n: usize) -> usize
+    requires { 1 ≤ n }
+    ensures some { 1 ≤ result }
+    ensures few { count ≤ n * result }
+{
+    count.div_ceil(n).max(1)
 }
 
 // The lines of each chunk of `size` entries, or nothing if memory ran out.
