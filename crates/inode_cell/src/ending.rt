@@ -6,10 +6,13 @@ ghost use Rattle.grow_list.specs.Entries.{entries_of, has_place};
 ghost use Rattle.ima_templates.specs.Path.{IsMeasuredPath};
 ghost use Rattle.inode_events.specs.Callers.{caller_of};
 ghost use Rattle.inode_events.specs.EndedInode.{ended_inode};
+ghost use Rattle.inode_events.specs.Integrity.{attributes};
 ghost use Rattle.inode_events.specs.Legal.{Legal};
 ghost use Rattle.inode_events.specs.Past.{past};
+ghost use Rattle.inode_events.specs.State.{content};
 ghost use Rattle.inode_pages.specs.Content.{most_bytes};
 ghost use Rattle.inode_meta.specs.declared.measurement.Template.TheVariants.{Ima};
+ghost use Rattle.inode_state.specs.State.{IsState};
 ghost use Rattle.inode_state.specs.Value.{beside_own, birth_of, new_pass};
 ghost use Rattle.inode_state.specs.laws_of_journals.OwnLaws.{TellsByMine};
 ghost use Rattle.inode_state.specs.laws_of_journals.Own.{IsOwned};
@@ -21,9 +24,10 @@ use grow_list::Pass;
 use hash_algos::Digest;
 use ima_templates::Entry;
 use inode_events::{EndedInode, Event, Image, Settings};
+use inode_pages::Content;
 use inode_state::{InForce, KeptJournal, State};
 use std::alloc::{AllocError as OutOfMemory, Global};
-use xattr_store::Bytes;
+use xattr_store::{Attrs, Bytes};
 
 fn digest_in(in_force: Option<InForce>) -> Option<Digest>
     ensures { result ≡ digest_in in_force }
@@ -90,6 +94,27 @@ impl InodeCell {
         ensures { option_copied result ≡ slice_get self.now.list place }
     {
         self.kept.at(place)
+    }
+
+    /// What follows from the journal, but for content and attributes.
+    pub fn state(&self) -> &State
+        ensures { IsState self.now.inode (past self.now.list) result.now }
+    {
+        self.kept.state()
+    }
+
+    /// The content after the journal.
+    pub fn content(&self) -> &Content
+        ensures { result.now ≡ content (past self.now.list) }
+    {
+        &self.content
+    }
+
+    /// The extended attributes after the journal.
+    pub fn attrs(&self) -> &Attrs
+        ensures { result.now ≡ attributes self.now.inode (past self.now.list) }
+    {
+        &self.attrs
     }
 
     /// Shows the journal to one of the cell's passes. What the pass's own entries imply then holds

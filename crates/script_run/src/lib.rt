@@ -9,7 +9,7 @@ mod running;
 
 pub use laws::shown_runs_are_sound;
 pub use members::crew;
-pub use running::run;
+pub use running::{run, started};
 pub use script_scene as scenes;
 pub use task_runner as runners;
 pub use task_runner::tasks;

@@ -19,9 +19,9 @@ use task_runner::outer::Gate;
 use task_runner::tasks::{Task, World};
 use task_runner::{run_rounds, run_schedule, run_threads};
 
-// The world of a script and its tasks before their first turn, and the ending that says how they
-// run.
-fn started(alloc: Global, script: Script) -> Result<(World, Vec<Task>, Ending), OutOfMemory>
+/// The world of a script and its tasks before their first turn, and the ending that says how they
+/// run.
+pub fn started(alloc: Global, script: Script) -> Result<(World, Vec<Task>, Ending), OutOfMemory>
     ensures { IfOk result (λ r. HasStarted script r.0 r.1.items r.2) }
 {
     script.keeps();

@@ -7,6 +7,7 @@ pub mod Opens
 pub mod Fresh
 pub mod Inspects
 pub mod Closing
+pub mod Visible
 pub mod Blocks
 pub mod SharedSteps
 pub use Rattle.task_frame.proofs.laws_of_endings

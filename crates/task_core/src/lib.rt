@@ -2,6 +2,7 @@
 #![tactic(auto)]
 
 mod acting;
+mod cells;
 mod close;
 mod live;
 mod looking;
@@ -19,5 +20,6 @@ pub use std::alloc::AllocError as OutOfMemory;
 pub use task::Task;
 pub use task_frame as frames;
 pub use task_frame::Passes;
+pub use task_mind as minds;
 pub use world::World;
-pub use world_locks::Name;
+pub use world_locks::{Name, inodes};

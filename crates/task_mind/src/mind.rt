@@ -83,6 +83,41 @@ impl TaskMind {
         &self.cred
     }
 
+    /// The calls of the program.
+    pub fn calls(&self) -> &[Call]
+        ensures { result.now ≡ self.now.program.calls }
+    {
+        self.calls.as_slice()
+    }
+
+    /// The number of the present or next call.
+    pub fn at(&self) -> u32
+        ensures { result ≡ self.now.thought.mind.at }
+    {
+        self.at
+    }
+
+    /// The progress of the present call. `None` before its first step.
+    pub fn progress(&self) -> Option<Progress>
+        ensures { option_map progress_in result ≡ self.now.thought.mind.progress }
+    {
+        self.progress
+    }
+
+    /// The files that the task holds, by name.
+    pub fn handles(&self) -> &[Handle]
+        ensures { result.now ≡ self.now.thought.mind.handles }
+    {
+        self.handles.as_slice()
+    }
+
+    /// The replies so far.
+    pub fn replies(&self) -> &[Reply]
+        ensures { result.now ≡ self.now.thought.replies }
+    {
+        self.replies.as_slice()
+    }
+
     /// Whether all calls are answered.
     pub fn is_done(&self) -> bool
         ensures { result ≡ is_done self.now.program self.now.thought }

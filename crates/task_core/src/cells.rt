@@ -1,0 +1,40 @@
+//! What can be seen of a world and of its tasks between turns.
+
+ghost use Rattle.std.specs.Prelude.{◌≡◌};
+ghost use Rattle.std.specs.Option.{option_copied};
+ghost use Rattle.inode_events.specs.Past.{past};
+ghost use Rattle.inode_events.specs.Semaphores.{left};
+ghost use Rattle.task_core.specs.Cells.{IsCellAt};
+
+use crate::task::Task;
+use crate::world::World;
+use task_mind::TaskMind;
+use world_locks::inodes::InodeCell;
+
+impl World {
+    /// The inode of this number.
+    pub fn inode(&self, i: usize) -> Option<&InodeCell>
+        ensures { IsCellAt self.now.frame self.now.state i (option_copied result) }
+    {
+        match self.stations.get(i) {
+            Some(station) => Some(&station.cell),
+            None => None,
+        }
+    }
+
+    /// The value of the semaphore: its posts minus its waits.
+    pub fn left(&self, sem: u8) -> u64
+        ensures { result ≡ left sem (past self.now.state.signals) }
+    {
+        self.sems.left(sem)
+    }
+}
+
+impl Task {
+    /// What the task knows of its own calls.
+    pub fn mind(&self) -> &TaskMind
+        ensures { result.now ≡ self.now.mind }
+    {
+        &self.mind
+    }
+}
