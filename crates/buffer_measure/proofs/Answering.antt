@@ -1,9 +1,10 @@
 -- The answers of a caller, after one more buffer.
 use Rattle.std.proofs.Common.{◌≡◌, ℕ, ◌+◌, ◌<◌, ◌≤◌, List, [], ◌∷◌, ◌++◌, length, map, take, get_or, Option, Some, None, refl, sym, ap, subst, ◌∙◌, arith, length-append}
 use Rattle.std.specs.Prelude.{slice_get}
-use Rattle.std.specs.List.{AllByRecursion, flat_map}
+use Rattle.std.specs.List.{AllByRecursion, enumerate_from, flat_map}
 use Rattle.std.proofs.lemmas.List.{append-nil, map-append, take_all, take_more}
 use Rattle.std.proofs.lemmas.List.Concat.{flat_map-append}
+use Rattle.std.proofs.lemmas.List.FromFn.{get_or-enumerate_from, length-enumerate_from}
 use Rattle.std.proofs.lemmas.List.Quantifiers.{position-Some}
 use mathlib.Core.List.{IsPrefix}
 use Rattle.report_text.specs.model.growing.Shown.{ListName, Passed, fresh}
@@ -164,6 +165,20 @@ answered_next hash None lines p q answers line a t h =
 answered_next hash (Some pcr) lines p q answers line a t h =
     answered_found hash pcr lines p q answers line a t h
     (place_of_same h.list (entry_for hash pcr line)) refl
+
+-- the buffer of an iteration over numbered buffers, and its number
+pub numbered : (lines : List Buffer) (n k : ℕ) (line : Buffer)
+    → (n < length (enumerate_from 0 lines))
+    × ((k, line) ≡ get_or (enumerate_from 0 lines) n (k, line))
+    → (k ≡ n) × (n < length lines) × (line ≡ get_or lines n line)
+numbered lines n k line h =
+    let below : n < length lines = omega (arith, h.0, length-enumerate_from 0 lines) in
+    let is : (k, line) ≡ (0 + n, get_or lines n line) =
+    h.1 ∙ get_or-enumerate_from 0 lines n (k, line) below in (
+      omega (arith, ap (λ (p : ℕ × Buffer). p.0) is),
+      below,
+      ap (λ (p : ℕ × Buffer). p.1) is,
+    )
 
 -- the buffers below k + 1 have their answers, after the buffer k has its own
 pub answered_step : (hash : Algo) (o : Option ℕ) (lines : List Buffer) (k : ℕ) (p q : Passed Entry)

@@ -1,10 +1,10 @@
 -- Lists by their places, and two lists side by side.
 use Rattle.std.proofs.Common.{◌≡◌, ℕ, suc, ◌+◌, ◌<◌, ◌==◌, Bool, true, false, ◌||◌, cond, List, [], ◌∷◌, ◌++◌, length, map, get_or, Option, Some, None, refl, sym, ap, subst, ◌∙◌, arith, zero-add, length-append}
 use Rattle.std.specs.Prelude.{All, count_by, nat_lt, slice_get}
-use Rattle.std.specs.List.{AllByRecursion, AllZip, list_any, position, position_or_len}
+use Rattle.std.specs.List.{AllByRecursion, AllZip, list_any, position, position_or_len, zip}
 use Rattle.std.specs.Option.{option_map}
 use Rattle.std.proofs.lemmas.Bool.{cond-true, eqb-true, lt-ltb, ne_eqb}
-use Rattle.std.proofs.lemmas.List.{get_or_append_left}
+use Rattle.std.proofs.lemmas.List.{get_or_append_left, map-id}
 use Rattle.std.proofs.lemmas.List.Quantifiers.{position-Some}
 use Rattle.std.proofs.lemmas.List.Sums.{position_or_len_is}
 use Rattle.std.proofs.lemmas.Option.{get_or_from_slice_get, none-some, same_Some, slice_get-get_or, slice_get-map, slice_get_within}
@@ -66,6 +66,33 @@ zip_weaker R S f [] [] all = tt
 zip_weaker R S f [] (b ∷ ys) all = absurd all
 zip_weaker R S f (a ∷ xs) [] all = absurd all
 zip_weaker R S f (a ∷ xs) (b ∷ ys) all = (f a b all.0, zip_weaker R S f xs ys all.1)
+
+-- the first parts of pairs that are two lists of the same length side by side
+pub firsts : {A B : Type 0} (xs : List A) (ys : List B) (ps : List (A × B))
+    → length xs ≡ length ys → map (λ (p : A × B). (p.0, p.1)) ps ≡ zip xs ys
+    → map (λ (p : A × B). p.0) ps ≡ xs
+firsts {A} {B} xs ys ps even are =
+    ap (map (λ (p : A × B). p.0)) (sym (map-id ps) ∙ are) ∙ of xs ys even
+  where
+    of : (xs : List A) (ys : List B) → length xs ≡ length ys
+        → map (λ (p : A × B). p.0) (zip xs ys) ≡ xs
+    of [] ys even = refl
+    of (x ∷ xs) [] even = absurd (omega (arith, even))
+    of (x ∷ xs) (y ∷ ys) even = ap (λ (l : List A). x ∷ l) (of xs ys (omega (arith, even)))
+
+-- their second parts
+pub seconds : {A B : Type 0} (xs : List A) (ys : List B) (ps : List (A × B))
+    → length xs ≡ length ys → map (λ (p : A × B). (p.0, p.1)) ps ≡ zip xs ys
+    → map (λ (p : A × B). p.1) ps ≡ ys
+seconds {A} {B} xs ys ps even are =
+    ap (map (λ (p : A × B). p.1)) (sym (map-id ps) ∙ are) ∙ of xs ys even
+  where
+    of : (xs : List A) (ys : List B) → length xs ≡ length ys
+        → map (λ (p : A × B). p.1) (zip xs ys) ≡ ys
+    of [] [] even = refl
+    of [] (y ∷ ys) even = absurd (omega (arith, even))
+    of (x ∷ xs) [] even = absurd (omega (arith, even))
+    of (x ∷ xs) (y ∷ ys) even = ap (λ (l : List B). y ∷ l) (of xs ys (omega (arith, even)))
 
 -- lists of the same length, with related elements at each place
 pub zip_by_get : {A B : Type 0} (R : A → B → Type 0) (xs : List A) (ys : List B)

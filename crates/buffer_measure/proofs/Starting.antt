@@ -1,18 +1,19 @@
 -- The callers before they run, and the book under its lock.
-use Rattle.std.proofs.Common.{◌≡◌, ℕ, ◌+◌, ◌<◌, List, [], ◌∷◌, ◌++◌, length, map, get_or, Option, Some, None, refl, sym, ap, ◌∙◌, arith}
+use Rattle.std.proofs.Common.{◌≡◌, ℕ, ◌+◌, ◌<◌, List, [], ◌∷◌, ◌++◌, length, map, get_or, Option, Some, None, sym, ap, ◌∙◌, arith}
 use Rattle.std.specs.Prelude.{slice_get}
 use Rattle.std.proofs.lemmas.List.{length-map}
 use Rattle.std.proofs.lemmas.Option.{same_Some, slice_get-get_or}
 use Rattle.report_text.specs.model.growing.Shown.{Grown, IsSameList, ListName, Passed, fresh}
 use Rattle.report_text.proofs.about_growing.Prefixes.{prefix_append, prefix_get}
 use mathlib.Core.List.{IsPrefix}
+use Rattle.script_text.specs.steps.hashes.declared.algo.Algo.{Algo}
 use Rattle.script_text.specs.steps.templates.Same.{add, add_by, gained, place_of_same, placed}
 use Rattle.script_text.specs.steps.templates.declared.entry.Entry.{Entry}
 use Rattle.script_text.specs.steps.templates.declared.entry.Placed.{Placed}
 use Rattle.buffer_measure.specs.Answers.{answer_of}
 use Rattle.buffer_measure.specs.Entries.{boot_entry}
-use Rattle.buffer_measure.specs.Kept.{Constants, HasStarted, IsBookOf, pass_of}
-use Rattle.buffer_measure.specs.Text.{BufferValue}
+use Rattle.buffer_measure.specs.Kept.{AreReady, Constants, HasStarted, IsBookOf, caller_of, pass_of}
+use Rattle.buffer_measure.specs.Text.{CallerValue}
 use Rattle.buffer_measure.specs.Answered.{IsAdded}
 use Rattle.buffer_measure.specs.declared.answer.Answer.{Answer}
 use Rattle.buffer_measure.specs.declared.workers.Worker.{Worker}
@@ -76,25 +77,30 @@ ready_at name workers passes are each i d below =
     same_Some (get_or workers i d).pass (fresh name (i + 1))
     (sym there ∙ each i (omega (arith, even, below)))
 
--- the book and the workers at the start belong to the text
-pub started : (t : BufferValue) (book : Grown Entry) (callers n : ℕ) (boot : Entry)
-    (workers : List Worker) (passes : List (Passed Entry))
-    → callers ≡ length t.callers → n ≡ callers + 1 → boot ≡ boot_entry t.hash
-    → book.list ≡ boot ∷ [] → book.callers ≡ n → length passes + 1 ≡ n
-    → map pass_of workers ≡ passes
+-- the list and the workers at the start
+pub started : (algo : Algo) (callers : List CallerValue) (book : Grown Entry) (count n : ℕ)
+    (boot : Entry) (workers : List Worker) (passes : List (Passed Entry))
+    → count ≡ length callers → n ≡ count + 1 → boot ≡ boot_entry algo → book.list ≡ boot ∷ []
+    → book.callers ≡ n → map caller_of workers ≡ callers → map pass_of workers ≡ passes
     → ((k : ℕ) → k < length passes → slice_get passes k ≡ Some (fresh book.name (k + 1)))
-    → HasStarted t book workers
-started t book callers n boot workers passes count more boot_is list all few are each =
-    let even : length passes ≡ length workers =
-    ap length (sym are) ∙ length-map workers pass_of in
+    → HasStarted algo callers book workers
+started algo callers book count n boot workers passes counted more boot_is list all own are each =
     record {
-      book_is = record {
-        name = refl;
-        callers = omega (arith, all, more, count);
-        boot = ap (λ (l : List Entry). slice_get l 0) list ∙ ap (λ (e : Entry). Some e) boot_is;
-      };
-      ready = record {
-        even = omega (arith, even, few, more, count);
-        each = ready_at book.name workers passes are each;
-      };
+      list = ap (λ (l : List Entry). slice_get l 0) list ∙ ap (λ (e : Entry). Some e) boot_is;
+      count = omega (arith, all, more, counted);
+      callers_are = own;
+      passes = ready_at book.name workers passes are each;
     }
+
+-- the callers of the list are ready at the start
+pub ready_all : (k : Constants) (algo : Algo) (callers : List CallerValue) (book : Grown Entry)
+    (workers : List Worker) → HasStarted algo callers book workers → k.name ≡ book.name
+    → k.text.callers ≡ map caller_of workers → AreReady k workers
+ready_all k algo callers book workers h name own = record {
+  even = sym (ap length own ∙ length-map workers caller_of);
+  each = λ i d below. record {
+    caller = ap (λ (cs : List CallerValue). slice_get cs i) own
+        ∙ mapped caller_of workers i (get_or workers i d) (slice_get-get_or workers i d below);
+    pass = h.passes i d below ∙ ap (λ (n : ListName). fresh n (i + 1)) (sym name);
+  };
+}

@@ -1,9 +1,12 @@
 -- The constants of the list that the callers share, and the callers before and after they run.
-use Rattle.std.specs.Prelude.{◌≡◌, ℕ, ◌+◌, ◌<◌, List, length, Option, Some, IfSome, slice_get, slice_index_or}
+use Rattle.std.specs.Prelude.{◌≡◌, ℕ, ◌+◌, ◌<◌, List, length, map, Option, Some, IfSome, slice_get, slice_index_or}
 use Rattle.report_text.specs.model.growing.Shown.{Grown, ListName, Passed, fresh, no_name}
+use Rattle.script_text.specs.steps.hashes.declared.algo.Algo.{Algo}
+use Rattle.script_text.specs.steps.policy.RuleValue.{RuleValue}
 use Rattle.script_text.specs.steps.templates.declared.entry.Entry.{Entry}
 use Rattle.buffer_measure.specs.Draft.{no_buffers}
 use Rattle.buffer_measure.specs.Entries.{boot_entry}
+use Rattle.buffer_measure.specs.Forms.{IsBufferText}
 use Rattle.buffer_measure.specs.Text.{BufferValue, CallerValue}
 use Rattle.buffer_measure.specs.Answered.{HaveAnswers}
 use Rattle.buffer_measure.specs.Wanted.{wanted}
@@ -23,17 +26,31 @@ pub record IsBookOf (k : Constants) (book : Grown Entry) : Type 0 where
   pub callers : book.callers ≡ length k.text.callers + 1
   pub boot : slice_get book.list 0 ≡ Some (boot_entry k.text.hash)
 
+-- what the callers share of the text: the algorithm of the digests and the rules
+pub record IsShared (k : Constants) (algo : Algo) (rules : List RuleValue) : Type 0 where
+  pub kept : IsBufferText k.text
+  pub algo_is : algo ≡ k.text.hash
+  pub rules_are : rules ≡ k.text.rules
+
 abbrev pub pass_of : Worker → Passed Entry
 pass_of w = w.pass
 
 abbrev pub answers_in : Worker → Option (List Answer)
 answers_in w = w.answers
 
--- each caller has a fresh pass of the list, whose number is one more than the caller's
+abbrev pub caller_of : Worker → CallerValue
+caller_of w = record { cred = w.cred; lines = w.lines.items }
+
+-- the caller of this number has its buffers, and a fresh pass of the list, whose number is one more
+-- than the caller's
+pub record IsReady (k : Constants) (i : ℕ) (w : Worker) : Type 0 where
+  pub caller : slice_get k.text.callers i ≡ Some (caller_of w)
+  pub pass : w.pass ≡ fresh k.name (i + 1)
+
 pub record AreReady (k : Constants) (workers : List Worker) : Type 0 where
   pub even : length workers ≡ length k.text.callers
   pub each : (i : ℕ) (d : Worker) → i < length workers
-      → (slice_index_or workers i d).pass ≡ fresh k.name (i + 1)
+      → IsReady k i (slice_index_or workers i d)
 
 -- the caller of this number has run, and has its answers unless memory ran out
 pub record IsDone (k : Constants) (i : ℕ) (w : Worker) : Type 0 where
@@ -46,8 +63,11 @@ pub record AreDone (k : Constants) (workers : List Worker) : Type 0 where
   pub even : length workers ≡ length k.text.callers
   pub each : (i : ℕ) (d : Worker) → i < length workers → IsDone k i (slice_index_or workers i d)
 
--- the list and the callers of a text, before they run
-pub record HasStarted (t : BufferValue) (book : Grown Entry) (workers : List Worker) : Type 0
-  where
-    pub book_is : IsBookOf (record { name = book.name; text = t }) book
-    pub ready : AreReady (record { name = book.name; text = t }) workers
+-- the list of these callers, and the callers before they run
+pub record HasStarted (algo : Algo) (callers : List CallerValue) (book : Grown Entry)
+    (workers : List Worker) : Type 0 where
+  pub list : slice_get book.list 0 ≡ Some (boot_entry algo)
+  pub count : book.callers ≡ length callers + 1
+  pub callers_are : map caller_of workers ≡ callers
+  pub passes : (i : ℕ) (d : Worker) → i < length workers
+      → (slice_index_or workers i d).pass ≡ fresh book.name (i + 1)

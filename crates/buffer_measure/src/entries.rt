@@ -6,7 +6,7 @@ ghost use Rattle.buffer_measure.specs.Forms.{is_buffer};
 
 use script_text::hashes::{Algo, Digest, digest_of};
 use script_text::meta::{DEFAULT_PCR, Template};
-use script_text::templates::{Entry, build};
+use script_text::templates::{Entry, build, restore};
 use script_text::xattrs::Bytes;
 use std::alloc::{AllocError as OutOfMemory, Global};
 
@@ -27,20 +27,15 @@ pub fn boot_entry(alloc: Global, hash: Algo) -> Result<Entry, OutOfMemory>
     )
 }
 
-/// The entry of a buffer in this register, with its digest by this algorithm.
-pub fn entry_for(
-    alloc: Global,
-    hash: Algo,
-    pcr: u8,
-    line: &(Bytes, Bytes),
-) -> Result<Entry, OutOfMemory>
+/// The entry of a buffer in this register, with its digest by this algorithm. The buffer's name and
+/// bytes become those of the entry, without a copy.
+pub fn entry_for(hash: Algo, pcr: u8, line: (Bytes, Bytes)) -> Result<Entry, OutOfMemory>
     requires pcr { pcr < 24 }
-    requires line { is_buffer line.now ≡ true }
-    ensures { IfOk result (λ e. e ≡ entry_for hash pcr line.now) }
+    requires line { is_buffer line ≡ true }
+    ensures { IfOk result (λ e. e ≡ entry_for hash pcr line) }
 {
-    let name = line.0.as_slice();
-    let value = line.1.as_slice();
-    let digest = digest_of(hash, value);
-    let sha1 = Digest::zeros(Algo::Sha1);
-    build(alloc, pcr, Template::ImaBuf, &digest, &sha1, name, value)
+    let (name, value) = line;
+    let digest = digest_of(hash, value.as_slice());
+    prove!(digest.as_slice().len() == digest.algo().size());
+    restore(pcr, Template::ImaBuf, digest, name, value, false)
 }

@@ -23,7 +23,7 @@ mod workers;
 pub use answer::Answer;
 pub use answers::Answers;
 pub use laws::{print_determines, runs_alone};
-pub use measuring::measure_all;
+pub use measuring::{measure_all, measure_owned};
 pub use output::{print, print_in_pieces};
 pub use read::parse;
 pub use rules::wanted;

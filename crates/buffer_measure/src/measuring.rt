@@ -1,16 +1,19 @@
 //! The run of a text of buffers.
 
-ghost use Rattle.std.specs.Prelude.{◌≡◌, IfOk};
-ghost use Rattle.buffer_measure.specs.Kept.{AreDone, AreReady, HasStarted, IsBookOf};
+ghost use Rattle.std.specs.Prelude.{◌<◌, ◌≤◌, IfOk, length};
+ghost use Rattle.buffer_measure.specs.Kept.{AreDone, AreReady, HasStarted, IsBookOf, IsShared};
+ghost use Rattle.buffer_measure.specs.Limits.{most_callers};
 ghost use Rattle.buffer_measure.specs.Run.{IsRunOf};
 
 use crate::book::{KeptBook, Name};
 use crate::entries::boot_entry;
 use crate::run::BufferRun;
-use crate::text::BufferText;
+use crate::text::{BufferCaller, BufferText};
 use crate::workers::{Worker, parted, run_callers, workers_of};
 use measure_book::Book;
 use report_text::outer::Gate;
+use script_text::hashes::Algo;
+use script_text::policy::Policy;
 use std::alloc::{AllocError as OutOfMemory, Global};
 use std::marker::Brand;
 use std::sync::{Mutex, Wait};
@@ -20,6 +23,28 @@ use std::thread::Threads;
 /// as the text says, in contiguous parts; if no thread can be created, they run one after another.
 /// Before each buffer its caller passes the gate, outside the lock of the list: the task is the
 /// caller's number, the call the buffer's number, both counted from 0, and the step is 0.
+///
+/// The text is consumed: the entries of the list take over its buffers, without a copy.
+pub fn measure_owned<G: Gate + Sync, R: Threads + Wait + Sync>(
+    rt: &R,
+    alloc: Global,
+    t: BufferText,
+    gate: &G,
+) -> Result<BufferRun, OutOfMemory>
+    ensures { IfOk result (λ run. IsRunOf t run) }
+{
+    t.keeps();
+    let BufferText {
+        hash,
+        rules,
+        callers,
+        threads,
+    } = t;
+    let (book, workers) = started(alloc, hash, callers)?;
+    run_all::<Brand, G, R>(rt, alloc, hash, &rules, threads, book, workers, gate)
+}
+
+/// Measures the buffers as [`measure_owned`] does, from a copy of the text.
 pub fn measure_all<G: Gate + Sync, R: Threads + Wait + Sync>(
     rt: &R,
     alloc: Global,
@@ -28,19 +53,22 @@ pub fn measure_all<G: Gate + Sync, R: Threads + Wait + Sync>(
 ) -> Result<BufferRun, OutOfMemory>
     ensures { IfOk result (λ run. IsRunOf t.now run) }
 {
-    let (book, workers) = started(alloc, t)?;
-    run_all::<Brand, G, R>(rt, alloc, t, book, workers, gate)
+    measure_owned(rt, alloc, t.copy(alloc)?, gate)
 }
 
-// The list before its callers run, and the callers with their passes.
-fn started(alloc: Global, t: &BufferText) -> Result<(Book, Vec<Worker>), OutOfMemory>
-    ensures { IfOk result (λ r. HasStarted t.now r.0 r.1.items) }
+// The list before the callers run, and the callers with their passes.
+fn started(
+    alloc: Global,
+    hash: Algo,
+    callers: Vec<BufferCaller>,
+) -> Result<(Book, Vec<Worker>), OutOfMemory>
+    requires { length callers.items ≤ most_callers }
+    ensures { IfOk result (λ r. HasStarted hash callers.items r.0 r.1.items) }
 {
-    t.keeps();
-    let boot = boot_entry(alloc, t.hash())?;
-    let callers = t.callers().len() as u32;
-    let (book, passes) = Book::start(alloc, callers + 1, boot)?;
-    let workers = workers_of(alloc, passes)?;
+    let boot = boot_entry(alloc, hash)?;
+    let count = callers.len() as u32;
+    let (book, passes) = Book::start(alloc, count + 1, boot)?;
+    let workers = workers_of(alloc, callers, passes)?;
     Ok((book, workers))
 }
 
@@ -48,21 +76,31 @@ fn started(alloc: Global, t: &BufferText) -> Result<(Book, Vec<Worker>), OutOfMe
 fn run_all<N: Name, G: Gate + Sync, R: Threads + Wait + Sync>(
     rt: &R,
     alloc: Global,
-    t: &BufferText,
+    hash: Algo,
+    rules: &Policy,
+    threads: u32,
     book: Book,
     workers: Vec<Worker>,
     gate: &G,
 ) -> Result<BufferRun, OutOfMemory>
-    requires text { t.now ≡ N.constants.text }
+    requires shared { IsShared N.constants hash rules.now }
+    requires threads { 0 < threads }
     requires book { IsBookOf N.constants book }
     requires ready { AreReady N.constants workers.items }
     ensures { IfOk result (λ run. IsRunOf N.constants.text run) }
 {
-    t.keeps();
-    let threads = t.threads() as usize;
     let mut workers = workers;
     let book = Mutex::new(KeptBook::<N>::new(book));
-    run_callers(rt, alloc, t, threads, &book, gate, workers.as_mut_slice());
+    run_callers(
+        rt,
+        alloc,
+        hash,
+        rules,
+        threads as usize,
+        &book,
+        gate,
+        workers.as_mut_slice(),
+    );
     close::<N>(alloc, book.into_inner().open(), workers)
 }
 

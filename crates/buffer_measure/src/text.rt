@@ -62,6 +62,29 @@ impl BufferCaller {
     {
         self.lines.as_slice()
     }
+
+    /// A copy with equal buffers, in its own memory.
+    pub fn copy(&self, alloc: Global) -> Result<BufferCaller, OutOfMemory>
+        ensures { IfOk result (λ copy. copy ≡ self.now) }
+    {
+        let mut lines = Vec::with_capacity(alloc, self.lines.len())?;
+        for line in self.lines.iter() {
+            lines.push(copy_of(alloc, line)?)?;
+        }
+        Ok(BufferCaller {
+            cred: self.cred,
+            lines,
+        })
+    }
+}
+
+// A copy of a buffer, in its own memory.
+fn copy_of(alloc: Global, line: &(Bytes, Bytes)) -> Result<(Bytes, Bytes), OutOfMemory>
+    ensures { IfOk result (λ copy. copy ≡ line.now) }
+{
+    let name = Bytes::from_slice(alloc, line.0.as_slice())?;
+    let value = Bytes::from_slice(alloc, line.1.as_slice())?;
+    Ok((name, value))
 }
 
 /// The buffers of some callers, with the rules that decide which of them are measured.
@@ -127,5 +150,21 @@ impl BufferText {
         ensures { result ≡ self.now.threads }
     {
         self.threads
+    }
+
+    /// A copy with equal rules and callers, in its own memory.
+    pub fn copy(&self, alloc: Global) -> Result<BufferText, OutOfMemory>
+        ensures { IfOk result (λ copy. copy ≡ self.now) }
+    {
+        let mut callers = Vec::with_capacity(alloc, self.callers.len())?;
+        for caller in self.callers.iter() {
+            callers.push(caller.copy(alloc)?)?;
+        }
+        Ok(BufferText {
+            hash: self.hash,
+            rules: self.rules.copy()?,
+            callers,
+            threads: self.threads,
+        })
     }
 }

@@ -3,7 +3,7 @@
 ghost use Rattle.std.specs.Prelude.{◌≡◌, ◌+◌, ◌<◌, ◌^◌, true, Some, All, IfOk, IfSome, length, map};
 ghost use Rattle.report_text.specs.model.growing.Shown.{fresh};
 ghost use Rattle.buffer_measure.specs.Forms.{is_buffer};
-ghost use Rattle.buffer_measure.specs.Kept.{AreDone, AreReady, IsDone, answers_in, pass_of};
+ghost use Rattle.buffer_measure.specs.Kept.{AreDone, AreReady, IsDone, IsReady, IsShared, answers_in, caller_of, pass_of};
 ghost use Rattle.buffer_measure.specs.Answered.{HaveAnswers, IsAnswered, IsSamePass};
 
 use crate::answer::Answer;
@@ -11,31 +11,45 @@ use crate::answers::Answers;
 use crate::book::{KeptBook, Name};
 use crate::entries::entry_for;
 use crate::rules::wanted;
-use crate::text::BufferText;
+use crate::text::BufferCaller;
 use measure_book::Pass;
 use report_text::outer::{Gate, Who};
 use script_text::hashes::Algo;
+use script_text::meta::Cred;
+use script_text::policy::Policy;
 use script_text::templates::Entry;
 use script_text::xattrs::Bytes;
 use std::alloc::{AllocError as OutOfMemory, Global};
 use std::sync::{Mutex, Wait};
-use std::thread;
 use std::thread::Threads;
+use std::{mem, thread};
 
-/// A caller's pass of the list, and its answers once all its buffers have been measured.
+/// A caller with its pass of the list. Once all its buffers have been measured, it has their
+/// answers in their place.
 #[derive(Drop)]
 pub struct Worker {
+    pub cred: Cred,
+    pub lines: Vec<(Bytes, Bytes)>,
     pub pass: Pass<Entry>,
     pub answers: Option<Answers>,
 }
 
-/// The workers of these passes, in the same order, before they run.
-pub fn workers_of(alloc: Global, passes: Vec<Pass<Entry>>) -> Result<Vec<Worker>, OutOfMemory>
-    ensures { IfOk result (λ workers. map pass_of workers.items ≡ passes.items) }
+/// The workers of these callers and passes, in the same order, before they run.
+pub fn workers_of(
+    alloc: Global,
+    callers: Vec<BufferCaller>,
+    passes: Vec<Pass<Entry>>,
+) -> Result<Vec<Worker>, OutOfMemory>
+    requires { length callers.items ≡ length passes.items }
+    ensures callers { IfOk result (λ workers. map caller_of workers.items ≡ callers.items) }
+    ensures passes { IfOk result (λ workers. map pass_of workers.items ≡ passes.items) }
 {
-    let mut workers = Vec::new(alloc);
-    for pass in passes {
+    let mut workers = Vec::with_capacity(alloc, callers.len())?;
+    for (caller, pass) in callers.into_iter().zip(passes) {
+        let BufferCaller { cred, lines } = caller;
         workers.push(Worker {
+            cred,
+            lines,
             pass,
             answers: None,
         })?;
@@ -43,26 +57,25 @@ pub fn workers_of(alloc: Global, passes: Vec<Pass<Entry>>) -> Result<Vec<Worker>
     Ok(workers)
 }
 
-// Measures one buffer: builds its entry, and adds it to the list under the lock.
+// Measures one buffer: makes it an entry, and adds that to the list under the lock.
 fn answer_line<N: Name, R: Wait>(
     rt: &R,
-    alloc: Global,
     hash: Algo,
     register: Option<u8>,
-    line: &(Bytes, Bytes),
+    line: (Bytes, Bytes),
     book: &Mutex<KeptBook<N>>,
     pass: &mut Pass<Entry>,
 ) -> Result<Answer, OutOfMemory>
     requires name { pass.old.name ≡ N.constants.name }
     requires register { IfSome register (λ pcr. pcr < 24) }
-    requires line { is_buffer line.now ≡ true }
+    requires line { is_buffer line ≡ true }
     ensures same { IsSamePass pass.old pass.new }
-    ensures answered { IfOk result (λ a. IsAnswered hash register line.now pass.old pass.new a) }
+    ensures answered { IfOk result (λ a. IsAnswered hash register line pass.old pass.new a) }
 {
     match register {
         None => Ok(Answer::Skipped),
         Some(pcr) => {
-            let entry = entry_for(alloc, hash, pcr, line)?;
+            let entry = entry_for(hash, pcr, line)?;
             book.lock(rt).add(pass, entry)
         }
     }
@@ -74,7 +87,7 @@ fn answer_lines<N: Name, G: Gate, R: Wait>(
     alloc: Global,
     hash: Algo,
     register: Option<u8>,
-    lines: &[(Bytes, Bytes)],
+    lines: Vec<(Bytes, Bytes)>,
     task: u32,
     book: &Mutex<KeptBook<N>>,
     gate: &G,
@@ -82,20 +95,20 @@ fn answer_lines<N: Name, G: Gate, R: Wait>(
 ) -> Result<Answers, OutOfMemory>
     requires pass { pass.old ≡ fresh N.constants.name (task + 1) }
     requires register { IfSome register (λ pcr. pcr < 24) }
-    requires few { length lines.now < 2 ^ 32 }
-    requires lines { All (λ line. is_buffer line ≡ true) lines.now }
+    requires few { length lines.items < 2 ^ 32 }
+    requires lines { All (λ line. is_buffer line ≡ true) lines.items }
     ensures same { IsSamePass pass.old pass.new }
     ensures answered { IfOk result (λ answers.
-        HaveAnswers hash register lines.now pass.new answers) }
+        HaveAnswers hash register lines.items pass.new answers) }
 {
     let mut answers = Answers::new(alloc);
-    for k in 0..lines.len() {
+    for (k, line) in lines.into_iter().enumerate() {
         gate.pass(Who {
             task,
             call: k as u32,
             step: 0,
         });
-        let answer = answer_line(rt, alloc, hash, register, &lines[k], book, pass)?;
+        let answer = answer_line(rt, hash, register, line, book, pass)?;
         answers.push(answer)?;
     }
     Ok(answers)
@@ -105,26 +118,23 @@ fn answer_lines<N: Name, G: Gate, R: Wait>(
 fn run_caller<N: Name, G: Gate, R: Wait>(
     rt: &R,
     alloc: Global,
-    t: &BufferText,
+    hash: Algo,
+    rules: &Policy,
     number: usize,
     book: &Mutex<KeptBook<N>>,
     gate: &G,
     worker: &mut Worker,
 )
-    requires text { t.now ≡ N.constants.text }
-    requires number { number < length N.constants.text.callers }
-    requires ready { worker.old.pass ≡ fresh N.constants.name (number + 1) }
+    requires shared { IsShared N.constants hash rules.now }
+    requires ready { IsReady N.constants number worker.old }
     ensures { IsDone N.constants number worker.new }
 {
-    t.keeps();
-    let callers = t.callers();
-    let caller = &callers[number];
-    let register = wanted(t.rules(), caller.cred());
-    let lines = caller.lines();
+    let register = wanted(rules, &worker.cred);
+    let lines = mem::replace(&mut worker.lines, Vec::new(alloc));
     let answers = answer_lines(
         rt,
         alloc,
-        t.hash(),
+        hash,
         register,
         lines,
         number as u32,
@@ -140,13 +150,14 @@ fn run_caller<N: Name, G: Gate, R: Wait>(
 pub fn run_callers<N: Name, G: Gate + Sync, R: Threads + Wait + Sync>(
     rt: &R,
     alloc: Global,
-    t: &BufferText,
+    hash: Algo,
+    rules: &Policy,
     threads: usize,
     book: &Mutex<KeptBook<N>>,
     gate: &G,
     workers: &mut [Worker],
 )
-    requires text { t.now ≡ N.constants.text }
+    requires shared { IsShared N.constants hash rules.now }
     requires threads { 0 < threads }
     requires ready { AreReady N.constants workers.old }
     ensures { AreDone N.constants workers.new }
@@ -156,10 +167,9 @@ pub fn run_callers<N: Name, G: Gate + Sync, R: Threads + Wait + Sync>(
         workers,
         threads,
         &|i: usize, worker: &mut Worker|
-            requires { (t.now ≡ N.constants.text) × (i < length N.constants.text.callers)
-                × (worker.old.pass ≡ fresh N.constants.name (i + 1)) }
+            requires { IsShared N.constants hash rules.now × IsReady N.constants i worker.old }
             ensures { IsDone N.constants i worker.new }
-        { run_caller(rt, alloc, t, i, book, gate, worker) },
+        { run_caller(rt, alloc, hash, rules, i, book, gate, worker) },
     );
 }
 
@@ -175,7 +185,12 @@ pub fn parted(
     let mut passes = Vec::new(alloc);
     let mut answers = Vec::new(alloc);
     for worker in workers {
-        let Worker { pass, answers: own } = worker;
+        let Worker {
+            cred: _,
+            lines: _,
+            pass,
+            answers: own,
+        } = worker;
         let Some(own) = own else {
             return Err(OutOfMemory);
         };

@@ -51,6 +51,15 @@ pub fn measure_all<G: outer::Gate + Sync, R: Threads + Wait + Sync>(
     buffers::measure_all(rt, alloc, t, gate)
 }
 
+pub fn measure_owned<G: outer::Gate + Sync, R: Threads + Wait + Sync>(
+    rt: &R,
+    alloc: Global,
+    t: buffers::BufferText,
+    gate: &G,
+) -> Result<buffers::BufferRun, buffers::OutOfMemory> {
+    buffers::measure_owned(rt, alloc, t, gate)
+}
+
 pub fn print(alloc: Global, r: &buffers::BufferRun) -> Result<Vec<u8>, buffers::OutOfMemory> {
     buffers::print(alloc, r)
 }

@@ -8,7 +8,7 @@ use crate::commands::Answer;
 use crate::commands::bad_line::bad_line;
 use crate::not_done::NotDone;
 use buffer_measure::{
-    BufferText, measure_all, parse, print_determines, print_in_pieces, runs_alone,
+    BufferText, measure_owned, parse, print_determines, print_in_pieces, runs_alone,
 };
 use ima_io::{Gate, Pieces};
 use script_text::ScriptErr;
@@ -31,7 +31,7 @@ pub fn answer<G: Gate + Sync, R: Threads + Wait + Sync>(
 {
     match parse(alloc, input) {
         Ok(text) => {
-            let output = measured(rt, alloc, &text, gate)?;
+            let output = measured(rt, alloc, text, gate)?;
             Ok(Answer {
                 output,
                 stuck: false,
@@ -46,15 +46,16 @@ pub fn answer<G: Gate + Sync, R: Threads + Wait + Sync>(
 fn measured<G: Gate + Sync, R: Threads + Wait + Sync>(
     rt: &R,
     alloc: Global,
-    text: &BufferText,
+    text: BufferText,
     gate: &G,
 ) -> Result<Pieces, OutOfMemory>
-    ensures { IfOk result (λ output. IsPrintedRun text.now output) }
+    ensures { IfOk result (λ output. IsPrintedRun text output) }
 {
     text.keeps();
     runs_alone();
     print_determines();
-    let run = measure_all(rt, alloc, text, gate)?;
-    let output = print_in_pieces(rt, alloc, &run, text.threads() as usize)?;
+    let threads = text.threads() as usize;
+    let run = measure_owned(rt, alloc, text, gate)?;
+    let output = print_in_pieces(rt, alloc, &run, threads)?;
     Ok(output)
 }

@@ -1,17 +1,8 @@
--- The name and the bytes of a buffer can be those of an entry.
-use Rattle.std.proofs.Common.{◌≤◌, ℕ, List, length, sym, subst}
-use Rattle.script_text.specs.Limits.{most_value}
-use Rattle.script_text.specs.events.meta.declared.measurement.Template.TheVariants.{ImaBuf}
-use Rattle.script_text.specs.steps.templates.Path.{IsMeasuredPath}
-use Rattle.buffer_measure.proofs.Callers.{buffer_named, buffer_shown}
+-- The digest with the buffer's name and bytes are the fields of an entry.
+use Rattle.buffer_measure.proofs.Callers.{buffer_entry}
 use Rattle.buffer_measure.proofs.entries.entry_for.Goals as goal
 
-pub build-requires-clause-path : goal.build-requires-clause-path
-build-requires-clause-path c =
-    subst (λ (name : List ℕ). IsMeasuredPath ImaBuf name) (sym c.as_slice-name.ensures.bytes)
-    (buffer_named c.args.line.now c.requires.line)
-
-pub build-requires-clause-sig : goal.build-requires-clause-sig
-build-requires-clause-sig c =
-    subst (λ (value : List ℕ). length value ≤ most_value) (sym c.as_slice-value.ensures.bytes)
-    (buffer_shown c.args.line.now c.requires.line)
+pub restore-requires : goal.restore-requires
+restore-requires c =
+    buffer_entry c.args.pcr c.digest_of-digest.result c.args.line c.requires.pcr
+    c.as_slice-2.ensures.size c.requires.line

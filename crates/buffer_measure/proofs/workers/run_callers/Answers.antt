@@ -1,15 +1,13 @@
--- Each caller has its fresh pass before it runs, and has run afterwards.
-use Rattle.std.proofs.Common.{◌<◌, ℕ, length, ap, subst, ◌∙◌, arith, rules}
-use Rattle.buffer_measure.specs.Kept.{IsDone}
-use Rattle.buffer_measure.specs.declared.workers.Worker.{Worker}
+-- Each caller is ready before it runs, and has run afterwards.
+use Rattle.std.proofs.Common.{◌<◌, length, subst, sym, arith, rules}
+use Rattle.buffer_measure.specs.Kept.{IsDone, IsReady}
 use Rattle.buffer_measure.proofs.workers.run_callers.Goals as goal
 
 pub for_each_mut-requires-clause-accepts : goal.for_each_mut-requires-clause-accepts
 for_each_mut-requires-clause-accepts g c = λ κs out i p below is. (
   (
-    c.requires.text,
-    subst (λ (n : ℕ). i < n) c.requires.ready.even below,
-    ap (λ (w : Worker). w.pass) is ∙ c.requires.ready.each i p.now below,
+    c.requires.shared,
+    subst (IsReady g.N.Name.constants i) (sym is) (c.requires.ready.each i p.now below),
   ),
   search rules,
 )

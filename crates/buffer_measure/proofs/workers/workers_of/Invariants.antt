@@ -1,7 +1,15 @@
--- The workers so far have the passes so far.
+-- The workers so far have the callers and the passes so far.
 use Rattle.std.proofs.Common.{◌≡◌, map}
-use Rattle.buffer_measure.specs.Kept.{pass_of}
+use Rattle.report_text.specs.model.growing.Shown.{Passed}
+use Rattle.script_text.specs.steps.templates.declared.entry.Entry.{Entry}
+use Rattle.buffer_measure.specs.Kept.{caller_of, pass_of}
+use Rattle.buffer_measure.specs.Text.{CallerValue}
 use Rattle.buffer_measure.proofs.workers.workers_of.Given as goal
 
-abbrev pub invariant-loop-pass : goal.invariant-loop-pass
-invariant-loop-pass l = map pass_of l.workers.items ≡ l.yielded
+abbrev pub invariant-loop-caller : goal.invariant-loop-caller
+invariant-loop-caller l = record {
+  callers : map caller_of l.workers.items
+      ≡ map (λ (p : CallerValue × Passed Entry). p.0) l.yielded;
+  passes : map pass_of l.workers.items
+      ≡ map (λ (p : CallerValue × Passed Entry). p.1) l.yielded;
+}

@@ -9,7 +9,7 @@ returns g c =
       run = run;
       is_run = is_run;
       text = text;
-      alone = c.runs_alone.ensures c.args.text.now run is_run;
-      only = λ other is same. c.print_determines.ensures c.args.text.now other run
+      alone = c.runs_alone.ensures c.args.text run is_run;
+      only = λ other is same. c.print_determines.ensures c.args.text other run
           c.keeps.ensures is is_run (same ∙ text);
     }
