@@ -28,7 +28,7 @@ unless : (a b : Bool) → a ≡ not b → a ≡ true → b ≡ false
 unless a true h is = absurd (true≢false (sym is ∙ h))
 unless a false h is = refl
 
-if_not : (a b : Bool) → a ≡ not b → a ≡ false → b ≡ true
+pub if_not : (a b : Bool) → a ≡ not b → a ≡ false → b ≡ true
 if_not a true h is = refl
 if_not a false h is = absurd (true≢false (sym h ∙ is))
 

@@ -2,3 +2,5 @@ pub mod Scenes
 pub mod Stepping
 pub mod Rowing
 pub mod Layering
+pub mod Within
+pub mod Stopping

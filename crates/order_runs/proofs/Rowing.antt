@@ -1,6 +1,6 @@
 -- An order that is counted in the row of its outcome.
 use Rattle.std.proofs.Common.{◌≡◌, ◌<◌, ◌⊎◌, ℕ, zero, suc, All, Contains, List, [], ◌∷◌, ◌++◌, length, get_or, Option, Some, None, option_map, slice_get, slice_set, refl, ap, sym, subst, ◌∙◌, inl, inr, arith}
-use Rattle.std.specs.Prelude.{IsSomeAnd, MatchOption}
+use Rattle.std.specs.Prelude.{IsSomeAnd}
 use Rattle.std.proofs.lemmas.List.{map-append, map-set}
 use Rattle.std.proofs.lemmas.List.Elements.{All-contains, All-push, All-set}
 use Rattle.std.proofs.lemmas.Option.{get_or_from_slice_get, none-some, same_Some, slice_get-get_or, slice_get-map, slice_get_within}
@@ -60,19 +60,23 @@ some_at P xs k x lt is p =
     subst (λ (o : Option _). IsSomeAnd o P)
     (sym (slice_get-get_or xs k x lt ∙ ap Some (sym is))) p
 
-some_and : {X : Type 0} (P : X → Type 0) (o : Option X) → IsSomeAnd o P
+pub some_and : {X : Type 0} (P : X → Type 0) (o : Option X) → IsSomeAnd o P
     → (x : X) × ((o ≡ Some x) × P x)
 some_and P None h = absurd h
 some_and P (Some x) h = (x, (refl, h))
 
+pub placed : {X : Type 0} (xs : List X) (k : ℕ) (P : X → Type 0) → IsSomeAnd (slice_get xs k) P
+    → k < length xs
+placed xs k P h =
+    let found = some_and P (slice_get xs k) h in slice_get_within xs k found.0 found.1.0
+
 -- the row at the place of an outcome, with an order joined
-pub joined_at : (old : List Row) (k : ℕ) (row seen held : Row) (o : Option Counted)
-    (both : Counted) (Q : Type 0)
+pub joined_at : (old : List Row) (k : ℕ) (row seen held : Row) (both : Counted)
     → IsSomeAnd (slice_get old k) (λ (r : Row). r.outcome ≡ row.outcome)
     → seen ≡ get_or old k seen → held ≡ get_or old k held
-    → MatchOption o Q (λ b. b ≡ joined seen.counted row.counted) → o ≡ Some both
+    → both ≡ joined seen.counted row.counted
     → IsRowAdded old row (slice_set old k (record { counted = both; outcome = held.outcome }))
-joined_at old k row seen held o both Q there at_seen at_held sums is = inr (record {
+joined_at old k row seen held both there at_seen at_held is = inr (record {
   place = k;
   before = found.0;
   after = record { counted = both; outcome = held.outcome };
@@ -89,8 +93,7 @@ joined_at old k row seen held o both Q there at_seen at_held sums is = inr (reco
     found = some_and (λ (r : Row). r.outcome ≡ row.outcome) (slice_get old k) there
 
     sum : both ≡ joined found.0.counted row.counted
-    sum = subst (λ (x : Option Counted). MatchOption x Q
-        (λ b. b ≡ joined seen.counted row.counted)) is sums
+    sum = is
         ∙ ap (λ (r : Row). joined r.counted row.counted)
         (at_seen ∙ get_or_from_slice_get old k found.0 seen found.1.0)
 

@@ -154,6 +154,7 @@ module _ (scene : Scene) (way : Way) (k : IsKept scene way) (n : ℕ) (made : Ma
                   ∙ led-more (moved scene) (Some (start_of scene)) way.counted.order n m leads
                   ∙ next moved_it;
               made = kept ∙ after;
+              some = subst (λ (c : Counted). 0 < c.count) (sym counted) k.some;
             },
           )
       by (inr stood) =

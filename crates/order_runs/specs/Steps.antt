@@ -18,6 +18,7 @@ pub record IsKept (scene : Scene) (way : Way) : Type 0 where
   pub at : Moment
   pub leads : moment_after scene way.counted.order ≡ Some at
   pub made : way.made ≡ made_of (left_at scene at)
+  pub some : 0 < way.counted.count
 
 abbrev pub counted_ways : List Way → List Counted
 counted_ways ways = map (λ (w : Way). w.counted) ways

@@ -1,8 +1,10 @@
 //! The rows of a play.
 
-ghost use Rattle.std.specs.Prelude.{◌≡◌, ℕ, suc, ◌<◌, ◌≤◌, [], ◌∷◌, ◌++◌, All, length, slice_get, IfOk, IsSomeAnd, MatchOption, OnOk};
+ghost use Rattle.std.specs.Prelude.{◌≡◌, ℕ, suc, ◌+◌, ◌<◌, ◌≤◌, ◌^◌, [], ◌∷◌, ◌++◌, All, length, slice_get, IfErr, IfOk, IsSomeAnd, MatchOption, OnOk};
+ghost use Rattle.order_outcomes.specs.counts.Layers.{joined, root};
 ghost use Rattle.order_outcomes.specs.scripts.Limits.{most_turns};
-ghost use Rattle.order_runs.specs.Steps.{AreApart, HasNone, HasOutcome, IsAdvanced, IsKept, IsLayer, IsRowAdded, IsStep};
+ghost use Rattle.order_runs.specs.Steps.{AreApart, HasNone, HasOutcome, IsAdvanced, IsKept, IsLayer, IsRowAdded, IsStep, counted_rows, counted_ways};
+ghost use Rattle.order_runs.specs.Stops.{HasTooMany, IsCrowded, IsOverrun, counts_of};
 ghost use Rattle.order_runs.specs.Tables.{IsTable};
 
 use crate::play::Play;
@@ -67,16 +69,28 @@ fn push_row(rows: &mut Vec<Row>, row: Row) -> Result<(), OutOfMemory>
     Ok(())
 }
 
+// The first of the two orders with the counts of both.
+fn join(alloc: Global, a: &Counted, b: &Counted) -> Result<Counted, Stopped>
+    ensures both { IfOk result (λ both. both ≡ joined a.now b.now) }
+    ensures too_many { IfErr result (λ why. why ≡ Stopped.TooMany
+        → 2 ^ 128 ≤ a.now.count + b.now.count) }
+{
+    match a.join(alloc, b)? {
+        Some(both) => Ok(both),
+        None => Err(Stopped::TooMany),
+    }
+}
+
 // Counts the order in the row of its outcome, or makes that row.
 fn add_row(alloc: Global, rows: &mut Vec<Row>, row: Row) -> Result<(), Stopped>
-    ensures { OnOk result (IsRowAdded rows.old.items row rows.new.items) }
+    ensures added { OnOk result (IsRowAdded rows.old.items row rows.new.items) }
+    ensures too_many { IfErr result (λ why. why ≡ Stopped.TooMany
+        → 2 ^ 128 ≤ counts_of (counted_rows rows.old.items) + row.counted.count) }
 {
     match place_of(rows.as_slice(), row.outcome.as_slice()) {
         Some(place) => {
-            let Some(joined) = rows[place].counted.join(alloc, &row.counted)? else {
-                return Err(Stopped::TooMany);
-            };
-            rows[place].counted = joined;
+            let both = join(alloc, &rows[place].counted, &row.counted)?;
+            rows[place].counted = both;
             Ok(())
         }
         None => {
@@ -118,8 +132,10 @@ fn advance_one<G: Gate + Sync, R: Threads + Wait + Sync>(
 ) -> Result<(), Stopped>
     requires kept { IsKept play.now way.now }
     requires turns { length way.now.counted.order < most_turns }
-    ensures { OnOk result (IsAdvanced play.now way.now next.old.items rows.old.items
+    ensures advanced { OnOk result (IsAdvanced play.now way.now next.old.items rows.old.items
         next.new.items rows.new.items) }
+    ensures too_many { IfErr result (λ why. why ≡ Stopped.TooMany
+        → IsOverrun play.now way.now rows.old.items) }
 {
     let any = spread(rt, alloc, play, way, next, gate)?;
     if !any {
@@ -142,8 +158,10 @@ fn advance<G: Gate + Sync, R: Threads + Wait + Sync>(
 ) -> Result<Vec<Way>, Stopped>
     requires kept { All (IsKept play.now) layer.now }
     requires turns { All (λ way. length way.counted.order < most_turns) layer.now }
-    ensures { IfOk result (λ next. IsStep play.now layer.now rows.old.items next.items
+    ensures step { IfOk result (λ next. IsStep play.now layer.now rows.old.items next.items
         rows.new.items) }
+    ensures too_many { IfErr result (λ why. why ≡ Stopped.TooMany
+        → IsCrowded play.now layer.now rows.old.items room) }
 {
     let mut next = Vec::new(alloc);
     for way in layer {
@@ -162,14 +180,17 @@ fn first_layer<G: Gate + Sync, R: Threads + Wait + Sync>(
     play: &Play,
     gate: &G,
 ) -> Result<Vec<Way>, OutOfMemory>
-    ensures { IfOk result (λ layer. IsLayer play.now 0 layer.items []) }
+    ensures layer { IfOk result (λ layer. IsLayer play.now 0 layer.items []) }
+    ensures first { IfOk result (λ layer. counted_ways layer.items ≡ root ∷ []) }
 {
     let mut layer = Vec::new(alloc);
     layer.push(root(rt, alloc, play, gate)?)?;
     Ok(layer)
 }
 
-/// The rows of the play. At most `most` moments are met.
+/// The rows of the play. At most `most` moments are met: `TooMany` is returned only if there are
+/// more ways to begin an order, if one of them has as many turns as a schedule may have, or if there
+/// are more orders than 128 bits can count.
 pub fn rows_of<G: Gate + Sync, R: Threads + Wait + Sync>(
     rt: &R,
     alloc: Global,
@@ -177,7 +198,8 @@ pub fn rows_of<G: Gate + Sync, R: Threads + Wait + Sync>(
     most: usize,
     gate: &G,
 ) -> Result<Vec<Row>, Stopped>
-    ensures { IfOk result (λ rows. IsTable play.now rows.items) }
+    ensures rows { IfOk result (λ rows. IsTable play.now rows.items) }
+    ensures too_many { IfErr result (λ why. why ≡ Stopped.TooMany → HasTooMany play.now most) }
 {
     let mut rows = Vec::new(alloc);
     let mut layer = first_layer(rt, alloc, play, gate)?;

@@ -1,1 +1,4 @@
+pub mod Inserting
+pub mod Totals
 pub mod Passing
+pub mod Serving

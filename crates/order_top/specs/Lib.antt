@@ -1,1 +1,7 @@
+pub mod Limits
+pub mod Words
+pub mod Sorted
+pub mod Text
+pub mod Statuses
+pub mod NotDone
 pub mod Served

@@ -1,30 +1,61 @@
 // The call that the program makes: reads the words and the script, and writes the rows or a note.
-
-ghost use Rattle.std.specs.Prelude.{◌≡◌, ◌≢◌, ◌↔◌, ◌≤◌, true, map, string_bytes, length, IfOk, IfErr, IsNone, OnOk};
-ghost use Rattle.std.specs.Prelude.{◌⊎◌};
-ghost use Rattle.std.specs.Io.KnownBytes.{Consumes};
+ghost use Rattle.std.specs.Prelude.{◌≡◌, ◌≢◌, ◌+◌, ◌<◌, ◌≤◌, ◌↔◌, ◌⊎◌, None, length, map, string_bytes, IfOk, IfErr, IfSome, OnOk, IsNone};
+ghost use Rattle.std.specs.Io.KnownBytes.{IsAtEnd};
 ghost use Rattle.ima_io.specs.Counts.{Rose};
-ghost use Rattle.order_tables.specs.Words.{most_of};
-ghost use Rattle.order_tables.specs.runs.outcomes.scripts.Grammar.{script_of};
-ghost use Rattle.order_tables.specs.runs.outcomes.scripts.script_lines.declared.fault.Fault.{Fault as AnyFault};
-ghost use Rattle.order_tables.specs.runs.outcomes.scripts.script_lines.declared.fault.LineCause.{LineCause};
-ghost use Rattle.order_top.specs.Served.{Answers, IsDone, IsRefused, IsTableText, may_refuse, may_stop, status_of};
-ghost use Rattle.order_top.specs.declared.not_done.NotDone.TheVariants as not_done;
+ghost use Rattle.order_top.specs.Limits.{most_input};
+ghost use Rattle.order_top.specs.NotDone.{bad_line, refusal, status_of, told_of, too_many_line};
+ghost use Rattle.order_top.specs.Served.{Answers, AreSortedRows, IsMade, IsPastReading, IsStatus, IsTableText, OnInput, Performed, Serves, Told};
+ghost use Rattle.order_top.specs.Statuses as exit;
+ghost use Rattle.order_top.specs.Words.{most_of};
 
 use crate::not_done::NotDone;
-use order_tables::runs::outcomes::reports::model::events::templates::xattrs::Bytes;
-use order_tables::runs::outcomes::reports::outer::{
-    Gate, ReadErr, Sink, Source, read_all, write_all,
-};
-use order_tables::runs::outcomes::scripts::{Fault, ScriptErr};
-use order_tables::runs::{Play, Stopped, rows_of};
-use order_tables::{most_of, sorted, table_text, total_of};
+use crate::sorting::sorted;
+use crate::status::DONE;
+use crate::text::{table_text, total_of};
+use crate::words::most_of;
+use ima_io::{Gate, Sink, Source, read_all, write_all};
+use order_runs::outcomes::reports::model::events::templates::xattrs::Bytes;
+use order_runs::outcomes::scripts::{Fault, ScriptErr};
+use order_runs::{Play, Row, Stopped, rows_of};
 use std::alloc::{AllocError as OutOfMemory, Global};
 use std::sync::Wait;
 use std::thread::Threads;
 
 /// The most bytes that a script may have: 4 MiB.
 pub const MOST_INPUT: usize = 4_194_304;
+
+// The fault as a line `line L: CAUSE`.
+fn bad_line(alloc: Global, fault: Fault) -> Result<Vec<u8>, OutOfMemory>
+    ensures { IfOk result (λ line. line.items ≡ bad_line fault) }
+{
+    let line = format!(in alloc; "line {}: {}\n", fault.line, fault.cause)?;
+    Ok(line.into_bytes())
+}
+
+// The line for a script that has too much for this many moments.
+fn too_many_line(alloc: Global, most: usize) -> Result<Vec<u8>, OutOfMemory>
+    ensures { IfOk result (λ line. line.items ≡ too_many_line most) }
+{
+    let line = format!(in alloc; "more than {} moments\n", most)?;
+    Ok(line.into_bytes())
+}
+
+// The rows of the play, in the order in which they are printed.
+fn sorted_rows<G: Gate + Sync, R: Threads + Wait + Sync>(
+    rt: &R,
+    alloc: Global,
+    play: &Play,
+    most: usize,
+    gate: &G,
+) -> Result<Vec<Row>, NotDone>
+    ensures { IsMade play.now most (λ rows. AreSortedRows play.now rows.items) result }
+{
+    match rows_of(rt, alloc, play, most, gate) {
+        Ok(rows) => Ok(sorted(alloc, rows)?),
+        Err(Stopped::TooMany) => Err(NotDone::TooMany(too_many_line(alloc, most)?)),
+        Err(Stopped::OutOfMemory) => Err(NotDone::OutOfMemory),
+    }
+}
 
 // The text of the rows of the play.
 fn table<G: Gate + Sync, R: Threads + Wait + Sync>(
@@ -34,17 +65,11 @@ fn table<G: Gate + Sync, R: Threads + Wait + Sync>(
     most: usize,
     gate: &G,
 ) -> Result<Bytes, NotDone>
-    ensures text { IfOk result (IsTableText play.now) }
-    ensures causes { IfErr result (λ why. may_stop why ≡ true) }
+    ensures { IsMade play.now most (IsTableText play.now) result }
 {
-    let rows = match rows_of(rt, alloc, play, most, gate) {
-        Ok(rows) => rows,
-        Err(Stopped::TooMany) => return Err(NotDone::TooMany(most)),
-        Err(Stopped::OutOfMemory) => return Err(NotDone::OutOfMemory),
-    };
-    let rows = sorted(alloc, rows)?;
+    let rows = sorted_rows(rt, alloc, play, most, gate)?;
     let Some(total) = total_of(rows.as_slice()) else {
-        return Err(NotDone::TooMany(most));
+        return Err(NotDone::TooMany(too_many_line(alloc, most)?));
     };
     let text = table_text(alloc, total, rows.as_slice())?;
     Ok(Bytes::from_vec(text))
@@ -58,31 +83,30 @@ fn answer<G: Gate + Sync, R: Threads + Wait + Sync>(
     most: usize,
     gate: &G,
 ) -> Result<Bytes, NotDone>
-    requires { length input ≤ MOST_INPUT }
-    ensures answer { Answers result (script_of input) }
-    ensures causes { IfErr result (λ why. may_refuse why ≡ true) }
+    requires { length input ≤ most_input }
+    ensures { Answers most input result }
 {
     match Play::read(alloc, input) {
         Ok(play) => table(rt, alloc, &play, most, gate),
-        Err(ScriptErr::Refused(fault)) => Err(NotDone::Refused(fault)),
+        Err(ScriptErr::Refused(fault)) => Err(NotDone::Refused(bad_line(alloc, fault)?)),
         Err(ScriptErr::OutOfMemory) => Err(NotDone::OutOfMemory),
     }
 }
 
-fn read<S: Source>(alloc: Global, script: &mut S) -> Result<Bytes, NotDone>
-    ensures given { IfOk result (λ input. Consumes (S.left script.old) (S.left script.new) input) }
-    ensures short { IfOk result (λ input. length input ≤ MOST_INPUT) }
-    ensures causes { IfErr result (λ why. (why ≡ not_done.ReadFault)
-        ⊎ (why ≡ not_done.TooLong) ⊎ (why ≡ not_done.OutOfMemory)) }
-    ensures fault { result ≡ Err NotDone.ReadFault
-        → Rose (S.faults script.old) (S.faults script.new) }
+// Reads the whole input.
+fn read_input<S: Source>(alloc: Global, script: &mut S) -> Result<Bytes, NotDone>
+    ensures causes { IfErr result (λ why. (status_of (Err why) ≡ exit.read_fault)
+        ⊎ (status_of (Err why) ≡ exit.too_long) ⊎ (status_of (Err why) ≡ exit.out_of_memory)) }
+    ensures whole_input { OnOk result (IsAtEnd (S.left script.new)) }
+    ensures read_fault { IfErr result (λ why. status_of (Err why) ≡ exit.read_fault →
+        Rose (S.faults script.old) (S.faults script.new)) }
+    ensures input { OnInput (S.left script.old) (S.left script.new) (λ input.
+        (length input ≤ most_input + 1)
+        × IfErr result (λ why. (status_of (Err why) ≡ exit.too_long) ↔ (most_input < length input))
+        × IfOk result (λ bytes. (bytes ≡ input) × (length input ≤ most_input))) }
 {
-    match read_all(alloc, script, MOST_INPUT) {
-        Ok(input) => Ok(Bytes::from_vec(input)),
-        Err(ReadErr::Fault) => Err(NotDone::ReadFault),
-        Err(ReadErr::TooLong) => Err(NotDone::TooLong),
-        Err(ReadErr::OutOfMemory) => Err(NotDone::OutOfMemory),
-    }
+    let bytes = read_all(alloc, script, MOST_INPUT)?;
+    Ok(Bytes::from_vec(bytes))
 }
 
 // Reads the whole script, makes its rows, and writes all of them.
@@ -94,54 +118,70 @@ fn perform<S: Source, K: Sink, G: Gate + Sync, R: Threads + Wait + Sync>(
     out: &mut K,
     gate: &G,
 ) -> Result<(), NotDone>
-    ensures done { OnOk result (IsDone (S.left script.old) (S.left script.new)
-        (K.taken out.old) (K.taken out.new)) }
-    ensures words { IfErr result (λ why. status_of why ≢ 1) }
-    ensures refused { (fault : AnyFault LineCause) → result ≡ Err (NotDone.Refused fault)
-        → IsRefused (S.left script.old) (S.left script.new) fault }
-    ensures unwritten { IfErr result (λ why. why ≢ not_done.WriteFault → out.new ≡ out.old) }
-    ensures write_fault { result ≡ Err NotDone.WriteFault
-        → Rose (K.faults out.old) (K.faults out.new) }
-    ensures read_fault { result ≡ Err NotDone.ReadFault
+    ensures words { status_of result ≢ exit.usage }
+    ensures whole_input { IsPastReading (status_of result) → IsAtEnd (S.left script.new) }
+    ensures read_fault { status_of result ≡ exit.read_fault
         → Rose (S.faults script.old) (S.faults script.new) }
+    ensures input { OnInput (S.left script.old) (S.left script.new) (λ input.
+        (length input ≤ most_input + 1)
+        × ((status_of result ≡ exit.too_long) ↔ (most_input < length input))
+        × Performed most input (K.taken out.old) (K.taken out.new) result) }
+    ensures unwritten { status_of result ≢ exit.done → status_of result ≢ exit.write_fault
+        → out.new ≡ out.old }
+    ensures write_fault { status_of result ≡ exit.write_fault
+        → Rose (K.faults out.old) (K.faults out.new) }
 {
-    let input = read(alloc, script)?;
+    let input = read_input(alloc, script)?;
     let output = answer(rt, alloc, input, most, gate)?;
     write_all(out, output.as_slice())?;
     Ok(())
 }
 
-fn line_of(alloc: Global, fault: Fault) -> Result<String, OutOfMemory> {
-    format!(in alloc; "line {}: {}\n", fault.line, fault.cause)
+// Finds the most moments that may be met and performs what the words ask for.
+fn answer_words<S: Source, K: Sink, G: Gate + Sync, R: Threads + Wait + Sync>(
+    rt: &R,
+    alloc: Global,
+    words: &[String],
+    script: &mut S,
+    out: &mut K,
+    gate: &G,
+) -> Result<(), NotDone>
+    ensures usage { (status_of result ≡ exit.usage)
+        ↔ IsNone (most_of (map string_bytes words.now)) }
+    ensures unread { status_of result ≡ exit.usage → script.new ≡ script.old }
+    ensures whole_input { IsPastReading (status_of result) → IsAtEnd (S.left script.new) }
+    ensures read_fault { status_of result ≡ exit.read_fault
+        → Rose (S.faults script.old) (S.faults script.new) }
+    ensures input { IfSome (most_of (map string_bytes words.now)) (λ most.
+        OnInput (S.left script.old) (S.left script.new) (λ input.
+        (length input ≤ most_input + 1)
+        × ((status_of result ≡ exit.too_long) ↔ (most_input < length input))
+        × Performed most input (K.taken out.old) (K.taken out.new) result)) }
+    ensures unwritten { status_of result ≢ exit.done → status_of result ≢ exit.write_fault
+        → out.new ≡ out.old }
+    ensures write_fault { status_of result ≡ exit.write_fault
+        → Rose (K.faults out.old) (K.faults out.new) }
+{
+    match most_of(words) {
+        Some(most) => perform(rt, alloc, most, script, out, gate),
+        None => Err(NotDone::Usage),
+    }
 }
 
-// Writes the line that says why to the note. A fault of the note doesn't change the status.
-fn tell<N: Sink>(alloc: Global, note: &mut N, why: NotDone) {
-    let line: &[u8] = match why {
-        NotDone::Usage => b"usage: imakern_orders [N]\n",
-        NotDone::Refused(fault) => {
-            if let Ok(line) = line_of(alloc, fault) {
-                let _ = write_all(note, line.as_bytes());
-            }
-            return;
-        }
-        NotDone::TooMany(most) => {
-            if let Ok(line) = format!(in alloc; "more than {} moments\n", most) {
-                let _ = write_all(note, line.as_bytes());
-            }
-            return;
-        }
-        NotDone::ReadFault => b"read fault\n",
-        NotDone::WriteFault => b"write fault\n",
-        NotDone::TooLong => b"input too long\n",
-        NotDone::OutOfMemory => b"out of memory\n",
-    };
+// Writes the line to the note. A fault of the note doesn't change the status.
+fn tell<N: Sink>(note: &mut N, line: &[u8])
+    ensures { Told (N.faults note.old) (N.faults note.new)
+        (N.taken note.old) (N.taken note.new) line.now }
+{
     let _ = write_all(note, line);
 }
 
-/// Reads a script from `script` and writes the rows of all its orders to `out`; returns the exit
-/// status. What went wrong is reported in one line on `note`. The words don't include the program's
-/// name; one word is the most moments that may be met.
+/// Reads a script from `script`, writes the rows of all its orders to `out`, and returns the exit
+/// status. What went wrong is reported in one line on `note`; a fault of `note` doesn't change the
+/// status.
+///
+/// The words don't include the program's name; one word is the most moments that may be met. Each
+/// step of a task passes `gate` first.
 pub fn serve<S: Source, K: Sink, N: Sink, G: Gate + Sync, R: Threads + Wait + Sync>(
     rt: &R,
     alloc: Global,
@@ -151,25 +191,47 @@ pub fn serve<S: Source, K: Sink, N: Sink, G: Gate + Sync, R: Threads + Wait + Sy
     note: &mut N,
     gate: &G,
 ) -> u8
-    // With 0 the input is a script, and the rows of all its orders were written whole.
-    ensures done { result ≡ 0 → IsDone (S.left script.old) (S.left script.new)
-        (K.taken out.old) (K.taken out.new) }
-    ensures usage { (result ≡ 1) ↔ IsNone (most_of (map string_bytes words.now)) }
-    ensures refused { result ≡ 2 → (fault : AnyFault LineCause)
-        × IsRefused (S.left script.old) (S.left script.new) fault }
-    ensures read_fault { result ≡ 4 → Rose (S.faults script.old) (S.faults script.new) }
-    ensures write_fault { result ≡ 5 → Rose (K.faults out.old) (K.faults out.new) }
-    ensures unwritten { result ≢ 0 → result ≢ 5 → out.new ≡ out.old }
-    ensures untold { result ≡ 0 → note.new ≡ note.old }
+    ensures statuses { IsStatus result }
+
+    // The words: `usage` is returned exactly if they are neither none nor one number. Then nothing
+    // is read.
+    ensures usage { (result ≡ exit.usage) ↔ IsNone (most_of (map string_bytes words.now)) }
+    ensures unread { result ≡ exit.usage → script.new ≡ script.old }
+
+    // The input is read to its end, except with the statuses `usage`, `read_fault`, `too_long` and
+    // `out_of_memory`.
+    ensures whole_input { IsPastReading result → IsAtEnd (S.left script.new) }
+    ensures read_fault { result ≡ exit.read_fault
+        → Rose (S.faults script.old) (S.faults script.new) }
+
+    // What the status says about the input, the output that was written, and the line on the note.
+    ensures served { IfSome (most_of (map string_bytes words.now)) (λ most.
+        OnInput (S.left script.old) (S.left script.new) (λ input.
+        Serves most input result (K.taken out.old) (K.taken out.new)
+        (Told (N.faults note.old) (N.faults note.new) (N.taken note.old) (N.taken note.new)))) }
+
+    // The output: nothing is written before all rows are known.
+    ensures unwritten { result ≢ exit.done → result ≢ exit.write_fault → out.new ≡ out.old }
+    ensures write_fault { result ≡ exit.write_fault → Rose (K.faults out.old) (K.faults out.new) }
+
+    // The note: it takes the status's line, or fails and takes a prefix of it.
+    ensures untold { result ≡ exit.done → note.new ≡ note.old }
+    ensures told { result ≢ exit.done → result ≢ exit.refused → result ≢ exit.too_many →
+        Told (N.faults note.old) (N.faults note.new)
+        (N.taken note.old) (N.taken note.new) (told_of result) }
+
+    // If no stream fails, a script is answered, unless it has too much or memory runs out.
+    ensures complete { IfSome (most_of (map string_bytes words.now)) (λ most.
+        IfSome (S.left script.old) (λ input.
+        length input ≤ most_input → refusal input ≡ None →
+        (result ≡ exit.done) ⊎ (result ≡ exit.too_many) ⊎ (result ≡ exit.out_of_memory)
+        ⊎ Rose (S.faults script.old) (S.faults script.new)
+        ⊎ Rose (K.faults out.old) (K.faults out.new))) }
 {
-    let done = match most_of(words) {
-        Some(most) => perform(rt, alloc, most, script, out, gate),
-        None => Err(NotDone::Usage),
-    };
-    match done {
-        Ok(()) => 0,
+    match answer_words(rt, alloc, words, script, out, gate) {
+        Ok(()) => DONE,
         Err(why) => {
-            tell(alloc, note, why);
+            tell(note, why.line());
             why.status()
         }
     }

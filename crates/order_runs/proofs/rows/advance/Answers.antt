@@ -1,9 +1,10 @@
-use Rattle.std.proofs.Common.{List, [], length, ◌<◌, sym, subst}
+use Rattle.std.proofs.Common.{List, [], length, ◌+◌, ◌<◌, arith, sym, subst}
 use Rattle.std.proofs.lemmas.List.{take_all}
 use Rattle.order_outcomes.specs.scripts.Limits.{most_turns}
 use Rattle.order_runs.specs.Steps.{IsKept, IsStep}
 use Rattle.order_runs.specs.declared.ways.Way.{Way}
 use Rattle.order_runs.proofs.Layering.{step_more, step_none}
+use Rattle.order_runs.proofs.Stopping.{overrun, told, wide}
 use Rattle.order_runs.proofs.rows.advance.Goals as goal
 
 pub advance_one-requires-clause-kept : goal.advance_one-requires-clause-kept
@@ -29,10 +30,29 @@ loop-way-preserved g c =
     step_more c.args.play.now c.args.layer.now c.loop-way.way-index c.way-item.result
     c.args.rows.now.items c.loop-way.next.items c.loop-way.rows.items
     c.advance_one.new.next.items c.advance_one.new.rows.items c.loop-way-test.true c.way-item.is
-    c.loop-way.invariant c.in_ok-advance_one.ensures
+    c.loop-way.invariant c.in_ok-advance_one.ensures.advanced
 
-pub returns : goal.returns
-returns g c =
+pub returns-clause-step : goal.returns-clause-step
+returns-clause-step g c =
     subst (λ (ways : List Way). IsStep c.args.play.now ways c.args.rows.now.items
     c.loop-way.next.items c.loop-way.rows.items)
     (take_all c.loop-way.way-index c.args.layer.now c.loop-way-test.false) c.loop-way.invariant
+
+pub returns-in_err-advance_one-clause-too_many : goal.returns-in_err-advance_one-clause-too_many
+returns-in_err-advance_one-clause-too_many g c =
+    told _ _ c.in_err-advance_one.field-0.0 c.from_residual.result
+    c.in_err-advance_one.ensures.too_many
+    (overrun c.args.play.now c.args.layer.now c.loop-way.way-index c.way-item.result
+    c.args.rows.now.items c.args.room c.loop-way.next.items c.loop-way.rows.items
+    c.loop-way-test.true c.way-item.is c.loop-way.invariant)
+    c.from_residual.ensures.1
+
+pub returns-then-len-room-clause-too_many : goal.returns-then-len-room-clause-too_many
+returns-then-len-room-clause-too_many g c = λ is.
+    wide c.args.play.now c.args.layer.now (c.loop-way.way-index + 1) c.args.rows.now.items
+    c.args.room c.advance_one.new.next.items c.advance_one.new.rows.items
+    (step_more c.args.play.now c.args.layer.now c.loop-way.way-index c.way-item.result
+    c.args.rows.now.items c.loop-way.next.items c.loop-way.rows.items
+    c.advance_one.new.next.items c.advance_one.new.rows.items c.loop-way-test.true c.way-item.is
+    c.loop-way.invariant c.in_ok-advance_one.ensures.advanced)
+    (omega (arith, c.len.ensures, c.if-len-room.true, c.advance_one.new.next.ok.0))

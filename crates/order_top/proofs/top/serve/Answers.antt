@@ -1,20 +1,20 @@
-use Rattle.std.proofs.Common.{sym, subst, ◌∙◌}
-use Rattle.order_tables.specs.runs.outcomes.scripts.script_lines.declared.fault.Fault.{Fault}
-use Rattle.order_tables.specs.runs.outcomes.scripts.script_lines.declared.fault.LineCause.{LineCause}
-use Rattle.order_top.specs.Served.{IsRefused}
-use Rattle.order_top.proofs.Passing.{refused_by, words_only}
-use Rattle.order_top.proofs.top.serve.Goals.{in-Some, in-None}
+use Rattle.std.proofs.Common.{map, string_bytes}
+use Rattle.order_top.specs.Words.{most_of}
+use Rattle.order_top.proofs.Serving.{complete_not_done, served_done, served_not_done}
 use Rattle.order_top.proofs.top.serve.Goals as goal
 
-pub returns-in-Err-clause-refused : goal.returns-in-Err-clause-refused
-returns-in-Err-clause-refused g c = elim c.match-most_of.branch [
-  | in-Some w ↦ λ two.
-      subst (λ s. (fault : Fault LineCause) × IsRefused (g.S.Source.left c.args.script.now)
-      (g.S.Source.left s) fault) (sym w.script-is)
-      (refused_by w.perform-done.result c.in-Err.why c.status.result
-      (IsRefused (g.S.Source.left c.args.script.now) (g.S.Source.left w.perform-done.new.script))
-      (sym w.done-is ∙ c.in-Err.is) c.status.ensures two w.perform-done.ensures.refused)
-  | in-None w ↦ λ two. absurd
-      (words_only c.match-most_of.done c.in-Err.why c.status.result w.done-is c.in-Err.is
-      c.status.ensures two)
-]
+pub returns-in-Ok-clause-served : goal.returns-in-Ok-clause-served
+returns-in-Ok-clause-served g c =
+    served_done (most_of (map string_bytes c.args.words.now)) _ _ _ _ _ c.in-Ok.ensures.input
+
+pub returns-in-Err-clause-served : goal.returns-in-Err-clause-served
+returns-in-Err-clause-served g c =
+    served_not_done (most_of (map string_bytes c.args.words.now)) _ _ _ _ c.in-Err.why _
+    c.status.result c.line.result.now c.status.ensures c.line.ensures c.in-Err.ensures.input
+    c.tell.ensures
+
+pub returns-in-Err-clause-complete : goal.returns-in-Err-clause-complete
+returns-in-Err-clause-complete g c =
+    complete_not_done (most_of (map string_bytes c.args.words.now)) _ _ _ _ c.in-Err.why _ _
+    c.status.result c.status.ensures c.in-Err.ensures.usage.0 c.in-Err.ensures.whole_input
+    c.in-Err.ensures.read_fault c.in-Err.ensures.write_fault c.in-Err.ensures.input
