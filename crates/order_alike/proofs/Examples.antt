@@ -1,0 +1,281 @@
+-- The examples: the names by which moments are alike, and what tells others apart.
+use Rattle.std.proofs.Common.{◌≡◌, ℕ, zero, suc, ◌<◌, ◌==◌, Bool, true, false, ◌&&◌, ◌||◌, List, [], ◌∷◌, length, Option, Some, None, is_some, slice_get, if◌then◌else◌, refl, ap, sym, subst, ◌∙◌, inl, inr, ⊎_elim, arith}
+use Rattle.std.specs.Option.{option_or}
+use Rattle.std.proofs.Math.Bool.{or-false}
+use Rattle.std.proofs.lemmas.Bool.{eqb-true, or_cases, true≢false}
+use Rattle.std.proofs.lemmas.Option.{none-some, same_Some}
+use Rattle.order_outcomes.specs.Calls.{listed_in, verdict_in}
+use Rattle.order_outcomes.specs.Examples.{boot, station}
+use Rattle.order_outcomes.specs.reports.model.History.{Thought}
+use Rattle.order_outcomes.specs.reports.model.Scene.{Station, inode_of}
+use Rattle.order_outcomes.specs.reports.model.Turns.{Moment, journal_at}
+use Rattle.order_outcomes.specs.reports.model.events.Checks.{last_check}
+use Rattle.order_outcomes.specs.reports.model.events.Files.{held, readers as readers_in}
+use Rattle.order_outcomes.specs.reports.model.events.Past.{past}
+use Rattle.order_outcomes.specs.reports.model.events.State.{content, metadata}
+use Rattle.order_outcomes.specs.reports.model.events.declared.deed.Change.TheVariants as change
+use Rattle.order_outcomes.specs.reports.model.events.declared.deed.Deed.TheVariants as deed
+use Rattle.order_outcomes.specs.reports.model.events.declared.deed.How.TheVariants as how
+use Rattle.order_outcomes.specs.reports.model.events.declared.told.Event.{Event}
+use Rattle.order_outcomes.specs.reports.model.events.declared.told.Told.TheVariants as told
+use Rattle.order_outcomes.specs.reports.model.events.labels.declared.verdict.Verdict.{Verdict}
+use Rattle.order_outcomes.specs.reports.model.events.meta.declared.identity.Meta.{Meta}
+use Rattle.order_alike.specs.Alike.{IsAlike, IsAlikeBy, IsInodeAlike, IsSound}
+use Rattle.order_alike.specs.Examples.{AlikeExamples, IsOther, after, readers, with_entry, with_event}
+use Rattle.order_alike.specs.Names.{Naming, is_used}
+
+-- ---- two tasks have opened the file, in either order
+
+-- task 0 was first, or task 1 was
+abbrev first_0 : Moment
+first_0 = after (0 ∷ 0 ∷ 1 ∷ 1 ∷ [])
+
+abbrev first_1 : Moment
+first_1 = after (1 ∷ 1 ∷ 0 ∷ 0 ∷ [])
+
+-- the journal of the file in these moments
+abbrev journal_0 : List Event
+journal_0 = journal_at first_0.state 0
+
+abbrev journal_1 : List Event
+journal_1 = journal_at first_1.state 0
+
+-- the files are the counts at the places 1 and 3
+abbrev swapped : ℕ → ℕ
+swapped file = if file == 1 then 3 else if file == 3 then 1 else file
+
+-- the names of files; the scene has one inode
+abbrev names : Naming
+names zero file = swapped file
+names (suc i) file = file
+
+-- a test that doesn't matter
+same_if : {X : Type 0} {x y : X} (b : Bool) → y ≡ x → (if b then x else y) ≡ x
+same_if true e = refl
+same_if false e = e
+
+-- the checks have no action, like that of a file without a check
+sound_0 : IsSound (inode_of readers station) first_0.state.list (past journal_0)
+unfolding past
+sound_0 = record {
+  files = λ file le. same_if (3 == file) (same_if (1 == file) refl);
+  collection = tt;
+  digests = tt;
+  places = λ k d lt. absurd (omega arith);
+}
+
+-- the same of the other journal
+sound_1 : IsSound (inode_of readers station) first_0.state.list (past journal_1)
+unfolding past
+sound_1 = record {
+  files = λ file le. same_if (3 == file) (same_if (1 == file) refl);
+  collection = tt;
+  digests = tt;
+  places = λ k d lt. absurd (omega arith);
+}
+
+-- what holds of the three files that are used holds of each
+each : (P : ℕ → Type 0) → P 0 → P 1 → P 3 → (file : ℕ)
+    → is_used first_0.thoughts 0 file ≡ true → P file
+unfolding past
+each P none one three file is =
+    ⊎_elim (λ e. subst P (sym (eqb-true file 0 e)) none)
+    (λ more. ⊎_elim
+    (λ e. subst P (eqb-true 1 file (sym (or-false (1 == file)) ∙ e)) one)
+    (λ e. subst P (eqb-true 3 file (sym (or-false (3 == file)) ∙ sym (or-false (3 == file || false))
+    ∙ e)) three)
+    (or_cases (1 == file || false) ((3 == file || false) || false) more))
+    (or_cases (file == 0) ((1 == file || false) || ((3 == file || false) || false)) is)
+
+-- an event without a verdict tells none
+no_verdict : {o : Option Verdict} (b : Bool) → o ≡ None
+    → option_or (if b then None else None) o ≡ None
+no_verdict true e = e
+no_verdict false e = e
+
+-- an event that isn't a read tells nothing of the list
+no_read : {y : Option Bool} (b : Bool) (x : Option Bool) → y ≡ None
+    → (if b && false then x else y) ≡ None
+no_read true x e = e
+no_read false x e = e
+
+-- no call was told a verdict
+told_0 : (task n : ℕ) → verdict_in task n journal_0 ≡ None
+unfolding past
+told_0 task n =
+    no_verdict (0 == task && 0 == n) (no_verdict (0 == task && 0 == n)
+    (no_verdict (0 == task && 0 == n) (no_verdict (1 == task && 0 == n)
+    (no_verdict (1 == task && 0 == n) refl))))
+
+-- nor in the other moment
+told_1 : (task n : ℕ) → verdict_in task n journal_1 ≡ None
+unfolding past
+told_1 task n =
+    no_verdict (0 == task && 0 == n) (no_verdict (1 == task && 0 == n)
+    (no_verdict (1 == task && 0 == n) (no_verdict (0 == task && 0 == n)
+    (no_verdict (0 == task && 0 == n) refl))))
+
+-- no call has read
+listed_0 : (task n : ℕ) → listed_in first_0.state.list task n (past journal_0) ≡ None
+unfolding past
+listed_0 task n =
+    no_read (1 == task && 0 == n) _ (no_read (1 == task && 0 == n) _
+    (no_read (0 == task && 0 == n) _ (no_read (0 == task && 0 == n) _
+    (no_read (0 == task && 0 == n) _ refl))))
+
+-- nor in the other moment
+listed_1 : (task n : ℕ) → listed_in first_0.state.list task n (past journal_1) ≡ None
+unfolding past
+listed_1 task n =
+    no_read (0 == task && 0 == n) _ (no_read (0 == task && 0 == n) _
+    (no_read (1 == task && 0 == n) _ (no_read (1 == task && 0 == n) _
+    (no_read (0 == task && 0 == n) _ refl))))
+
+-- the names of two files that are used are equal if the files are
+apart : (f g : ℕ) → is_used first_0.thoughts 0 f ≡ true → is_used first_0.thoughts 0 g ≡ true
+    → (swapped f == swapped g) ≡ (f == g)
+apart f g is is2 =
+    each (λ x. (swapped x == swapped g) ≡ (x == g))
+    (each (λ y. (swapped 0 == swapped y) ≡ (0 == y)) refl refl refl g is2)
+    (each (λ y. (swapped 1 == swapped y) ≡ (1 == y)) refl refl refl g is2)
+    (each (λ y. (swapped 3 == swapped y) ≡ (3 == y)) refl refl refl g is2) f is
+
+-- the journals are alike under these names
+inode : IsInodeAlike (inode_of readers station) first_0.state.list (is_used first_0.thoughts 0)
+    swapped journal_0 journal_1
+unfolding past
+inode = record {
+  sound = sound_0;
+  sound2 = sound_1;
+  below = each (λ file. file < length journal_0) (omega arith) (omega arith) (omega arith);
+  below2 = each (λ file. swapped file < length journal_1) (omega arith) (omega arith) (omega arith);
+  apart = apart;
+  how = each (λ file. held (swapped file) (past journal_1) ≡ held file (past journal_0)) refl refl
+      refl;
+  checks = each (λ file. last_check (swapped file) (past journal_1)
+      ≡ last_check file (past journal_0)) refl refl refl;
+  present_in = refl;
+  new_in = refl;
+  versions_in = refl;
+  content_in = refl;
+  metadata_in = refl;
+  attributes_in = refl;
+  writers_in = refl;
+  readers_in = refl;
+  execs_in = refl;
+  must_measure_in = refl;
+  update_in = refl;
+  modified = refl;
+  collection = refl;
+  digests = refl;
+  verdicts = λ key. refl;
+  places = refl;
+  told = λ task n. told_1 task n ∙ sym (told_0 task n);
+  listed = λ task n. listed_1 task n ∙ sym (listed_0 task n);
+}
+
+-- the file without a count keeps its name
+none : (i : ℕ) → names i 0 ≡ 0
+none zero = refl
+none (suc i) = refl
+
+-- and so do files that aren't in the scene
+elsewhere : (i : ℕ) → slice_get readers.stations i ≡ None → (file : ℕ) → names i file ≡ file
+elsewhere zero e file = absurd (none-some station (sym e))
+elsewhere (suc i) e file = refl
+
+-- the file is the only one
+inodes : (i : ℕ) (s : Station) → slice_get readers.stations i ≡ Some s
+    → IsInodeAlike (inode_of readers s) first_0.state.list (is_used first_0.thoughts i) (names i)
+    (journal_at first_0.state i) (journal_at first_1.state i)
+unfolding past
+inodes zero s e =
+    subst (λ (x : Station). IsInodeAlike (inode_of readers x) first_0.state.list
+    (is_used first_0.thoughts 0) swapped journal_0 journal_1) (same_Some station s e) inode
+inodes (suc i) s e = absurd (none-some s e)
+
+-- both moments are alike
+either_first : IsAlikeBy readers names first_0 first_1
+unfolding past
+either_first = record {
+  none = none;
+  elsewhere = elsewhere;
+  thoughts = refl;
+  inodes = inodes;
+  list = refl;
+  added = refl;
+  semaphores = λ sem. refl;
+}
+
+-- ---- others
+
+-- how many calls of the first task are answered
+abbrev answered : List Thought → ℕ
+answered [] = 0
+answered (t ∷ ts) = length t.replies
+
+-- whether the first task is in a call
+abbrev in_call : List Thought → Bool
+in_call [] = false
+in_call (t ∷ ts) = is_some t.mind.progress
+
+-- the first task has its answer in one of them
+only_one : IsAlike readers (after (0 ∷ 0 ∷ [])) (after (1 ∷ 1 ∷ [])) → ⊥
+unfolding past
+only_one (inl e) = let same = ap (λ (m : Moment). answered m.thoughts) e in omega (arith, same)
+only_one (inr x) = let same = ap answered x.1.thoughts in omega (arith, same)
+
+-- the first task is in a call in one of them
+further : IsOther (after (0 ∷ []))
+unfolding past
+further (inl e) = true≢false (sym (ap (λ (m : Moment). in_call m.thoughts) e))
+further (inr x) = true≢false (ap in_call x.1.thoughts)
+
+-- the file has a reader in one of them
+other_count : IsOther (with_event (deed.Count (how.Read false)) told.Held)
+unfolding past
+other_count (inl e) =
+    let same = ap (λ (m : Moment). readers_in (past (journal_at m.state 0))) e in
+    omega (arith, same)
+other_count (inr x) =
+    let same = (x.1.inodes 0 station refl).readers_in in
+    omega (arith, same)
+
+-- the content has another length
+other_content : IsOther (with_event (deed.Trunc 0 2) told.Done)
+unfolding past
+other_content (inl e) =
+    let same = ap (λ (m : Moment). length (content (past (journal_at m.state 0)))) e in
+    omega (arith, same)
+other_content (inr x) =
+    let same = ap length (x.1.inodes 0 station refl).content_in in
+    omega (arith, same)
+
+-- the mode is another
+other_mode : IsOther (with_event (deed.SetMeta (change.Mode 0)) told.Done)
+unfolding past
+other_mode (inl e) =
+    let same = ap (λ (m : Moment). (metadata (past (journal_at m.state 0))).mode) e in
+    omega (arith, same)
+other_mode (inr x) =
+    let same = ap (λ (m : Meta). m.mode) (x.1.inodes 0 station refl).metadata_in in
+    omega (arith, same)
+
+-- the list has another length
+other_list : IsOther (with_entry boot)
+other_list (inl e) =
+    let same = ap (λ (m : Moment). length m.state.list) e in
+    omega (arith, same)
+other_list (inr x) = let same = ap length x.1.list in omega (arith, same)
+
+-- all examples
+pub examples : AlikeExamples
+examples = record {
+  either_first = inr (names, either_first);
+  only_one = only_one;
+  further = further;
+  other_count = other_count;
+  other_content = other_content;
+  other_mode = other_mode;
+  other_list = other_list;
+}

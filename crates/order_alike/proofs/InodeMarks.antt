@@ -1,0 +1,92 @@
+-- The marks of an inode and its verdicts in force after one more event, in two journals in which
+-- the same files have other names.
+use Rattle.std.proofs.Common.{◌≡◌, ℕ, Bool, true, false, ◌&&◌, ◌||◌, not, cond, List, Option, None, refl, ap, ap₂}
+use Rattle.std.specs.Option.{option_or}
+use Rattle.order_outcomes.specs.reports.model.events.Checks.{Check}
+use Rattle.order_outcomes.specs.reports.model.events.Files.{holds, is_writer, is_writing}
+use Rattle.order_outcomes.specs.reports.model.events.Inode.{Inode}
+use Rattle.order_outcomes.specs.reports.model.events.Integrity.{in_force}
+use Rattle.order_outcomes.specs.reports.model.events.Marks.{is_passed, must_measure, must_measure_after, update, update_after}
+use Rattle.order_outcomes.specs.reports.model.events.Past.{past}
+use Rattle.order_outcomes.specs.reports.model.events.Verdicts.{Key, key_of, same_key, verdict_given, verdict_in_force, verdict_kept, voids_verdicts}
+use Rattle.order_outcomes.specs.reports.model.events.declared.deed.Deed.{Deed}
+use Rattle.order_outcomes.specs.reports.model.events.declared.deed.Deed.TheVariants as deed
+use Rattle.order_outcomes.specs.reports.model.events.declared.deed.How.{How}
+use Rattle.order_outcomes.specs.reports.model.events.declared.told.Event.{Event}
+use Rattle.order_outcomes.specs.reports.model.events.declared.told.Told.{Told}
+use Rattle.order_outcomes.specs.reports.model.events.declared.told.Told.TheVariants as told
+use Rattle.order_outcomes.specs.reports.model.events.labels.declared.verdict.Verdict.{Verdict}
+use Rattle.order_outcomes.specs.reports.model.events.templates.declared.entry.Entry.{Entry}
+use Rattle.order_alike.proofs.InodeIntegrity.{voids_same}
+use Rattle.order_alike.proofs.InodeLaws.{IsUsed, deed_named, file_in}
+use Rattle.order_alike.proofs.InodeState.{last_drop_same}
+use Rattle.order_alike.specs.Alike.{IsInodeAlike}
+
+module _ (inode : Inode) (list : List Entry) (used : ℕ → Bool) (r : ℕ → ℕ) (j j2 : List Event)
+    (s : IsInodeAlike inode list used r j j2) where
+  -- the file is open for writing in both
+  pub writing_same : (file : ℕ) → used file ≡ true
+      → is_writing (r file) (past j2) ≡ is_writing file (past j)
+  writing_same file u = ap (λ (o : Option How). holds is_writer o) (s.how file u)
+
+  -- the mark of a measured file
+  pub must_measure_grown : (d : Deed) (t : Told) → IsUsed used (file_in d)
+      → must_measure_after (deed_named r d) t (past j2) (must_measure (past j2))
+      ≡ must_measure_after d t (past j) (must_measure (past j))
+  must_measure_grown (deed.Check file func action rules) told.Quiet u =
+      ap₂ (λ (old w : Bool). old || (action.measure && not w)) s.must_measure_in
+      (writing_same file u)
+  must_measure_grown (deed.Check file func action rules) (told.OpenWriters place) u =
+      ap₂ (λ (old w : Bool). old || (action.measure && not w)) s.must_measure_in
+      (writing_same file u)
+  must_measure_grown (deed.Check file func action rules) (told.ToMToU place) u = refl
+  must_measure_grown d t u = s.must_measure_in
+
+  -- the mark of a writer whose label must be updated
+  pub update_grown : (d : Deed) (t : Told) → IsUsed used (file_in d)
+      → update_after (deed_named r d) t (past j2) (update (past j2))
+      ≡ update_after d t (past j) (update (past j))
+  update_grown (deed.Take file) (told.Grant grant) u =
+      ap₂ (λ (old w : Bool). old || (w && (is_passed grant.verdict || grant.labelled)))
+      s.update_in (writing_same file u)
+  update_grown (deed.Finish file) (told.Grant grant) u =
+      ap₂ (λ (old w : Bool). old || (w && (is_passed grant.verdict || grant.labelled)))
+      s.update_in (writing_same file u)
+  update_grown d t u =
+      ap₂ (λ (b old : Bool). cond b false old)
+      (last_drop_same r (past j) (past j2) s.writers_in d t) s.update_in
+
+  -- ---- verdicts
+
+  -- the event voids the verdicts of both
+  voids_verdicts_same : (d : Deed) (t : Told)
+      → voids_verdicts (deed_named r d) t (past j2) (in_force inode (past j2))
+      ≡ voids_verdicts d t (past j) (in_force inode (past j))
+  voids_verdicts_same (deed.SetMeta change) told.Done = refl
+  voids_verdicts_same d t = voids_same inode list used r j j2 s d t
+
+  -- a grant's verdict is kept under the same key
+  kept_verdict : (key : Key) (file : ℕ) (verdict : Option Verdict) → used file ≡ true
+      → verdict_kept key (r file) verdict (past j2) (verdict_in_force inode key (past j2))
+      ≡ verdict_kept key file verdict (past j) (verdict_in_force inode key (past j))
+  kept_verdict key file verdict u =
+      ap₂ (λ (c : Check) (old : Option Verdict). cond (same_key key (key_of c))
+      (option_or verdict old) old) (s.checks file u) (s.verdicts key)
+
+  -- the event gives the same verdict under the key
+  given_verdict : (key : Key) (d : Deed) (t : Told) → IsUsed used (file_in d)
+      → verdict_given key (deed_named r d) t (past j2) (verdict_in_force inode key (past j2))
+      ≡ verdict_given key d t (past j) (verdict_in_force inode key (past j))
+  given_verdict key (deed.Take file) (told.Grant grant) u = kept_verdict key file grant.verdict u
+  given_verdict key (deed.Finish file) (told.Grant grant) u = kept_verdict key file grant.verdict u
+  given_verdict key d t u = s.verdicts key
+
+  -- the verdict in force after it
+  pub verdicts_grown : (key : Key) (d : Deed) (t : Told) → IsUsed used (file_in d)
+      → cond (voids_verdicts (deed_named r d) t (past j2) (in_force inode (past j2))) None
+      (verdict_given key (deed_named r d) t (past j2) (verdict_in_force inode key (past j2)))
+      ≡ cond (voids_verdicts d t (past j) (in_force inode (past j))) None
+      (verdict_given key d t (past j) (verdict_in_force inode key (past j)))
+  verdicts_grown key d t u =
+      ap₂ (λ (b : Bool) (v : Option Verdict). cond b None v) (voids_verdicts_same d t)
+      (given_verdict key d t u)

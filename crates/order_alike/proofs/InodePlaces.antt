@@ -1,0 +1,208 @@
+-- The place that a step's outcome reports is in the list after the step.
+use Rattle.std.proofs.Common.{◌≡◌, ℕ, ◌<◌, Bool, true, false, cond, List, [], ◌∷◌, ◌++◌, length, length-append, append-nil, Option, Some, None, is_some, option_map, Result, Ok, Err, refl, ap, sym, subst, ◌∙◌, arith}
+use Rattle.std.proofs.lemmas.Option.{same_Some}
+use Rattle.journal_laws.proofs.Covering.{first_shows}
+use Rattle.order_outcomes.specs.reports.model.events.Asked.{asked, list_after, measured_if, outcome, placed_for}
+use Rattle.order_outcomes.specs.reports.model.events.Checks.{last_check}
+use Rattle.order_outcomes.specs.reports.model.events.Files.{is_writing, readers, writers}
+use Rattle.order_outcomes.specs.reports.model.events.Inode.{Inode}
+use Rattle.order_outcomes.specs.reports.model.events.Integrity.{Collection, Digests, collecting, digest_from, digests_of, in_force}
+use Rattle.order_outcomes.specs.reports.model.events.Listing.{measured}
+use Rattle.order_outcomes.specs.reports.model.events.Marks.{is_label_due, must_measure}
+use Rattle.order_outcomes.specs.reports.model.events.Grants.{grant_of}
+use Rattle.order_outcomes.specs.reports.model.events.Says.{check_told, chunk_told, close_take_told, finish_told, place_of, says, set_attr_told, set_meta_told, status_told, take_told, unless_collecting}
+use Rattle.order_outcomes.specs.reports.model.events.State.{content}
+use Rattle.order_outcomes.specs.reports.model.events.declared.deed.Deed.{Deed}
+use Rattle.order_outcomes.specs.reports.model.events.declared.deed.Deed.TheVariants as deed
+use Rattle.order_outcomes.specs.reports.model.events.declared.told.Event.{Event}
+use Rattle.order_outcomes.specs.reports.model.events.declared.told.Told.{Told}
+use Rattle.order_outcomes.specs.reports.model.events.declared.told.Told.TheVariants as told
+use Rattle.order_outcomes.specs.reports.model.events.meta.declared.appraisal.EvmStatus.{EvmStatus}
+use Rattle.order_outcomes.specs.reports.model.events.templates.Same.{add, add_by, place_of_same, placed, placed_by}
+use Rattle.order_outcomes.specs.reports.model.events.templates.declared.entry.Entry.{Entry}
+use Rattle.order_outcomes.specs.reports.model.events.templates.declared.entry.Placed.{Placed}
+use Rattle.order_outcomes.specs.Calls.{place_told}
+
+-- a place, if there is one, is below the length of the list
+abbrev pub IsPlaced : ℕ → Option ℕ → Type 0
+IsPlaced n None = Unit {0}
+IsPlaced n (Some place) = place < n
+
+-- ---- the list after a step
+
+-- it is the list before, or a longer one
+pub after_longer : (list : List Entry) (e : Option Entry) (t : Told)
+    → (more : List Entry) × (list ++ more ≡ list_after list e (Some t))
+after_longer list None t = ([], append-nil list)
+after_longer list (Some e) t = at (place_of_same list e) where
+  at : (o : Option ℕ) → (more : List Entry) × (list ++ more ≡ add_by o list e)
+  at None = (e ∷ [], refl)
+  at (Some k) = ([], append-nil list)
+
+-- the place of an entry is in the list to which it is added
+placed_below : (list : List Entry) (e : Entry) → place_of (placed list e) < length (add list e)
+placed_below list e = at (place_of_same list e) refl where
+  at : (o : Option ℕ) → place_of_same list e ≡ o
+      → place_of (placed_by o (length list)) < length (add_by o list e)
+  at None h = let longer = length-append list (e ∷ []) in omega (arith, longer)
+  at (Some k) h = (first_shows list e k h).2
+
+-- a grant whose check measures reports the place of its entry
+grant_placed : (list : List Entry) (measures : Bool) (inode : Inode) (file : ℕ) (f : Digests)
+    (p : List Event) (t : Told)
+    → IsPlaced (length (list_after list (measured_if measures inode file (Some f) p) (Some t)))
+    (option_map place_of
+    (cond measures (Some (placed_for list (measured_if measures inode file (Some f) p))) None))
+grant_placed list true inode file f p t = placed_below list (measured inode file f p)
+grant_placed list false inode file f p t = tt
+
+-- ---- outcomes without a place
+
+-- the outcome reports no place
+record HasNoPlace (t : Told) : Type 0 where
+  none : place_told t ≡ None
+
+-- the outcome, if there is one, reports no place
+abbrev IsUnplaced : Option Told → Type 0
+IsUnplaced None = Unit {0}
+IsUnplaced (Some t) = HasNoPlace t
+
+-- a choice between two outcomes without a place has none
+unplaced_cond : (b : Bool) (x y : Told) → HasNoPlace x → HasNoPlace y → HasNoPlace (cond b x y)
+unplaced_cond true x y h k = h
+unplaced_cond false x y h k = k
+
+-- an outcome that reports no place by computing
+unplaced_is : (t : Told) → place_told t ≡ None → HasNoPlace t
+unplaced_is t h = record { none = h }
+
+-- a change that EVM allows or forbids
+unplaced_status : (x : Result (Unit {0}) EvmStatus) → HasNoPlace (status_told x)
+unplaced_status (Ok y) = record { none = refl }
+unplaced_status (Err y) = record { none = refl }
+
+-- a step that waits for the integrity mutex
+unplaced_unless : (c : Option Collection) (t : Told) → HasNoPlace t
+    → IsUnplaced (unless_collecting c t)
+unplaced_unless None t h = h
+unplaced_unless (Some c) t h = tt
+
+-- a chunk
+unplaced_chunk : (content : List ℕ) (c : Option Collection) → IsUnplaced (chunk_told content c)
+unplaced_chunk content None = tt
+unplaced_chunk content (Some c) =
+    search (unplaced_cond, unplaced_is)
+
+-- a check, whose violation isn't a grant's place
+unplaced_check : (writing measures : Bool) (readers writers : ℕ) (must : Bool) (place : ℕ)
+    → HasNoPlace (check_told writing measures readers writers must place)
+unplaced_check true measures readers writers must place =
+    search (unplaced_cond, unplaced_is)
+unplaced_check false measures readers writers must place =
+    search (unplaced_cond, unplaced_is)
+
+-- no take or finish
+abbrev IsPlain : Deed → Type 0
+IsPlain (deed.Take file) = ⊥
+IsPlain (deed.Finish file) = ⊥
+IsPlain d = Unit {0}
+
+-- only grants report places
+unplaced_says : (inode : Inode) (p : List Event) (placed : Placed) (d : Deed) → IsPlain d
+    → IsUnplaced (says inode p placed d)
+unplaced_says inode p placed (deed.Count how) plain =
+    search (unplaced_cond, unplaced_is)
+unplaced_says inode p placed (deed.Check file func action rules) plain =
+    unplaced_check (is_writing file p) action.measure (readers p) (writers p) (must_measure p)
+    (place_of placed)
+unplaced_says inode p placed (deed.Take file) plain = absurd plain
+unplaced_says inode p placed (deed.Chunk file) plain =
+    unplaced_chunk (content p) (collecting inode p)
+unplaced_says inode p placed (deed.Finish file) plain = absurd plain
+unplaced_says inode p placed (deed.Read file from len) plain = record { none = refl }
+unplaced_says inode p placed (deed.Write file from bytes) plain =
+    search (unplaced_cond, unplaced_is)
+unplaced_says inode p placed (deed.Trunc file len) plain =
+    search (unplaced_cond, unplaced_is)
+unplaced_says inode p placed (deed.SetAttr name bytes admin) plain =
+    unplaced_unless (collecting inode p) (set_attr_told inode name bytes admin p)
+    (search (unplaced_cond, unplaced_is, unplaced_status) depth 20)
+unplaced_says inode p placed (deed.SetMeta change) plain =
+    unplaced_unless (collecting inode p) (set_meta_told inode p)
+    (search (unplaced_cond, unplaced_is, unplaced_status))
+unplaced_says inode p placed (deed.Close file) plain = record { none = refl }
+unplaced_says inode p placed (deed.CloseTake file) plain =
+    unplaced_unless (collecting inode p) (close_take_told (is_label_due inode p) (writers p))
+    (search (unplaced_cond, unplaced_is))
+unplaced_says inode p placed (deed.CloseChunk file) plain =
+    unplaced_chunk (content p) (collecting inode p)
+unplaced_says inode p placed (deed.CloseFinish file) plain =
+    search (unplaced_cond, unplaced_is)
+unplaced_says inode p placed d plain = tt
+
+-- an outcome that is one of these has no place
+unplaced_told : (o : Option Told) (t : Told) → IsUnplaced o → o ≡ Some t → place_told t ≡ None
+unplaced_told None t u h = cc
+unplaced_told (Some x) t u h =
+    sym (ap (λ (y : Told). place_told y) (same_Some x t h)) ∙ u.none
+
+-- and no place is below any length
+none_placed : (n : ℕ) (o : Option ℕ) → o ≡ None → IsPlaced n o
+none_placed n o h = subst (λ (x : Option ℕ). IsPlaced n x) (sym h) tt
+
+-- ---- the place of an outcome
+
+module _ (inode : Inode) (list : List Entry) (file : ℕ) (p : List Event) where
+  -- the last check of the file measures
+  abbrev measures : Bool
+  measures = (last_check file p).action.measure
+
+  -- what a take asks for while a collection is open or not
+  abbrev taken : Option Collection → Option Digests → Option Entry
+  taken c o = cond (is_some c) None (measured_if measures inode file o p)
+
+  -- a take reports a place in the list after it, if any
+  take_placed : (c : Option Collection) (o : Option Digests) (t : Told)
+      → unless_collecting c (take_told inode file (placed_for list (taken c o)) o p) ≡ Some t
+      → IsPlaced (length (list_after list (taken c o) (Some t))) (place_told t)
+  take_placed (Some c) o t h = cc
+  take_placed None None t h =
+      none_placed (length (list_after list (taken None None) (Some t))) (place_told t)
+      (unplaced_told (Some told.Begun) t (record { none = refl }) h)
+  take_placed None (Some f) t h =
+      subst (λ (x : Told). IsPlaced (length (list_after list (taken None (Some f)) (Some x)))
+      (place_told x))
+      (same_Some (told.Grant (grant_of inode file (placed_for list (taken None (Some f)))
+      f.digest p)) t h)
+      (grant_placed list measures inode file f p
+      (told.Grant (grant_of inode file (placed_for list (taken None (Some f))) f.digest p)))
+
+  -- what a finish asks for
+  abbrev finished : Option Collection → Option Entry
+  finished c = measured_if measures inode file (option_map digests_of c) p
+
+  -- so does a finish
+  finish_placed : (c : Option Collection) (t : Told)
+      → finish_told inode file (placed_for list (finished c)) c p ≡ Some t
+      → IsPlaced (length (list_after list (finished c) (Some t))) (place_told t)
+  finish_placed None t h = cc
+  finish_placed (Some c) t h =
+      subst (λ (x : Told). IsPlaced (length (list_after list (finished (Some c)) (Some x)))
+      (place_told x))
+      (same_Some (told.Grant (grant_of inode file (placed_for list (finished (Some c)))
+      (digest_from c) p)) t h)
+      (grant_placed list measures inode file (digests_of c) p
+      (told.Grant (grant_of inode file (placed_for list (finished (Some c))) (digest_from c) p)))
+
+-- so does every outcome
+pub outcome_placed : (inode : Inode) (list : List Entry) (d : Deed) (p : List Event) (t : Told)
+    → outcome inode list d p ≡ Some t
+    → IsPlaced (length (list_after list (asked inode d p) (Some t))) (place_told t)
+outcome_placed inode list (deed.Take file) p t h =
+    take_placed inode list file p (collecting inode p) (in_force inode p) t h
+outcome_placed inode list (deed.Finish file) p t h =
+    finish_placed inode list file p (collecting inode p) t h
+outcome_placed inode list d p t h =
+    none_placed (length (list_after list (asked inode d p) (Some t))) (place_told t)
+    (unplaced_told (outcome inode list d p) t
+    (unplaced_says inode p (placed_for list (asked inode d p)) d tt) h)

@@ -1,0 +1,156 @@
+-- When two moments of a script's run are alike: the same was told so far, and the same can follow.
+-- What decides the next steps is what a journal says of its inode, and not the order of its events.
+-- A file is named by the place of its count, which depends on that order: the files of the second
+-- moment are those of the first under other names.
+use Rattle.std.specs.Prelude.{◌≡◌, ℕ, ◌+◌, ◌==◌, ◌<◌, ◌≤◌, ◌⊎◌, All, Bool, true, List, [], ◌∷◌, length, map, Option, Some, None, option_map, slice_get}
+use Rattle.order_outcomes.specs.reports.model.Scene.{Scene, Station, inode_of}
+use Rattle.order_outcomes.specs.reports.model.Turns.{Moment, journal_at}
+use Rattle.order_outcomes.specs.reports.model.events.Checks.{Check, last_check, no_action}
+use Rattle.order_outcomes.specs.reports.model.events.Files.{execs, held, readers, writers}
+use Rattle.order_outcomes.specs.reports.model.events.Inode.{Inode}
+use Rattle.order_outcomes.specs.reports.model.events.Integrity.{Collection, Digests, attributes, collecting, in_force}
+use Rattle.order_outcomes.specs.reports.model.events.Marks.{must_measure, update}
+use Rattle.order_outcomes.specs.reports.model.events.Past.{past}
+use Rattle.order_outcomes.specs.reports.model.events.Semaphores.{posts, waits}
+use Rattle.order_outcomes.specs.reports.model.events.State.{content, metadata, modified_in, modified_since, new, present, span, versions}
+use Rattle.order_outcomes.specs.reports.model.events.Verdicts.{Key, verdict_in_force}
+use Rattle.order_outcomes.specs.reports.model.events.declared.told.Event.{Event}
+use Rattle.order_outcomes.specs.reports.model.events.hashes.declared.algo.Algo.{Algo}
+use Rattle.order_outcomes.specs.reports.model.events.hashes.declared.digest.Digest.{Digest}
+use Rattle.order_outcomes.specs.reports.model.events.policy.declared.rule.Func.TheVariants as func
+use Rattle.order_outcomes.specs.reports.model.events.templates.declared.entry.Entry.{Entry}
+use Rattle.order_outcomes.specs.Calls.{listed_in, place_told, verdict_in}
+use Rattle.order_alike.specs.Names.{Naming, is_used, thought_named}
+
+-- ---- an inode
+
+-- the open collection as the next steps see it: whether the content was modified since it began
+-- matters, and not where it began
+pub record CollectionSeen : Type 0 where
+  pub closing : Bool
+  pub algo : Algo
+  pub pieces : ℕ
+  pub bytes : List ℕ
+  pub complete : Bool
+  pub stale : Bool
+
+abbrev pub collection_seen : List Event → Collection → CollectionSeen
+collection_seen p c = record {
+  closing = c.closing;
+  algo = c.algo;
+  pieces = c.pieces;
+  bytes = c.bytes;
+  complete = c.complete;
+  stale = modified_since c.begin p;
+}
+
+pub record DigestsSeen : Type 0 where
+  pub digest : Digest
+  pub sha1 : Digest
+  pub stale : Bool
+
+abbrev pub digests_seen : List Event → Digests → DigestsSeen
+digests_seen p d = record {
+  digest = d.digest;
+  sha1 = d.sha1;
+  stale = modified_since d.begin p;
+}
+
+-- it began before the end of the journal
+abbrev pub HasBegun : ℕ → Option Collection → Type 0
+HasBegun end None = Unit {0}
+HasBegun end (Some c) = c.begin ≤ end
+
+abbrev pub HaveBegun : ℕ → Option Digests → Type 0
+HaveBegun end None = Unit {0}
+HaveBegun end (Some d) = d.begin ≤ end
+
+abbrev pub unchecked : Check
+unchecked = record { func = func.FileCheck; action = no_action }
+
+abbrev pub with_place : Option ℕ → List ℕ → List ℕ
+with_place None places = places
+with_place (Some place) places = place ∷ places
+
+-- the places in the list that the grants of these events report, newest first
+abbrev pub places_in : List Event → List ℕ
+places_in [] = []
+places_in (e ∷ before) = with_place (place_told e.told) (places_in before)
+
+-- events, newest first, name files that were counted before them, and entries that are in the list
+pub record IsSound (inode : Inode) (list : List Entry) (p : List Event) : Type 0 where
+  pub files : (file : ℕ) → length p ≤ file → last_check file p ≡ unchecked
+  pub collection : HasBegun (length p) (collecting inode p)
+  pub digests : HaveBegun (length p) (in_force inode p)
+  pub places : All (λ place. place < length list) (places_in p)
+
+-- The inode by its journals in the two moments, oldest event first. `used` are the files that tasks
+-- have in the first moment, and `r` gives their names in the second
+pub record IsInodeAlike (inode : Inode) (list : List Entry) (used : ℕ → Bool) (r : ℕ → ℕ)
+    (journal journal2 : List Event) : Type 0 where
+  pub sound : IsSound inode list (past journal)
+  pub sound2 : IsSound inode list (past journal2)
+  -- its files
+  pub below : (file : ℕ) → used file ≡ true → file < length journal
+  pub below2 : (file : ℕ) → used file ≡ true → r file < length journal2
+  pub apart : (f g : ℕ) → used f ≡ true → used g ≡ true → (r f == r g) ≡ (f == g)
+  pub how : (file : ℕ) → used file ≡ true → held (r file) (past journal2) ≡ held file (past journal)
+  pub checks : (file : ℕ) → used file ≡ true
+      → last_check (r file) (past journal2) ≡ last_check file (past journal)
+  -- its state
+  pub present_in : present (past journal2) ≡ present (past journal)
+  pub new_in : new (past journal2) ≡ new (past journal)
+  pub versions_in : versions (past journal2) ≡ versions (past journal)
+  pub content_in : content (past journal2) ≡ content (past journal)
+  pub metadata_in : metadata (past journal2) ≡ metadata (past journal)
+  pub attributes_in : attributes inode (past journal2) ≡ attributes inode (past journal)
+  pub writers_in : writers (past journal2) ≡ writers (past journal)
+  pub readers_in : readers (past journal2) ≡ readers (past journal)
+  pub execs_in : execs (past journal2) ≡ execs (past journal)
+  pub must_measure_in : must_measure (past journal2) ≡ must_measure (past journal)
+  pub update_in : update (past journal2) ≡ update (past journal)
+  pub modified : modified_in (span (past journal2)) ≡ modified_in (span (past journal))
+  pub collection : option_map (collection_seen (past journal2)) (collecting inode (past journal2))
+      ≡ option_map (collection_seen (past journal)) (collecting inode (past journal))
+  pub digests : option_map (digests_seen (past journal2)) (in_force inode (past journal2))
+      ≡ option_map (digests_seen (past journal)) (in_force inode (past journal))
+  pub verdicts : (key : Key)
+      → verdict_in_force inode key (past journal2) ≡ verdict_in_force inode key (past journal)
+  -- what calls were told
+  pub places : places_in (past journal2) ≡ places_in (past journal)
+  pub told : (task n : ℕ) → verdict_in task n journal2 ≡ verdict_in task n journal
+  pub listed : (task n : ℕ)
+      → listed_in list task n (past journal2) ≡ listed_in list task n (past journal)
+
+-- ---- a moment
+
+-- the files have these names in the second moment
+pub record IsAlikeBy (scene : Scene) (r : Naming) (a b : Moment) : Type 0 where
+  -- a file that isn't counted yet has no other name, nor has a file that isn't in the scene
+  pub none : (i : ℕ) → r i 0 ≡ 0
+  pub elsewhere : (i : ℕ) → slice_get scene.stations i ≡ None → (file : ℕ) → r i file ≡ file
+  pub thoughts : b.thoughts ≡ map (thought_named r) a.thoughts
+  pub inodes : (i : ℕ) (s : Station) → slice_get scene.stations i ≡ Some s
+      → IsInodeAlike (inode_of scene s) a.state.list (is_used a.thoughts i) (r i)
+      (journal_at a.state i) (journal_at b.state i)
+  pub list : b.state.list ≡ a.state.list
+  pub added : b.state.added ≡ a.state.added
+  -- each semaphore has as many more posts than waits in one moment as in the other
+  pub semaphores : (sem : ℕ)
+      → posts sem (past b.state.signals) + waits sem (past a.state.signals)
+      ≡ posts sem (past a.state.signals) + waits sem (past b.state.signals)
+
+-- the moments differ only in the names of their files
+abbrev pub IsRenamed : Scene → Moment → Moment → Type 0
+IsRenamed scene a b = (r : Naming) × IsAlikeBy scene r a b
+
+-- the same was told so far, and the same can follow
+abbrev pub IsAlike : Scene → Moment → Moment → Type 0
+IsAlike scene a b = (a ≡ b) ⊎ IsRenamed scene a b
+
+-- the journals of the moment are sound, and its tasks have files that were counted
+pub record AreSound (scene : Scene) (a : Moment) : Type 0 where
+  pub journals : (i : ℕ) (s : Station) → slice_get scene.stations i ≡ Some s
+      → IsSound (inode_of scene s) a.state.list (past (journal_at a.state i))
+  pub files : (i : ℕ) (s : Station) → slice_get scene.stations i ≡ Some s → (file : ℕ)
+      → is_used a.thoughts i file ≡ true → file < length (journal_at a.state i)

@@ -1,0 +1,55 @@
+-- Moments that are alike, and moments that aren't.
+use Rattle.std.specs.Prelude.{ℕ, false, List, [], ◌∷◌, ◌++◌}
+use Rattle.order_outcomes.specs.Examples.{boot, scene, station, step, task}
+use Rattle.order_outcomes.specs.reports.model.Scene.{Program, Scene}
+use Rattle.order_outcomes.specs.reports.model.Turns.{Moment, newborn, start_of, turns_of}
+use Rattle.order_outcomes.specs.reports.model.events.declared.deed.Change.TheVariants as change
+use Rattle.order_outcomes.specs.reports.model.events.declared.deed.Deed.{Deed}
+use Rattle.order_outcomes.specs.reports.model.events.declared.deed.Deed.TheVariants as deed
+use Rattle.order_outcomes.specs.reports.model.events.declared.deed.How.TheVariants as how
+use Rattle.order_outcomes.specs.reports.model.events.declared.told.Told.{Told}
+use Rattle.order_outcomes.specs.reports.model.events.declared.told.Told.TheVariants as told
+use Rattle.order_outcomes.specs.reports.model.events.templates.declared.entry.Entry.{Entry}
+use Rattle.order_outcomes.specs.reports.model.steps.declared.call.Call.TheVariants as call
+use Rattle.order_alike.specs.Alike.{IsAlike}
+
+-- each of two tasks opens the file for reading
+abbrev pub reader : Program
+reader = task (call.Open 0 0 (how.Read false) false ∷ [])
+
+abbrev pub readers : Scene
+readers = scene (reader ∷ reader ∷ [])
+
+-- the moment after these turns
+abbrev pub after : List ℕ → Moment
+after turns = turns_of readers (start_of readers) turns
+
+-- the first moment with one more event in the journal of the file
+abbrev pub with_event : Deed → Told → Moment
+with_event d t = record (start_of readers) {
+  state = record (start_of readers).state { journals = (newborn station ++ step 0 d t ∷ []) ∷ [] };
+}
+
+-- the first moment with one more entry in the list
+abbrev pub with_entry : Entry → Moment
+with_entry e = record (start_of readers) {
+  state = record (start_of readers).state { list = boot ∷ e ∷ [] };
+}
+
+-- the moment isn't alike to the first one
+abbrev pub IsOther : Moment → Type 0
+IsOther m = IsAlike readers (start_of readers) m → ⊥
+
+pub record AlikeExamples : Type 0 where
+  -- both tasks have opened the file: it doesn't matter which was first
+  pub either_first : IsAlike readers (after (0 ∷ 0 ∷ 1 ∷ 1 ∷ [])) (after (1 ∷ 1 ∷ 0 ∷ 0 ∷ []))
+  -- only one has opened it: it matters which one
+  pub only_one : IsAlike readers (after (0 ∷ 0 ∷ [])) (after (1 ∷ 1 ∷ [])) → ⊥
+  -- a task has made a step
+  pub further : IsOther (after (0 ∷ []))
+  -- an open file more, another content, and other metadata
+  pub other_count : IsOther (with_event (deed.Count (how.Read false)) told.Held)
+  pub other_content : IsOther (with_event (deed.Trunc 0 2) told.Done)
+  pub other_mode : IsOther (with_event (deed.SetMeta (change.Mode 0)) told.Done)
+  -- a list with an entry more
+  pub other_list : IsOther (with_entry boot)
