@@ -65,8 +65,8 @@ pub fn verdict_of(inodes: &[EndedInode], task: usize, call: usize) -> Option<Ver
 
 // ---- reads
 
-// The place in the list that the outcome reports.
-fn place_told(told: &Told) -> Option<u64>
+/// The place in the list that the outcome reports.
+pub fn place_told(told: &Told) -> Option<u64>
     ensures { result ≡ place_told told.now }
 {
     match told {

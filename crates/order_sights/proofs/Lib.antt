@@ -1,0 +1,13 @@
+pub mod Walks
+pub mod Seeing
+pub mod Twos
+pub mod Singles
+pub mod Telling
+pub mod Journals
+pub mod Naming
+pub mod Seen
+pub mod Saying
+pub mod Meeting
+pub mod Founding
+pub mod Scenes
+pub mod Playing

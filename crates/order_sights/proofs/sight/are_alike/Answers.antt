@@ -1,0 +1,29 @@
+use Rattle.std.proofs.Common.{◌≡◌, ◌∙◌, true, List, length, map, ap, sym, subst, arith}
+use Rattle.std.proofs.lemmas.List.{nil_from_length}
+use Rattle.task_core.specs.frames.Runs.{thought_of}
+use Rattle.task_core.specs.frames.Tasks.{Tasked}
+use Rattle.order_sights.specs.Pairs.{AreThoughtsPaired, are_within}
+use Rattle.order_sights.specs.declared.sight.Sight.{Sight}
+use Rattle.order_sights.proofs.Meeting.{alike}
+use Rattle.order_sights.proofs.sight.are_alike.Goals as goal
+
+pub returns : goal.returns
+returns c = λ t scene m n one two.
+    let lists = c.same_lists.ensures c.if-not-same_lists.false in
+    let ok = c.are_pairs.ensures c.if-not-are_pairs.false in
+    let pairs = c.as_slice-pairs.result.now in
+    let len = c.len-inodes.ensures in
+    let view = ap (λ (s : Sight). length s.ended.inodes) c.a.view_is in
+    let count : c.len-inodes.result ≡ length c.args.a.now.ended.inodes =
+    omega (arith, len, view) in
+    alike scene m n c.args.a.now c.args.b.now one two pairs ok.apart
+    (subst (λ n. are_within n pairs ≡ true) count ok.within)
+    (sym lists.list) (nil_from_length c.args.a.now.ended.rules lists.none)
+    (nil_from_length c.args.b.now.ended.rules lists.none2)
+    (subst (λ (us : List Tasked). AreThoughtsPaired pairs
+    (map thought_of c.args.a.now.tasks.items) (map thought_of us)) c.as_slice-4.ensures.value
+    (subst (λ (ts : List Tasked). AreThoughtsPaired pairs (map thought_of ts)
+    (map thought_of c.as_slice-4.result.now))
+    (c.as_slice-3.ensures.value ∙ ap (λ (s : Sight). s.tasks.items) c.a.view_is)
+    (c.same_tasks.ensures c.if-not-same_tasks.false)))
+    (c.in_ok-same.ensures t)

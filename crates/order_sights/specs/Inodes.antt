@@ -1,0 +1,52 @@
+-- An inode in two moments: its journals and its cells.
+use Rattle.std.specs.Prelude.{◌≡◌, ℕ, ◌<◌, All, true, List, [], ◌∷◌, length}
+use Rattle.inode_cell.specs.Value.{CellValue}
+use Rattle.inode_events.specs.Checks.{last_check}
+use Rattle.inode_events.specs.EndedInode.{EndedInodeValue}
+use Rattle.inode_events.specs.Files.{held}
+use Rattle.inode_events.specs.Integrity.{attributes}
+use Rattle.inode_events.specs.Past.{past}
+use Rattle.inode_events.specs.State.{content}
+use Rattle.inode_events.specs.declared.told.Event.{Event}
+use Rattle.inode_events.specs.templates.declared.entry.Entry.{Entry}
+use Rattle.inode_state.specs.State.{IsState}
+use Rattle.inode_state.specs.declared.state.State.{State}
+use Rattle.order_sights.specs.Pairs.{has_pair}
+use Rattle.order_sights.specs.States.{IsStateSame}
+use Rattle.order_sights.specs.Told.{ArePlacesSame, IsCallSame, are_checks_below}
+use Rattle.order_sights.specs.declared.pairs.Pair.{Pair}
+
+-- both journals have a place of the file's name, and say the same of it
+pub record IsPairFit (j j2 : List Event) (p : Pair) : Type 0 where
+  pub below : p.first < length j
+  pub below2 : p.second < length j2
+  pub how : held p.second (past j2) ≡ held p.first (past j)
+  pub check : last_check p.second (past j2) ≡ last_check p.first (past j)
+
+abbrev pub FitsIfThere : ℕ → List Event → List Event → Pair → Type 0
+FitsIfThere inode j j2 p = p.inode ≡ inode → IsPairFit j j2 p
+
+-- the journals name files that they have counted, and say the same of those in pairs
+pub record AreFilesSame (pairs : List Pair) (i : ℕ) (j j2 : List Event) : Type 0 where
+  pub uncounted : has_pair pairs i 0 0 ≡ true
+  pub checks : are_checks_below (length j) j ≡ true
+  pub checks2 : are_checks_below (length j2) j2 ≡ true
+  pub fit : All (FitsIfThere i j j2) pairs
+
+-- the journals say the same of the files in pairs and of the calls
+pub record AreJournalsSame (list : List Entry) (pairs : List Pair) (i : ℕ) (x y : EndedInodeValue)
+    : Type 0 where
+  pub files : AreFilesSame pairs i x.journal y.journal
+  pub places : ArePlacesSame (length list) x.journal y.journal
+  pub calls : All (IsCallSame list (x ∷ []) (y ∷ [])) x.journal
+  pub calls2 : All (IsCallSame list (x ∷ []) (y ∷ [])) y.journal
+
+-- the states that follow from the journals are the same, but for their collections
+pub record IsCellSame (a b : CellValue) : Type 0 where
+  pub first : State
+  pub second : State
+  pub state : IsState a.inode (past a.list) first
+  pub state2 : IsState b.inode (past b.list) second
+  pub same : IsStateSame first second
+  pub content : content (past b.list) ≡ content (past a.list)
+  pub attributes : attributes b.inode (past b.list) ≡ attributes a.inode (past a.list)

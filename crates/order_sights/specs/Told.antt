@@ -1,0 +1,37 @@
+-- What calls were told in two journals of an inode.
+use Rattle.std.specs.Prelude.{◌≡◌, ℕ, ◌<◌, nat_lt, All, Bool, true, false, List, length}
+use Rattle.std.specs.List.{list_all}
+use Rattle.inode_events.specs.EndedInode.{EndedInodeValue}
+use Rattle.inode_events.specs.Past.{past}
+use Rattle.inode_events.specs.declared.deed.Deed.{Deed}
+use Rattle.inode_events.specs.declared.deed.Deed.TheVariants as deed
+use Rattle.inode_events.specs.declared.told.Event.{Event}
+use Rattle.inode_events.specs.declared.told.Told.{Told}
+use Rattle.inode_events.specs.declared.told.Told.TheVariants as told
+use Rattle.inode_events.specs.templates.declared.entry.Entry.{Entry}
+use Rattle.order_alike.specs.Alike.{places_in}
+use Rattle.order_outcomes.specs.Calls.{is_read, listed_of, verdict_of}
+
+-- a check is of a file with a name below the end
+abbrev pub is_check_below : ℕ → Deed → Bool
+is_check_below end (deed.Check file func action rules) = nat_lt file end
+is_check_below end _ = true
+
+abbrev pub are_checks_below : ℕ → List Event → Bool
+are_checks_below end events = list_all (λ (e : Event). is_check_below end e.deed) events
+
+abbrev pub is_grant : Told → Bool
+is_grant (told.Grant grant) = true
+is_grant _ = false
+
+-- the grants of the journals report the same places of a list with this length
+pub record ArePlacesSame (end : ℕ) (j j2 : List Event) : Type 0 where
+  pub same : places_in (past j2) ≡ places_in (past j)
+  pub below : All (λ place. place < end) (places_in (past j))
+
+-- the inodes say the same of the call of the event
+pub record IsCallSame (list : List Entry) (a b : List EndedInodeValue) (e : Event) : Type 0 where
+  pub verdict : is_grant e.told ≡ true
+      → verdict_of e.who.task e.who.call b ≡ verdict_of e.who.task e.who.call a
+  pub listed : is_read e.deed ≡ true
+      → listed_of list e.who.task e.who.call b ≡ listed_of list e.who.task e.who.call a

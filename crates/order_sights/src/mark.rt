@@ -1,0 +1,62 @@
+// A number by which sights are sorted before they are compared.
+
+use crate::sight::Sight;
+use inode_cell::InodeCell;
+use inode_events::templates::Entry;
+use task_mind::TaskMind;
+
+// The mark with one number more (FNV-1a).
+fn mixed(mark: u64, number: u64) -> u64 {
+    (mark ^ number).wrapping_mul(0x100_0000_01b3)
+}
+
+fn with_entry(mark: u64, entry: &Entry) -> u64 {
+    let mut mark = mixed(mark, u64::from(entry.violation));
+    for byte in entry.digest.as_slice() {
+        mark = mixed(mark, u64::from(*byte));
+    }
+    mark
+}
+
+fn with_mind(mark: u64, mind: &TaskMind) -> u64 {
+    let step = match mind.progress() {
+        Some(progress) => u64::from(progress.step) + 1,
+        None => 0,
+    };
+    let mark = mixed(mark, u64::from(mind.at()));
+    let mark = mixed(mark, step);
+    mixed(mark, mind.handles().len() as u64)
+}
+
+fn with_inode(mark: u64, cell: &InodeCell) -> u64 {
+    let state = cell.state();
+    let pieces = match &state.collecting {
+        Some(collecting) => collecting.pieces.saturating_add(1),
+        None => 0,
+    };
+    let mark = mixed(mark, state.counts.writers);
+    let mark = mixed(mark, state.counts.readers);
+    let mark = mixed(mark, u64::from(state.marks.must));
+    let mark = mixed(mark, u64::from(state.in_force.is_some()));
+    let mark = mixed(mark, pieces);
+    mixed(mark, cell.content().len())
+}
+
+impl Sight {
+    /// A number that is the same for most sights that are alike, and differs for most others.
+    pub fn mark(&self) -> u64 {
+        let mut mark = 0xcbf2_9ce4_8422_2325;
+        for entry in &self.ended.list {
+            mark = with_entry(mark, entry);
+        }
+        for task in &self.tasks {
+            mark = with_mind(mark, task.mind());
+        }
+        for i in 0..self.ended.inodes.len() {
+            if let Some(cell) = self.world.inode(i) {
+                mark = with_inode(mark, cell);
+            }
+        }
+        mark
+    }
+}

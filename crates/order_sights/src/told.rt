@@ -1,0 +1,152 @@
+// What calls were told in two journals of an inode.
+
+ghost use Rattle.std.specs.Prelude.{◌≡◌, ◌<◌, ◌++◌, length, option_to_list, reverse, All, IfOk, IsTrue, OnOk, true};
+ghost use Rattle.inode_events.specs.Past.{past};
+ghost use Rattle.order_alike.specs.Alike.{places_in};
+ghost use Rattle.order_outcomes.specs.Calls.{is_read, listed_of, verdict_of};
+ghost use Rattle.order_sights.specs.Told.{ArePlacesSame, IsCallSame, are_checks_below, is_check_below, is_grant};
+
+use crate::same::same_all;
+use inode_events::templates::Entry;
+use inode_events::{Deed, EndedInode, Event, Told};
+use order_outcomes::{listed_of, place_told, verdict_of};
+use std::alloc::{AllocError as OutOfMemory, Global};
+
+// ---- checks
+
+fn is_check_below(event: &Event, end: u64) -> bool
+    ensures { result ≡ is_check_below end event.now.deed }
+{
+    match &event.deed {
+        Deed::Check { file, .. } => *file < end,
+        _ => true,
+    }
+}
+
+/// Whether the checks are of files that have a place in the journal.
+pub fn are_checks_below(journal: &[Event]) -> bool
+    ensures { result ≡ are_checks_below (length journal.now) journal.now }
+{
+    let end = journal.len() as u64;
+    journal.iter().all(|event| is_check_below(event, end))
+}
+
+// ---- places
+
+fn push_place(places: &mut Vec<u64>, place: Option<u64>) -> Result<(), OutOfMemory>
+    ensures { OnOk result (places.new.items ≡ places.old.items ++ option_to_list place) }
+{
+    match place {
+        Some(place) => {
+            places.push(place)?;
+            Ok(())
+        }
+        None => Ok(()),
+    }
+}
+
+// The places in the list that the grants report, oldest first.
+fn places_in(alloc: Global, journal: &[Event]) -> Result<Vec<u64>, OutOfMemory>
+    ensures { IfOk result (λ places. reverse places.items ≡ places_in (past journal.now)) }
+{
+    let mut places = Vec::new(alloc);
+    for event in journal {
+        push_place(&mut places, place_told(&event.told))?;
+    }
+    Ok(places)
+}
+
+fn are_below(places: &[u64], end: u64) -> bool
+    ensures { IsTrue result → All (λ place. place < end) places.now }
+{
+    places.iter().all(|place| *place < end)
+}
+
+/// Whether the grants report the same places in order, all of them in the list.
+pub fn same_places(
+    alloc: Global,
+    list: &[Entry],
+    a: &[Event],
+    b: &[Event],
+) -> Result<bool, OutOfMemory>
+    ensures { IfOk result (λ same. IsTrue same → ArePlacesSame (length list.now) a.now b.now) }
+{
+    let places = places_in(alloc, a)?;
+    let others = places_in(alloc, b)?;
+    if !same_all(places.as_slice(), others.as_slice()) {
+        return Ok(false);
+    }
+    Ok(are_below(places.as_slice(), list.len() as u64))
+}
+
+// ---- calls
+
+fn is_grant(told: &Told) -> bool
+    ensures { result ≡ is_grant told.now }
+{
+    match told {
+        Told::Grant(_) => true,
+        _ => false,
+    }
+}
+
+fn is_read(deed: &Deed) -> bool
+    ensures { result ≡ is_read deed.now }
+{
+    match deed {
+        Deed::Read { .. } => true,
+        _ => false,
+    }
+}
+
+fn same_verdict(a: &[EndedInode], b: &[EndedInode], event: &Event) -> bool
+    ensures { IsTrue result → is_grant event.now.told ≡ true → (verdict_of event.now.who.task
+        event.now.who.call b.now ≡ verdict_of event.now.who.task event.now.who.call a.now) }
+{
+    let task = event.who.task as usize;
+    let call = event.who.call as usize;
+    !is_grant(&event.told) || verdict_of(b, task, call) == verdict_of(a, task, call)
+}
+
+fn same_listed(
+    alloc: Global,
+    list: &[Entry],
+    a: &[EndedInode],
+    b: &[EndedInode],
+    event: &Event,
+) -> Result<bool, OutOfMemory>
+    ensures { IfOk result (λ same. IsTrue same → is_read event.now.deed ≡ true
+        → (listed_of list.now event.now.who.task event.now.who.call b.now
+        ≡ listed_of list.now event.now.who.task event.now.who.call a.now)) }
+{
+    if !is_read(&event.deed) {
+        return Ok(true);
+    }
+    let task = event.who.task as usize;
+    let call = event.who.call as usize;
+    let other = listed_of(alloc, list, b, task, call)?;
+    let listed = listed_of(alloc, list, a, task, call)?;
+    Ok(other == listed)
+}
+
+/// Whether the inodes say the same of the calls that have events in the journal.
+pub fn same_calls(
+    alloc: Global,
+    list: &[Entry],
+    a: &[EndedInode],
+    b: &[EndedInode],
+    journal: &[Event],
+) -> Result<bool, OutOfMemory>
+    ensures { IfOk result (λ same. IsTrue same
+        → All (IsCallSame list.now a.now b.now) journal.now) }
+{
+    for event in journal {
+        if !same_verdict(a, b, event) {
+            return Ok(false);
+        }
+        if !same_listed(alloc, list, a, b, event)? {
+            return Ok(false);
+        }
+    }
+    Ok(true)
+}
