@@ -1,9 +1,9 @@
 #!/usr/bin/env python3
 """bench/tutorial.py [PROGRAM [PAGE]]: does what the tutorial says, and compares what is printed.
 
-PROGRAM (default crates/imakern/out/imakern) is on the PATH as `imakern`, in a temporary folder in
-which `examples` and `bench` are the repository's. PAGE (default docs/TUTORIAL.md) is read from top
-to bottom:
+PROGRAM (default crates/imakern/out/imakern) is on the PATH as `imakern`, and
+crates/imakern_orders/out/imakern_orders if it is built, in a temporary folder in which `examples`
+and `bench` are the repository's. PAGE (default docs/TUTORIAL.md) is read from top to bottom:
 
 - A fenced block with two words after its fence, as ```script first.script, is written to the file
   that the second word names.
@@ -19,7 +19,7 @@ that isn't here is skipped, and its line says so. Status 1 if one differs, 2 wit
 import os, re, shlex, shutil, subprocess, sys, tempfile
 
 top = os.path.dirname(os.path.dirname(os.path.abspath(__file__)))
-TOOLS = ['evmctl', 'lsattr']
+TOOLS = ['evmctl', 'lsattr', 'imakern_orders']
 BASE = 'first.script'
 AFTER = '\x1e'  # printed after each command of a session
 
@@ -111,12 +111,12 @@ def compare(commands, folder, env):
     return ''
 
 
-def missing_tool(commands, files):
+def missing_tool(commands, files, path):
     """A tool that a command needs, or a file that it names, and that isn't here."""
     texts = [command for command, _ in commands]
     texts += [body for name, body in files.items() if any(name in text for text in texts)]
     for tool in TOOLS:
-        if re.search(r'\b%s\b' % tool, '\n'.join(texts)) and not shutil.which(tool):
+        if re.search(r'\b%s\b' % tool, '\n'.join(texts)) and not shutil.which(tool, path=path):
             return tool
     return None
 
@@ -141,7 +141,7 @@ def check(page, folder, env):
             for name in list(unused):
                 if any(name in command for command, _ in commands):
                     del unused[name]
-            tool = missing_tool(commands, files)
+            tool = missing_tool(commands, files, env['PATH'])
             if tool:
                 say(number, 'skipped, since there is no %s here' % tool)
                 continue
@@ -168,6 +168,9 @@ def main():
         os.makedirs(os.path.join(made, 'bin'))
         os.makedirs(folder)
         os.symlink(program, os.path.join(made, 'bin', 'imakern'))
+        orders = os.path.join(top, 'crates', 'imakern_orders', 'out', 'imakern_orders')
+        if os.access(orders, os.X_OK):
+            os.symlink(orders, os.path.join(made, 'bin', 'imakern_orders'))
         for name in ('examples', 'bench'):
             os.symlink(os.path.join(top, name), os.path.join(folder, name))
         path = os.path.join(made, 'bin') + os.pathsep + os.environ['PATH']
