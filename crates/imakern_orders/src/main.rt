@@ -21,7 +21,6 @@ fn main(rt: HostRuntime) -> ExitCode {
         Err(_) => Vec::new(rt.alloc()),
     };
     let status = serve(
-        &rt,
         rt.alloc(),
         &words,
         &mut script,

@@ -4,7 +4,10 @@ use Rattle.std.proofs.lemmas.Bool.{true≢false}
 use Rattle.std.proofs.lemmas.List.{map-append, take_more}
 use Rattle.std.proofs.lemmas.List.Elements.{All-cons, All-nil}
 use Rattle.std.proofs.lemmas.Option.{none-some}
-use Rattle.order_outcomes.proofs.about_counts.Adding.{advance-more, equal_alike}
+use Rattle.order_alike.proofs.Following.{following}
+use Rattle.order_alike.proofs.Inodes.{inode_laws}
+use Rattle.order_alike.specs.Alike.{IsAlike}
+use Rattle.order_outcomes.proofs.about_counts.Adding.{advance-more}
 use Rattle.order_outcomes.proofs.about_counts.Spread.{first_in, later_in}
 use Rattle.order_outcomes.proofs.about_counts.Whole.{begins, ends, step}
 use Rattle.order_outcomes.specs.Orders.{moment_after, moved, outcome_at}
@@ -15,7 +18,7 @@ use Rattle.order_outcomes.specs.reports.model.Rounds.{all_tasks}
 use Rattle.order_outcomes.specs.reports.model.Scene.{Scene}
 use Rattle.order_outcomes.specs.reports.model.Turns.{Moment, start_of}
 use Rattle.order_outcomes.specs.scripts.Limits.{most_turns}
-use Rattle.order_runs.specs.Steps.{AreEqual, HasOutcome, IsAdvanced, IsKept, IsLayer, IsRowAdded, IsSpread, IsStep, counted_rows, counted_ways}
+use Rattle.order_runs.specs.Steps.{HasOutcome, IsAdvanced, IsKept, IsLayer, IsRowAdded, IsSpread, IsStep, counted_rows, counted_ways}
 use Rattle.order_runs.specs.Tables.{IsTable}
 use Rattle.order_runs.specs.declared.rows.Row.{Row}
 use Rattle.order_runs.specs.declared.ways.Way.{Way}
@@ -93,9 +96,9 @@ module _ (scene : Scene) where
   step_more layer i way rows next mid next' rows' lt is s a = record {
     advances = λ outcomes.
         subst (λ (cs : List Counted). AllAdvance (moved scene) (all_tasks scene) (start_of scene)
-        (outcome_at scene) AreEqual cs [] (counted_rows rows) (counted_ways next')
+        (outcome_at scene) (IsAlike scene) cs [] (counted_rows rows) (counted_ways next')
         (counted_rows rows')) (sym one_more)
-        (advance-more (moved scene) (start_of scene) AreEqual (all_tasks scene) (outcome_at scene)
+        (advance-more (moved scene) (start_of scene) (IsAlike scene) (all_tasks scene) (outcome_at scene)
         (counted_ways (take i layer)) way.counted [] (counted_rows rows) (counted_ways next)
         (counted_rows mid) (counted_ways next') (counted_rows rows') (s.advances outcomes)
         (a.advances s.kept (s.outcomes outcomes)));
@@ -117,9 +120,9 @@ module _ (scene : Scene) where
       → IsLayer scene 0 (way ∷ []) []
   layer_first way is kept = record {
     stands = subst (λ (c : Counted). StandsAt (moved scene) (all_tasks scene) (start_of scene)
-        (outcome_at scene) AreEqual 0 (c ∷ []) []) (sym is)
-        (begins (moved scene) (all_tasks scene) (start_of scene) (outcome_at scene) AreEqual
-        (equal_alike (moved scene) (all_tasks scene) (start_of scene) (outcome_at scene)));
+        (outcome_at scene) (IsAlike scene) 0 (c ∷ []) []) (sym is)
+        (begins (moved scene) (all_tasks scene) (start_of scene) (outcome_at scene) (IsAlike scene)
+        (following inode_laws scene));
     kept = All-cons (IsKept scene) way [] kept (All-nil (IsKept scene));
     outcomes = All-nil (HasOutcome scene);
     apart = λ a b x y below at_x at_y same. none-some x at_x;
@@ -130,8 +133,8 @@ module _ (scene : Scene) where
       → IsLayer scene (k + 1) next rows'
   layer_next k layer rows next rows' l s =
       subst (λ (n : ℕ). IsLayer scene n next rows') (sym (add-one k)) (record {
-        stands = step (moved scene) (all_tasks scene) (start_of scene) (outcome_at scene) AreEqual
-            (equal_alike (moved scene) (all_tasks scene) (start_of scene) (outcome_at scene)) k
+        stands = step (moved scene) (all_tasks scene) (start_of scene) (outcome_at scene) (IsAlike scene)
+            (following inode_laws scene) k
             (counted_ways layer) (counted_rows rows) (counted_ways next) (counted_rows rows')
             l.stands (s.advances l.outcomes);
         kept = s.kept;
@@ -156,8 +159,8 @@ module _ (scene : Scene) where
   -- after the last layer
   pub table : (k : ℕ) (rows : List Row) → IsLayer scene k [] rows → IsTable scene rows
   table k rows l = record {
-    rows_of = ends (moved scene) (all_tasks scene) (start_of scene) (outcome_at scene) AreEqual
-        (equal_alike (moved scene) (all_tasks scene) (start_of scene) (outcome_at scene)) k
+    rows_of = ends (moved scene) (all_tasks scene) (start_of scene) (outcome_at scene) (IsAlike scene)
+        (following inode_laws scene) k
         (counted_rows rows) l.stands (distinct scene rows l.outcomes l.apart);
     outcomes = l.outcomes;
     apart = l.apart;

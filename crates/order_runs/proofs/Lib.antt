@@ -1,4 +1,4 @@
-pub mod Scenes
+pub mod Joining
 pub mod Stepping
 pub mod Rowing
 pub mod Layering

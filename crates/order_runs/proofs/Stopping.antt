@@ -1,11 +1,13 @@
 -- Why counting stops.
-use Rattle.std.proofs.Common.{◌≡◌, ◌==◌, ◌⊎◌, ℕ, zero, suc, ◌+◌, ◌*◌, ◌^◌, ◌<◌, ◌≤◌, Bool, false, All, Contains, List, [], ◌∷◌, ◌++◌, drop, get_or, length, map, take, Option, Some, None, slice_get, refl, ap, sym, subst, ◌∙◌, arith, inl, inr}
+use Rattle.std.proofs.Common.{◌≡◌, ◌==◌, ◌⊎◌, ℕ, zero, suc, ◌+◌, ◌*◌, ◌^◌, ◌<◌, ◌≤◌, Bool, false, All, Contains, List, [], ◌∷◌, ◌++◌, drop, get_or, length, take, Some, slice_get, refl, ap, sym, subst, ◌∙◌, arith, inl, inr}
 use Rattle.std.specs.Prelude.{IfErr, IsErrAnd, IsSomeAnd, Result, Ok, Err}
 use Rattle.std.proofs.lemmas.Bool.{true≢false}
 use Rattle.std.proofs.lemmas.List.{drop_more, length-map, map-append}
 use Rattle.std.proofs.lemmas.List.Elements.{All-head, All-tail, Contains-append_right}
 use Rattle.std.proofs.lemmas.Option.{get_or_from_slice_get, none-some, same_Some}
-use Rattle.order_outcomes.proofs.about_counts.Adding.{equal_alike}
+use Rattle.order_alike.proofs.Following.{following}
+use Rattle.order_alike.proofs.Inodes.{inode_laws}
+use Rattle.order_alike.specs.Alike.{IsAlike}
 use Rattle.order_outcomes.proofs.about_counts.Spread.{first_in, in_cases, in_none, on, passed}
 use Rattle.order_outcomes.specs.Orders.{moment_after, moved, orders_of, outcome_at}
 use Rattle.order_outcomes.specs.counts.Layers.{AreAlike, IsWay, root, ways}
@@ -15,7 +17,7 @@ use Rattle.order_outcomes.specs.reports.model.Rounds.{all_tasks}
 use Rattle.order_outcomes.specs.reports.model.Scene.{Scene}
 use Rattle.order_outcomes.specs.reports.model.Turns.{Moment, start_of}
 use Rattle.order_outcomes.specs.scripts.Limits.{most_turns}
-use Rattle.order_runs.specs.Steps.{AreEqual, HasOutcome, IsKept, IsLayer, IsSpread, IsStep, counted_rows, counted_ways}
+use Rattle.order_runs.specs.Steps.{HasOutcome, IsKept, IsLayer, IsSpread, IsStep, counted_rows, counted_ways}
 use Rattle.order_runs.specs.Stops.{BeginsOverrun, HasLongWay, HasManyOrders, HasTooMany, IsCrowded, IsOverrun, counts_of, ways_of}
 use Rattle.order_runs.specs.Tables.{IsTable}
 use Rattle.order_runs.specs.declared.rows.Row.{Row}
@@ -80,8 +82,8 @@ module _ (scene : Scene) where
   Leads cs = AllLead (moved scene) (all_tasks scene) (start_of scene) cs
 
   abbrev alike : AreAlike (moved scene) (all_tasks scene) (start_of scene) (outcome_at scene)
-      AreEqual
-  alike = equal_alike (moved scene) (all_tasks scene) (start_of scene) (outcome_at scene)
+      (IsAlike scene)
+  alike = following inode_laws scene
 
   -- ---- ways and rows
 
@@ -180,7 +182,7 @@ module _ (scene : Scene) where
         at = layer_next scene k layer rows next rows' c.at s;
         met = c.met + counts_of (counted_ways layer);
         is_met = met_next (moved scene) (all_tasks scene) (start_of scene) (outcome_at scene)
-            AreEqual alike k (counted_ways layer) (counted_rows rows) (counted_ways next)
+            (IsAlike scene) alike k (counted_ways layer) (counted_rows rows) (counted_ways next)
             (counted_rows rows') c.met c.is_met (s.advances c.at.outcomes);
         fits =
             let count = kept_count layer c.at.kept in
@@ -205,7 +207,7 @@ module _ (scene : Scene) where
             let all : c.met + counts_of (counted_ways x.front ++ counted_ways x.back)
             + counts_of (counted_ways x.next) ≤ length (ways_of scene (k + 1))
             = part_within (moved scene) (all_tasks scene) (start_of scene) (outcome_at scene)
-            AreEqual alike k (counted_ways x.front) (counted_ways x.back) (counted_rows rows)
+            (IsAlike scene) alike k (counted_ways x.front) (counted_ways x.back) (counted_rows rows)
             (counted_ways x.next) (counted_rows x.mid) c.met
             (subst (λ (cs : List Counted).
             IsMet (moved scene) (all_tasks scene) (start_of scene) k cs c.met) split c.is_met)
@@ -226,15 +228,15 @@ module _ (scene : Scene) where
             let all : counts_of (counted_rows x.mid) + b.0.counted.count
             ≤ length (orders_of scene (k + 1))
             = part_orders (moved scene) (all_tasks scene) (start_of scene) (outcome_at scene)
-            AreEqual alike k (counted_ways x.front) (counted_ways b.1.0) (counted_rows rows)
+            (IsAlike scene) alike k (counted_ways x.front) (counted_ways b.1.0) (counted_rows rows)
             (counted_ways x.next) (counted_rows x.mid) b.0.counted o.at
             (subst (λ (cs : List Counted). (test : List ℕ → Bool) (r : ℕ)
             → ways (moved scene) (all_tasks scene) (outcome_at scene) test (k + r)
             (Some (start_of scene))
             ≡ weighed (passed (moved scene) (all_tasks scene) (start_of scene) (outcome_at scene)
-            AreEqual alike test) (counted_rows rows)
+            (IsAlike scene) alike test) (counted_rows rows)
             + weighed (on (moved scene) (all_tasks scene) (start_of scene) (outcome_at scene)
-            AreEqual alike test r) cs) (parts (b.0 ∷ b.1.0) b.1.1.0) c.at.stands.counts)
+            (IsAlike scene) alike test r) cs) (parts (b.0 ∷ b.1.0) b.1.1.0) c.at.stands.counts)
             (x.step.advances c.at.outcomes) (rows_lead x.mid (x.step.outcomes c.at.outcomes))
             o.leads o.ends in
             inr (inr (k + 1, omega (arith, many, all)))
@@ -322,6 +324,6 @@ module _ (scene : Scene) where
       → 2 ^ 128 ≤ counts_of (counted_rows rows) → HasManyOrders scene
   many_orders rows t many =
       let r = rows_within (moved scene) (all_tasks scene) (start_of scene) (outcome_at scene)
-      AreEqual alike (counted_rows rows) (rows_lead rows t.outcomes) t.rows_of in
+      (IsAlike scene) alike (counted_rows rows) (rows_lead rows t.outcomes) t.rows_of in
       let all = r.1 in
       (r.0, omega (arith, many, all))

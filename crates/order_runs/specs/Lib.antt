@@ -1,5 +1,5 @@
-pub mod Plays
 pub mod Steps
 pub mod Stops
 pub mod Tables
 pub use Rattle.order_outcomes.specs as outcomes
+pub use Rattle.order_sights.specs.Plays

@@ -1,13 +1,15 @@
 -- What is kept of a way, and what a step of counting makes of the ways of one length.
-use Rattle.std.specs.Prelude.{◌≡◌, ℕ, ◌<◌, not, Bool, All, List, [], ◌∷◌, ◌++◌, ◌⊎◌, map, Option, Some, None, slice_get, slice_set}
+use Rattle.std.specs.Prelude.{◌≡◌, ℕ, ◌<◌, not, Bool, false, All, List, [], ◌∷◌, ◌++◌, ◌⊎◌, map, Option, Some, None, slice_get, slice_set}
+use Rattle.order_alike.specs.Alike.{IsAlike}
 use Rattle.order_outcomes.specs.Made.{made_of}
 use Rattle.order_outcomes.specs.Orders.{left_at, moment_after, moved, outcome_at}
-use Rattle.order_outcomes.specs.counts.Layers.{Advances, AllAdvance, IsJoined, Spreads, StandsAt, with_turn}
-use Rattle.order_outcomes.specs.counts.Orders.{rests}
+use Rattle.order_outcomes.specs.counts.Layers.{Advances, AllAdvance, IsJoined, Spreads, StandsAt, joined, with_turn}
+use Rattle.order_outcomes.specs.counts.Orders.{comes_before, rests}
 use Rattle.order_outcomes.specs.counts.Rows.{Counted}
 use Rattle.order_outcomes.specs.reports.model.Rounds.{all_tasks}
 use Rattle.order_outcomes.specs.reports.model.Scene.{Scene}
 use Rattle.order_outcomes.specs.reports.model.Turns.{Moment, start_of}
+use Rattle.order_sights.specs.Sights.{IsSight}
 use Rattle.order_runs.specs.declared.rows.Row.{Row}
 use Rattle.order_runs.specs.declared.ways.Way.{Way}
 
@@ -19,13 +21,10 @@ pub record IsKept (scene : Scene) (way : Way) : Type 0 where
   pub leads : moment_after scene way.counted.order ≡ Some at
   pub made : way.made ≡ made_of (left_at scene at)
   pub some : 0 < way.counted.count
+  pub sight : IsSight scene at way.sight
 
 abbrev pub counted_ways : List Way → List Counted
 counted_ways ways = map (λ (w : Way). w.counted) ways
-
--- no two moments are met as one but equal ones
-abbrev pub AreEqual : Moment → Moment → Type 0
-AreEqual a b = a ≡ b
 
 -- the turn of the task leads to no moment, or on by the longer way
 abbrev pub IsTurned : Scene → Way → ℕ → Option Moment → Option Way → Type 0
@@ -34,16 +33,35 @@ IsTurned scene way task (Some m) (Some longer) =
     (longer.counted ≡ with_turn way.counted task) × IsKept scene longer
 IsTurned scene way task _ _ = ⊥
 
--- the ways with the longer one, if there is one
-abbrev pub with_way : List Way → Option Way → List Way
-with_way ways None = ways
-with_way ways (Some way) = ways ++ way ∷ []
+-- the second way can be met as the first, and doesn't come before it
+pub record CanMeet (way longer : Way) : Type 0 where
+  pub alike : (scene : Scene) (m n : Moment) → IsSight scene m way.sight
+      → IsSight scene n longer.sight → IsAlike scene m n
+  pub first : comes_before longer.counted.order way.counted.order ≡ false
+
+-- a way has the count of another one too, which can be met as it
+pub record IsMetAs (old : List Way) (way : Way) (new : List Way) : Type 0 where
+  pub place : ℕ
+  pub before : Way
+  pub at : slice_get old place ≡ Some before
+  pub meets : CanMeet before way
+  pub set : new
+      ≡ slice_set old place (record before { counted = joined before.counted way.counted })
+
+-- the way is one of the ways, or is met as one of them
+abbrev pub IsWayAdded : List Way → Way → List Way → Type 0
+IsWayAdded old way new = (new ≡ old ++ way ∷ []) ⊎ IsMetAs old way new
+
+-- the longer one is added, if there is one
+abbrev pub AreAdded : List Way → Option Way → List Way → Type 0
+AreAdded old None new = new ≡ old
+AreAdded old (Some way) new = IsWayAdded old way new
 
 -- the ways on from one way, which ends if there are none
 pub record IsSpread (scene : Scene) (way : Way) (m : Moment) (old new : List Way) (any : Bool)
     : Type 0 where
   pub spreads : All (IsKept scene) old
-      → Spreads (moved scene) AreEqual (start_of scene) m way.counted (all_tasks scene)
+      → Spreads (moved scene) (IsAlike scene) (start_of scene) m way.counted (all_tasks scene)
       (counted_ways old) (counted_ways new)
   pub kept : All (IsKept scene) old → All (IsKept scene) new
   pub none : any ≡ not (rests (moved scene) (all_tasks scene) m)
@@ -89,7 +107,7 @@ AreApart rows = (a b : ℕ) (x y : Row) → a < b → slice_get rows a ≡ Some 
 pub record IsAdvanced (scene : Scene) (way : Way) (next : List Way) (rows : List Row)
     (next' : List Way) (rows' : List Row) : Type 0 where
   pub advances : All (IsKept scene) next → All (HasOutcome scene) rows
-      → Advances (moved scene) (all_tasks scene) (start_of scene) (outcome_at scene) AreEqual
+      → Advances (moved scene) (all_tasks scene) (start_of scene) (outcome_at scene) (IsAlike scene)
       way.counted (counted_ways next) (counted_rows rows) (counted_ways next')
       (counted_rows rows')
   pub kept : All (IsKept scene) next → All (IsKept scene) next'
@@ -100,7 +118,7 @@ pub record IsAdvanced (scene : Scene) (way : Way) (next : List Way) (rows : List
 pub record IsStep (scene : Scene) (layer : List Way) (rows : List Row) (next : List Way)
     (rows' : List Row) : Type 0 where
   pub advances : All (HasOutcome scene) rows
-      → AllAdvance (moved scene) (all_tasks scene) (start_of scene) (outcome_at scene) AreEqual
+      → AllAdvance (moved scene) (all_tasks scene) (start_of scene) (outcome_at scene) (IsAlike scene)
       (counted_ways layer) [] (counted_rows rows) (counted_ways next) (counted_rows rows')
   pub kept : All (IsKept scene) next
   pub outcomes : All (HasOutcome scene) rows → All (HasOutcome scene) rows'
@@ -109,7 +127,7 @@ pub record IsStep (scene : Scene) (layer : List Way) (rows : List Row) (next : L
 -- the ways after k turns, and the rows of the orders that have ended
 pub record IsLayer (scene : Scene) (k : ℕ) (layer : List Way) (rows : List Row) : Type 0 where
   pub stands : StandsAt (moved scene) (all_tasks scene) (start_of scene) (outcome_at scene)
-      AreEqual k (counted_ways layer) (counted_rows rows)
+      (IsAlike scene) k (counted_ways layer) (counted_rows rows)
   pub kept : All (IsKept scene) layer
   pub outcomes : All (HasOutcome scene) rows
   pub apart : AreApart rows

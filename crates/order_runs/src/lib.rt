@@ -3,14 +3,13 @@
 //!
 //! An order is run from the start, by the schedule that its turns make, each time that a turn is
 //! added to it. Orders are counted turn by turn: the ways of one length are a layer, from which the
-//! next one is made.
+//! next one is made. Ways that lead to moments at which the same can follow are met as one.
 #![tactic(auto)]
 
-mod play;
 mod rows;
 mod ways;
 
 pub use order_outcomes as outcomes;
-pub use play::Play;
+pub use order_sights::Play;
 pub use rows::{MOST_TURNS, Row, Stopped, rows_of};
 pub use ways::Way;

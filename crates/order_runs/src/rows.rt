@@ -2,20 +2,19 @@
 
 ghost use Rattle.std.specs.Prelude.{◌≡◌, ℕ, suc, ◌+◌, ◌<◌, ◌≤◌, ◌^◌, [], ◌∷◌, ◌++◌, All, length, slice_get, IfErr, IfOk, IsSomeAnd, MatchOption, OnOk};
 ghost use Rattle.order_outcomes.specs.counts.Layers.{joined, root};
+ghost use Rattle.order_outcomes.specs.reports.model.Scene.{Scene};
 ghost use Rattle.order_outcomes.specs.scripts.Limits.{most_turns};
 ghost use Rattle.order_runs.specs.Steps.{AreApart, HasNone, HasOutcome, IsAdvanced, IsKept, IsLayer, IsRowAdded, IsStep, counted_rows, counted_ways};
 ghost use Rattle.order_runs.specs.Stops.{HasTooMany, IsCrowded, IsOverrun, counts_of};
 ghost use Rattle.order_runs.specs.Tables.{IsTable};
 
-use crate::play::Play;
-use crate::ways::{Way, root, spread};
+use crate::ways::{Index, Way, root, spread};
 use order_outcomes::counts::Counted;
 use order_outcomes::outcome_of;
 use order_outcomes::reports::model::events::templates::xattrs::Bytes;
 use order_outcomes::reports::outer::Gate;
+use order_sights::Play;
 use std::alloc::{AllocError as OutOfMemory, Global};
-use std::sync::Wait;
-use std::thread::Threads;
 
 /// The most turns of an order, which are those of a schedule.
 pub const MOST_TURNS: u32 = 1_048_576;
@@ -101,32 +100,24 @@ fn add_row(alloc: Global, rows: &mut Vec<Row>, row: Row) -> Result<(), Stopped>
 }
 
 // The row of an order alone.
-fn row_of<G: Gate + Sync, R: Threads + Wait + Sync>(
-    rt: &R,
-    alloc: Global,
-    play: &Play,
-    way: &Way,
-    gate: &G,
-) -> Result<Row, OutOfMemory>
-    requires kept { IsKept play.now way.now }
-    requires turns { length way.now.counted.order ≤ most_turns }
+fn row_of(alloc: Global, way: &Way) -> Result<Row, OutOfMemory>
     ensures counted { IfOk result (λ row. row.counted ≡ way.now.counted) }
-    ensures outcome { IfOk result (HasOutcome play.now) }
+    ensures outcome { IfOk result (λ row. (scene : Scene) → IsKept scene way.now
+        → HasOutcome scene row) }
 {
-    let ended = play.left_by(rt, alloc, &way.counted.order, gate)?;
-    let outcome = outcome_of(alloc, &ended)?;
+    let outcome = outcome_of(alloc, &way.sight.ended)?;
     let counted = way.counted.copy(alloc)?;
     Ok(Row { counted, outcome })
 }
 
 // Adds the ways that are one turn longer. If there are none, the way is an order, which is counted
 // in the rows.
-fn advance_one<G: Gate + Sync, R: Threads + Wait + Sync>(
-    rt: &R,
+fn advance_one<G: Gate>(
     alloc: Global,
     play: &Play,
     way: &Way,
     next: &mut Vec<Way>,
+    index: &mut Index,
     rows: &mut Vec<Row>,
     gate: &G,
 ) -> Result<(), Stopped>
@@ -137,9 +128,9 @@ fn advance_one<G: Gate + Sync, R: Threads + Wait + Sync>(
     ensures too_many { IfErr result (λ why. why ≡ Stopped.TooMany
         → IsOverrun play.now way.now rows.old.items) }
 {
-    let any = spread(rt, alloc, play, way, next, gate)?;
+    let any = spread(alloc, play, way, next, index, gate)?;
     if !any {
-        let row = row_of(rt, alloc, play, way, gate)?;
+        let row = row_of(alloc, way)?;
         add_row(alloc, rows, row)?;
     }
     Ok(())
@@ -147,8 +138,7 @@ fn advance_one<G: Gate + Sync, R: Threads + Wait + Sync>(
 
 // The ways that are one turn longer than those of the layer. Those that are orders are counted in
 // the rows.
-fn advance<G: Gate + Sync, R: Threads + Wait + Sync>(
-    rt: &R,
+fn advance<G: Gate>(
     alloc: Global,
     play: &Play,
     layer: &[Way],
@@ -164,8 +154,9 @@ fn advance<G: Gate + Sync, R: Threads + Wait + Sync>(
         → IsCrowded play.now layer.now rows.old.items room) }
 {
     let mut next = Vec::new(alloc);
+    let mut index = Index::new(alloc);
     for way in layer {
-        advance_one(rt, alloc, play, way, &mut next, rows, gate)?;
+        advance_one(alloc, play, way, &mut next, &mut index, rows, gate)?;
         if next.len() > room {
             return Err(Stopped::TooMany);
         }
@@ -174,25 +165,19 @@ fn advance<G: Gate + Sync, R: Threads + Wait + Sync>(
 }
 
 // The way without turns.
-fn first_layer<G: Gate + Sync, R: Threads + Wait + Sync>(
-    rt: &R,
-    alloc: Global,
-    play: &Play,
-    gate: &G,
-) -> Result<Vec<Way>, OutOfMemory>
+fn first_layer<G: Gate>(alloc: Global, play: &Play, gate: &G) -> Result<Vec<Way>, OutOfMemory>
     ensures layer { IfOk result (λ layer. IsLayer play.now 0 layer.items []) }
     ensures first { IfOk result (λ layer. counted_ways layer.items ≡ root ∷ []) }
 {
     let mut layer = Vec::new(alloc);
-    layer.push(root(rt, alloc, play, gate)?)?;
+    layer.push(root(alloc, play, gate)?)?;
     Ok(layer)
 }
 
 /// The rows of the play. At most `most` moments are met: `TooMany` is returned only if there are
 /// more ways to begin an order, if one of them has as many turns as a schedule may have, or if there
 /// are more orders than 128 bits can count.
-pub fn rows_of<G: Gate + Sync, R: Threads + Wait + Sync>(
-    rt: &R,
+pub fn rows_of<G: Gate>(
     alloc: Global,
     play: &Play,
     most: usize,
@@ -202,14 +187,14 @@ pub fn rows_of<G: Gate + Sync, R: Threads + Wait + Sync>(
     ensures too_many { IfErr result (λ why. why ≡ Stopped.TooMany → HasTooMany play.now most) }
 {
     let mut rows = Vec::new(alloc);
-    let mut layer = first_layer(rt, alloc, play, gate)?;
+    let mut layer = first_layer(alloc, play, gate)?;
     let mut room = most;
     for turn in 0..MOST_TURNS {
         if room < layer.len() {
             return Err(Stopped::TooMany);
         }
         room -= layer.len();
-        layer = advance(rt, alloc, play, layer.as_slice(), &mut rows, room, gate)?;
+        layer = advance(alloc, play, layer.as_slice(), &mut rows, room, gate)?;
         if layer.is_empty() {
             return Ok(rows);
         }

@@ -1,50 +1,47 @@
-//! The first turns of orders, and those that are one turn longer.
+//! The first turns of orders, and those that are one turn longer. Of those that lead to moments at
+//! which the same can follow, the first is kept, with the counts of all.
 
-ghost use Rattle.std.specs.Prelude.{◌≡◌, ◌<◌, ◌||◌, is_some, length, IfOk};
+ghost use Rattle.std.specs.Prelude.{◌≡◌, [], ◌∷◌, ◌++◌, ◌<◌, ◌||◌, is_some, length, IfOk, IfSome, IsSomeAnd, IsTrue, OnOk, slice_get};
 ghost use Rattle.order_outcomes.specs.Orders.{moment_after, moved};
 ghost use Rattle.order_outcomes.specs.counts.Layers.{root};
 ghost use Rattle.order_outcomes.specs.reports.model.Turns.{Moment};
 ghost use Rattle.order_outcomes.specs.scripts.Limits.{most_turns};
-ghost use Rattle.order_runs.specs.Steps.{IsKept, IsSpread, IsTurned, with_way};
+ghost use Rattle.order_runs.specs.Steps.{AreAdded, CanMeet, IsKept, IsSpread, IsTurned, IsWayAdded};
 
-use crate::play::Play;
 use order_outcomes::counts::{Counted, Order};
 use order_outcomes::reports::outer::Gate;
 use order_outcomes::{Made, made_of};
+use order_sights::{Play, Sight, are_alike};
 use std::alloc::{AllocError as OutOfMemory, Global};
-use std::sync::Wait;
-use std::thread::Threads;
+use std::collections::HashMap;
 
 /// The first turns of orders, each of which moves its task.
-#[derive(Debug, Drop)]
+#[derive(Drop)]
 pub struct Way {
     /// The turns, with the number of ways for which they stand.
     pub counted: Counted,
     /// How much is made after these turns.
     pub made: Made,
+    /// What is seen then.
+    pub sight: Sight,
 }
 
 /// The way without turns.
-pub fn root<G: Gate + Sync, R: Threads + Wait + Sync>(
-    rt: &R,
-    alloc: Global,
-    play: &Play,
-    gate: &G,
-) -> Result<Way, OutOfMemory>
+pub fn root<G: Gate>(alloc: Global, play: &Play, gate: &G) -> Result<Way, OutOfMemory>
     ensures counted { IfOk result (λ way. way.counted ≡ root) }
     ensures kept { IfOk result (IsKept play.now) }
 {
     let order = Order::new(alloc);
-    let ended = play.left_by(rt, alloc, &order, gate)?;
+    let sight = play.sight(alloc, &order, gate)?;
     Ok(Way {
         counted: Counted { order, count: 1 },
-        made: made_of(&ended),
+        made: made_of(&sight.ended),
+        sight,
     })
 }
 
 // The way with one turn of the task more, if the turn moves it.
-fn turned<G: Gate + Sync, R: Threads + Wait + Sync>(
-    rt: &R,
+fn turned<G: Gate>(
     alloc: Global,
     play: &Play,
     way: &Way,
@@ -59,22 +56,125 @@ fn turned<G: Gate + Sync, R: Threads + Wait + Sync>(
         → IsTurned play.now way.now task (moved play.now m task) longer) }
 {
     let counted = way.counted.then(alloc, task)?;
-    let ended = play.left_by(rt, alloc, &counted.order, gate)?;
-    let made = made_of(&ended);
+    let sight = play.sight(alloc, &counted.order, gate)?;
+    let made = made_of(&sight.ended);
     if made.is_same(way.made) {
         return Ok(None);
     }
-    Ok(Some(Way { counted, made }))
+    Ok(Some(Way {
+        counted,
+        made,
+        sight,
+    }))
+}
+
+/// The places of the ways that were added to a layer, by the marks of their sights.
+#[derive(Drop)]
+pub struct Index {
+    places: HashMap<u64, Vec<usize>>,
+}
+
+impl Index {
+    /// No place yet.
+    pub fn new(alloc: Global) -> Index {
+        Index {
+            places: HashMap::new(alloc),
+        }
+    }
+
+    fn get(&self, mark: u64) -> &[usize] {
+        match self.places.get(&mark) {
+            Some(places) => places.as_slice(),
+            None => &[],
+        }
+    }
+
+    fn add(&mut self, alloc: Global, mark: u64, place: usize) -> Result<(), OutOfMemory> {
+        if let Some(places) = self.places.get_mut(&mark) {
+            return match places.push(place) {
+                Ok(()) => Ok(()),
+                Err(_) => Err(OutOfMemory),
+            };
+        }
+        let mut places = Vec::new(alloc);
+        places.push(place)?;
+        self.places.insert(mark, places)?;
+        Ok(())
+    }
+}
+
+// Whether the longer way can be met as this one, and doesn't come before it.
+fn can_meet(alloc: Global, way: &Way, longer: &Way) -> Result<bool, OutOfMemory>
+    ensures { IfOk result (λ meets. IsTrue meets → CanMeet way.now longer.now) }
+{
+    if longer.counted.order.comes_before(&way.counted.order) {
+        return Ok(false);
+    }
+    let alike = are_alike(alloc, &way.sight, &longer.sight)?;
+    Ok(alike)
+}
+
+// The place of a way as which the longer one can be met.
+fn meeting(
+    alloc: Global,
+    ways: &[Way],
+    places: &[usize],
+    longer: &Way,
+) -> Result<Option<usize>, OutOfMemory>
+    ensures { IfOk result (λ found. IfSome found (λ place.
+        IsSomeAnd (slice_get ways.now place) (λ way. CanMeet way longer.now))) }
+{
+    for place in places {
+        let place = *place;
+        if place < ways.len() && can_meet(alloc, &ways[place], longer)? {
+            return Ok(Some(place));
+        }
+    }
+    Ok(None)
+}
+
+fn push_way(ways: &mut Vec<Way>, way: Way) -> Result<(), OutOfMemory>
+    ensures { OnOk result (ways.new.items ≡ ways.old.items ++ way ∷ []) }
+{
+    ways.push(way)?;
+    Ok(())
+}
+
+// Adds the way, or its count to that of a way as which it can be met, if 128 bits have the sum.
+fn add_way(
+    alloc: Global,
+    next: &mut Vec<Way>,
+    index: &mut Index,
+    way: Way,
+) -> Result<(), OutOfMemory>
+    ensures { OnOk result (IsWayAdded next.old.items way next.new.items) }
+{
+    let mark = way.sight.mark();
+    if let Some(place) = meeting(alloc, next.as_slice(), index.get(mark), &way)? {
+        if let Some(joined) = next[place].counted.join(alloc, &way.counted)? {
+            next[place].counted = joined;
+            return Ok(());
+        }
+    }
+    index.add(alloc, mark, next.len())?;
+    push_way(next, way)?;
+    Ok(())
 }
 
 // Adds the longer way, if there is one. Returns whether there is any so far.
-fn push_way(next: &mut Vec<Way>, longer: Option<Way>, any: bool) -> Result<bool, OutOfMemory>
-    ensures ways { IfOk result (λ b. next.new.items ≡ with_way next.old.items longer) }
+fn add_longer(
+    alloc: Global,
+    next: &mut Vec<Way>,
+    index: &mut Index,
+    longer: Option<Way>,
+    any: bool,
+) -> Result<bool, OutOfMemory>
+    ensures ways { IfOk result (λ b. AreAdded next.old.items longer next.new.items) }
     ensures any { IfOk result (λ b. b ≡ (any || is_some longer)) }
 {
     match longer {
         Some(way) => {
-            next.push(way)?;
+            add_way(alloc, next, index, way)?;
             Ok(true)
         }
         None => Ok(any),
@@ -82,12 +182,12 @@ fn push_way(next: &mut Vec<Way>, longer: Option<Way>, any: bool) -> Result<bool,
 }
 
 /// Adds the ways that are one turn longer. Returns whether there are any.
-pub fn spread<G: Gate + Sync, R: Threads + Wait + Sync>(
-    rt: &R,
+pub fn spread<G: Gate>(
     alloc: Global,
     play: &Play,
     way: &Way,
     next: &mut Vec<Way>,
+    index: &mut Index,
     gate: &G,
 ) -> Result<bool, OutOfMemory>
     requires kept { IsKept play.now way.now }
@@ -98,8 +198,8 @@ pub fn spread<G: Gate + Sync, R: Threads + Wait + Sync>(
 {
     let mut any = false;
     for task in 0..play.tasks() {
-        let longer = turned(rt, alloc, play, way, task, gate)?;
-        any = push_way(next, longer, any)?;
+        let longer = turned(alloc, play, way, task, gate)?;
+        any = add_longer(alloc, next, index, longer, any)?;
     }
     Ok(any)
 }

@@ -18,8 +18,6 @@ use order_runs::outcomes::reports::model::events::templates::xattrs::Bytes;
 use order_runs::outcomes::scripts::{Fault, ScriptErr};
 use order_runs::{Play, Row, Stopped, rows_of};
 use std::alloc::{AllocError as OutOfMemory, Global};
-use std::sync::Wait;
-use std::thread::Threads;
 
 /// The most bytes that a script may have: 4 MiB.
 pub const MOST_INPUT: usize = 4_194_304;
@@ -41,8 +39,7 @@ fn too_many_line(alloc: Global, most: usize) -> Result<Vec<u8>, OutOfMemory>
 }
 
 // The rows of the play, in the order in which they are printed.
-fn sorted_rows<G: Gate + Sync, R: Threads + Wait + Sync>(
-    rt: &R,
+fn sorted_rows<G: Gate>(
     alloc: Global,
     play: &Play,
     most: usize,
@@ -50,7 +47,7 @@ fn sorted_rows<G: Gate + Sync, R: Threads + Wait + Sync>(
 ) -> Result<Vec<Row>, NotDone>
     ensures { IsMade play.now most (λ rows. AreSortedRows play.now rows.items) result }
 {
-    match rows_of(rt, alloc, play, most, gate) {
+    match rows_of(alloc, play, most, gate) {
         Ok(rows) => Ok(sorted(alloc, rows)?),
         Err(Stopped::TooMany) => Err(NotDone::TooMany(too_many_line(alloc, most)?)),
         Err(Stopped::OutOfMemory) => Err(NotDone::OutOfMemory),
@@ -58,16 +55,10 @@ fn sorted_rows<G: Gate + Sync, R: Threads + Wait + Sync>(
 }
 
 // The text of the rows of the play.
-fn table<G: Gate + Sync, R: Threads + Wait + Sync>(
-    rt: &R,
-    alloc: Global,
-    play: &Play,
-    most: usize,
-    gate: &G,
-) -> Result<Bytes, NotDone>
+fn table<G: Gate>(alloc: Global, play: &Play, most: usize, gate: &G) -> Result<Bytes, NotDone>
     ensures { IsMade play.now most (IsTableText play.now) result }
 {
-    let rows = sorted_rows(rt, alloc, play, most, gate)?;
+    let rows = sorted_rows(alloc, play, most, gate)?;
     let Some(total) = total_of(rows.as_slice()) else {
         return Err(NotDone::TooMany(too_many_line(alloc, most)?));
     };
@@ -76,18 +67,12 @@ fn table<G: Gate + Sync, R: Threads + Wait + Sync>(
 }
 
 // The text of the rows of the script that the input is.
-fn answer<G: Gate + Sync, R: Threads + Wait + Sync>(
-    rt: &R,
-    alloc: Global,
-    input: Bytes,
-    most: usize,
-    gate: &G,
-) -> Result<Bytes, NotDone>
+fn answer<G: Gate>(alloc: Global, input: Bytes, most: usize, gate: &G) -> Result<Bytes, NotDone>
     requires { length input ≤ most_input }
     ensures { Answers most input result }
 {
     match Play::read(alloc, input) {
-        Ok(play) => table(rt, alloc, &play, most, gate),
+        Ok(play) => table(alloc, &play, most, gate),
         Err(ScriptErr::Refused(fault)) => Err(NotDone::Refused(bad_line(alloc, fault)?)),
         Err(ScriptErr::OutOfMemory) => Err(NotDone::OutOfMemory),
     }
@@ -110,8 +95,7 @@ fn read_input<S: Source>(alloc: Global, script: &mut S) -> Result<Bytes, NotDone
 }
 
 // Reads the whole script, makes its rows, and writes all of them.
-fn perform<S: Source, K: Sink, G: Gate + Sync, R: Threads + Wait + Sync>(
-    rt: &R,
+fn perform<S: Source, K: Sink, G: Gate>(
     alloc: Global,
     most: usize,
     script: &mut S,
@@ -132,14 +116,13 @@ fn perform<S: Source, K: Sink, G: Gate + Sync, R: Threads + Wait + Sync>(
         → Rose (K.faults out.old) (K.faults out.new) }
 {
     let input = read_input(alloc, script)?;
-    let output = answer(rt, alloc, input, most, gate)?;
+    let output = answer(alloc, input, most, gate)?;
     write_all(out, output.as_slice())?;
     Ok(())
 }
 
 // Finds the most moments that may be met and performs what the words ask for.
-fn answer_words<S: Source, K: Sink, G: Gate + Sync, R: Threads + Wait + Sync>(
-    rt: &R,
+fn answer_words<S: Source, K: Sink, G: Gate>(
     alloc: Global,
     words: &[String],
     script: &mut S,
@@ -163,7 +146,7 @@ fn answer_words<S: Source, K: Sink, G: Gate + Sync, R: Threads + Wait + Sync>(
         → Rose (K.faults out.old) (K.faults out.new) }
 {
     match most_of(words) {
-        Some(most) => perform(rt, alloc, most, script, out, gate),
+        Some(most) => perform(alloc, most, script, out, gate),
         None => Err(NotDone::Usage),
     }
 }
@@ -182,8 +165,7 @@ fn tell<N: Sink>(note: &mut N, line: &[u8])
 ///
 /// The words don't include the program's name; one word is the most moments that may be met. Each
 /// step of a task passes `gate` first.
-pub fn serve<S: Source, K: Sink, N: Sink, G: Gate + Sync, R: Threads + Wait + Sync>(
-    rt: &R,
+pub fn serve<S: Source, K: Sink, N: Sink, G: Gate>(
     alloc: Global,
     words: &[String],
     script: &mut S,
@@ -228,7 +210,7 @@ pub fn serve<S: Source, K: Sink, N: Sink, G: Gate + Sync, R: Threads + Wait + Sy
         ⊎ Rose (S.faults script.old) (S.faults script.new)
         ⊎ Rose (K.faults out.old) (K.faults out.new))) }
 {
-    match answer_words(rt, alloc, words, script, out, gate) {
+    match answer_words(alloc, words, script, out, gate) {
         Ok(()) => DONE,
         Err(why) => {
             tell(note, why.line());

@@ -8,13 +8,13 @@ use Rattle.order_runs.proofs.Stopping.{overrun, told, wide}
 use Rattle.order_runs.proofs.rows.advance.Goals as goal
 
 pub advance_one-requires-clause-kept : goal.advance_one-requires-clause-kept
-advance_one-requires-clause-kept g c κs within =
+advance_one-requires-clause-kept g c =
     let way : Way = c.way-item.result in
     subst (IsKept c.args.play.now) (sym c.way-item.is)
     (c.requires.kept c.loop-way.way-index way c.loop-way-test.true)
 
 pub advance_one-requires-clause-turns : goal.advance_one-requires-clause-turns
-advance_one-requires-clause-turns g c κs within =
+advance_one-requires-clause-turns g c =
     let way : Way = c.way-item.result in
     subst (λ (w : Way). length w.counted.order < most_turns) (sym c.way-item.is)
     (c.requires.turns c.loop-way.way-index way c.loop-way-test.true)

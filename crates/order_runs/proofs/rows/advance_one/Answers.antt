@@ -7,7 +7,7 @@ returns-in_ok-add_row-clause-advanced g c =
     ending c.args.play.now c.args.way.now c.requires.kept c.args.next.now.items
     c.spread.new.next.items c.in_ok-any.any c.in_ok-any.ensures c.if-not-any.true
     c.args.rows.now.items c.add_row.new.rows.items c.in_ok-row.row c.in_ok-row.ensures.counted
-    c.in_ok-row.ensures.outcome c.in_ok-add_row.ensures.added
+    (c.in_ok-row.ensures.outcome c.args.play.now c.requires.kept) c.in_ok-add_row.ensures.added
 
 pub returns-else-not-any-clause-advanced : goal.returns-else-not-any-clause-advanced
 returns-else-not-any-clause-advanced g c =

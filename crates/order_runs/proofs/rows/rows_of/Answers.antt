@@ -9,7 +9,7 @@ use Rattle.order_runs.proofs.Stopping.{IsCounting, counting_first, counting_next
 use Rattle.order_runs.proofs.rows.rows_of.Goals as goal
 
 pub advance-requires-clause-turns : goal.advance-requires-clause-turns
-advance-requires-clause-turns g c κs within =
+advance-requires-clause-turns g c =
     subst (λ (ways : List Way). All (λ (w : Way). length w.counted.order < most_turns) ways)
     (sym c.as_slice.ensures.value)
     (layer_short c.args.play.now c.loop-turn.turn c.loop-turn.layer.items

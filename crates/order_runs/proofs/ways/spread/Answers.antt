@@ -1,11 +1,11 @@
-use Rattle.std.proofs.Common.{◌≡◌, ◌+◌, ℕ, not, All, List, length, sym, ap, subst, ◌∙◌, arith}
+use Rattle.std.proofs.Common.{◌≡◌, ℕ, not, length, ap, subst, ◌∙◌, arith}
+use Rattle.order_alike.specs.Alike.{IsAlike}
 use Rattle.order_outcomes.specs.Orders.{moved}
 use Rattle.order_outcomes.specs.counts.Layers.{Spreads}
 use Rattle.order_outcomes.specs.counts.Orders.{rests}
 use Rattle.order_outcomes.specs.reports.model.Rounds.{numbers}
 use Rattle.order_outcomes.specs.reports.model.Turns.{start_of}
-use Rattle.order_runs.specs.Steps.{AreEqual, IsKept, counted_ways}
-use Rattle.order_runs.specs.declared.ways.Way.{Way}
+use Rattle.order_runs.specs.Steps.{counted_ways}
 use Rattle.order_runs.proofs.Stepping.{rests_more, spreads_more, with_kept}
 use Rattle.order_runs.proofs.ways.spread.Goals as goal
 
@@ -19,16 +19,13 @@ loop-task-preserved g c =
     let k = c.requires.kept in
     record {
       spreads = λ m leads kept.
-          subst (λ (ways : List Way). Spreads (moved scene) AreEqual (start_of scene) m
-          way.counted (numbers (n + 1)) (counted_ways c.args.next.now.items) (counted_ways ways))
-          (sym c.in_ok-any.ensures.ways)
-          (spreads_more scene way n m longer (c.in_ok-longer.ensures m leads)
-          c.args.next.now.items mid (c.loop-task.invariant.kept kept)
-          (c.loop-task.invariant.spreads m leads kept));
+          spreads_more scene way n m longer (c.in_ok-longer.ensures m leads)
+          c.args.next.now.items mid c.add_longer.new.next.items (c.loop-task.invariant.kept kept)
+          c.in_ok-any.ensures.ways (c.loop-task.invariant.spreads m leads kept);
       kept = λ kept.
-          subst (λ (ways : List Way). All (IsKept scene) ways) (sym c.in_ok-any.ensures.ways)
-          (with_kept scene way n (moved scene k.at n) longer
-          (c.in_ok-longer.ensures k.at k.leads) mid (c.loop-task.invariant.kept kept));
+          with_kept scene way n (moved scene k.at n) longer (c.in_ok-longer.ensures k.at k.leads)
+          mid c.add_longer.new.next.items c.in_ok-any.ensures.ways
+          (c.loop-task.invariant.kept kept);
       none = λ m leads.
           c.in_ok-any.ensures.any
           ∙ rests_more scene way n m longer (c.in_ok-longer.ensures m leads) c.loop-task.any
@@ -43,7 +40,7 @@ returns g c =
     omega (arith, c.tasks-task-end.ensures, c.loop-task-test.false, c.loop-task.auto.task-end) in
     λ m leads. record {
       spreads = λ kept.
-          subst (λ (j : ℕ). Spreads (moved scene) AreEqual (start_of scene) m way.counted
+          subst (λ (j : ℕ). Spreads (moved scene) (IsAlike scene) (start_of scene) m way.counted
           (numbers j) (counted_ways c.args.next.now.items)
           (counted_ways c.loop-task.next.items)) end (c.loop-task.invariant.spreads m leads kept);
       kept = c.loop-task.invariant.kept;
