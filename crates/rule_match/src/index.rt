@@ -103,8 +103,8 @@ impl Index {
         }
     }
 
-    // For each family, the index of the line that decides.
-    fn deciders(&self, a: &Access) -> Deciders
+    /// For each family, the index of the line that decides, as [`Index::decider`] gives it for one.
+    pub fn deciders(&self, a: &Access) -> Deciders
         ensures { AreDeciders a.now self.now result }
     {
         let from = Candidates {

@@ -11,6 +11,7 @@ mod group;
 mod index;
 
 pub use conditions::matches;
+pub use deciders::Deciders;
 pub use decision::decide;
 pub use family::Family;
 pub use index::Index;
