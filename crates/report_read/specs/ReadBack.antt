@@ -1,0 +1,97 @@
+-- What has to be true of the reader: each report of a run is accepted, and read as that run. This
+-- is a statement: its proof is to come.
+use Rattle.std.specs.Prelude.{◌≡◌, ℕ, ◌<◌, ◌^◌, List, [], ◌∷◌, length, map, take, drop, Option, Some, None, Ok, true}
+use Rattle.std.specs.List.{AllByRecursion, join_with_byte}
+use Rattle.report_text.specs.Ranges.{Fits}
+use Rattle.report_text.specs.Report.{entry_words, reply_lines, report_of}
+use Rattle.report_text.specs.model.EndedValue.{EndedTaskValue as EndedTask, EndedValue as Ended}
+use Rattle.report_text.specs.model.events.EndedInode.{EndedInodeValue as EndedInode}
+use Rattle.report_text.specs.model.events.Inode.{Inode}
+use Rattle.report_text.specs.model.events.Legal.{Legal}
+use Rattle.report_text.specs.model.events.Past.{past}
+use Rattle.report_text.specs.model.events.declared.deed.Change.{Change}
+use Rattle.report_text.specs.model.events.declared.deed.Change.TheVariants as change
+use Rattle.report_text.specs.model.events.declared.deed.Deed.{Deed}
+use Rattle.report_text.specs.model.events.declared.deed.Deed.TheVariants as deed
+use Rattle.report_text.specs.model.events.declared.told.Event.{Event as ModelEvent}
+use Rattle.report_text.specs.model.events.declared.told.Told.{Told}
+use Rattle.report_text.specs.model.events.declared.told.Told.TheVariants as told
+use Rattle.report_read.specs.declared.event.Event.{Event}
+use Rattle.report_read.specs.declared.event.Span.{Span}
+use Rattle.report_read.specs.declared.report.Reply.{Reply}
+use Rattle.report_read.specs.Draft.{entry_fits, entry_of}
+use Rattle.report_read.specs.Read.{reports_of}
+use Rattle.report_read.specs.Report.{InodeValue, ReportValue, TaskValue}
+use Rattle.report_read.specs.Short.{short, without_line}
+
+-- the bytes of a range of the text
+abbrev pub text_at : List ℕ → Span → List ℕ
+text_at text line = take line.len (drop line.at text)
+
+-- the report is that of the run, whose text this is
+pub record IsReadOf (text : List ℕ) (r : ReportValue) (e : Ended) : Type 0 where
+  pub entries : map (text_at text) r.entries ≡ map (λ x. join_with_byte 32 (entry_words x)) e.list
+  pub events : map (λ (i : InodeValue). map without_line i.events) r.inodes
+      ≡ map (λ (i : EndedInode). map short i.journal) e.inodes
+  pub writers : map (λ (i : InodeValue). i.head.writers) r.inodes
+      ≡ map (λ (i : EndedInode). i.writers) e.inodes
+  pub readers : map (λ (i : InodeValue). i.head.readers) r.inodes
+      ≡ map (λ (i : EndedInode). i.readers) e.inodes
+  pub execs : map (λ (i : InodeValue). i.head.execs) r.inodes
+      ≡ map (λ (i : EndedInode). i.execs) e.inodes
+  pub done : map (λ (t : TaskValue). t.done) r.tasks ≡ map (λ (t : EndedTask). t.done) e.tasks
+  pub replies : map (λ (t : TaskValue). map (λ (y : Reply). text_at text y.line) t.replies) r.tasks
+      ≡ map (λ (t : EndedTask). map (join_with_byte 32) (reply_lines 0 t.replies)) e.tasks
+
+-- the entry that an event names is in the list
+abbrev pub NamesEntry : ℕ → Event → Type 0
+NamesEntry entries e = entry_fits entries (entry_of e.outcome) ≡ true
+
+abbrev pub IsSmallChange : Change → Type 0
+IsSmallChange (change.Mode mode) = mode < 2 ^ 16
+IsSmallChange (change.Owner uid gid) = (uid < 2 ^ 32) × (gid < 2 ^ 32)
+
+abbrev pub IsSmallValue : Option (List ℕ) → Type 0
+IsSmallValue None = Unit {0}
+IsSmallValue (Some bytes) = length bytes < 2 ^ 32
+
+-- the numbers of the deed have the ranges of their types, and offsets and lengths are below 2^32
+abbrev pub IsSmallDeed : Deed → Type 0
+IsSmallDeed (deed.Check file func action rules) = (action.pcr < 24) × (rules < 2 ^ 32)
+IsSmallDeed (deed.Read file from len) = (from < 2 ^ 32) × (len < 2 ^ 32)
+IsSmallDeed (deed.Write file from bytes) = (from < 2 ^ 32) × (length bytes < 2 ^ 32)
+IsSmallDeed (deed.Trunc file len) = len < 2 ^ 32
+IsSmallDeed (deed.SetAttr name bytes admin) = IsSmallValue bytes
+IsSmallDeed (deed.SetMeta change) = IsSmallChange change
+IsSmallDeed _ = Unit {0}
+
+abbrev pub IsSmallTold : Told → Type 0
+IsSmallTold (told.Read n digest) = n < 2 ^ 32
+IsSmallTold _ = Unit {0}
+
+pub record IsSmall (e : ModelEvent) : Type 0 where
+  pub task : e.who.task < 2 ^ 32
+  pub call : e.who.call < 2 ^ 32
+  pub step : e.who.step < 2 ^ 32
+  pub deed : IsSmallDeed e.deed
+  pub told : IsSmallTold e.told
+
+-- the journal is that of some inode, with small numbers
+pub record IsJournal (entries : ℕ) (i : EndedInode) : Type 0 where
+  pub inode : Inode
+  pub legal : Legal inode (past i.journal)
+  pub small : AllByRecursion IsSmall i.journal
+  pub entries : AllByRecursion (λ x. NamesEntry entries (short x)) i.journal
+
+-- a run whose report can be read
+pub record IsReadable (e : Ended) : Type 0 where
+  pub fits : Fits e
+  pub journals : AllByRecursion (IsJournal (length e.list)) e.inodes
+  pub small : length (report_of e) < 2 ^ 27
+
+-- the text that `report` gives of a run is accepted, and read as that run
+abbrev pub ReportIsRead : Type 0
+ReportIsRead =
+    (e : Ended) → IsReadable e
+    → (r : ReportValue) × (reports_of 0 (report_of e) ≡ Ok (r ∷ []))
+    × IsReadOf (report_of e) r e

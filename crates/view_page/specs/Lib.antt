@@ -1,0 +1,2 @@
+pub mod Escape
+pub use Rattle.view_layout.specs as layout
