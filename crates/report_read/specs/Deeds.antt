@@ -75,13 +75,13 @@ measured_by ws (Some rest) = after_by is_pcr rest >>= λ t. after_by is_template
 abbrev pub measured : Words → Option Words
 measured ws = measured_by ws (after (codes "measure") ws)
 
-abbrev pub appraised_by : Words → Option Words → Words
-appraised_by ws None = without (codes "appraise-sig") ws
-appraised_by ws (Some rest) = rest
+abbrev pub is_appraise : List ℕ → Bool
+is_appraise w = is_among (codes "appraise" ∷ codes "appraise-sig" ∷ []) w
 
 -- the words after `appraise` or `appraise-sig`, if one of them is there
 abbrev pub appraised : Words → Words
-appraised ws = appraised_by ws (after (codes "appraise") ws)
+appraised [] = []
+appraised (w ∷ ws) = if is_appraise w then ws else w ∷ ws
 
 -- the first word of an act
 abbrev pub is_act : List ℕ → Bool

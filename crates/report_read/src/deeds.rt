@@ -58,6 +58,8 @@ const TEMPLATES: [&[u8]; 4] = [b"ima", b"ima-ng", b"ima-sig", b"ima-buf"];
 
 const ACTS: [&[u8]; 5] = [b"measure", b"appraise", b"appraise-sig", b"audit", b"hash"];
 
+const APPRAISALS: [&[u8]; 2] = [b"appraise", b"appraise-sig"];
+
 const FUNCS: [&[u8]; 14] = [
     b"BPRM_CHECK",
     b"MMAP_CHECK",
@@ -260,13 +262,19 @@ fn measured<'w>(words: &'w [&'w [u8]]) -> Option<&'w [&'w [u8]]>
     }
 }
 
+fn is_appraise(word: &[u8]) -> bool
+    ensures { result ≡ spec.is_appraise word.now }
+{
+    is_among(&APPRAISALS, word)
+}
+
 // The words after `appraise` or `appraise-sig`, if one of them is there.
 fn appraised<'w>(words: &'w [&'w [u8]]) -> &'w [&'w [u8]]
     ensures { map (λ w. w.now) result.now ≡ spec.appraised (map (λ w. w.now) words.now) }
 {
-    match after(b"appraise", words) {
-        Some(rest) => rest,
-        None => without(b"appraise-sig", words),
+    match words {
+        [] => words,
+        [first, rest @ ..] => if is_appraise(first) { rest } else { words },
     }
 }
 
