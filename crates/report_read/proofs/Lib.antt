@@ -1,2 +1,8 @@
 pub mod Reading
+pub mod WordsBack
+pub mod DeedsBack
+pub mod OutcomesBack
+pub mod EventsBack
+pub mod Fold
+pub mod TextRead
 mod Examples

@@ -36,7 +36,7 @@ cut_length c xs front back h = subst (Measures xs) (sym h) (cut_measures c xs)
 -- ---- reading
 
 -- a line that isn't the last makes a draft, from which the other lines go on
-one_more : (begin n : ℕ) (d : Draft) (line : List ℕ) (others : List (List ℕ))
+pub one_more : (begin n : ℕ) (d : Draft) (line : List ℕ) (others : List (List ℕ))
     → is_filled others ≡ true
     → read_from begin n d (line ∷ others)
     ≡ (ok_or (with_line begin d line) n

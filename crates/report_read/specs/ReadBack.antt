@@ -1,13 +1,14 @@
 -- What has to be true of the reader: each report of a run is accepted, and read as that run. This
 -- is a statement: its proof is to come.
-use Rattle.std.specs.Prelude.{◌≡◌, ℕ, ◌<◌, ◌^◌, List, [], ◌∷◌, length, map, take, drop, Option, Some, None, Ok, true}
+use Rattle.std.specs.Prelude.{◌≡◌, ℕ, Bool, ◌<◌, ◌^◌, List, [], ◌∷◌, length, map, take, drop, Option, Some, None, Ok, true}
 use Rattle.std.specs.List.{AllByRecursion, join_with_byte}
-use Rattle.report_text.specs.Ranges.{Fits}
+use Rattle.report_text.specs.Ranges.{Fits, IsDeed}
 use Rattle.report_text.specs.Report.{entry_words, reply_lines, report_of}
+use Rattle.report_text.specs.Words.{event_words}
 use Rattle.report_text.specs.model.EndedValue.{EndedTaskValue as EndedTask, EndedValue as Ended}
 use Rattle.report_text.specs.model.events.EndedInode.{EndedInodeValue as EndedInode}
 use Rattle.report_text.specs.model.events.Inode.{Inode}
-use Rattle.report_text.specs.model.events.Legal.{Legal}
+use Rattle.report_text.specs.model.events.Legal.{Follows, Legal}
 use Rattle.report_text.specs.model.events.Past.{past}
 use Rattle.report_text.specs.model.events.declared.deed.Change.{Change}
 use Rattle.report_text.specs.model.events.declared.deed.Change.TheVariants as change
@@ -16,10 +17,15 @@ use Rattle.report_text.specs.model.events.declared.deed.Deed.TheVariants as deed
 use Rattle.report_text.specs.model.events.declared.told.Event.{Event as ModelEvent}
 use Rattle.report_text.specs.model.events.declared.told.Told.{Told}
 use Rattle.report_text.specs.model.events.declared.told.Told.TheVariants as told
+use Rattle.report_text.specs.model.events.meta.declared.measurement.Template.{Template}
+use Rattle.report_text.specs.model.events.templates.declared.entry.Placed.{Placed}
+use Rattle.report_text.specs.model.events.templates.declared.entry.Placed.TheVariants as placed
 use Rattle.report_read.specs.declared.event.Event.{Event}
 use Rattle.report_read.specs.declared.event.Span.{Span}
 use Rattle.report_read.specs.declared.report.Reply.{Reply}
 use Rattle.report_read.specs.Draft.{entry_fits, entry_of}
+use Rattle.report_read.specs.Forms.{first_words}
+use Rattle.report_read.specs.Lines.{event_of}
 use Rattle.report_read.specs.Read.{reports_of}
 use Rattle.report_read.specs.Report.{InodeValue, ReportValue, TaskValue}
 use Rattle.report_read.specs.Short.{short, without_line}
@@ -55,17 +61,34 @@ abbrev pub IsSmallValue : Option (List ℕ) → Type 0
 IsSmallValue None = Unit {0}
 IsSmallValue (Some bytes) = length bytes < 2 ^ 32
 
--- the numbers of the deed have the ranges of their types, and offsets and lengths are below 2^32
+-- the numbers of the deed are below 2^32, or have the ranges of their types
 abbrev pub IsSmallDeed : Deed → Type 0
-IsSmallDeed (deed.Check file func action rules) = (action.pcr < 24) × (rules < 2 ^ 32)
-IsSmallDeed (deed.Read file from len) = (from < 2 ^ 32) × (len < 2 ^ 32)
-IsSmallDeed (deed.Write file from bytes) = (from < 2 ^ 32) × (length bytes < 2 ^ 32)
-IsSmallDeed (deed.Trunc file len) = len < 2 ^ 32
+IsSmallDeed (deed.Check file func action rules) =
+    (file < 2 ^ 32) × (action.pcr < 24) × (rules < 2 ^ 32)
+IsSmallDeed (deed.Take file) = file < 2 ^ 32
+IsSmallDeed (deed.Chunk file) = file < 2 ^ 32
+IsSmallDeed (deed.Finish file) = file < 2 ^ 32
+IsSmallDeed (deed.Read file from len) = (file < 2 ^ 32) × (from < 2 ^ 32) × (len < 2 ^ 32)
+IsSmallDeed (deed.Write file from bytes) =
+    (file < 2 ^ 32) × (from < 2 ^ 32) × (length bytes < 2 ^ 32)
+IsSmallDeed (deed.Trunc file len) = (file < 2 ^ 32) × (len < 2 ^ 32)
 IsSmallDeed (deed.SetAttr name bytes admin) = IsSmallValue bytes
 IsSmallDeed (deed.SetMeta change) = IsSmallChange change
+IsSmallDeed (deed.Close file) = file < 2 ^ 32
+IsSmallDeed (deed.CloseTake file) = file < 2 ^ 32
+IsSmallDeed (deed.CloseChunk file) = file < 2 ^ 32
+IsSmallDeed (deed.CloseFinish file) = file < 2 ^ 32
 IsSmallDeed _ = Unit {0}
 
+abbrev pub IsSmallPlaced : Option Placed → Type 0
+IsSmallPlaced None = Unit {0}
+IsSmallPlaced (Some (placed.Added place)) = place < 2 ^ 32
+IsSmallPlaced (Some (placed.Already place)) = place < 2 ^ 32
+
 abbrev pub IsSmallTold : Told → Type 0
+IsSmallTold (told.OpenWriters place) = place < 2 ^ 32
+IsSmallTold (told.ToMToU place) = place < 2 ^ 32
+IsSmallTold (told.Grant grant) = IsSmallPlaced grant.placed
 IsSmallTold (told.Read n digest) = n < 2 ^ 32
 IsSmallTold _ = Unit {0}
 
@@ -76,12 +99,23 @@ pub record IsSmall (e : ModelEvent) : Type 0 where
   pub deed : IsSmallDeed e.deed
   pub told : IsSmallTold e.told
 
+-- the line of an event that a legal journal may have after these, as a report prints it, is read
+-- as that event
+abbrev pub EventLinesAreRead : Type 0
+EventLinesAreRead =
+    (default : Template) (grows : Bool) (inode : Inode) (before : List ModelEvent) (e : ModelEvent)
+    (line : Span) → length before < 2 ^ 32 → Follows inode before e.who e.deed e.told
+    → IsDeed e.deed → IsSmall e
+    → event_of (length before) line
+    (first_words (join_with_byte 32 (event_words default grows (length before) e)))
+    ≡ Some (record (short e) { line = line })
+
 -- the journal is that of some inode, with small numbers
-pub record IsJournal (entries : ℕ) (i : EndedInode) : Type 0 where
+pub record IsJournal (size : ℕ) (i : EndedInode) : Type 0 where
   pub inode : Inode
   pub legal : Legal inode (past i.journal)
   pub small : AllByRecursion IsSmall i.journal
-  pub entries : AllByRecursion (λ x. NamesEntry entries (short x)) i.journal
+  pub entries : AllByRecursion (λ x. NamesEntry size (short x)) i.journal
 
 -- a run whose report can be read
 pub record IsReadable (e : Ended) : Type 0 where

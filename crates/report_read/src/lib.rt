@@ -12,6 +12,7 @@ mod draft;
 mod event;
 mod fault;
 mod forms;
+pub mod law;
 mod lines;
 mod outcomes;
 mod report;

@@ -375,11 +375,17 @@ fn is_error(words: &[&[u8]]) -> bool
     }
 }
 
-fn is_permission(words: &[&[u8]]) -> bool
+fn is_permission(word: &[u8]) -> bool
+    ensures { result ≡ spec.is_permission word.now }
+{
+    is_among(&PERMISSIONS, word) || is_set_status(word)
+}
+
+fn is_one_permission(words: &[&[u8]]) -> bool
     ensures { result ≡ only_by spec.is_permission (map (λ w. w.now) words.now) }
 {
     match words {
-        [word] => is_among(&PERMISSIONS, word) || is_set_status(word),
+        [word] => is_permission(word),
         _ => false,
     }
 }
@@ -398,7 +404,7 @@ fn is_refusal(words: &[&[u8]]) -> bool
     ensures { result ≡ spec.is_refusal (map (λ w. w.now) words.now) }
 {
     match after(b"EPERM", words) {
-        Some(rest) => is_permission(rest),
+        Some(rest) => is_one_permission(rest),
         None => is_other_refusal(words),
     }
 }
