@@ -218,6 +218,18 @@ shows_on journal states w i e lt item h =
     ∙ ap (λ (x : Event). shown_by w (x ∷ drop (i + 1) journal)) (sym item)))
     ∙ h)
 
+-- the same for the walk and the states that the loop has after the event
+pub shows_pushed : (journal : List Event) (states pushed : List State) (w v : Walk) (i : ℕ)
+    (e : Event) (s : State) → i < length journal → e ≡ get_or journal i e → v ≡ walked e w
+    → s ≡ state_of v → pushed ≡ states ++ s ∷ []
+    → states ++ shown_by w (drop i journal) ≡ shown_by start journal
+    → pushed ++ shown_by v (drop (i + 1) journal) ≡ shown_by start journal
+shows_pushed journal states pushed w v i e s lt item is same new h =
+    let P : Walk → Type 0
+    = λ x. (states ++ state_of x ∷ []) ++ shown_by x (drop (i + 1) journal)
+    ≡ shown_by start journal in
+    rw (new, same) (subst P (sym is) (shows_on journal states w i e lt item h))
+
 -- after the last event the states are those of the journal
 pub shows_all : (journal : List Event) (states : List State) (w : Walk) (i : ℕ)
     → length journal ≤ i → states ++ shown_by w (drop i journal) ≡ shown_by start journal
