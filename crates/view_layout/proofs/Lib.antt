@@ -3,6 +3,8 @@ pub mod FilesLemmas
 pub mod WalkLemmas
 pub mod Small
 pub mod CountsLemmas
+pub mod StagesLemmas
+pub mod HashedLemmas
 pub mod RowsLemmas
 pub mod ColumnsLemmas
 pub mod WindowsLemmas
