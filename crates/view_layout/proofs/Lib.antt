@@ -5,6 +5,7 @@ pub mod Small
 pub mod CountsLemmas
 pub mod StagesLemmas
 pub mod HashedLemmas
+pub mod EntriesLemmas
 pub mod RowsLemmas
 pub mod ColumnsLemmas
 pub mod WindowsLemmas
