@@ -12,7 +12,7 @@ use Rattle.report_read.specs.reports.model.events.declared.deed.How.TheVariants 
 use Rattle.report_read.specs.reports.model.events.declared.told.Event.{Event}
 use Rattle.report_read.specs.reports.model.events.declared.told.Told.{Told}
 use Rattle.report_read.specs.reports.model.events.declared.told.Told.TheVariants as told
-use Rattle.view_layout.specs.Files.{dropped, execs, files, is_exec, is_reader, is_writer, less_file, opened, readers, tally, with_file, without_file, writers}
+use Rattle.view_layout.specs.Files.{dropped, files, is_exec, is_reader, is_writer, less_file, opened, tally, with_file, without_file}
 use Rattle.view_layout.specs.Promises.{CountsAreTheJournals}
 
 abbrev kind_of : How → Kind

@@ -1,10 +1,10 @@
 -- Each entry but the first was added by exactly one event.
-use Rattle.std.proofs.Common.{◌≡◌, ℕ, suc, ◌+◌, ◌<◌, ◌==◌, Bool, true, false, ◌||◌, not, ◌&&◌, cond, List, [], ◌∷◌, ◌++◌, length, map, Option, Some, None, Result, Ok, Err, refl, sym, ◌∙◌, ap, arith}
+use Rattle.std.proofs.Common.{◌≡◌, ℕ, suc, ◌+◌, ◌==◌, Bool, true, false, ◌||◌, not, ◌&&◌, cond, List, [], ◌∷◌, ◌++◌, map, Option, Some, None, Result, Ok, Err, refl, sym, ◌∙◌, ap, arith}
 use Rattle.std.specs.Prelude.{All, count_by, option_map, sum_by}
 use Rattle.std.specs.List.{list_any}
 use Rattle.std.proofs.lemmas.Bool.{ne_eqb}
 use Rattle.std.proofs.lemmas.List.Sums.{sum_by-cons}
-use Rattle.report_read.specs.Short.{short, short_deed, short_placed, short_told, short_verdict}
+use Rattle.report_read.specs.Short.{short, short_deed, short_placed, short_told}
 use Rattle.report_read.specs.declared.event.Deed.{Deed as ReadDeed}
 use Rattle.report_read.specs.declared.event.Deed.TheVariants as read_deed
 use Rattle.report_read.specs.declared.event.Event.{Event as ReadEvent}
@@ -20,7 +20,7 @@ use Rattle.report_read.specs.reports.model.events.Integrity.{Collection, Digests
 use Rattle.report_read.specs.reports.model.events.Legal.{EachFollows, Follows, Legal}
 use Rattle.report_read.specs.reports.model.events.Listing as listing
 use Rattle.report_read.specs.reports.model.events.Listing.{Listed, added_at}
-use Rattle.report_read.specs.reports.model.events.Merged.{IsMerged, Journal, Named, named, places_added, times_added}
+use Rattle.report_read.specs.reports.model.events.Merged.{Journal, Named, named, places_added, times_added}
 use Rattle.report_read.specs.reports.model.events.Says.{chunk_told, finish_told, status_told, take_told, unless_collecting}
 use Rattle.report_read.specs.reports.model.events.State.{content}
 use Rattle.report_read.specs.reports.model.events.declared.deed.Deed.{Deed}
@@ -31,11 +31,10 @@ use Rattle.report_read.specs.reports.model.events.declared.told.Told.{Told}
 use Rattle.report_read.specs.reports.model.events.declared.told.Told.TheVariants as told
 use Rattle.report_read.specs.reports.model.events.meta.declared.appraisal.EvmStatus.{EvmStatus}
 use Rattle.report_read.specs.reports.model.events.meta.declared.step.Who.{Who}
-use Rattle.report_read.specs.reports.model.events.templates.declared.entry.Entry.{Entry}
 use Rattle.report_read.specs.reports.model.events.templates.declared.entry.Placed.{Placed}
 use Rattle.report_read.specs.reports.model.events.templates.declared.entry.Placed.TheVariants as placed
 use Rattle.view_layout.specs.declared.kinds.Note.TheVariants as note
-use Rattle.view_layout.specs.Notes.{flag_notes, grant_notes, notes_by, placed_notes, verdict_notes}
+use Rattle.view_layout.specs.Notes.{flag_notes, notes_by, placed_notes, verdict_notes}
 use Rattle.view_layout.specs.Promises.{EntriesAreAddedOnce}
 use Rattle.view_layout.specs.Sentences.{adds, adds_by}
 

@@ -1,6 +1,6 @@
 -- Where the strip says `as hashed`, the last finished digest is that of the content.
 use Rattle.std.proofs.Common.{◌≡◌, ℕ, ◌+◌, ◌-◌, ◌*◌, ◌<◌, ◌≤◌, ◌==◌, Bool, true, false, ◌||◌, cond, List, [], ◌∷◌, ◌++◌, length, map, take, drop, Option, Some, None, refl, sym, ◌∙◌, ap, subst, arith}
-use Rattle.std.specs.Prelude.{nat_le, nat_lt, option_map, replicate}
+use Rattle.std.specs.Prelude.{nat_lt, option_map, replicate}
 use Rattle.std.proofs.Math.Seq.{take-add}
 use Rattle.std.proofs.lemmas.Bool.{leb-false, leb-true, ltb-false, or_parts}
 use Rattle.std.proofs.lemmas.List.{length-append, length-replicate, length-take-le, take-append-le, take-take, take_all}
@@ -9,7 +9,7 @@ use Rattle.report_read.specs.reports.model.events.Grants.{grant_of}
 use Rattle.report_read.specs.reports.model.events.Inode.{Inode}
 use Rattle.report_read.specs.reports.model.events.Integrity as model
 use Rattle.report_read.specs.reports.model.events.Integrity.{Collection, digest_from, integrity}
-use Rattle.report_read.specs.reports.model.events.Legal.{EachFollows, Follows, Legal}
+use Rattle.report_read.specs.reports.model.events.Legal.{EachFollows, Follows}
 use Rattle.report_read.specs.reports.model.events.Says.{chunk_told, close_finish_told, finish_told}
 use Rattle.report_read.specs.reports.model.events.State.{content, content_after}
 use Rattle.report_read.specs.reports.model.events.declared.deed.Deed.{Deed}
@@ -23,7 +23,7 @@ use Rattle.report_read.specs.reports.model.events.hashes.Digest.{digest_of}
 use Rattle.report_read.specs.reports.model.events.hashes.declared.algo.Algo.{Algo}
 use Rattle.report_read.specs.reports.model.events.hashes.declared.digest.Digest.{Digest}
 use Rattle.report_read.specs.reports.model.events.meta.declared.step.Who.{Who}
-use Rattle.report_read.specs.reports.model.events.pages.Content.{is_last_piece, overwritten, piece_at, resized, with_zeros_to}
+use Rattle.report_read.specs.reports.model.events.pages.Content.{is_last_piece, overwritten, resized, with_zeros_to}
 use Rattle.report_read.specs.reports.model.events.templates.declared.entry.Placed.{Placed}
 use Rattle.view_layout.specs.declared.kinds.Collection.{Collection as Seen}
 use Rattle.view_layout.specs.declared.kinds.Freshness.{Freshness}

@@ -5,7 +5,7 @@ use Rattle.report_read.specs.declared.event.Event.{Event}
 use Rattle.report_read.specs.declared.event.Outcome.TheVariants as outcome
 use Rattle.view_layout.specs.Walk.{IsSmall, Walk, walked}
 use Rattle.view_layout.specs.WalkView.{walk_of}
-use Rattle.view_layout.proofs.Small.{length-held, starts_small, walked_small}
+use Rattle.view_layout.proofs.Small.{length-held, walked_small}
 use Rattle.view_layout.proofs.WalkLemmas.{shows_all, shows_pushed}
 use Rattle.view_layout.proofs.walk.states.Goals as goal
 
