@@ -5,4 +5,8 @@ pub mod OutcomesBack
 pub mod EventsBack
 pub mod Fold
 pub mod TextRead
+pub mod Chains
+pub mod EntriesBack
+pub mod ListBack
+pub mod TasksBack
 mod Examples

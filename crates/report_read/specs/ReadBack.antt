@@ -1,8 +1,9 @@
 -- What has to be true of the reader: each report of a run is accepted, and read as that run. This
 -- is a statement: its proof is to come.
-use Rattle.std.specs.Prelude.{◌≡◌, ℕ, Bool, ◌<◌, ◌^◌, List, [], ◌∷◌, length, map, take, drop, Option, Some, None, Ok, true}
+use Rattle.std.specs.Prelude.{◌≡◌, ℕ, Bool, ◌<◌, ◌^◌, List, [], ◌∷◌, length, map, take, drop, Option, Some, None, Ok, true, false}
 use Rattle.std.specs.List.{AllByRecursion, join_with_byte}
-use Rattle.report_text.specs.Ranges.{Fits, IsDeed}
+use Rattle.hex.specs.Hex.{IsBytes}
+use Rattle.report_text.specs.Ranges.{Fits, IsDeed, IsListEntry}
 use Rattle.report_text.specs.Report.{entry_words, reply_lines, report_of}
 use Rattle.report_text.specs.Words.{event_words}
 use Rattle.report_text.specs.model.EndedValue.{EndedTaskValue as EndedTask, EndedValue as Ended}
@@ -18,8 +19,16 @@ use Rattle.report_text.specs.model.events.declared.told.Event.{Event as ModelEve
 use Rattle.report_text.specs.model.events.declared.told.Told.{Told}
 use Rattle.report_text.specs.model.events.declared.told.Told.TheVariants as told
 use Rattle.report_text.specs.model.events.meta.declared.measurement.Template.{Template}
+use Rattle.report_text.specs.model.events.meta.declared.measurement.Bank.TheVariants.{Sha1, Sha256}
+use Rattle.report_text.specs.model.events.registers.Banks.{register}
+use Rattle.report_text.specs.model.events.registers.declared.banks.Banks.{Banks}
+use Rattle.report_text.specs.model.events.templates.Digests.{template_digest}
+use Rattle.report_text.specs.model.events.templates.declared.entry.Entry.{Entry}
 use Rattle.report_text.specs.model.events.templates.declared.entry.Placed.{Placed}
 use Rattle.report_text.specs.model.events.templates.declared.entry.Placed.TheVariants as placed
+use Rattle.report_text.specs.model.events.meta.declared.appraisal.EvmStatus.TheVariants as status
+use Rattle.report_text.specs.model.steps.declared.reply.Reply.{Reply as Answer}
+use Rattle.report_text.specs.model.steps.declared.reply.Reply.TheVariants as reply
 use Rattle.report_read.specs.declared.event.Event.{Event}
 use Rattle.report_read.specs.declared.event.Span.{Span}
 use Rattle.report_read.specs.declared.report.Reply.{Reply}
@@ -116,6 +125,37 @@ pub record IsJournal (size : ℕ) (i : EndedInode) : Type 0 where
   pub legal : Legal inode (past i.journal)
   pub small : AllByRecursion IsSmall i.journal
   pub entries : AllByRecursion (λ x. NamesEntry size (short x)) i.journal
+
+-- an entry whose numbers and bytes have the ranges of their types
+pub record IsShownEntry (e : Entry) : Type 0 where
+  pub entry : IsListEntry e
+  pub size : length (template_digest e Sha1).bytes ≡ 20
+  pub bytes : IsBytes (template_digest e Sha1).bytes
+
+-- each register has as many bytes as its bank's digests
+abbrev pub AreRegisters : Banks → Type 0
+AreRegisters banks =
+    (pcr : ℕ) → pcr < 24
+    → (length (register banks Sha1 pcr) ≡ 20) × IsBytes (register banks Sha1 pcr)
+    × (length (register banks Sha256 pcr) ≡ 32) × IsBytes (register banks Sha256 pcr)
+
+-- whether a reply is `ok`
+abbrev pub is_ok : Answer → Bool
+is_ok reply.Done = true
+is_ok (reply.Bytes n digest) = true
+is_ok _ = false
+
+-- a reply whose numbers and bytes have the ranges of their types, with the SHA-256 of a read; no
+-- change is refused for the statuses `pass` and `unknown`
+abbrev pub IsShownReply : Answer → Type 0
+IsShownReply (reply.Bytes n digest) =
+    (n < 2 ^ 32) × (length digest.bytes ≡ 32) × IsBytes digest.bytes
+IsShownReply (reply.Status status.Pass) = ⊥
+IsShownReply (reply.Status status.Unknown) = ⊥
+IsShownReply _ = Unit {0}
+
+abbrev pub IsShownTask : EndedTask → Type 0
+IsShownTask t = (length t.replies < 2 ^ 32) × AllByRecursion IsShownReply t.replies
 
 -- a run whose report can be read
 pub record IsReadable (e : Ended) : Type 0 where

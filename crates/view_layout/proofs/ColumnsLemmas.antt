@@ -27,7 +27,7 @@ column_after : (ws : List Window) (next x p u : ℕ) → AreWindows next ws
 column_after [] next x p u o h = absurd (cc h)
 column_after (w ∷ ws) next x p u o h =
     elim (cases_Bool (nat_lt p w.first)) [
-      | inl t ↦ let no : None {ℕ} ≡ Some u = rw t at h in absurd (cc no)
+      | inl t ↦ let no = rw t at h in absurd (cc no)
       | inr f ↦
           let inside : w.first ≤ p = ltb-false p w.first f in
           let on = rw f at h in
@@ -48,7 +48,7 @@ differ : (ws : List Window) (next x p q u v : ℕ) → AreWindows next ws → p 
 differ [] next x p q u v o lt h k = absurd (cc h)
 differ (w ∷ ws) next x p q u v o lt h k =
     elim (cases_Bool (nat_lt p w.first)) [
-      | inl t ↦ let no : None {ℕ} ≡ Some u = rw t at h in absurd (cc no)
+      | inl t ↦ let no = rw t at h in absurd (cc no)
       | inr f ↦
           let inside : w.first ≤ p = ltb-false p w.first f in
           let after : nat_lt q w.first ≡ false

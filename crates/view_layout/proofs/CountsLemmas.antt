@@ -47,6 +47,13 @@ dropped_short (deed.Count (how.Write false create)) t = refl
 dropped_short (deed.Count how.Exec) t = refl
 dropped_short (deed.SetAttr name None admin) t = refl
 dropped_short (deed.SetAttr name (Some bytes) admin) t = refl
+dropped_short (deed.Close file) told.Dropped = refl
+dropped_short (deed.Close file) t = refl
+dropped_short (deed.CloseTake file) told.Dropped = refl
+dropped_short (deed.CloseTake file) t = refl
+dropped_short (deed.CloseFinish file) told.Dropped = refl
+dropped_short (deed.CloseFinish file) told.LabelledDropped = refl
+dropped_short (deed.CloseFinish file) t = refl
 dropped_short d t = refl
 
 with_short : (place : ℕ) (o : Option How) (hs : List (ℕ × How))

@@ -15,10 +15,10 @@ use Rattle.view_layout.proofs.Tests.{without_suc}
 
 -- ---- vectors of kinds
 
-abbrev Held : Type 0
+abbrev pub Held : Type 0
 Held = List (Option Kind)
 
-abbrev kind_in : Held → ℕ → Option Kind
+abbrev pub kind_in : Held → ℕ → Option Kind
 kind_in held f = joined (slice_get held f)
 
 kind_in-push_last : (held : Held) (o : Option Kind) → kind_in (held ++ o ∷ []) (length held) ≡ o
@@ -59,9 +59,9 @@ length-set_kind (x ∷ held) (suc f) = ap suc (length-set_kind held f)
 
 -- ---- the open files and the vector agree
 
-record Agrees (held : Held) (hs : Files) : Type 0 where
-  kinds : (f : ℕ) → kind_in held f ≡ find_file f hs
-  distinct : AreDistinct hs
+pub record Agrees (held : Held) (hs : Files) : Type 0 where
+  pub kinds : (f : ℕ) → kind_in held f ≡ find_file f hs
+  pub distinct : AreDistinct hs
 
 -- after a file is dropped
 dropped_agrees : (d : Option ℕ) (held : Held) (hs : Files) → Agrees held hs
