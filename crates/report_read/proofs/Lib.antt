@@ -9,4 +9,9 @@ pub mod Chains
 pub mod EntriesBack
 pub mod ListBack
 pub mod TasksBack
+pub mod JournalBack
+pub mod InodesBack
+pub mod RulesBack
+pub mod TextsBack
+pub mod ReportBack
 mod Examples

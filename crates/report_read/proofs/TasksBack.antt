@@ -175,7 +175,7 @@ replies_back rs begin d t h s =
 abbrev done_word : Bool → List ℕ
 done_word done = if done then codes "done" else codes "unfinished"
 
-abbrev task_line : ℕ → Bool → Line
+abbrev pub task_line : ℕ → Bool → Line
 task_line n done = codes "task" ∷ numeral n ∷ done_word done ∷ []
 
 task_step : (begin n : ℕ) (u c : Draft) (done : Bool) → LeadsTo u c → n < 2 ^ 32

@@ -1,6 +1,6 @@
 -- What has to be true of the reader: each report of a run is accepted, and read as that run. This
 -- is a statement: its proof is to come.
-use Rattle.std.specs.Prelude.{◌≡◌, ℕ, Bool, ◌<◌, ◌^◌, List, [], ◌∷◌, length, map, take, drop, Option, Some, None, Ok, true, false}
+use Rattle.std.specs.Prelude.{◌≡◌, ℕ, Bool, ◌+◌, ◌<◌, ◌^◌, List, [], ◌∷◌, length, map, count_by, take, drop, Option, Some, None, Ok, true, false}
 use Rattle.std.specs.List.{AllByRecursion, join_with_byte}
 use Rattle.hex.specs.Hex.{IsBytes}
 use Rattle.report_text.specs.Ranges.{Fits, IsDeed, IsListEntry}
@@ -29,6 +29,11 @@ use Rattle.report_text.specs.model.events.templates.declared.entry.Placed.TheVar
 use Rattle.report_text.specs.model.events.meta.declared.appraisal.EvmStatus.TheVariants as status
 use Rattle.report_text.specs.model.steps.declared.reply.Reply.{Reply as Answer}
 use Rattle.report_text.specs.model.steps.declared.reply.Reply.TheVariants as reply
+use Rattle.report_text.specs.model.events.forms.Tokens.{is_filled}
+use Rattle.report_text.specs.model.events.hashes.Digest.{HasDigestSize}
+use Rattle.report_text.specs.model.events.hashes.declared.digest.Digest.{Digest}
+use Rattle.report_text.specs.model.events.templates.xattrs.Attrs.{Pair}
+use Rattle.report_text.specs.model.rules.declared.cell.RuleEntry.{RuleEntry}
 use Rattle.report_read.specs.declared.event.Event.{Event}
 use Rattle.report_read.specs.declared.event.Span.{Span}
 use Rattle.report_read.specs.declared.report.Reply.{Reply}
@@ -119,13 +124,6 @@ EventLinesAreRead =
     (first_words (join_with_byte 32 (event_words default grows (length before) e)))
     ≡ Some (record (short e) { line = line })
 
--- the journal is that of some inode, with small numbers
-pub record IsJournal (size : ℕ) (i : EndedInode) : Type 0 where
-  pub inode : Inode
-  pub legal : Legal inode (past i.journal)
-  pub small : AllByRecursion IsSmall i.journal
-  pub entries : AllByRecursion (λ x. NamesEntry size (short x)) i.journal
-
 -- an entry whose numbers and bytes have the ranges of their types
 pub record IsShownEntry (e : Entry) : Type 0 where
   pub entry : IsListEntry e
@@ -157,13 +155,49 @@ IsShownReply _ = Unit {0}
 abbrev pub IsShownTask : EndedTask → Type 0
 IsShownTask t = (length t.replies < 2 ^ 32) × AllByRecursion IsShownReply t.replies
 
--- a run whose report can be read
+-- the step of a rule has small numbers
+abbrev pub IsShownRule : RuleEntry → Type 0
+IsShownRule r = (r.who.task < 2 ^ 32) × (r.who.call < 2 ^ 32) × (r.who.step < 2 ^ 32)
+
+abbrev pub IsShownForce : Option Digest → Type 0
+IsShownForce None = Unit {0}
+IsShownForce (Some digest) = HasDigestSize digest × IsBytes digest.bytes
+
+-- an attribute has a name, and its value is bytes
+abbrev pub IsShownAttr : Pair → Type 0
+IsShownAttr pair = (is_filled pair.0 ≡ true) × IsBytes pair.1
+
+-- an inode with a legal journal, whose numbers and bytes have the ranges of their types; its events
+-- name entries of a list of this size
+pub record IsShownInode (size : ℕ) (i : EndedInode) : Type 0 where
+  pub inode : Inode
+  pub legal : Legal inode (past i.journal)
+  pub small : AllByRecursion IsSmall i.journal
+  pub entries : AllByRecursion (λ (e : ModelEvent). NamesEntry size (short e)) i.journal
+  pub few_events : length i.journal < 2 ^ 32
+  pub force : IsShownForce i.force
+  pub attrs : AllByRecursion IsShownAttr i.attrs
+  pub few_attrs : length i.attrs < 2 ^ 32
+  pub writers : i.writers < 2 ^ 32
+  pub readers : i.readers < 2 ^ 32
+  pub execs : i.execs < 2 ^ 32
+
+-- a run whose report can be read: its journals are legal, and its numbers and bytes have the ranges
+-- of their types
 pub record IsReadable (e : Ended) : Type 0 where
   pub fits : Fits e
-  pub journals : AllByRecursion (IsJournal (length e.list)) e.inodes
-  pub small : length (report_of e) < 2 ^ 27
+  pub few_entries : length e.list < 2 ^ 32
+  pub few_violations : count_by (λ x. x.violation) e.list < 2 ^ 32
+  pub entries : AllByRecursion IsShownEntry e.list
+  pub registers : AreRegisters e.banks
+  pub few_rules : e.base + length e.rules < 2 ^ 32
+  pub rules : AllByRecursion IsShownRule e.rules
+  pub few_inodes : length e.inodes < 2 ^ 32
+  pub inodes : AllByRecursion (IsShownInode (length e.list)) e.inodes
+  pub few_tasks : length e.tasks < 2 ^ 32
+  pub tasks : AllByRecursion IsShownTask e.tasks
 
--- the text that `report` gives of a run is accepted, and read as that run
+-- the text that `report` gives of such a run is accepted, and read as that run
 abbrev pub ReportIsRead : Type 0
 ReportIsRead =
     (e : Ended) → IsReadable e
