@@ -1,5 +1,4 @@
--- What has to be true of the reader: each report of a run is accepted, and read as that run. This
--- is a statement: its proof is to come.
+-- What is true of the reader: each report of a run is accepted, and read as that run.
 use Rattle.std.specs.Prelude.{◌≡◌, ℕ, Bool, ◌+◌, ◌<◌, ◌^◌, List, [], ◌∷◌, length, map, count_by, take, drop, Option, Some, None, Ok, true, false}
 use Rattle.std.specs.List.{AllByRecursion, join_with_byte}
 use Rattle.hex.specs.Hex.{IsBytes}

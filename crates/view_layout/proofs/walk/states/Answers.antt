@@ -1,15 +1,23 @@
 use Rattle.std.proofs.Common.{arith}
-use Rattle.view_layout.proofs.Small.{length-held, starts_small, walked_small}
-use Rattle.view_layout.proofs.WalkLemmas.{shows_all, shows_on}
+use Rattle.view_layout.proofs.Small.{held_next, small_next}
+use Rattle.view_layout.proofs.WalkLemmas.{shows_all, shows_next}
 use Rattle.view_layout.specs.WalkView.{walk_of}
 use Rattle.view_layout.proofs.walk.states.Goals as goal
 
 pub loop-event-preserved : goal.loop-event-preserved
 loop-event-preserved c =
-    let h = c.in_ok-step.ensures in
-    let p = c.in_ok-push.ensures in
-    let s = c.state.ensures in
-    ?
+    let held = held_next (walk_of c.loop-event.walk) (walk_of c.step.new.self) _
+    c.in_ok-step.ensures in
+    record {
+      shown = shows_next c.args.journal.now c.loop-event.states.items c.push.new.self.items
+          (walk_of c.loop-event.walk) (walk_of c.step.new.self) c.state.result
+          c.loop-event.event-index _ (omega arith) c.in_ok-step.ensures
+          c.in_ok-push.ensures.items c.state.ensures c.loop-event.invariant.shown;
+      held = omega (arith, held, c.loop-event.invariant.held);
+      small = small_next (walk_of c.loop-event.walk) (walk_of c.step.new.self) _
+          c.in_ok-step.ensures c.loop-event.invariant.small
+          (omega (arith, c.loop-event.invariant.held));
+    }
 
 pub returns : goal.returns
 returns c =
