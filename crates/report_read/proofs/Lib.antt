@@ -5,4 +5,13 @@ pub mod OutcomesBack
 pub mod EventsBack
 pub mod Fold
 pub mod TextRead
+pub mod Chains
+pub mod EntriesBack
+pub mod ListBack
+pub mod TasksBack
+pub mod JournalBack
+pub mod InodesBack
+pub mod RulesBack
+pub mod TextsBack
+pub mod ReportBack
 mod Examples

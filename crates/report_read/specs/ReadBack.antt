@@ -1,8 +1,8 @@
--- What has to be true of the reader: each report of a run is accepted, and read as that run. This
--- is a statement: its proof is to come.
-use Rattle.std.specs.Prelude.{◌≡◌, ℕ, Bool, ◌<◌, ◌^◌, List, [], ◌∷◌, length, map, take, drop, Option, Some, None, Ok, true}
+-- What is true of the reader: each report of a run is accepted, and read as that run.
+use Rattle.std.specs.Prelude.{◌≡◌, ℕ, Bool, ◌+◌, ◌<◌, ◌^◌, List, [], ◌∷◌, length, map, count_by, take, drop, Option, Some, None, Ok, true, false}
 use Rattle.std.specs.List.{AllByRecursion, join_with_byte}
-use Rattle.report_text.specs.Ranges.{Fits, IsDeed}
+use Rattle.hex.specs.Hex.{IsBytes}
+use Rattle.report_text.specs.Ranges.{Fits, IsDeed, IsListEntry}
 use Rattle.report_text.specs.Report.{entry_words, reply_lines, report_of}
 use Rattle.report_text.specs.Words.{event_words}
 use Rattle.report_text.specs.model.EndedValue.{EndedTaskValue as EndedTask, EndedValue as Ended}
@@ -18,8 +18,21 @@ use Rattle.report_text.specs.model.events.declared.told.Event.{Event as ModelEve
 use Rattle.report_text.specs.model.events.declared.told.Told.{Told}
 use Rattle.report_text.specs.model.events.declared.told.Told.TheVariants as told
 use Rattle.report_text.specs.model.events.meta.declared.measurement.Template.{Template}
+use Rattle.report_text.specs.model.events.meta.declared.measurement.Bank.TheVariants.{Sha1, Sha256}
+use Rattle.report_text.specs.model.events.registers.Banks.{register}
+use Rattle.report_text.specs.model.events.registers.declared.banks.Banks.{Banks}
+use Rattle.report_text.specs.model.events.templates.Digests.{template_digest}
+use Rattle.report_text.specs.model.events.templates.declared.entry.Entry.{Entry}
 use Rattle.report_text.specs.model.events.templates.declared.entry.Placed.{Placed}
 use Rattle.report_text.specs.model.events.templates.declared.entry.Placed.TheVariants as placed
+use Rattle.report_text.specs.model.events.meta.declared.appraisal.EvmStatus.TheVariants as status
+use Rattle.report_text.specs.model.steps.declared.reply.Reply.{Reply as Answer}
+use Rattle.report_text.specs.model.steps.declared.reply.Reply.TheVariants as reply
+use Rattle.report_text.specs.model.events.forms.Tokens.{is_filled}
+use Rattle.report_text.specs.model.events.hashes.Digest.{HasDigestSize}
+use Rattle.report_text.specs.model.events.hashes.declared.digest.Digest.{Digest}
+use Rattle.report_text.specs.model.events.templates.xattrs.Attrs.{Pair}
+use Rattle.report_text.specs.model.rules.declared.cell.RuleEntry.{RuleEntry}
 use Rattle.report_read.specs.declared.event.Event.{Event}
 use Rattle.report_read.specs.declared.event.Span.{Span}
 use Rattle.report_read.specs.declared.report.Reply.{Reply}
@@ -110,20 +123,80 @@ EventLinesAreRead =
     (first_words (join_with_byte 32 (event_words default grows (length before) e)))
     ≡ Some (record (short e) { line = line })
 
--- the journal is that of some inode, with small numbers
-pub record IsJournal (size : ℕ) (i : EndedInode) : Type 0 where
+-- an entry whose numbers and bytes have the ranges of their types
+pub record IsShownEntry (e : Entry) : Type 0 where
+  pub entry : IsListEntry e
+  pub size : length (template_digest e Sha1).bytes ≡ 20
+  pub bytes : IsBytes (template_digest e Sha1).bytes
+
+-- each register has as many bytes as its bank's digests
+abbrev pub AreRegisters : Banks → Type 0
+AreRegisters banks =
+    (pcr : ℕ) → pcr < 24
+    → (length (register banks Sha1 pcr) ≡ 20) × IsBytes (register banks Sha1 pcr)
+    × (length (register banks Sha256 pcr) ≡ 32) × IsBytes (register banks Sha256 pcr)
+
+-- whether a reply is `ok`
+abbrev pub is_ok : Answer → Bool
+is_ok reply.Done = true
+is_ok (reply.Bytes n digest) = true
+is_ok _ = false
+
+-- a reply whose numbers and bytes have the ranges of their types, with the SHA-256 of a read; no
+-- change is refused for the statuses `pass` and `unknown`
+abbrev pub IsShownReply : Answer → Type 0
+IsShownReply (reply.Bytes n digest) =
+    (n < 2 ^ 32) × (length digest.bytes ≡ 32) × IsBytes digest.bytes
+IsShownReply (reply.Status status.Pass) = ⊥
+IsShownReply (reply.Status status.Unknown) = ⊥
+IsShownReply _ = Unit {0}
+
+abbrev pub IsShownTask : EndedTask → Type 0
+IsShownTask t = (length t.replies < 2 ^ 32) × AllByRecursion IsShownReply t.replies
+
+-- the step of a rule has small numbers
+abbrev pub IsShownRule : RuleEntry → Type 0
+IsShownRule r = (r.who.task < 2 ^ 32) × (r.who.call < 2 ^ 32) × (r.who.step < 2 ^ 32)
+
+abbrev pub IsShownForce : Option Digest → Type 0
+IsShownForce None = Unit {0}
+IsShownForce (Some digest) = HasDigestSize digest × IsBytes digest.bytes
+
+-- an attribute has a name, and its value is bytes
+abbrev pub IsShownAttr : Pair → Type 0
+IsShownAttr pair = (is_filled pair.0 ≡ true) × IsBytes pair.1
+
+-- an inode with a legal journal, whose numbers and bytes have the ranges of their types; its events
+-- name entries of a list of this size
+pub record IsShownInode (size : ℕ) (i : EndedInode) : Type 0 where
   pub inode : Inode
   pub legal : Legal inode (past i.journal)
   pub small : AllByRecursion IsSmall i.journal
-  pub entries : AllByRecursion (λ x. NamesEntry size (short x)) i.journal
+  pub entries : AllByRecursion (λ (e : ModelEvent). NamesEntry size (short e)) i.journal
+  pub few_events : length i.journal < 2 ^ 32
+  pub force : IsShownForce i.force
+  pub attrs : AllByRecursion IsShownAttr i.attrs
+  pub few_attrs : length i.attrs < 2 ^ 32
+  pub writers : i.writers < 2 ^ 32
+  pub readers : i.readers < 2 ^ 32
+  pub execs : i.execs < 2 ^ 32
 
--- a run whose report can be read
+-- a run whose report can be read: its journals are legal, and its numbers and bytes have the ranges
+-- of their types
 pub record IsReadable (e : Ended) : Type 0 where
   pub fits : Fits e
-  pub journals : AllByRecursion (IsJournal (length e.list)) e.inodes
-  pub small : length (report_of e) < 2 ^ 27
+  pub few_entries : length e.list < 2 ^ 32
+  pub few_violations : count_by (λ x. x.violation) e.list < 2 ^ 32
+  pub entries : AllByRecursion IsShownEntry e.list
+  pub registers : AreRegisters e.banks
+  pub few_rules : e.base + length e.rules < 2 ^ 32
+  pub rules : AllByRecursion IsShownRule e.rules
+  pub few_inodes : length e.inodes < 2 ^ 32
+  pub inodes : AllByRecursion (IsShownInode (length e.list)) e.inodes
+  pub few_tasks : length e.tasks < 2 ^ 32
+  pub tasks : AllByRecursion IsShownTask e.tasks
 
--- the text that `report` gives of a run is accepted, and read as that run
+-- the text that `report` gives of such a run is accepted, and read as that run
 abbrev pub ReportIsRead : Type 0
 ReportIsRead =
     (e : Ended) → IsReadable e

@@ -1,17 +1,22 @@
 // Reports while their lines are read.
 
-ghost use Rattle.std.specs.Prelude.{◌≡◌, map, slice_get, OnOk};
+ghost use Rattle.std.specs.Prelude.{◌≡◌, map, OnOk};
 ghost use Rattle.report_read.specs.Draft as spec;
 ghost use Rattle.report_read.specs.Makes.{Makes};
 
-use crate::event::{Deed, Event, Outcome, Placed, Span};
+use crate::event::{Event, Span};
 use crate::fault::LineErr;
-use crate::forms::{after, counted, number_in};
+use crate::fits::fits;
+use crate::forms::counted;
 use crate::lines::{
     event_of, inode_of, is_attr, is_end, is_entry, is_force, is_version, list_of, register_of,
-    reply_of, rule_of, run_of, task_of,
+    rule_of, run_of, task_of,
 };
+use crate::replies::reply_of;
 use crate::report::{Inode, InodeHead, Reply, Report, RunEnd, Task};
+use crate::stages::{
+    begins, begins_with_number, entries_left, follows, names_left, next_stage, rises, rules_left,
+};
 use std::alloc::{AllocError as OutOfMemory, Global};
 use std::marker::Model;
 use std::mem;
@@ -495,170 +500,5 @@ impl Draft {
             self.close_task(alloc, done)?;
             self.with_last(alloc, words)
         }
-    }
-}
-
-fn begins(word: &[u8], words: &[&[u8]]) -> bool
-    ensures { result ≡ spec.begins word.now (map (λ w. w.now) words.now) }
-{
-    match after(word, words) {
-        Some(_) => true,
-        None => false,
-    }
-}
-
-fn begins_with_number(words: &[&[u8]]) -> bool
-    ensures { result ≡ spec.begins_with_number (map (λ w. w.now) words.now) }
-{
-    match number_in(words) {
-        Some(_) => true,
-        None => false,
-    }
-}
-
-fn entries_left(left: u32) -> Stage
-    ensures { result ≡ spec.entries_left left }
-{
-    if left == 0 {
-        Stage::Registers(None)
-    } else {
-        Stage::Entries(left)
-    }
-}
-
-fn rules_left(left: u32, last: Option<u32>) -> Stage
-    ensures { result ≡ spec.rules_left left last }
-{
-    if left == 0 {
-        Stage::Inodes
-    } else {
-        Stage::Rules(left, last)
-    }
-}
-
-fn names_left(left: u32) -> Stage
-    ensures { result ≡ spec.names_left left }
-{
-    if left == 0 {
-        Stage::Journal
-    } else {
-        Stage::Names(left)
-    }
-}
-
-// After the last report that is wanted, no line may come.
-fn next_stage(more: u32) -> Stage
-    ensures { result ≡ spec.next_stage more }
-{
-    if more == 0 {
-        Stage::Over
-    } else {
-        Stage::Version
-    }
-}
-
-// Whether the register comes after the last one.
-fn rises(last: Option<u32>, pcr: u32) -> bool
-    ensures { result ≡ spec.rises last pcr }
-{
-    match last {
-        Some(last) => last < pcr && pcr < 24,
-        None => pcr < 24,
-    }
-}
-
-// Whether the place of a rule is the one after the last.
-fn follows(last: Option<u32>, place: u32) -> bool
-    ensures { result ≡ spec.follows last place }
-{
-    match last {
-        Some(last) => u64::from(place) == u64::from(last) + 1,
-        None => true,
-    }
-}
-
-// Whether the file was opened by an earlier event of the journal, and the entry is in the list.
-fn fits(entries: usize, before: &[Event], event: Event) -> bool
-    ensures { result ≡ spec.fits entries before.now event }
-{
-    file_fits(before, file_of(event.deed)) && entry_fits(entries, entry_of(event.outcome))
-}
-
-fn file_fits(before: &[Event], file: Option<u32>) -> bool
-    ensures { result ≡ spec.file_fits before.now file }
-{
-    match file {
-        Some(file) => opens(before, file as usize),
-        None => true,
-    }
-}
-
-// Whether the event of this place is a count whose file is held.
-fn opens(before: &[Event], place: usize) -> bool
-    ensures { result ≡ spec.opens (slice_get before.now place) }
-{
-    match before.get(place) {
-        Some(event) => is_held(event.outcome),
-        None => false,
-    }
-}
-
-fn is_held(outcome: Outcome) -> bool
-    ensures { result ≡ spec.is_held outcome }
-{
-    match outcome {
-        Outcome::Held => true,
-        _ => false,
-    }
-}
-
-// The file of a deed.
-fn file_of(deed: Deed) -> Option<u32>
-    ensures { result ≡ spec.file_of deed }
-{
-    match deed {
-        Deed::Check(file) => Some(file),
-        Deed::Take(file) => Some(file),
-        Deed::Chunk(file) => Some(file),
-        Deed::Finish(file) => Some(file),
-        Deed::Read { file, .. } => Some(file),
-        Deed::Write { file, .. } => Some(file),
-        Deed::Trunc { file, .. } => Some(file),
-        Deed::Close(file) => Some(file),
-        Deed::CloseTake(file) => Some(file),
-        Deed::CloseChunk(file) => Some(file),
-        Deed::CloseFinish(file) => Some(file),
-        _ => None,
-    }
-}
-
-fn entry_fits(entries: usize, entry: Option<u32>) -> bool
-    ensures { result ≡ spec.entry_fits entries entry }
-{
-    match entry {
-        Some(place) => (place as usize) < entries,
-        None => true,
-    }
-}
-
-fn entry_placed(placed: Option<Placed>) -> Option<u32>
-    ensures { result ≡ spec.entry_placed placed }
-{
-    match placed {
-        Some(Placed::Added(place)) => Some(place),
-        Some(Placed::Already(place)) => Some(place),
-        None => None,
-    }
-}
-
-// The entry that an outcome names.
-fn entry_of(outcome: Outcome) -> Option<u32>
-    ensures { result ≡ spec.entry_of outcome }
-{
-    match outcome {
-        Outcome::OpenWriters(place) => Some(place),
-        Outcome::ToMToU(place) => Some(place),
-        Outcome::Granted(grant) => entry_placed(grant.placed),
-        _ => None,
     }
 }

@@ -6,16 +6,20 @@
 //! `Outcomes` and `Lines` those of lines, and `Draft` says which line may follow which.
 #![tactic(auto)]
 
+mod acts;
 mod by_line;
 mod deeds;
 mod draft;
 mod event;
 mod fault;
+mod fits;
 mod forms;
 pub mod law;
 mod lines;
 mod outcomes;
+mod replies;
 mod report;
+mod stages;
 mod tables;
 
 pub use by_line::read;

@@ -1,5 +1,5 @@
 -- The numbers of a walk are at most that of its events.
-use Rattle.std.proofs.Common.{◌≡◌, ℕ, suc, ◌+◌, ◌<◌, ◌≤◌, ◌^◌, Bool, true, false, length, Option, Some, None, ap, ◌∙◌, arith}
+use Rattle.std.proofs.Common.{◌≡◌, ℕ, suc, ◌+◌, ◌<◌, ◌≤◌, ◌^◌, Bool, true, false, length, Option, Some, None, ap, sym, subst, ◌∙◌, arith}
 use Rattle.report_read.specs.declared.event.Deed.{Deed}
 use Rattle.report_read.specs.declared.event.Deed.TheVariants as deed
 use Rattle.report_read.specs.declared.event.Event.{Event}
@@ -75,3 +75,12 @@ starts_small = record {
   pieces = omega arith;
   held = omega arith;
 }
+
+-- the same, if the walk is given by an equation
+pub small_next : (w next : Walk) (e : Event) → next ≡ walked e w → IsSmall w
+    → length w.held + 1 < 2 ^ 32 → IsSmall next
+small_next w next e is s room = subst IsSmall (sym is) (walked_small e w s room)
+
+pub held_next : (w next : Walk) (e : Event) → next ≡ walked e w
+    → length next.held ≡ length w.held + 1
+held_next w next e is = ap (λ (x : Walk). length x.held) is ∙ length-held e w

@@ -1,7 +1,7 @@
 -- A walk over a journal finds what the strips show.
 use Rattle.std.proofs.Common.{◌≡◌, ℕ, zero, suc, ◌+◌, ◌-◌, ◌<◌, ◌≤◌, ◌==◌, Bool, false, List, [], ◌∷◌, ◌++◌, length, Option, Some, None, refl, ap, sym, ◌∙◌, subst, arith, append_assoc, drop, get_or, inl, inr}
 use Rattle.std.specs.Prelude.{slice_get, slice_set}
-use Rattle.std.proofs.lemmas.List.{append-nil, at_drop_all, at_drop_more}
+use Rattle.std.proofs.lemmas.List.{append-nil, at_drop_all, at_drop_more, get_or_default}
 use Rattle.std.proofs.lemmas.Option.{slice_get_past}
 use Rattle.std.proofs.lemmas.Bool.{cases_Bool, eqb-true}
 use Rattle.report_read.specs.declared.event.Event.{Event}
@@ -218,17 +218,16 @@ shows_on journal states w i e lt item h =
     ∙ ap (λ (x : Event). shown_by w (x ∷ drop (i + 1) journal)) (sym item)))
     ∙ h)
 
--- the same for the walk and the states that the loop has after the event
-pub shows_pushed : (journal : List Event) (states pushed : List State) (w v : Walk) (i : ℕ)
-    (e : Event) (s : State) → i < length journal → e ≡ get_or journal i e → v ≡ walked e w
-    → s ≡ state_of v → pushed ≡ states ++ s ∷ []
+-- the same, if the states and the walk are given by equations
+pub shows_next : (journal : List Event) (states more : List State) (w next : Walk) (s : State)
+    (i : ℕ) (d : Event) → i < length journal → next ≡ walked (get_or journal i d) w
+    → more ≡ states ++ s ∷ [] → s ≡ state_of next
     → states ++ shown_by w (drop i journal) ≡ shown_by start journal
-    → pushed ++ shown_by v (drop (i + 1) journal) ≡ shown_by start journal
-shows_pushed journal states pushed w v i e s lt item is same new h =
-    let P : Walk → Type 0
-    = λ x. (states ++ state_of x ∷ []) ++ shown_by x (drop (i + 1) journal)
-    ≡ shown_by start journal in
-    rw (new, same) (subst P (sym is) (shows_on journal states w i e lt item h))
+    → more ++ shown_by next (drop (i + 1) journal) ≡ shown_by start journal
+shows_next journal states more w next s i d lt is pushed state h =
+    let e : Event = get_or journal i d in
+    rw (pushed, state, is)
+    (shows_on journal states w i e lt (get_or_default journal i d e lt) h)
 
 -- after the last event the states are those of the journal
 pub shows_all : (journal : List Event) (states : List State) (w : Walk) (i : ℕ)
