@@ -5,8 +5,6 @@ use Rattle.report_read.specs.Lines.{birth_event}
 use Rattle.view_layout.proofs.Small.{held_next, small_next}
 use Rattle.view_layout.proofs.WalkLemmas.{shows_all, shows_next}
 use Rattle.view_layout.specs.WalkView.{walk_of}
-use Rattle.view_layout.proofs.Small.{length-held, walked_small}
-use Rattle.view_layout.proofs.WalkLemmas.{shows_all, shows_pushed}
 use Rattle.view_layout.proofs.walk.states.Goals as goal
 
 pub loop-event-preserved : goal.loop-event-preserved
