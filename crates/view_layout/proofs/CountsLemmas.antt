@@ -15,13 +15,13 @@ use Rattle.report_read.specs.reports.model.events.declared.told.Told.TheVariants
 use Rattle.view_layout.specs.Files.{dropped, files, is_exec, is_reader, is_writer, less_file, opened, tally, with_file, without_file}
 use Rattle.view_layout.specs.Promises.{CountsAreTheJournals}
 
-abbrev kind_of : How → Kind
+abbrev pub kind_of : How → Kind
 kind_of (how.Read create) = kind.Read
 kind_of (how.Write true create) = kind.ReadWrite
 kind_of (how.Write false create) = kind.Write
 kind_of how.Exec = kind.Exec
 
-abbrev with_kind : ℕ × How → ℕ × Kind
+abbrev pub with_kind : ℕ × How → ℕ × Kind
 with_kind h = (h.0, kind_of h.1)
 
 -- an event opens the same file for the reader of its report
@@ -84,7 +84,7 @@ length_short [] = refl
 length_short (e ∷ before) = rw (length_short before) refl
 
 -- the same files are open
-files_short : (before : List Event) → files (map short before)
+pub files_short : (before : List Event) → files (map short before)
     ≡ map with_kind (model.files before)
 files_short [] = refl
 files_short (e ∷ before) =
@@ -103,13 +103,13 @@ tally_short : (test : Kind → Bool) (like : How → Bool) → ((h : How) → te
 tally_short test like same [] = refl
 tally_short test like same (h ∷ hs) = rw (same h.1, tally_short test like same hs) refl
 
-reader_short : (h : How) → is_reader (kind_of h) ≡ model.is_reader h
+pub reader_short : (h : How) → is_reader (kind_of h) ≡ model.is_reader h
 reader_short (how.Read create) = refl
 reader_short (how.Write true create) = refl
 reader_short (how.Write false create) = refl
 reader_short how.Exec = refl
 
-writer_short : (h : How) → is_writer (kind_of h) ≡ model.is_writer h
+pub writer_short : (h : How) → is_writer (kind_of h) ≡ model.is_writer h
 writer_short (how.Read create) = refl
 writer_short (how.Write true create) = refl
 writer_short (how.Write false create) = refl

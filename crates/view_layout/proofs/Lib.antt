@@ -6,6 +6,8 @@ pub mod CountsLemmas
 pub mod StagesLemmas
 pub mod HashedLemmas
 pub mod EntriesLemmas
+pub mod HoldersLemmas
+pub mod BarsLemmas
 pub mod RowsLemmas
 pub mod ColumnsLemmas
 pub mod WindowsLemmas

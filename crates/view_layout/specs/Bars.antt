@@ -3,6 +3,7 @@ use Rattle.std.specs.Prelude.{ℕ, ◌+◌, ◌==◌, Bool, true, false, List, [
 use Rattle.report_read.specs.declared.event.Event.{Event}
 use Rattle.report_read.specs.declared.event.Kind.{Kind}
 use Rattle.view_layout.specs.Files.{dropped, opened}
+use Rattle.view_layout.specs.Frame.{Span}
 
 pub record Bar : Type 0 where
   -- the place of the count, which is the file
@@ -46,3 +47,13 @@ bars_from place (e ∷ es) =
 -- the bars of a journal, in the order of their counts
 abbrev pub bars : List Event → List Bar
 bars journal = bars_from 0 journal
+
+-- ---- lanes
+
+abbrev pub span_of : Bar → Span
+span_of b = record { from = b.file; to = b.last }
+
+-- the bars of a task, in the order of their counts
+abbrev pub lane : ℕ → List Bar → List Span
+lane task [] = []
+lane task (b ∷ bs) = if b.task == task then span_of b ∷ lane task bs else lane task bs

@@ -1,10 +1,11 @@
--- What has to be true of a picture. These are statements: their proofs are to come.
+-- What has to be true of a picture.
 use Rattle.std.specs.Prelude.{◌≡◌, ℕ, ◌+◌, ◌<◌, ◌≤◌, All, List, [], ◌∷◌, length, map, count_by, sum_by, slice_get, Option, Some, None, option_map}
 use Rattle.report_read.specs.Short.{short}
-use Rattle.report_read.specs.reports.model.events.Files.{execs as execs_of, readers as readers_of, writers as writers_of}
+use Rattle.report_read.specs.declared.event.Event.{Event as Read}
+use Rattle.report_read.specs.reports.model.events.Files.{execs as execs_of, held, holds, is_reader, is_writer, readers as readers_of, writers as writers_of}
 use Rattle.report_read.specs.reports.model.events.Inode.{Inode}
 use Rattle.report_read.specs.reports.model.events.Integrity.{Collection, digest_from, integrity}
-use Rattle.report_read.specs.reports.model.events.Legal.{Legal}
+use Rattle.report_read.specs.reports.model.events.Legal.{Follows, Legal}
 use Rattle.report_read.specs.reports.model.events.Merged.{IsMerged, Journal}
 use Rattle.report_read.specs.reports.model.events.State.{content}
 use Rattle.report_read.specs.reports.model.events.declared.deed.Deed.{Deed}
@@ -14,13 +15,20 @@ use Rattle.report_read.specs.reports.model.events.declared.told.Told.{Told}
 use Rattle.report_read.specs.reports.model.events.declared.told.Told.TheVariants as told
 use Rattle.report_read.specs.reports.model.events.hashes.Digest.{digest_of}
 use Rattle.report_read.specs.reports.model.events.hashes.declared.digest.Digest.{Digest}
+use Rattle.report_read.specs.reports.model.events.meta.declared.step.Who.{Who}
+use Rattle.report_read.specs.reports.model.events.policy.declared.access.Action.{Action}
+use Rattle.report_read.specs.reports.model.events.policy.declared.rule.Func.{Func}
 use Rattle.report_read.specs.reports.model.events.templates.declared.entry.Entry.{Entry}
 use Rattle.view_layout.specs.declared.kinds.Freshness.TheVariants as fresh
+use Rattle.view_layout.specs.Bars.{bars, lane}
 use Rattle.view_layout.specs.Files.{execs, readers, writers}
 use Rattle.view_layout.specs.Frame.{AreInOrder, Span, column, column_of, rows}
-use Rattle.view_layout.specs.Sentences.{adds}
+use Rattle.view_layout.specs.Sentences.{adds, holders, names}
 use Rattle.view_layout.specs.State.{freshness}
 use Rattle.view_layout.specs.Windows.{AreWindows, Window, windows}
+
+abbrev pub event : Who → Deed → Told → Event
+event who d t = record { who = who; deed = d; told = t }
 
 -- ---- the strips
 
@@ -50,6 +58,22 @@ AsHashedIsSound =
     → (d : Digest) × (last_finished inode before ≡ Some d)
     × (d ≡ digest_of d.algo (content before))
 
+-- ---- the sentences
+
+-- at a ToMToU violation the sentence names exactly the files that are held as readers there, and at
+-- one of open writers those that are held as writers
+pub record HoldersAreNamed : Type 0 where
+  pub readers : (inode : Inode) (before : List Event) (who : Who) (file : ℕ) (func : Func)
+      (action : Action) (rules p f : ℕ)
+      → Follows inode before who (deed.Check file func action rules) (told.ToMToU p)
+      → names f (holders (short (event who (deed.Check file func action rules) (told.ToMToU p)))
+      (map short before)) ≡ holds is_reader (held f before)
+  pub writers : (inode : Inode) (before : List Event) (who : Who) (file : ℕ) (func : Func)
+      (action : Action) (rules p f : ℕ)
+      → Follows inode before who (deed.Check file func action rules) (told.OpenWriters p)
+      → names f (holders (short (event who (deed.Check file func action rules) (told.OpenWriters p)))
+      (map short before)) ≡ holds is_writer (held f before)
+
 -- ---- the list
 
 -- each entry but the first was added by exactly one event
@@ -72,6 +96,10 @@ abbrev pub ColumnsDiffer : Type 0
 ColumnsDiffer =
     (ws : List Window) (p q x y : ℕ) → AreWindows 0 ws → p < q → column_of ws p ≡ Some x
     → column_of ws q ≡ Some y → x + column ≤ y
+
+-- the bars of a lane stand in the order of their counts
+abbrev pub LanesAreInOrder : Type 0
+LanesAreInOrder = (task : ℕ) (journal : List Read) → AreInOrder (lane task (bars journal))
 
 -- two bars of one row don't overlap
 abbrev pub BarsDontOverlap : Type 0

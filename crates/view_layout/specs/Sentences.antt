@@ -32,6 +32,10 @@ holders_by _ _ before = []
 abbrev pub holders : Event → List Event → List ℕ
 holders e before = holders_by e.deed e.outcome before
 
+-- the file is among those that a sentence names
+abbrev pub names : ℕ → List ℕ → Bool
+names file files = list_any (λ f. f == file) files
+
 -- ---- who added an entry
 
 abbrev pub adds_by : ℕ → Note → Bool

@@ -1,6 +1,6 @@
 //! Promises about pictures, over all journals.
 
-ghost use Rattle.view_layout.specs.Promises.{AsHashedIsSound, BarsDontOverlap, ColumnsDiffer, CountsAreTheJournals, EntriesAreAddedOnce, WindowsAreInOrder};
+ghost use Rattle.view_layout.specs.Promises.{AsHashedIsSound, BarsDontOverlap, ColumnsDiffer, CountsAreTheJournals, EntriesAreAddedOnce, HoldersAreNamed, LanesAreInOrder, WindowsAreInOrder};
 
 /// The counts that the strips show are those of the journal that the report prints.
 pub fn counts_are_the_journals()
@@ -17,6 +17,12 @@ pub fn entries_are_added_once()
     ensures { EntriesAreAddedOnce }
 {}
 
+/// The sentence below a violation names exactly the files that are held there as readers (ToMToU)
+/// or as writers (open writers).
+pub fn holders_are_named()
+    ensures { HoldersAreNamed }
+{}
+
 /// The windows of a journal come one after another.
 pub fn windows_are_in_order()
     ensures { WindowsAreInOrder }
@@ -25,6 +31,11 @@ pub fn windows_are_in_order()
 /// The columns of drawn places don't overlap, and stand in the order of the places.
 pub fn columns_differ()
     ensures { ColumnsDiffer }
+{}
+
+/// The bars of a lane stand in the order of their counts.
+pub fn lanes_are_in_order()
+    ensures { LanesAreInOrder }
 {}
 
 /// Two bars in one row of a lane don't overlap, nor do two flags.

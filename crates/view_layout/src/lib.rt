@@ -9,8 +9,10 @@
 
 mod kinds;
 pub mod law;
+mod notes;
 mod walk;
 
 pub use kinds::{Collection, Freshness, Mark, Note};
+pub use notes::{mark_of, push_notes};
 pub use report_read as reading;
 pub use walk::{State, states};
