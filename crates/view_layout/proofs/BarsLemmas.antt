@@ -2,16 +2,17 @@
 use Rattle.std.proofs.Common.{ℕ, ◌+◌, ◌≤◌, ◌==◌, Bool, true, false, cond, List, [], ◌∷◌, ◌++◌, length, Option, Some, None, arith}
 use Rattle.report_read.specs.declared.event.Event.{Event}
 use Rattle.report_read.specs.declared.event.Kind.{Kind}
-use Rattle.view_layout.specs.Bars.{bar_by, bars_at, bars_from, drop_from, lane, span_of}
+use Rattle.view_layout.specs.declared.frame.Extent.{Extent}
+use Rattle.view_layout.specs.Bars.{bar_by, bars_at, bars_from, drop_from, lane, extent_of}
 use Rattle.view_layout.specs.Files.{opened}
-use Rattle.view_layout.specs.Frame.{AreInOrder, BeginAfter, Span}
+use Rattle.view_layout.specs.Frame.{AreInOrder, BeginAfter}
 use Rattle.view_layout.specs.Promises.{LanesAreInOrder}
 
-abbrev span_at : ℕ → Event → List Event → Kind → Span
-span_at place e es k =
-    span_of (bar_by place e k (drop_from (place + 1) place es) (place + length es))
+abbrev extent_at : ℕ → Event → List Event → Kind → Extent
+extent_at place e es k =
+    extent_of (bar_by place e k (drop_from (place + 1) place es) (place + length es))
 
-begin_by : (from : ℕ) (b : Bool) (s : Span) (rest : List Span) → from ≤ s.from
+begin_by : (from : ℕ) (b : Bool) (s : Extent) (rest : List Extent) → from ≤ s.from
     → BeginAfter from rest → BeginAfter from (cond b (s ∷ rest) rest)
 begin_by from true s rest h k = (h, k)
 begin_by from false s rest h k = k
@@ -21,7 +22,7 @@ begin_at : (task from place : ℕ) (e : Event) (es : List Event) (o : Option Kin
     → BeginAfter from (lane task (bars_at place e o es ++ bars_from (place + 1) es))
 begin_at task from place e es None h rest = rest
 begin_at task from place e es (Some k) h rest =
-    begin_by from (e.who.task == task) (span_at place e es k)
+    begin_by from (e.who.task == task) (extent_at place e es k)
     (lane task (bars_from (place + 1) es)) h rest
 
 -- bars of later events begin later
@@ -32,7 +33,7 @@ begin_after task from place (e ∷ es) h =
     begin_at task from place e es (opened e.deed e.outcome) h
     (begin_after task from (place + 1) es (omega (arith, h)))
 
-order_by : (b : Bool) (s : Span) (rest : List Span) → BeginAfter s.from rest → AreInOrder rest
+order_by : (b : Bool) (s : Extent) (rest : List Extent) → BeginAfter s.from rest → AreInOrder rest
     → AreInOrder (cond b (s ∷ rest) rest)
 order_by true s rest h k = (h, k)
 order_by false s rest h k = k
@@ -42,7 +43,7 @@ order_at : (task place : ℕ) (e : Event) (es : List Event) (o : Option Kind)
     → AreInOrder (lane task (bars_at place e o es ++ bars_from (place + 1) es))
 order_at task place e es None rest = rest
 order_at task place e es (Some k) rest =
-    order_by (e.who.task == task) (span_at place e es k) (lane task (bars_from (place + 1) es))
+    order_by (e.who.task == task) (extent_at place e es k) (lane task (bars_from (place + 1) es))
     (begin_after task place (place + 1) es (omega arith)) rest
 
 in_order : (task place : ℕ) (es : List Event) → AreInOrder (lane task (bars_from place es))

@@ -9,12 +9,13 @@ use Rattle.report_read.specs.declared.event.Outcome.{Outcome}
 use Rattle.report_read.specs.declared.event.Outcome.TheVariants as outcome
 use Rattle.report_read.specs.declared.event.Placed.TheVariants as placed
 use Rattle.report_read.specs.Draft.{no_span}
+use Rattle.view_layout.specs.declared.frame.Extent.{Extent}
 use Rattle.view_layout.specs.declared.kinds.Freshness.TheVariants as fresh
 use Rattle.view_layout.specs.declared.kinds.Mark.TheVariants as mark
 use Rattle.view_layout.specs.declared.kinds.Note.TheVariants as note
 use Rattle.view_layout.specs.Bars.{bars}
 use Rattle.view_layout.specs.Files.{counts_at}
-use Rattle.view_layout.specs.Frame.{Span, column_of, rows}
+use Rattle.view_layout.specs.Frame.{column_of, rows}
 use Rattle.view_layout.specs.Notes.{mark_of, notes}
 use Rattle.view_layout.specs.State.{freshness_at}
 use Rattle.view_layout.specs.Windows.{Window, windows, windows_around}
@@ -105,7 +106,7 @@ with_gaps : (windows_around 120 999 (10 ∷ 900 ∷ []) ≡ from_to 0 18 ∷ fro
     × (column_of (from_to 0 18 ∷ from_to 892 908 ∷ []) 19 ≡ None)
 with_gaps = (refl, refl, refl, refl, refl, refl)
 
-abbrev span : ℕ → ℕ → Span
+abbrev span : ℕ → ℕ → Extent
 span a b = record { from = a; to = b }
 
 first_fit : rows (span 0 5 ∷ span 2 3 ∷ span 4 9 ∷ span 6 7 ∷ []) ≡ 0 ∷ 1 ∷ 1 ∷ 0 ∷ []

@@ -2,8 +2,8 @@
 use Rattle.std.specs.Prelude.{ℕ, ◌+◌, ◌==◌, Bool, true, false, List, [], ◌∷◌, ◌++◌, length, Option, Some, None, is_some, unwrap_or, if◌then◌else◌}
 use Rattle.report_read.specs.declared.event.Event.{Event}
 use Rattle.report_read.specs.declared.event.Kind.{Kind}
+use Rattle.view_layout.specs.declared.frame.Extent.{Extent}
 use Rattle.view_layout.specs.Files.{dropped, opened}
-use Rattle.view_layout.specs.Frame.{Span}
 
 pub record Bar : Type 0 where
   -- the place of the count, which is the file
@@ -50,10 +50,10 @@ bars journal = bars_from 0 journal
 
 -- ---- lanes
 
-abbrev pub span_of : Bar → Span
-span_of b = record { from = b.file; to = b.last }
+abbrev pub extent_of : Bar → Extent
+extent_of b = record { from = b.file; to = b.last }
 
 -- the bars of a task, in the order of their counts
-abbrev pub lane : ℕ → List Bar → List Span
+abbrev pub lane : ℕ → List Bar → List Extent
 lane task [] = []
-lane task (b ∷ bs) = if b.task == task then span_of b ∷ lane task bs else lane task bs
+lane task (b ∷ bs) = if b.task == task then extent_of b ∷ lane task bs else lane task bs

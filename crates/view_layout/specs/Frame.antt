@@ -1,5 +1,6 @@
 -- Columns and rows, in whole pixels.
 use Rattle.std.specs.Prelude.{ℕ, suc, ◌+◌, ◌-◌, ◌*◌, ◌≤◌, ◌==◌, nat_le, nat_lt, List, [], ◌∷◌, Option, Some, None, if◌then◌else◌}
+use Rattle.view_layout.specs.declared.frame.Extent.{Extent}
 use Rattle.view_layout.specs.Windows.{Window, width}
 
 -- ---- columns
@@ -36,11 +37,6 @@ middle x = x + 15
 
 -- ---- rows
 
--- a bar or a flag, by its first and its last pixel or place
-pub record Span : Type 0 where
-  pub from : ℕ
-  pub to : ℕ
-
 -- the first row whose last bar ended before `from`, or a new one; `ends` has the end of the last
 -- bar of each row
 abbrev pub first_free : ℕ → List ℕ → ℕ
@@ -51,21 +47,21 @@ abbrev pub ends_with : ℕ → ℕ → List ℕ → List ℕ
 ends_with from to [] = to ∷ []
 ends_with from to (e ∷ es) = if nat_lt e from then to ∷ es else e ∷ ends_with from to es
 
-abbrev pub rows_from : List ℕ → List Span → List ℕ
+abbrev pub rows_from : List ℕ → List Extent → List ℕ
 rows_from ends [] = []
 rows_from ends (s ∷ ss) =
     first_free s.from ends ∷ rows_from (ends_with s.from s.to ends) ss
 
 -- the rows of bars, which are given in the order of their beginnings
-abbrev pub rows : List Span → List ℕ
+abbrev pub rows : List Extent → List ℕ
 rows spans = rows_from [] spans
 
 -- the bars begin at this place or after it
-abbrev pub BeginAfter : ℕ → List Span → Type 0
+abbrev pub BeginAfter : ℕ → List Extent → Type 0
 BeginAfter from [] = Unit {0}
 BeginAfter from (s ∷ ss) = (from ≤ s.from) × BeginAfter from ss
 
 -- the bars are in the order of their beginnings
-abbrev pub AreInOrder : List Span → Type 0
+abbrev pub AreInOrder : List Extent → Type 0
 AreInOrder [] = Unit {0}
 AreInOrder (s ∷ ss) = BeginAfter s.from ss × AreInOrder ss

@@ -19,10 +19,11 @@ use Rattle.report_read.specs.reports.model.events.meta.declared.step.Who.{Who}
 use Rattle.report_read.specs.reports.model.events.policy.declared.access.Action.{Action}
 use Rattle.report_read.specs.reports.model.events.policy.declared.rule.Func.{Func}
 use Rattle.report_read.specs.reports.model.events.templates.declared.entry.Entry.{Entry}
+use Rattle.view_layout.specs.declared.frame.Extent.{Extent}
 use Rattle.view_layout.specs.declared.kinds.Freshness.TheVariants as fresh
 use Rattle.view_layout.specs.Bars.{bars, lane}
 use Rattle.view_layout.specs.Files.{execs, readers, writers}
-use Rattle.view_layout.specs.Frame.{AreInOrder, Span, column, column_of, rows}
+use Rattle.view_layout.specs.Frame.{AreInOrder, column, column_of, rows}
 use Rattle.view_layout.specs.Sentences.{adds, holders, names}
 use Rattle.view_layout.specs.State.{freshness}
 use Rattle.view_layout.specs.Windows.{AreWindows, Window, windows}
@@ -104,7 +105,7 @@ LanesAreInOrder = (task : ℕ) (journal : List Read) → AreInOrder (lane task (
 -- two bars of one row don't overlap
 abbrev pub BarsDontOverlap : Type 0
 BarsDontOverlap =
-    (spans : List Span) (i j row : ℕ) (a b : Span) → AreInOrder spans → i < j
+    (spans : List Extent) (i j row : ℕ) (a b : Extent) → AreInOrder spans → i < j
     → slice_get spans i ≡ Some a → slice_get spans j ≡ Some b
     → slice_get (rows spans) i ≡ Some row → slice_get (rows spans) j ≡ Some row
     → a.to < b.from

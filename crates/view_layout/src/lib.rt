@@ -7,11 +7,13 @@
 //! show, and [`law`] has the promises that are proved; the other definitions have no code yet.
 #![tactic(auto)]
 
+mod frame;
 mod kinds;
 pub mod law;
 mod notes;
 mod walk;
 
+pub use frame::{Extent, rows};
 pub use kinds::{Collection, Freshness, Mark, Note};
 pub use notes::{mark_of, push_notes};
 pub use report_read as reading;

@@ -28,6 +28,10 @@ digit_by false n h =
       no_number (87 + n) 34 (omega arith),
     ) refl
 
+-- a decimal digit
+pub decimal_safe : (n : ℕ) → n < 10 → is_safe (48 + n) ≡ true
+decimal_safe n h = digit_by true n (λ e. h)
+
 digit_safe : (n : ℕ) → is_safe (hex_digit n) ≡ true
 digit_safe n = digit_by (nat_lt n 10) n (ltb-true n 10)
 

@@ -35,7 +35,8 @@ fn push_byte(out: &mut Vec<u8>, byte: u8) -> Result<(), OutOfMemory>
     }
 }
 
-fn push_all(out: &mut Vec<u8>, bytes: &[u8]) -> Result<(), OutOfMemory>
+// Appends bytes of the program.
+pub fn push_all(out: &mut Vec<u8>, bytes: &[u8]) -> Result<(), OutOfMemory>
     ensures { OnOk result (out.new.items ≡ out.old.items ++ bytes.now) }
 {
     out.extend_from_slice(bytes)?;

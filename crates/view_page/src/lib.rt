@@ -1,12 +1,17 @@
 //! Pages and drawings as bytes.
 //!
-//! A page is made of the program's own bytes and of texts of the report, and [`push_text`] is the
-//! only way by which a text of the report gets in: each of its bytes is escaped.
+//! A page is made of pieces ([`Piece`]): the program's own bytes, numbers, and texts of the report.
+//! [`push_text`] is the only way by which a text of the report gets in: each of its bytes is
+//! escaped.
 #![tactic(auto)]
 
 mod escape;
+mod event;
 pub mod law;
+mod pieces;
 
 pub use escape::push_text;
+pub use event::{EventAt, push_event};
+pub use pieces::{Own, Piece, push_pieces};
 pub use std::alloc::AllocError as OutOfMemory;
 pub use view_layout as layout;
