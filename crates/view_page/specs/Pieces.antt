@@ -1,8 +1,11 @@
 -- The pieces of which a page is made: the program's own bytes, numbers, and texts of the report.
 use Rattle.std.specs.Prelude.{ℕ, Bool, true, false, List, [], ◌∷◌, ◌++◌, codes, take, drop}
 use Rattle.std.specs.List.{flat_map}
+use Rattle.view_layout.specs.declared.kinds.Freshness.{Freshness}
+use Rattle.view_layout.specs.declared.kinds.Freshness.TheVariants as fresh
 use Rattle.view_layout.specs.declared.kinds.Mark.{Mark}
 use Rattle.view_layout.specs.declared.kinds.Mark.TheVariants as mark
+use Rattle.view_layout.specs.declared.walk.State.{State}
 use Rattle.view_layout.specs.Notes.{mark_of}
 use Rattle.view_layout.specs.reading.declared.event.Event.{Event}
 use Rattle.view_layout.specs.reading.declared.event.Span.{Span}
@@ -45,6 +48,12 @@ shape mark.NotDone = codes "<path d=\"M-7 -7H7V7H-7Z\" fill=\"#8a94a0\"/>"
 shape mark.Closed = codes "<path d=\"M-2 -8H2V8H-2Z\" fill=\"#3c4652\"/>"
 shape mark.Finished = codes "<path d=\"M-4 -7H3V7H-4\" fill=\"none\" stroke=\"#04573f\"/>"
 
+-- the colour for the content, and its word
+abbrev pub fill : Freshness → List ℕ
+fill fresh.NotHashed = codes "\" fill=\"#eceff2\"><title>not hashed</title></rect>"
+fill fresh.AsHashed = codes "\" fill=\"#a9dcc6\"><title>as hashed</title></rect>"
+fill fresh.Written = codes "\" fill=\"#f3a6ad\"><title>written since hashed</title></rect>"
+
 abbrev pub own_bytes : Own → List ℕ
 own_bytes own.Group = codes "<g id=\"i"
 own_bytes own.Place = codes "-e"
@@ -54,6 +63,12 @@ own_bytes own.Title = codes ")\"><title>"
 own_bytes own.TitleEnd = codes "</title>"
 own_bytes (own.Shape m) = shape m
 own_bytes own.GroupEnd = codes "</g>"
+own_bytes own.Count = codes "<text x=\""
+own_bytes own.Content = codes "<rect width=\"30\" height=\"15\" x=\""
+own_bytes own.Y = codes "\" y=\""
+own_bytes own.CountIs = codes "\">"
+own_bytes own.CountEnd = codes "</text>"
+own_bytes (own.Fill f) = fill f
 
 -- the range of the text, as far as the text reaches
 abbrev pub text_at : List ℕ → Span → List ℕ
@@ -84,3 +99,34 @@ event_pieces inode place x y e =
     ∷ piece.Own own.Comma ∷ piece.Number y
     ∷ piece.Own own.Title ∷ piece.Text e.line ∷ piece.Own own.TitleEnd
     ∷ piece.Own (own.Shape (mark_of e)) ∷ piece.Own own.GroupEnd ∷ []
+
+-- ---- strips
+
+-- the heights at which the strips stand: readers, writers, executions, the content
+abbrev pub readers_y : ℕ
+readers_y = 11
+
+abbrev pub writers_y : ℕ
+writers_y = 26
+
+abbrev pub execs_y : ℕ
+execs_y = 41
+
+abbrev pub content_y : ℕ
+content_y = 45
+
+abbrev pub count_pieces : ℕ → ℕ → ℕ → List Piece
+count_pieces x y n =
+    piece.Own own.Count ∷ piece.Number x ∷ piece.Own own.Y ∷ piece.Number y
+    ∷ piece.Own own.CountIs ∷ piece.Number n ∷ piece.Own own.CountEnd ∷ []
+
+abbrev pub content_pieces : ℕ → Freshness → List Piece
+content_pieces x f =
+    piece.Own own.Content ∷ piece.Number x ∷ piece.Own own.Y ∷ piece.Number content_y
+    ∷ piece.Own (own.Fill f) ∷ []
+
+-- what the strips show in a column whose left edge this is
+abbrev pub strip_pieces : ℕ → State → List Piece
+strip_pieces x s =
+    count_pieces x readers_y s.readers ++ (count_pieces x writers_y s.writers
+    ++ (count_pieces x execs_y s.execs ++ content_pieces x s.freshness))

@@ -9,9 +9,11 @@ mod escape;
 mod event;
 pub mod law;
 mod pieces;
+mod strip;
 
 pub use escape::push_text;
 pub use event::{EventAt, push_event};
 pub use pieces::{Own, Piece, push_pieces};
+pub use strip::push_strips;
 pub use std::alloc::AllocError as OutOfMemory;
 pub use view_layout as layout;

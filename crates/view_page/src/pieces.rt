@@ -5,7 +5,7 @@ ghost use Rattle.view_page.specs.Pieces as spec;
 
 use crate::escape::{push_all, push_text};
 use std::alloc::AllocError as OutOfMemory;
-use view_layout::Mark;
+use view_layout::{Freshness, Mark};
 use view_layout::reading::Span;
 use view_layout::reading::reports::push_number;
 
@@ -25,6 +25,16 @@ pub enum Own {
     /// The shape of a mark, around the point 0,0.
     Shape(Mark),
     GroupEnd,
+    /// A number of a strip begins.
+    Count,
+    /// The content's part of a strip begins.
+    Content,
+    /// Before the y coordinate of what a strip shows.
+    Y,
+    CountIs,
+    CountEnd,
+    /// The colour for the content, and its word.
+    Fill(Freshness),
 }
 
 /// A piece of a page.
@@ -79,6 +89,28 @@ fn push_own(out: &mut Vec<u8>, own: Own) -> Result<(), OutOfMemory>
         Own::TitleEnd => push_all(out, b"</title>"),
         Own::Shape(mark) => push_shape(out, mark),
         Own::GroupEnd => push_all(out, b"</g>"),
+        Own::Count => push_all(out, b"<text x=\""),
+        Own::Content => push_all(out, b"<rect width=\"30\" height=\"15\" x=\""),
+        Own::Y => push_all(out, b"\" y=\""),
+        Own::CountIs => push_all(out, b"\">"),
+        Own::CountEnd => push_all(out, b"</text>"),
+        Own::Fill(freshness) => push_fill(out, freshness),
+    }
+}
+
+fn push_fill(out: &mut Vec<u8>, freshness: Freshness) -> Result<(), OutOfMemory>
+    ensures { OnOk result (out.new.items ≡ out.old.items ++ spec.fill freshness) }
+{
+    match freshness {
+        Freshness::NotHashed => {
+            push_all(out, b"\" fill=\"#eceff2\"><title>not hashed</title></rect>")
+        }
+        Freshness::AsHashed => {
+            push_all(out, b"\" fill=\"#a9dcc6\"><title>as hashed</title></rect>")
+        }
+        Freshness::Written => {
+            push_all(out, b"\" fill=\"#f3a6ad\"><title>written since hashed</title></rect>")
+        }
     }
 }
 
