@@ -5,12 +5,14 @@
 //! escaped.
 #![tactic(auto)]
 
+mod drawing;
 mod escape;
 mod event;
 pub mod law;
 mod pieces;
 mod strip;
 
+pub use drawing::push_columns;
 pub use escape::push_text;
 pub use event::{EventAt, push_event};
 pub use pieces::{Own, Piece, push_pieces};

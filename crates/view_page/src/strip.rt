@@ -15,7 +15,6 @@ const CONTENT_Y: u64 = 45;
 
 /// Appends what the strips show in a column: the numbers of readers, writers and executions, and
 /// the word for the content.
-#[tactic(auto, using(crate::proofs::Joined::pages_join))]
 pub fn push_strips(
     out: &mut Vec<u8>,
     text: &[u8],
@@ -28,7 +27,8 @@ pub fn push_strips(
     push_count(out, text, x, READERS_Y, state.readers)?;
     push_count(out, text, x, WRITERS_Y, state.writers)?;
     push_count(out, text, x, EXECS_Y, state.execs)?;
-    push_content(out, text, x, state.freshness)
+    push_content(out, text, x, state.freshness)?;
+    Ok(())
 }
 
 fn push_count(
