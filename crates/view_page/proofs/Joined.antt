@@ -1,5 +1,5 @@
 -- Pages of lists of pieces that are joined.
-use Rattle.std.proofs.Common.{◌≡◌, ℕ, ◌+◌, ◌<◌, List, ◌∷◌, ◌++◌, append_assoc, length, drop, get_or, refl, sym, ◌∙◌, ap}
+use Rattle.std.proofs.Common.{◌≡◌, ℕ, ◌+◌, ◌<◌, List, [], ◌∷◌, ◌++◌, append_assoc, length, drop, get_or, refl, sym, ◌∙◌, ap}
 use Rattle.std.proofs.lemmas.Grind.{flat_map-append}
 use Rattle.std.proofs.lemmas.List.{at_drop_more}
 use Rattle.view_layout.specs.declared.walk.State.{State}
@@ -16,6 +16,12 @@ after_two text out a b p q first second =
     ∙ (ap (λ (x : List ℕ). x ++ page_of text q) first
     ∙ (append_assoc out (page_of text p) (page_of text q)
     ∙ ap (λ (x : List ℕ). out ++ x) (sym (flat_map-append (bytes_of text) p q))))
+
+-- of three, the first of which are the first bytes
+pub after_three : (text a b c : List ℕ) (p q r : List Piece) → a ≡ page_of text p
+    → b ≡ a ++ page_of text q → c ≡ b ++ page_of text r → c ≡ page_of text (p ++ (q ++ r))
+after_three text a b c p q r first second third =
+    after_two text [] a c p (q ++ r) first (after_two text a b c q r second third)
 
 -- and of four
 pub after_four : (text out a b c d : List ℕ) (p q r s : List Piece) → a ≡ out ++ page_of text p

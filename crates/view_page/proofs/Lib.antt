@@ -1,3 +1,4 @@
 pub mod Safe
 pub mod PiecesSafe
 pub mod Joined
+pub mod Marks

@@ -55,6 +55,9 @@ fill fresh.AsHashed = codes "\" fill=\"#a9dcc6\"><title>as hashed</title></rect>
 fill fresh.Written = codes "\" fill=\"#f3a6ad\"><title>written since hashed</title></rect>"
 
 abbrev pub own_bytes : Own → List ℕ
+own_bytes own.Svg = codes "<svg xmlns=\"http://www.w3.org/2000/svg\" width=\""
+own_bytes own.SvgSize = codes "\" height=\"100\" font-size=\"10\">"
+own_bytes own.SvgEnd = codes "</svg>" ++ 10 ∷ []
 own_bytes own.Group = codes "<g id=\"i"
 own_bytes own.Place = codes "-e"
 own_bytes own.At = codes "\" transform=\"translate("
@@ -87,6 +90,12 @@ page_of text pieces = flat_map (bytes_of text) pieces
 abbrev pub is_own : Piece → Bool
 is_own (piece.Own o) = true
 is_own _ = false
+
+-- the marks among pieces, in order
+abbrev pub marks_in : List Piece → List Mark
+marks_in [] = []
+marks_in (piece.Own (own.Shape m) ∷ rest) = m ∷ marks_in rest
+marks_in (p ∷ rest) = marks_in rest
 
 -- ---- events
 

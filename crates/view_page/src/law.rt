@@ -2,6 +2,7 @@
 
 ghost use Rattle.std.specs.Prelude.{◌≡◌, ℕ, List, IsTrue, false};
 ghost use Rattle.std.specs.List.{list_all};
+ghost use Rattle.view_page.specs.Drawing.{EachEventHasOneMark};
 ghost use Rattle.view_page.specs.Escape.{escaped, is_safe};
 ghost use Rattle.view_page.specs.Pieces.{bytes_of, is_own};
 ghost use Rattle.view_page.specs.declared.pieces.Piece.{Piece};
@@ -16,4 +17,9 @@ pub fn texts_stay_texts()
 pub fn only_own_pieces_make_tags()
     ensures { (text : List ℕ) (piece : Piece) → is_own piece ≡ false
         → IsTrue (list_all is_safe (bytes_of text piece)) }
+{}
+
+/// Each event has one mark in the drawing of its journal, and there are no other marks.
+pub fn each_event_has_one_mark()
+    ensures { EachEventHasOneMark }
 {}

@@ -12,7 +12,7 @@ pub mod law;
 mod pieces;
 mod strip;
 
-pub use drawing::push_columns;
+pub use drawing::{push_columns, svg};
 pub use escape::push_text;
 pub use event::{EventAt, push_event};
 pub use pieces::{Own, Piece, push_pieces};

@@ -12,6 +12,10 @@ use view_layout::reading::reports::push_number;
 /// The program's own bytes of a page.
 #[derive(Clone, Copy, Debug, PartialEq, Eq)]
 pub enum Own {
+    /// A drawing begins, up to its width.
+    Svg,
+    SvgSize,
+    SvgEnd,
     /// The group of an event begins, up to the number of its inode.
     Group,
     /// Before the place of the event.
@@ -81,6 +85,9 @@ fn push_own(out: &mut Vec<u8>, own: Own) -> Result<(), OutOfMemory>
     ensures { OnOk result (out.new.items ≡ out.old.items ++ spec.own_bytes own) }
 {
     match own {
+        Own::Svg => push_all(out, b"<svg xmlns=\"http://www.w3.org/2000/svg\" width=\""),
+        Own::SvgSize => push_all(out, b"\" height=\"100\" font-size=\"10\">"),
+        Own::SvgEnd => push_all(out, b"</svg>\n"),
         Own::Group => push_all(out, b"<g id=\"i"),
         Own::Place => push_all(out, b"-e"),
         Own::At => push_all(out, b"\" transform=\"translate("),
