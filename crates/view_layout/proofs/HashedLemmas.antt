@@ -142,8 +142,7 @@ write_keeps old from bytes k le inside =
     let kept : (take k front ≡ take k old) × (k ≤ length front)
     = front_kept from k old (replicate (from - length old) 0) (zeros_reach from old) le inside in
     let longer : length front ≤ length (front ++ bytes)
-    = rw (length-append front bytes) (omega arith) in
-    (
+    = rw (length-append front bytes) (omega arith) in (
       take-append-le k (front ++ bytes) rest (omega (arith, kept.1, longer))
           ∙ (take-append-le k front bytes kept.1 ∙ kept.0),
       rw (length-append (front ++ bytes) rest) (omega (arith, kept.1, longer)),

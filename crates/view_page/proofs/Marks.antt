@@ -2,7 +2,7 @@
 use Rattle.std.proofs.Common.{◌≡◌, ℕ, suc, ◌+◌, List, [], ◌∷◌, ◌++◌, length, map, refl, ap}
 use Rattle.view_layout.specs.declared.kinds.Mark.{Mark}
 use Rattle.view_layout.specs.Notes.{mark_of}
-use Rattle.view_layout.specs.Walk.{state_after, states_from}
+use Rattle.view_layout.specs.Walk.{states_from}
 use Rattle.view_layout.specs.reading.declared.event.Event.{Event}
 use Rattle.view_page.specs.declared.pieces.Own.TheVariants as own
 use Rattle.view_page.specs.declared.pieces.Piece.TheVariants as piece

@@ -13,7 +13,9 @@ use view_layout::{State, states};
 
 // The margin with the names, the width of a column, and the height of the marks.
 const MARGIN: u64 = 96;
+
 const COLUMN: u64 = 30;
+
 const MARKS_Y: u64 = 80;
 
 /// The drawing of an inode's journal as an SVG file, with a column for each event. `text` is the

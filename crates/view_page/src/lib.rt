@@ -16,6 +16,6 @@ pub use drawing::{push_columns, svg};
 pub use escape::push_text;
 pub use event::{EventAt, push_event};
 pub use pieces::{Own, Piece, push_pieces};
-pub use strip::push_strips;
 pub use std::alloc::AllocError as OutOfMemory;
+pub use strip::push_strips;
 pub use view_layout as layout;

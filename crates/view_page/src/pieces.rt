@@ -5,9 +5,9 @@ ghost use Rattle.view_page.specs.Pieces as spec;
 
 use crate::escape::{push_all, push_text};
 use std::alloc::AllocError as OutOfMemory;
-use view_layout::{Freshness, Mark};
 use view_layout::reading::Span;
 use view_layout::reading::reports::push_number;
+use view_layout::{Freshness, Mark};
 
 /// The program's own bytes of a page.
 #[derive(Clone, Copy, Debug, PartialEq, Eq)]
@@ -116,7 +116,10 @@ fn push_fill(out: &mut Vec<u8>, freshness: Freshness) -> Result<(), OutOfMemory>
             push_all(out, b"\" fill=\"#a9dcc6\"><title>as hashed</title></rect>")
         }
         Freshness::Written => {
-            push_all(out, b"\" fill=\"#f3a6ad\"><title>written since hashed</title></rect>")
+            push_all(
+                out,
+                b"\" fill=\"#f3a6ad\"><title>written since hashed</title></rect>",
+            )
         }
     }
 }
@@ -130,7 +133,10 @@ fn push_shape(out: &mut Vec<u8>, mark: Mark) -> Result<(), OutOfMemory>
             out,
             b"<path d=\"M-2 -8H2V8H-2Z\" fill=\"#3c4652\"/>",
         ),
-        Mark::NotOpened => push_all(out, b"<path d=\"M-5 -5L5 5M5 -5L-5 5\" stroke=\"#b00020\"/>"),
+        Mark::NotOpened => push_all(
+            out,
+            b"<path d=\"M-5 -5L5 5M5 -5L-5 5\" stroke=\"#b00020\"/>",
+        ),
         Mark::Checked => push_all(
             out,
             b"<path d=\"M0 -7L7 0L0 7L-7 0Z\" fill=\"none\" stroke=\"#3c4652\"/>",
@@ -148,23 +154,38 @@ fn push_shape(out: &mut Vec<u8>, mark: Mark) -> Result<(), OutOfMemory>
         ),
         Mark::Read => {
             push_all(out, b"<path d=\"M-7 -7H7V7H-7Z\" fill=\"#0072b2\"/>")?;
-            push_all(out, b"<text y=\"4\" fill=\"#fff\" text-anchor=\"middle\">R</text>")
+            push_all(
+                out,
+                b"<text y=\"4\" fill=\"#fff\" text-anchor=\"middle\">R</text>",
+            )
         }
         Mark::Write => {
             push_all(out, b"<path d=\"M-7 -7H7V7H-7Z\" fill=\"#d55e00\"/>")?;
-            push_all(out, b"<text y=\"4\" fill=\"#fff\" text-anchor=\"middle\">W</text>")
+            push_all(
+                out,
+                b"<text y=\"4\" fill=\"#fff\" text-anchor=\"middle\">W</text>",
+            )
         }
         Mark::Trunc => {
             push_all(out, b"<path d=\"M-7 -7H7V7H-7Z\" fill=\"#d55e00\"/>")?;
-            push_all(out, b"<text y=\"4\" fill=\"#fff\" text-anchor=\"middle\">T</text>")
+            push_all(
+                out,
+                b"<text y=\"4\" fill=\"#fff\" text-anchor=\"middle\">T</text>",
+            )
         }
         Mark::SetAttr => {
             push_all(out, b"<path d=\"M-7 -7H7V7H-7Z\" fill=\"#6b5b95\"/>")?;
-            push_all(out, b"<text y=\"4\" fill=\"#fff\" text-anchor=\"middle\">A</text>")
+            push_all(
+                out,
+                b"<text y=\"4\" fill=\"#fff\" text-anchor=\"middle\">A</text>",
+            )
         }
         Mark::SetMeta => {
             push_all(out, b"<path d=\"M-7 -7H7V7H-7Z\" fill=\"#6b5b95\"/>")?;
-            push_all(out, b"<text y=\"4\" fill=\"#fff\" text-anchor=\"middle\">M</text>")
+            push_all(
+                out,
+                b"<text y=\"4\" fill=\"#fff\" text-anchor=\"middle\">M</text>",
+            )
         }
         Mark::NotDone => push_all(out, b"<path d=\"M-7 -7H7V7H-7Z\" fill=\"#8a94a0\"/>"),
         Mark::Finished => push_all(

@@ -9,18 +9,16 @@ use view_layout::{Freshness, State};
 
 // The heights at which the strips stand.
 const READERS_Y: u64 = 11;
+
 const WRITERS_Y: u64 = 26;
+
 const EXECS_Y: u64 = 41;
+
 const CONTENT_Y: u64 = 45;
 
 /// Appends what the strips show in a column: the numbers of readers, writers and executions, and
 /// the word for the content.
-pub fn push_strips(
-    out: &mut Vec<u8>,
-    text: &[u8],
-    x: u64,
-    state: State,
-) -> Result<(), OutOfMemory>
+pub fn push_strips(out: &mut Vec<u8>, text: &[u8], x: u64, state: State) -> Result<(), OutOfMemory>
     ensures { OnOk result
         (out.new.items ≡ out.old.items ++ spec.page_of text.now (spec.strip_pieces x state)) }
 {
@@ -31,13 +29,7 @@ pub fn push_strips(
     Ok(())
 }
 
-fn push_count(
-    out: &mut Vec<u8>,
-    text: &[u8],
-    x: u64,
-    y: u64,
-    count: u64,
-) -> Result<(), OutOfMemory>
+fn push_count(out: &mut Vec<u8>, text: &[u8], x: u64, y: u64, count: u64) -> Result<(), OutOfMemory>
     ensures { OnOk result
         (out.new.items ≡ out.old.items ++ spec.page_of text.now (spec.count_pieces x y count)) }
 {
