@@ -40,21 +40,25 @@ use Rattle.view_layout.specs.Sentences.{adds, adds_by}
 
 -- ---- the entry that an outcome says was added
 
+-- the list's reply says that the entry was added here
 abbrev placed_at : ℕ → Option ReadPlaced → Bool
 placed_at p None = false
 placed_at p (Some (read_placed.Added q)) = q == p
 placed_at p (Some (read_placed.Already q)) = false
 
+-- the outcome says that the entry was added here
 abbrev entry_at : ℕ → Outcome → Bool
 entry_at p (outcome.ToMToU q) = q == p
 entry_at p (outcome.OpenWriters q) = q == p
 entry_at p (outcome.Granted g) = placed_at p g.placed
 entry_at p _ = false
 
+-- a test or none
 or_false : (b : Bool) → (b || false) ≡ b
 or_false true = refl
 or_false false = refl
 
+-- of a grant's marks only that of the list's reply names an added entry
 grant_adds : (p : ℕ) (a : Option ReadPlaced) (v : Option ReadVerdict) (l : Bool)
     → list_any (adds_by p) (placed_notes a ++ verdict_notes v ++ flag_notes note.Labelled l)
     ≡ placed_at p a
@@ -111,34 +115,42 @@ abbrev is_grant : Told → Bool
 is_grant (told.Grant grant) = true
 is_grant _ = false
 
+-- the outcome is neither a violation nor a grant
 abbrev is_plain : Told → Bool
 is_plain t = not (is_violation t) && not (is_grant t)
 
+-- the outcome that the journal determines is plain
 same_plain : (x t : Told) → Some x ≡ Some t → is_plain x ≡ true → is_plain t ≡ true
 same_plain x t e h = let is : x ≡ t = cc e in sym (ap is_plain is) ∙ h
 
+-- or doesn't pass another test
 same_test : (test : Told → Bool) (x t : Told) → Some x ≡ Some t → test x ≡ false → test t ≡ false
 same_test test x t e h = let is : x ≡ t = cc e in sym (ap test is) ∙ h
 
+-- with no collection open, the step isn't blocked
 alone : (o : Option Collection) (x t : Told) → unless_collecting o x ≡ Some t → Some x ≡ Some t
 alone None x t e = e
 alone (Some c) x t e = cc
 
+-- one of two plain outcomes
 two_plain : (b : Bool) (x y : Told) → is_plain x ≡ true → is_plain y ≡ true
     → is_plain (cond b x y) ≡ true
 two_plain true x y h k = h
 two_plain false x y h k = k
 
+-- the outcome of a chunk
 chunk_plain : (bytes : List ℕ) (o : Option Collection) (t : Told) → chunk_told bytes o ≡ Some t
     → is_plain t ≡ true
 chunk_plain bytes None t e = cc
 chunk_plain bytes (Some c) t e =
     same_plain _ t e (two_plain _ told.Last told.More refl refl)
 
+-- the outcome of a change that EVM may refuse
 status_plain : (r : Result (Unit {0}) EvmStatus) → is_plain (status_told r) ≡ true
 status_plain (Ok x) = refl
 status_plain (Err status) = refl
 
+-- the outcome of a change of an attribute
 set_plain : (a b c d e f : Bool) (r : Result (Unit {0}) EvmStatus)
     → is_plain (cond a told.NotFound (cond b told.EvmName (cond c told.NotAdmin (cond d told.TooLong
     (cond e told.Invalid (cond f told.NoData (status_told r))))))) ≡ true
@@ -150,17 +162,20 @@ set_plain false false false false true f r = refl
 set_plain false false false false false true r = refl
 set_plain false false false false false false r = status_plain r
 
+-- the outcome of a change of metadata
 meta_plain : (a : Bool) (r : Result (Unit {0}) EvmStatus)
     → is_plain (cond a told.NotFound (status_told r)) ≡ true
 meta_plain true r = refl
 meta_plain false r = status_plain r
 
+-- the outcome of a count
 count_plain : (a b : Bool)
     → is_plain (cond a told.NotFound (cond b told.TextBusy told.Held)) ≡ true
 count_plain true b = refl
 count_plain false true = refl
 count_plain false false = refl
 
+-- a check grants nothing
 check_ungranted : (a b c : Bool) (place : ℕ)
     → is_grant (cond a (cond b (told.ToMToU place) told.Quiet)
     (cond c (told.OpenWriters place) told.Quiet)) ≡ false
@@ -171,16 +186,19 @@ check_ungranted false b false place = refl
 
 -- ---- the entry that an event adds
 
+-- the event adds the entry here
 abbrev is_at : ℕ → Option Listed → Bool
 is_at p None = false
 is_at p (Some listed) = listed.0 == p
 
+-- a plain outcome names no entry
 plain_entry : (p : ℕ) (t : Told) → is_plain t ≡ true → entry_at p (short_told t) ≡ false
 plain_entry p (told.OpenWriters q) h = cc
 plain_entry p (told.ToMToU q) h = cc
 plain_entry p (told.Grant grant) h = cc
 plain_entry p t h = refl
 
+-- with digests, the reply that an entry was added adds it
 added_same : (p : ℕ) (a : Option Placed) (f : Digests) (inode : Inode) (file : ℕ)
     (before : List Event)
     → placed_at p (option_map short_placed a) ≡ is_at p (added_at a (Some f) inode file before)
@@ -199,6 +217,7 @@ take_adds p inode file before grant list None (Some f) e =
     added_same p grant.placed f inode file before
 take_adds p inode file before grant list (Some c) f e = cc
 
+-- a finish grants only if a collection is open
 finish_adds : (p : ℕ) (inode : Inode) (file : ℕ) (before : List Event) (grant : Grant)
     (list : Placed) (o : Option Collection)
     → finish_told inode file list o before ≡ Some (told.Grant grant)
@@ -217,6 +236,7 @@ take_quiet inode file before list t None (Some f) e =
     same_test is_violation (take_told inode file list (Some f) before) t e refl
 take_quiet inode file before list t (Some c) f e = cc
 
+-- a finish finds no violation
 finish_quiet : (inode : Inode) (file : ℕ) (before : List Event) (list : Placed) (t : Told)
     (o : Option Collection) → finish_told inode file list o before ≡ Some t
     → is_violation t ≡ false
@@ -290,6 +310,7 @@ adds_short p inode before e h =
 
 -- ---- along a journal, and over all journals
 
+-- how often an entry is added, by one event and by the others
 times_named : (p : ℕ) (who : Who) (l : Option Listed) (rest : List Named)
     → times_added p (named who l ++ rest) ≡ cond (is_at p l) 1 0 + times_added p rest
 times_named p who None rest = omega arith
@@ -299,6 +320,7 @@ times_named p who (Some l) rest = at (l.0 == p) where
   at true = refl
   at false = omega arith
 
+-- whether an event is marked with the entry, as a number
 abbrev counted : ℕ → ReadEvent → ℕ
 counted p e = cond (adds p e) 1 0
 
@@ -315,12 +337,15 @@ times_short p inode (x ∷ before) h =
     ∙ sym (times_named p x.who (listing.adds inode x.deed x.told before)
     (places_added inode before))))
 
+-- how many events of a journal are marked with the entry
 abbrev marked : ℕ → Journal → ℕ
 marked p j = count_by (adds p) (map short j.events)
 
+-- how often a journal adds the entry
 abbrev added : ℕ → Journal → ℕ
 added p j = times_added p (places_added j.inode j.events)
 
+-- over all journals
 sums_same : (p : ℕ) (js : List Journal) → All (λ (j : Journal). Legal j.inode j.events) js
     → sum_by (marked p) js ≡ sum_by (added p) js
 sums_same p [] h = refl

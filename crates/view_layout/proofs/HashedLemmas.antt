@@ -43,6 +43,7 @@ record IsSeen (c : Collection) (v : Seen) (bytes : List ℕ) : Type 0 where
   inside : v.hit ≡ false → c.complete ≡ false → 4096 * c.pieces ≤ length bytes
   whole : v.hit ≡ false → c.complete ≡ true → length bytes ≤ 4096 * c.pieces
 
+-- both have a collection, and it is the same one, or both have none
 abbrev AreSeen : Option Collection → Option Seen → List ℕ → Type 0
 AreSeen None None bytes = Unit {0}
 AreSeen (Some c) (Some v) bytes = IsSeen c v bytes
@@ -61,6 +62,7 @@ just_begun file closing algo begin bytes = record {
 
 -- ---- chunks
 
+-- pieces of n bytes join to a front of the content
 pieces_join : (n k : ℕ) (xs bytes : List ℕ) → bytes ≡ take (n * k) xs
     → (bytes ++ take n (drop (n * k) xs)) ≡ take (n * (k + 1)) xs
 pieces_join n k xs bytes e =
@@ -68,20 +70,24 @@ pieces_join n k xs bytes e =
     ap (λ (x : List ℕ). x ++ take n (drop (n * k) xs)) e
     ∙ (sym (take-add (n * k) n xs) ∙ ap (λ (m : ℕ). take m xs) (sym f))
 
+-- after a piece that isn't the last, the content goes on
 more_follows : (bytes : List ℕ) (c : Collection) → chunk_told bytes (Some c) ≡ Some told.More
     → 4096 * (c.pieces + 1) ≤ length bytes
 more_follows bytes c h = at (is_last_piece bytes c.pieces) refl h where
-  at : (b : Bool) → is_last_piece bytes c.pieces ≡ b → Some (cond b told.Last told.More) ≡ Some told.More
+  at : (b : Bool) → is_last_piece bytes c.pieces ≡ b
+      → Some (cond b told.Last told.More) ≡ Some told.More
       → 4096 * (c.pieces + 1) ≤ length bytes
   at true e k = cc
   at false e k =
       let past : 4096 * (c.pieces + 1) < length bytes
       = leb-false (length bytes) (4096 * (c.pieces + 1)) e in omega (arith, past)
 
+-- after the last piece, it doesn't
 none_follows : (bytes : List ℕ) (c : Collection) → chunk_told bytes (Some c) ≡ Some told.Last
     → length bytes ≤ 4096 * (c.pieces + 1)
 none_follows bytes c h = at (is_last_piece bytes c.pieces) refl h where
-  at : (b : Bool) → is_last_piece bytes c.pieces ≡ b → Some (cond b told.Last told.More) ≡ Some told.Last
+  at : (b : Bool) → is_last_piece bytes c.pieces ≡ b
+      → Some (cond b told.Last told.More) ≡ Some told.Last
       → length bytes ≤ 4096 * (c.pieces + 1)
   at true e k = leb-true (length bytes) (4096 * (c.pieces + 1)) e
   at false e k = cc
@@ -121,6 +127,7 @@ abbrev KeepsFront : ℕ → List ℕ → List ℕ → Type 0
 KeepsFront from old new =
     (k : ℕ) → k ≤ from → k ≤ length old → (take k new ≡ take k old) × (k ≤ length new)
 
+-- the front of a content that zeros are appended to
 front_kept : (from k : ℕ) (old zeros : List ℕ) → from ≤ length (old ++ zeros) → k ≤ from
     → k ≤ length old → (take k (take from (old ++ zeros)) ≡ take k old)
     × (k ≤ length (take from (old ++ zeros)))
@@ -129,11 +136,16 @@ front_kept from k old zeros room le inside = (
   omega (arith, length-take-le from (old ++ zeros) room, le),
 )
 
+-- with its zeros, the content reaches to the offset
 zeros_reach : (from : ℕ) (old : List ℕ) → from ≤ length (with_zeros_to from old)
 zeros_reach from old =
-    rw (length-append old (replicate (from - length old) 0), length-replicate {A = ℕ} (from - length old) 0)
+    rw (
+      length-append old (replicate (from - length old) 0),
+      length-replicate {A = ℕ} (from - length old) 0,
+    )
     (omega arith)
 
+-- a write keeps what is before it
 write_keeps : (old : List ℕ) (from : ℕ) (bytes : List ℕ)
     → KeepsFront from old (overwritten old from bytes)
 write_keeps old from bytes k le inside =
@@ -148,6 +160,7 @@ write_keeps old from bytes k le inside =
       rw (length-append (front ++ bytes) rest) (omega (arith, kept.1, longer)),
     )
 
+-- a truncation keeps what is before it
 trunc_keeps : (old : List ℕ) (len : ℕ) → KeepsFront len old (resized old len)
 trunc_keeps old len k le inside =
     front_kept len k old (replicate (len - length old) 0) (zeros_reach len old) le inside
@@ -181,6 +194,7 @@ touch_seen old new from (Some c) (Some v) keeps s =
 
 -- ---- the collection after each event
 
+-- a finish grants
 finish_ends : (inode : Inode) (g : ℕ) (placed : Placed) (o : Option Collection)
     (before : List Event) (t : Told) → finish_told inode g placed o before ≡ Some t
     → (grant : Grant) × (told.Grant grant ≡ t)
@@ -188,6 +202,7 @@ finish_ends inode g placed None before t e = cc
 finish_ends inode g placed (Some c) before t e =
     (grant_of inode g placed (digest_from c) before, cc)
 
+-- after a finish no collection is open
 seen_nothing : (inode : Inode) (g : ℕ) (before : List Event) (t : Told)
     → (grant : Grant) × (told.Grant grant ≡ t)
     → AreSeen (model.collecting_after inode (deed.Finish g) t before (integrity inode before)) None
@@ -197,6 +212,7 @@ seen_nothing inode g before t w =
     (model.collecting_after inode (deed.Finish g) x before (integrity inode before)) None
     (content before)) w.1 tt
 
+-- nor is one after the finish of a close
 close_ends : (inode : Inode) (g : ℕ) (before : List Event) (n : ℕ) (t : Told)
     → Some (close_finish_told n) ≡ Some t
     → AreSeen (model.collecting_after inode (deed.CloseFinish g) t before (integrity inode before))
@@ -212,16 +228,19 @@ close_ends inode g before n t e =
       at true = tt
       at false = tt
 
+-- the reader of the report sees the open collection
 abbrev Seeing : Inode → List Event → Type 0
 Seeing inode before =
     AreSeen (model.collecting inode before) (collecting (map short before)) (content before)
 
+-- before the birth no collection is open
 born_seen : (inode : Inode) (before : List Event) (bytes : List ℕ) → before ≡ []
     → AreSeen (model.collecting inode before) (collecting (map short before)) bytes
 born_seen inode before bytes e =
     subst (λ (x : List Event). AreSeen (model.collecting inode x) (collecting (map short x)) bytes)
     (sym e) tt
 
+-- after each event that may follow
 seen_on : (inode : Inode) (before : List Event) (who : Who) (d : Deed) (t : Told)
     → Follows inode before who d t → Seeing inode before
     → AreSeen (model.collecting_after inode d t before (integrity inode before))
@@ -257,6 +276,7 @@ seen_on inode before who (deed.SetAttr name None admin) t h s = s
 seen_on inode before who (deed.SetAttr name (Some bytes) admin) t h s = s
 seen_on inode before who d t h s = s
 
+-- along a legal journal
 seeing : (inode : Inode) (events : List Event) → EachFollows inode events → Seeing inode events
 seeing inode [] h = tt
 seeing inode (x ∷ before) h =
@@ -283,20 +303,24 @@ finished bytes (Some c) (Some v) g p s h = at v.hit refl h where
       = s.front e ∙ take_all (4096 * c.pieces) bytes (s.whole e (of_file c g true p).1) in
       (digest_from c, refl, ap (digest_of c.algo) all)
 
+-- after a write the content isn't as hashed
 written_not : (f : Freshness) → written f ≡ fresh.AsHashed → ⊥
 written_not fresh.NotHashed e = cc
 written_not fresh.AsHashed e = cc
 written_not fresh.Written e = cc
 
+-- where the strip says `as hashed`, the last finished digest is that of the content
 abbrev Sound : Inode → List Event → Type 0
 Sound inode before = freshness (map short before) ≡ fresh.AsHashed
     → IsOf (last_finished inode before) (content before)
 
+-- before the birth nothing is hashed
 not_hashed : (before : List Event) → before ≡ [] → freshness (map short before) ≡ fresh.AsHashed → ⊥
 not_hashed before e h =
     let no : freshness (map short []) ≡ fresh.AsHashed
     = subst (λ (x : List Event). freshness (map short x) ≡ fresh.AsHashed) e h in cc
 
+-- after each event that may follow
 sound_on : (inode : Inode) (before : List Event) (who : Who) (d : Deed) (t : Told)
     → Follows inode before who d t → Stages inode before → Seeing inode before
     → Sound inode before
@@ -322,6 +346,7 @@ sound_on inode before who (deed.SetAttr name None admin) t h l s i e = i e
 sound_on inode before who (deed.SetAttr name (Some bytes) admin) t h l s i e = i e
 sound_on inode before who d t h l s i e = i e
 
+-- along a legal journal
 sound : (inode : Inode) (events : List Event) → EachFollows inode events → Sound inode events
 sound inode [] h e = cc
 sound inode (x ∷ before) h e =

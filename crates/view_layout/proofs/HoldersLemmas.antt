@@ -20,6 +20,7 @@ use Rattle.view_layout.proofs.WalkLemmas.{IsWalk, goes_on, starts}
 
 -- ---- no file is open twice
 
+-- a walk over these events
 walk_over : (before : List ReadEvent) → (w : Walk) × IsWalk before w
 walk_over [] = (start, starts)
 walk_over (e ∷ before) =
@@ -31,15 +32,18 @@ distinct_files before = (walk_over before).1.agrees.distinct
 
 -- ---- the files that a sentence names
 
+-- a file that isn't open isn't named
 none_named : (test : Kind → Bool) (file f : ℕ) (hs : Files) → find_file f hs ≡ None
     → (passes test (find_file f hs) && not (f == file)) ≡ false
 none_named test file f hs none = ap (λ (o : Option Kind). passes test o && not (f == file)) none
 
+-- a file is named first or not at all
 first_named : (b : Bool) (named : List ℕ) (f : ℕ) → names f named ≡ false
     → names f (cond b (f ∷ named) named) ≡ b
 first_named true named f n = rw (eq-eqb f f refl) refl
 first_named false named f n = n
 
+-- the name of another file changes nothing
 other_named : (b : Bool) (g f : ℕ) (named : List ℕ) → (g == f) ≡ false
     → names f (cond b (g ∷ named) named) ≡ names f named
 other_named true g f named n = rw n refl
@@ -69,11 +73,13 @@ named_of test file f (h ∷ hs) d =
 
 -- ---- of a journal
 
+-- the kind of the first file, or of one of the others
 find_step : (b : Bool) (h : How) (o : Option How)
     → cond b (Some (kind_of h)) (option_map kind_of o) ≡ option_map kind_of (cond b (Some h) o)
 find_step true h o = refl
 find_step false h o = refl
 
+-- a file is open for the reader of a report as it is in the journal
 find_short : (f : ℕ) (hs : List (ℕ × How))
     → find_file f (map with_kind hs) ≡ option_map kind_of (model.find_file f hs)
 find_short f [] = refl
@@ -81,6 +87,7 @@ find_short f (h ∷ hs) =
     ap (λ (o : Option Kind). cond (h.0 == f) (Some (kind_of h.1)) o) (find_short f hs)
     ∙ find_step (h.0 == f) h.1 (model.find_file f hs)
 
+-- and passes the same test
 passes_short : (test : Kind → Bool) (like : How → Bool) → ((h : How) → test (kind_of h) ≡ like h)
     → (o : Option How) → passes test (option_map kind_of o) ≡ model.holds like o
 passes_short test like same None = refl
@@ -98,6 +105,7 @@ holders_are test like same before file f =
     ∙ (ap (passes test) (find_short f (model.files before))
     ∙ passes_short test like same (model.find_file f (model.files before))))
 
+-- a test and no exception
 and_true : (b : Bool) → (b && true) ≡ b
 and_true true = refl
 and_true false = refl
@@ -117,6 +125,7 @@ without_itself like before file f n = at (f == file) refl where
       rw no refl
   at false e = and_true (model.holds like (model.held f before))
 
+-- a writer isn't a reader
 writers_dont_read : (o : Option How) → model.holds model.is_writer o ≡ true
     → model.holds model.is_reader o ≡ false
 writers_dont_read None h = cc
@@ -132,6 +141,7 @@ told_of_writer true b c place q e = refl
 told_of_writer false b true place q e = cc
 told_of_writer false b false place q e = cc
 
+-- and a reader one of open writers
 told_of_reader : (a b c : Bool) (place q : ℕ)
     → Some (cond a (cond b (told.ToMToU place) told.Quiet)
     (cond c (told.OpenWriters place) told.Quiet)) ≡ Some (told.OpenWriters q) → a ≡ false

@@ -48,6 +48,7 @@ leaves : (x : Bool) (after old : Stage) (o : Option Bool) (b : Bool) → progres
 leaves true after old o b n h e = cc
 leaves false after old o b n h e = h e
 
+-- a file that was just checked is at no collecting stage
 asked_none : (b : Bool) → progress (cond b Asked Settled) ≡ None
 asked_none true = refl
 asked_none false = refl
@@ -59,11 +60,13 @@ none_open : (o : Option Collection) (t u : Told) → unless_collecting o t ≡ S
 none_open None t u e = refl
 none_open (Some c) t u e = cc
 
+-- if no collection is open, no file has one
 none_busy : (o : Option Collection) (file : ℕ) (b : Bool) → o ≡ None
     → progress_of o file ≡ Some b → ⊥
 none_busy None file b n e = cc
 none_busy (Some c) file b n e = cc
 
+-- a collection that begins is its file's, and isn't complete
 begins : (x : Bool) (after old : Stage) (b : Bool) → progress after ≡ Some false
     → (progress old ≡ Some b → ⊥) → progress (cond x after old) ≡ Some b
     → cond x (Some false) None ≡ Some b
@@ -116,6 +119,7 @@ finishes o g f after old b d h a i e = at (g == f) refl e where
 
 -- ---- all events
 
+-- the stage of the same file
 at_stage : (inode : Inode) (before : List Event) (g f : ℕ) (l : Stage) → stage inode g before ≡ l
     → g ≡ f → progress (stage inode f before) ≡ progress l
 at_stage inode before g f l h e =
@@ -141,8 +145,8 @@ stages_on inode before who (deed.Take g) (told.Grant grant) h s f b e =
     (s f b) e
 stages_on inode before who (deed.Chunk g) told.More h s f b e =
     chunks (collecting inode before) (content before) false false g f (stage inode f before)
-    (stage inode f before) b (s g false (ap progress h.1)) (at_stage inode before g f Collecting h.1)
-    (s f b) e
+    (stage inode f before) b (s g false (ap progress h.1))
+    (at_stage inode before g f Collecting h.1) (s f b) e
 stages_on inode before who (deed.Chunk g) told.Last h s f b e =
     chunks (collecting inode before) (content before) true false g f Collected
     (stage inode f before) b (s g false (ap progress h.1)) (λ q. refl) (s f b) e

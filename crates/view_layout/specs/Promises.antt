@@ -72,7 +72,8 @@ pub record HoldersAreNamed : Type 0 where
   pub writers : (inode : Inode) (before : List Event) (who : Who) (file : ℕ) (func : Func)
       (action : Action) (rules p f : ℕ)
       → Follows inode before who (deed.Check file func action rules) (told.OpenWriters p)
-      → names f (holders (short (event who (deed.Check file func action rules) (told.OpenWriters p)))
+      → names f (holders
+      (short (event who (deed.Check file func action rules) (told.OpenWriters p)))
       (map short before)) ≡ holds is_writer (held f before)
 
 -- ---- the list

@@ -3,8 +3,9 @@
 //! `specs/Files` has the counts of open files, `State` what is known of the content, `Notes` the
 //! mark of an event and what it is marked with, `Sentences` what the sentences below a drawing
 //! name, `Windows` the places that are drawn, `Frame` columns and rows in whole pixels, `Bars` the
-//! open files, and `Promises` what has to be true of a picture. [`states`] finds what the strips
-//! show, and [`law`] has the promises that are proved; the other definitions have no code yet.
+//! open files, and `Promises` what has to be true of a picture: [`law`] has each of these
+//! promises. [`states`] finds what the strips show, [`mark_of`] and [`push_notes`] how an event is
+//! marked, and [`rows`] the rows of bars; windows, columns, bars and sentences have no code yet.
 #![tactic(auto)]
 
 mod frame;

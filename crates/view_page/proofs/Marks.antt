@@ -14,6 +14,7 @@ pub length-states : (before es : List Event) → length (states_from before es) 
 length-states before [] = refl
 length-states before (e ∷ es) = ap suc (length-states (e ∷ before) es)
 
+-- of the events from a place on
 marks_from : (inode place : ℕ) (before es : List Event)
     → marks_in (columns_from inode place es (states_from before es) ++ piece.Own own.SvgEnd ∷ [])
     ≡ map mark_of es

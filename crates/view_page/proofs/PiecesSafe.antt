@@ -11,6 +11,7 @@ use Rattle.view_page.specs.declared.pieces.Piece.{Piece}
 use Rattle.view_page.specs.declared.pieces.Piece.TheVariants as piece
 use Rattle.view_page.proofs.Safe.{decimal_safe, texts_stay_texts}
 
+-- at most so many digits
 digits_safe : (most n : ℕ) → list_all is_safe (numeral_in most n) ≡ true
 digits_safe zero n = refl
 digits_safe (suc most) n =
@@ -24,6 +25,7 @@ digits_safe (suc most) n =
       ) refl
     ]
 
+-- a number
 numeral_safe : (n : ℕ) → list_all is_safe (numeral n) ≡ true
 unfolding numeral
 numeral_safe n = digits_safe (suc n) n
