@@ -6,4 +6,5 @@ pub mod CountsLemmas
 pub mod RowsLemmas
 pub mod ColumnsLemmas
 pub mod WindowsLemmas
+pub mod HashedLemmas
 mod Examples
