@@ -7,4 +7,5 @@ pub mod RowsLemmas
 pub mod ColumnsLemmas
 pub mod WindowsLemmas
 pub mod HashedLemmas
+pub mod AddedLemmas
 mod Examples

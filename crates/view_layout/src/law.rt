@@ -1,6 +1,6 @@
 //! Promises about pictures, over all journals.
 
-ghost use Rattle.view_layout.specs.Promises.{AsHashedIsSound, BarsDontOverlap, ColumnsDiffer, CountsAreTheJournals, WindowsAreInOrder};
+ghost use Rattle.view_layout.specs.Promises.{AsHashedIsSound, BarsDontOverlap, ColumnsDiffer, CountsAreTheJournals, EntriesAreAddedOnce, WindowsAreInOrder};
 
 /// The counts that the strips show are those of the journal that the report prints.
 pub fn counts_are_the_journals()
@@ -10,6 +10,11 @@ pub fn counts_are_the_journals()
 /// At a place where the picture says `as hashed`, the last finished digest is that of the content.
 pub fn as_hashed_is_sound()
     ensures { AsHashedIsSound }
+{}
+
+/// Each entry of the list but the first was added by exactly one event of all journals.
+pub fn entries_are_added_once()
+    ensures { EntriesAreAddedOnce }
 {}
 
 /// The windows of a journal come one after another.
