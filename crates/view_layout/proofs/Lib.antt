@@ -6,6 +6,4 @@ pub mod CountsLemmas
 pub mod RowsLemmas
 pub mod ColumnsLemmas
 pub mod WindowsLemmas
-pub mod HashedLemmas
-pub mod AddedLemmas
 mod Examples

@@ -41,29 +41,18 @@ abbrev pub is_refused_change : Outcome → Bool
 is_refused_change outcome.Done = false
 is_refused_change _ = true
 
-abbrev pub is_refused_count : Outcome → Bool
-is_refused_count outcome.NotFound = true
-is_refused_count outcome.TextBusy = true
-is_refused_count _ = false
-
--- a count, or a change of attributes or metadata, was refused
-abbrev pub is_denied : Deed → Outcome → Bool
-is_denied (deed.Count k create) o = is_refused_count o
-is_denied deed.SetAttr o = is_refused_change o
-is_denied deed.RemoveAttr o = is_refused_change o
-is_denied deed.SetMeta o = is_refused_change o
-is_denied _ o = false
-
-abbrev pub outcome_notes : Outcome → List Note
-outcome_notes (outcome.ToMToU p) = note.ToMToU p ∷ []
-outcome_notes (outcome.OpenWriters p) = note.OpenWriters p ∷ []
-outcome_notes (outcome.Granted g) = grant_notes g
-outcome_notes outcome.LabelledDropped = note.Labelled ∷ []
-outcome_notes _ = []
-
 -- the notes of an event, in the order in which its flags stand
 abbrev pub notes_by : Deed → Outcome → List Note
-notes_by d o = outcome_notes o ++ flag_notes note.Denied (is_denied d o)
+notes_by d (outcome.ToMToU p) = note.ToMToU p ∷ []
+notes_by d (outcome.OpenWriters p) = note.OpenWriters p ∷ []
+notes_by d (outcome.Granted g) = grant_notes g
+notes_by d outcome.LabelledDropped = note.Labelled ∷ []
+notes_by (deed.Count k create) outcome.NotFound = note.Denied ∷ []
+notes_by (deed.Count k create) outcome.TextBusy = note.Denied ∷ []
+notes_by deed.SetAttr o = flag_notes note.Denied (is_refused_change o)
+notes_by deed.RemoveAttr o = flag_notes note.Denied (is_refused_change o)
+notes_by deed.SetMeta o = flag_notes note.Denied (is_refused_change o)
+notes_by _ _ = []
 
 abbrev pub notes : Event → List Note
 notes e = notes_by e.deed e.outcome
