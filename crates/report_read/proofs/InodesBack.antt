@@ -357,8 +357,7 @@ module _ (t : Template) (g : Bool) (begin : ℕ) where
       → AllByRecursion (IsShownInode size) is → AllGood inode_block (IsNextInode size) done is
   inodes_good size [] done few h = tt
   inodes_good size (i ∷ is) done few h =
-      let more = length_push done i in
-      (
+      let more = length_push done i in (
         (omega (arith, few), h.0),
         inodes_good size is (done ++ i ∷ []) (omega (arith, few, more)) h.1,
       )

@@ -357,8 +357,7 @@ module _ (default : Template) (grows : Bool) (begin : ℕ) where
       = subst (EachFollows inode) whole fol in
       let here : EachFollows inode (e ∷ reverse done)
       = follows_drop inode (reverse left) (e ∷ reverse done) all in
-      let size_on = length_push done e in
-      (
+      let size_on = length_push done e in (
         record {
           follows = here.0;
           before = here.1;

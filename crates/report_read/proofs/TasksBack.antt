@@ -147,8 +147,7 @@ replies_good : (rs done : List model.Reply) → length done + length rs < 2 ^ 32
     → AllByRecursion IsShownReply rs → AllGood reply_block IsGoodReply done rs
 replies_good [] done h s = tt
 replies_good (r ∷ rs) done h s =
-    let size = length_push done r in
-    (
+    let size = length_push done r in (
       (omega (arith, h), s.0),
       replies_good rs (done ++ r ∷ []) (omega (arith, h, size)) s.1,
     )
