@@ -1,5 +1,5 @@
 -- The inodes of a report are read.
-use Rattle.std.proofs.Common.{◌≡◌, ℕ, suc, ◌+◌, ◌<◌, ◌^◌, ◌==◌, Bool, true, false, List, [], ◌∷◌, ◌++◌, codes, cond, length, map, reverse, take, Option, Some, None, if◌then◌else◌, refl, sym, ap, ◌∙◌, subst, append_assoc, arith}
+use Rattle.std.proofs.Common.{◌≡◌, ℕ, suc, ◌+◌, ◌<◌, ◌^◌, Bool, true, List, [], ◌∷◌, ◌++◌, codes, cond, length, map, reverse, take, Option, Some, None, refl, sym, ap, ◌∙◌, subst, arith}
 use Rattle.std.specs.List.{AllByRecursion}
 use Rattle.std.proofs.lemmas.Bool.{eq-eqb}
 use Rattle.hex.specs.Hex.{IsBytes, encode_lower}
@@ -12,7 +12,6 @@ use Rattle.report_text.specs.model.events.Legal.{EachFollows, Legal}
 use Rattle.report_text.specs.model.events.Past.{past}
 use Rattle.report_text.specs.model.events.declared.told.Event.{Event as ModelEvent}
 use Rattle.report_text.specs.model.events.hashes.Algo.{algo_name, algo_size}
-use Rattle.report_text.specs.model.events.hashes.Digest.{HasDigestSize}
 use Rattle.report_text.specs.model.events.hashes.declared.algo.Algo.{Algo}
 use Rattle.report_text.specs.model.events.hashes.declared.algo.Algo.TheVariants as algo
 use Rattle.report_text.specs.model.events.hashes.declared.digest.Digest.{Digest}
@@ -22,7 +21,7 @@ use Rattle.report_read.specs.declared.draft.Stage.{Stage}
 use Rattle.report_read.specs.declared.draft.Stage.TheVariants as stage
 use Rattle.report_read.specs.declared.event.Span.{Span}
 use Rattle.report_read.specs.declared.report.InodeHead.{InodeHead}
-use Rattle.report_read.specs.Draft.{Draft, events_left, inode_closed, names_left, with_words}
+use Rattle.report_read.specs.Draft.{Draft, events_left, names_left, with_words}
 use Rattle.report_read.specs.Lines.{head_at, inode_of, is_attr, is_force, is_force_word}
 use Rattle.report_read.specs.ReadBack.{IsShownAttr, IsShownForce, IsShownInode}
 use Rattle.report_read.specs.Report.{InodeValue}
