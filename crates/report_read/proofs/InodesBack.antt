@@ -252,10 +252,12 @@ inode_back : (t : Template) (g : Bool) (s : Stage) (begin : ℕ) (d : Draft) (n 
 inode_back t g s begin d n i b h is shown =
     let v : InodeValue = inode_value t g n i begin in
     let empty : Draft = record d { attrs = []; events = [] } in
-    let first : InodeHead = head_at (line_span begin (inode_head n i)) i.writers i.readers i.execs in
+    let first : InodeHead
+    = head_at (line_span begin (inode_head n i)) i.writers i.readers i.execs in
     let rest : List Line = events_line i ∷ event_lines t g 0 i.journal in
     let with_attrs : Draft = record d { head = v.head; attrs = v.attrs; events = [] } in
-    fold_step begin (record empty { stage = s }) (record empty { stage = stage.Force; head = first })
+    fold_step begin (record empty { stage = s })
+    (record empty { stage = stage.Force; head = first })
     (inode_head n i) (force_line i ∷ attrs_line i ∷ (map attr_line i.attrs ++ rest))
     (head_step s begin empty n i b h shown.writers shown.readers shown.execs is)
     ∙ (fold_step (force_at begin n i) (record empty { stage = stage.Force; head = first })
