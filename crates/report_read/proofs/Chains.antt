@@ -89,7 +89,9 @@ module _ {X : Type 0} (f : ℕ → X → List Line) where
     values-append (x ∷ xs) ys begin n =
         ap (λ (vs : List Y). h n x begin ∷ vs)
         (values-append xs ys (end_of begin (f n x)) (n + 1)
-        ∙ (ap (λ (b : ℕ). values (end_of begin (f n x)) (n + 1) xs ++ values b ((n + 1) + length xs) ys)
+        ∙ (ap
+        (λ (b : ℕ). values (end_of begin (f n x)) (n + 1) xs
+        ++ values b ((n + 1) + length xs) ys)
         (sym (end_of-append (f n x) (blocks (n + 1) xs) begin))
         ∙ ap (λ (k : ℕ). values (end_of begin (f n x)) (n + 1) xs
         ++ values (end_of begin (f n x ++ blocks (n + 1) xs)) k ys) (omega arith)))

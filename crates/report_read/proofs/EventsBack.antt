@@ -18,7 +18,6 @@ use Rattle.report_text.specs.model.events.declared.told.Told.TheVariants as told
 use Rattle.report_text.specs.model.events.labels.declared.verdict.Verdict.{Verdict}
 use Rattle.report_text.specs.model.events.labels.declared.verdict.Verdict.TheVariants as verdict
 use Rattle.report_text.specs.model.events.meta.declared.appraisal.Need.{Need}
-use Rattle.report_text.specs.model.events.meta.declared.appraisal.Need.TheVariants as need
 use Rattle.report_text.specs.model.events.meta.declared.measurement.Template.{Template}
 use Rattle.report_text.specs.model.events.meta.declared.step.Who.{Who}
 use Rattle.report_text.specs.model.events.policy.RuleValue.{is_any}

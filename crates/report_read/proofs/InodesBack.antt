@@ -1,5 +1,5 @@
 -- The inodes of a report are read.
-use Rattle.std.proofs.Common.{◌≡◌, ℕ, suc, ◌+◌, ◌<◌, ◌^◌, ◌==◌, Bool, true, false, List, [], ◌∷◌, ◌++◌, codes, cond, length, map, reverse, take, Option, Some, None, if◌then◌else◌, refl, sym, ap, ◌∙◌, subst, append_assoc, arith}
+use Rattle.std.proofs.Common.{◌≡◌, ℕ, suc, ◌+◌, ◌<◌, ◌^◌, Bool, true, List, [], ◌∷◌, ◌++◌, codes, cond, length, map, reverse, take, Option, Some, None, refl, sym, ap, ◌∙◌, subst, arith}
 use Rattle.std.specs.List.{AllByRecursion}
 use Rattle.std.proofs.lemmas.Bool.{eq-eqb}
 use Rattle.hex.specs.Hex.{IsBytes, encode_lower}
@@ -12,7 +12,6 @@ use Rattle.report_text.specs.model.events.Legal.{EachFollows, Legal}
 use Rattle.report_text.specs.model.events.Past.{past}
 use Rattle.report_text.specs.model.events.declared.told.Event.{Event as ModelEvent}
 use Rattle.report_text.specs.model.events.hashes.Algo.{algo_name, algo_size}
-use Rattle.report_text.specs.model.events.hashes.Digest.{HasDigestSize}
 use Rattle.report_text.specs.model.events.hashes.declared.algo.Algo.{Algo}
 use Rattle.report_text.specs.model.events.hashes.declared.algo.Algo.TheVariants as algo
 use Rattle.report_text.specs.model.events.hashes.declared.digest.Digest.{Digest}
@@ -22,7 +21,7 @@ use Rattle.report_read.specs.declared.draft.Stage.{Stage}
 use Rattle.report_read.specs.declared.draft.Stage.TheVariants as stage
 use Rattle.report_read.specs.declared.event.Span.{Span}
 use Rattle.report_read.specs.declared.report.InodeHead.{InodeHead}
-use Rattle.report_read.specs.Draft.{Draft, events_left, inode_closed, names_left, with_words}
+use Rattle.report_read.specs.Draft.{Draft, events_left, names_left, with_words}
 use Rattle.report_read.specs.Lines.{head_at, inode_of, is_attr, is_force, is_force_word}
 use Rattle.report_read.specs.ReadBack.{IsShownAttr, IsShownForce, IsShownInode}
 use Rattle.report_read.specs.Report.{InodeValue}
@@ -253,10 +252,12 @@ inode_back : (t : Template) (g : Bool) (s : Stage) (begin : ℕ) (d : Draft) (n 
 inode_back t g s begin d n i b h is shown =
     let v : InodeValue = inode_value t g n i begin in
     let empty : Draft = record d { attrs = []; events = [] } in
-    let first : InodeHead = head_at (line_span begin (inode_head n i)) i.writers i.readers i.execs in
+    let first : InodeHead
+    = head_at (line_span begin (inode_head n i)) i.writers i.readers i.execs in
     let rest : List Line = events_line i ∷ event_lines t g 0 i.journal in
     let with_attrs : Draft = record d { head = v.head; attrs = v.attrs; events = [] } in
-    fold_step begin (record empty { stage = s }) (record empty { stage = stage.Force; head = first })
+    fold_step begin (record empty { stage = s })
+    (record empty { stage = stage.Force; head = first })
     (inode_head n i) (force_line i ∷ attrs_line i ∷ (map attr_line i.attrs ++ rest))
     (head_step s begin empty n i b h shown.writers shown.readers shown.execs is)
     ∙ (fold_step (force_at begin n i) (record empty { stage = stage.Force; head = first })
@@ -357,8 +358,7 @@ module _ (t : Template) (g : Bool) (begin : ℕ) where
       → AllByRecursion (IsShownInode size) is → AllGood inode_block (IsNextInode size) done is
   inodes_good size [] done few h = tt
   inodes_good size (i ∷ is) done few h =
-      let more = length_push done i in
-      (
+      let more = length_push done i in (
         (omega (arith, few), h.0),
         inodes_good size is (done ++ i ∷ []) (omega (arith, few, more)) h.1,
       )

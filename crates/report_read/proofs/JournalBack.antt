@@ -1,5 +1,5 @@
 -- The journal of an inode is read: each event names a file that an earlier event opened.
-use Rattle.std.proofs.Common.{◌≡◌, ℕ, zero, suc, ◌+◌, ◌-◌, ◌<◌, ◌≤◌, ◌^◌, ◌==◌, Bool, true, false, ◌&&◌, ◌⊎◌, List, [], ◌∷◌, ◌++◌, cond, length, reverse, take, Option, Some, None, if◌then◌else◌, refl, sym, ap, ◌∙◌, subst, append_assoc, inl, inr, arith}
+use Rattle.std.proofs.Common.{◌≡◌, ℕ, zero, suc, ◌+◌, ◌<◌, ◌^◌, ◌==◌, Bool, true, false, ◌&&◌, ◌⊎◌, List, [], ◌∷◌, ◌++◌, cond, length, reverse, take, Option, Some, None, if◌then◌else◌, refl, sym, ap, ◌∙◌, subst, append_assoc, inl, inr, arith}
 use Rattle.std.specs.Prelude.{slice_get}
 use Rattle.std.specs.List.{AllByRecursion}
 use Rattle.std.proofs.lemmas.Bool.{cases_Bool, eqb-true, false≢true, ne_eqb}
@@ -19,7 +19,6 @@ use Rattle.report_text.specs.model.events.declared.told.Told.{Told}
 use Rattle.report_text.specs.model.events.declared.told.Told.TheVariants as told
 use Rattle.report_text.specs.model.events.meta.declared.measurement.Template.{Template}
 use Rattle.report_text.specs.model.events.meta.declared.step.Who.{Who}
-use Rattle.report_read.specs.declared.draft.Stage.{Stage}
 use Rattle.report_read.specs.declared.draft.Stage.TheVariants as stage
 use Rattle.report_read.specs.declared.event.Event.{Event}
 use Rattle.report_read.specs.declared.event.Span.{Span}
@@ -357,8 +356,7 @@ module _ (default : Template) (grows : Bool) (begin : ℕ) where
       = subst (EachFollows inode) whole fol in
       let here : EachFollows inode (e ∷ reverse done)
       = follows_drop inode (reverse left) (e ∷ reverse done) all in
-      let size_on = length_push done e in
-      (
+      let size_on = length_push done e in (
         record {
           follows = here.0;
           before = here.1;

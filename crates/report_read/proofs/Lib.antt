@@ -15,3 +15,4 @@ pub mod RulesBack
 pub mod TextsBack
 pub mod ReportBack
 mod Examples
+mod ReadableExamples

@@ -1,12 +1,11 @@
 -- The words of an outcome that a legal journal has are read back.
-use Rattle.std.proofs.Common.{◌≡◌, ℕ, ◌+◌, ◌<◌, ◌^◌, ◌==◌, Bool, true, false, not, ◌&&◌, ◌||◌, List, [], ◌∷◌, ◌++◌, cond, codes, length, nat_lt, Option, Some, None, nat_le, refl, sym, ap, ◌∙◌, subst, append_assoc, arith, if◌then◌else◌, inl, inr}
+use Rattle.std.proofs.Common.{◌≡◌, ℕ, ◌+◌, ◌==◌, Bool, true, false, not, ◌&&◌, ◌||◌, List, [], ◌∷◌, ◌++◌, cond, codes, length, nat_lt, Option, Some, None, nat_le, refl, sym, ap, ◌∙◌, subst, append_assoc, if◌then◌else◌, inl, inr}
 use Rattle.std.specs.Prelude.{is_none, is_some, option_map}
 use Rattle.std.specs.List.{list_any}
 use Rattle.std.specs.Str.{bytes_eq}
 use Rattle.std.proofs.lemmas.Bool.{cases_Bool, false≢true}
 use Rattle.std.proofs.lemmas.Slice.Eq.{bytes_eq-Decides}
-use Rattle.report_text.specs.Numerals.{numeral}
-use Rattle.report_text.specs.Words.{Line, admitted_words, flag_words, grant_words, placed_words, told_words, verdict_words}
+use Rattle.report_text.specs.Words.{admitted_words, flag_words, grant_words, placed_words, told_words, verdict_words}
 use Rattle.report_text.specs.model.events.Files.{creates, execs, is_exec, is_writer, is_writing, readers, writers}
 use Rattle.report_text.specs.model.events.Grants as model
 use Rattle.report_text.specs.model.events.Marks.{is_label_due, must_measure}

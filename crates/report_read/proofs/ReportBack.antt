@@ -5,14 +5,14 @@ use Rattle.std.specs.List.{AllByRecursion, join_with_byte, list_all}
 use Rattle.report_text.specs.Report.{all_inode_lines, all_task_lines, appended_lines, entry_words, head_lines, pcr_lines, report_lines, report_of}
 use Rattle.report_text.specs.Words.{Line}
 use Rattle.report_text.specs.model.EndedValue.{EndedValue as Ended}
-use Rattle.report_text.specs.model.events.forms.Lines.{◌>>=◌, lines}
+use Rattle.report_text.specs.model.events.forms.Lines.{◌>>=◌}
 use Rattle.report_text.specs.model.events.forms.Words.{text_of}
 use Rattle.report_text.proofs.Whole.{report_kept}
 use Rattle.report_read.specs.declared.draft.Stage.{Stage}
 use Rattle.report_read.specs.declared.draft.Stage.TheVariants as stage
 use Rattle.report_read.specs.Draft as draft
 use Rattle.report_read.specs.Draft.{Draft, report_closed, start}
-use Rattle.report_read.specs.Read.{read_from, reports_of}
+use Rattle.report_read.specs.Read.{reports_of}
 use Rattle.report_read.specs.ReadBack.{IsReadOf, IsReadable, IsShownInode, ReportIsRead, text_at}
 use Rattle.report_read.specs.Report.{ReportValue}
 use Rattle.report_read.proofs.Fold.{end_of, fold, fold-append, spans}

@@ -168,8 +168,7 @@ module _ (base : ℕ) where
       → AllByRecursion IsShownRule rs → AllGood rule_block IsNextRule done rs
   rules_good [] done few h = tt
   rules_good (r ∷ rs) done few h =
-      let more = length_push done r in
-      (
+      let more = length_push done r in (
         (omega (arith, few), h.0),
         rules_good rs (done ++ r ∷ []) (omega (arith, few, more)) h.1,
       )

@@ -1,5 +1,5 @@
 -- The tasks of a report are read, and its end.
-use Rattle.std.proofs.Common.{◌≡◌, ℕ, ◌+◌, ◌<◌, ◌^◌, ◌==◌, Bool, true, false, List, [], ◌∷◌, ◌++◌, codes, length, take, Option, Some, None, if◌then◌else◌, refl, sym, ap, ◌∙◌, subst, append_assoc, arith}
+use Rattle.std.proofs.Common.{◌≡◌, ℕ, ◌+◌, ◌<◌, ◌^◌, Bool, true, false, List, [], ◌∷◌, ◌++◌, codes, length, take, Option, Some, if◌then◌else◌, refl, sym, ap, ◌∙◌, subst, append_assoc, arith}
 use Rattle.std.specs.List.{AllByRecursion}
 use Rattle.std.proofs.lemmas.Bool.{eq-eqb}
 use Rattle.std.proofs.lemmas.List.{append-nil}
@@ -55,7 +55,8 @@ unfolding with_words
 replies_lead d done begin ws n = rw n refl
 
 pub from_registers : (d : Draft) (last : Option ℕ)
-    → LeadsTo (record d { stage = stage.Registers last }) (record d { stage = stage.Registers last })
+    → LeadsTo (record d { stage = stage.Registers last })
+    (record d { stage = stage.Registers last })
 from_registers d last = record {
   leads = λ begin ws n p a i. registers_lead d last begin ws p a i;
 }
@@ -147,8 +148,7 @@ replies_good : (rs done : List model.Reply) → length done + length rs < 2 ^ 32
     → AllByRecursion IsShownReply rs → AllGood reply_block IsGoodReply done rs
 replies_good [] done h s = tt
 replies_good (r ∷ rs) done h s =
-    let size = length_push done r in
-    (
+    let size = length_push done r in (
       (omega (arith, h), s.0),
       replies_good rs (done ++ r ∷ []) (omega (arith, h, size)) s.1,
     )

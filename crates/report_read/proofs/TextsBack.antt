@@ -1,9 +1,9 @@
 -- The ranges that are read of lines have the texts of those lines.
-use Rattle.std.proofs.Common.{◌≡◌, ℕ, ◌+◌, Bool, List, [], ◌∷◌, ◌++◌, length, map, take, drop, refl, sym, ap, ◌∙◌, subst, append_assoc, arith, length-append}
+use Rattle.std.proofs.Common.{◌≡◌, ℕ, ◌+◌, Bool, List, [], ◌∷◌, ◌++◌, length, map, take, drop, refl, sym, ap, ◌∙◌, append_assoc, arith, length-append}
 use Rattle.std.proofs.Math.Seq.{drop-append_seam, take-append_seam}
 use Rattle.std.proofs.lemmas.List.{append-nil}
 use Rattle.std.specs.List.{join_with_byte}
-use Rattle.report_text.specs.Report.{all_task_lines, entry_words, reply_lines, reply_words, task_lines}
+use Rattle.report_text.specs.Report.{all_task_lines, entry_words, reply_lines, task_lines}
 use Rattle.report_text.specs.Texts.{line_text}
 use Rattle.report_text.specs.Words.{Line}
 use Rattle.report_text.specs.model.EndedValue.{EndedTaskValue as EndedTask}
@@ -165,7 +165,8 @@ tasks_here (t ∷ ts) n front back =
     let one : texts_of whole (task_value n t (length front)) ≡ words_of t
     = ap (λ (x : List ℕ). texts_of x (task_value n t (length front))) parts
     ∙ task_here t n front (others ++ back) in
-    let more : map (texts_of whole) (task_values (end_of (length front) (task_lines n t)) (n + 1) ts)
+    let more : map (texts_of whole)
+    (task_values (end_of (length front) (task_lines n t)) (n + 1) ts)
     ≡ map words_of ts
     = ap (λ (k : ℕ). map (texts_of whole) (task_values k (n + 1) ts))
     (end_here (task_lines n t) front)
