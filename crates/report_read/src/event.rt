@@ -1,0 +1,107 @@
+// Events as a reader of a report keeps them.
+
+use report_text::model::meta::Who;
+
+/// A line of the text, without its newline: the index of its first byte, and its length.
+#[derive(Clone, Copy, Debug, PartialEq, Eq)]
+pub struct Span {
+    pub at: u32,
+    pub len: u32,
+}
+
+/// How a count opens its file.
+#[derive(Clone, Copy, Debug, PartialEq, Eq)]
+pub enum Kind {
+    /// `r`, a reader.
+    Read,
+    /// `w`, a writer.
+    Write,
+    /// `rw`, a writer, which may read too.
+    ReadWrite,
+    /// `x`, a reader and an execution.
+    Exec,
+}
+
+/// The deed of an event line. A `file` is the place of the count that opened the file. The words
+/// that aren't kept are in the line.
+#[derive(Clone, Copy, Debug, PartialEq, Eq)]
+pub enum Deed {
+    Birth,
+    Count { kind: Kind, create: bool },
+    Check(u32),
+    Take(u32),
+    Chunk(u32),
+    Finish(u32),
+    Read { file: u32, from: u32, len: u32 },
+    Write { file: u32, from: u32, len: u32 },
+    Trunc { file: u32, len: u32 },
+    SetAttr,
+    RemoveAttr,
+    SetMeta,
+    Close(u32),
+    CloseTake(u32),
+    CloseChunk(u32),
+    CloseFinish(u32),
+}
+
+/// The place of the entry that a grant names.
+#[derive(Clone, Copy, Debug, PartialEq, Eq)]
+pub enum Placed {
+    Added(u32),
+    Already(u32),
+}
+
+/// The verdict of a grant. The cause of a denial is in the line.
+#[derive(Clone, Copy, Debug, PartialEq, Eq)]
+pub enum Verdict {
+    Pass,
+    Deny,
+}
+
+/// A grant.
+#[derive(Clone, Copy, Debug, PartialEq, Eq)]
+pub struct Grant {
+    pub placed: Option<Placed>,
+    pub verdict: Option<Verdict>,
+    pub admitted: bool,
+    pub labelled: bool,
+}
+
+/// The outcome of an event line. The status of an attribute's change is in the line.
+#[derive(Clone, Copy, Debug, PartialEq, Eq)]
+pub enum Outcome {
+    /// Of a birth, whose line has no outcome.
+    Born,
+    Held,
+    NotFound,
+    TextBusy,
+    Quiet,
+    OpenWriters(u32),
+    ToMToU(u32),
+    Begun,
+    Granted(Grant),
+    More,
+    Last,
+    /// The number of bytes that were read.
+    Bytes(u32),
+    Done,
+    TooBig,
+    EvmName,
+    NotAdmin,
+    TooLong,
+    Invalid,
+    NoData,
+    Status,
+    Dropped,
+    LabelledDropped,
+}
+
+/// An event, with its line.
+#[derive(Clone, Copy, Debug, PartialEq, Eq)]
+pub struct Event {
+    pub line: Span,
+    /// All zeros for a birth.
+    pub who: Who,
+    pub deed: Deed,
+    pub outcome: Outcome,
+}

@@ -1,0 +1,4 @@
+pub mod Safe
+pub mod PiecesSafe
+pub mod Joined
+pub mod Marks

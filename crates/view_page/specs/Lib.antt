@@ -1,0 +1,4 @@
+pub mod Escape
+pub mod Pieces
+pub mod Drawing
+pub use Rattle.view_layout.specs as layout
