@@ -8,14 +8,31 @@
 //! marked, and [`rows`] the rows of bars; windows, columns, bars and sentences have no code yet.
 #![tactic(auto)]
 
+mod bars;
+mod column;
+mod drawing;
+mod events;
+mod flags;
 mod frame;
+mod items;
 mod kinds;
+mod lanes;
 pub mod law;
 mod notes;
+mod scenery;
+mod strips;
 mod walk;
+mod window;
 
-pub use frame::{Extent, rows};
+pub use bars::{Bar, shown_bars};
+pub use column::{Column, columns};
+pub use drawing::{Sketch, draft, end_of, highest, push_items};
+pub use flags::Flag;
+pub use frame::{Extent, column_of, rows};
+pub use items::{Area, Guide, Item, Look, Strip};
 pub use kinds::{Collection, Freshness, Mark, Note};
+pub use lanes::{Lane, Seat};
 pub use notes::{mark_of, push_notes};
 pub use report_read as reading;
 pub use walk::{State, states};
+pub use window::{Window, is_marked, width, windows};
