@@ -1,4 +1,5 @@
--- A sketch of the code as one of the definitions.
+-- A sketch of the code, and its parts, as one of the definitions.
+use Rattle.view_layout.specs.declared.drawing.Parts.{Parts}
 use Rattle.view_layout.specs.declared.drawing.Sketch.{Sketch as Fields}
 use Rattle.view_layout.specs.Drawing.{Sketch}
 
@@ -10,4 +11,14 @@ sketch_in s = record {
   seats = s.seats.items;
   bottom = s.bottom;
   events = s.events;
+}
+
+abbrev pub parts_in : Parts → Sketch
+parts_in p = record {
+  columns = p.columns.now;
+  flags = p.flags.now;
+  lanes = p.lanes.now;
+  seats = p.seats.now;
+  bottom = p.bottom;
+  events = p.events;
 }

@@ -63,7 +63,7 @@ fn no_drops(alloc: Global, events: usize) -> Result<Vec<Option<u32>>, OutOfMemor
 
 // Goes on from the end to this place.
 fn step(
-    drops: &mut Vec<Option<u32>>,
+    drops: &mut [Option<u32>],
     bars: &mut Vec<Bar>,
     windows: &[Window],
     journal: &[Event],
@@ -71,17 +71,17 @@ fn step(
 ) -> Result<(), OutOfMemory>
     requires few { length journal.now < 2 ^ 32 }
     requires within { place < length journal.now }
-    requires walked { spec.IsWalked windows.now journal.now (place + 1) drops.old.items
+    requires walked { spec.IsWalked windows.now journal.now (place + 1) drops.old
         bars.old.items }
     requires room { length bars.old.items ≤ 240 }
     ensures walked { OnOk result
-        (spec.IsWalked windows.now journal.now place drops.new.items bars.new.items) }
+        (spec.IsWalked windows.now journal.now place drops.new bars.new.items) }
     ensures few { OnOk result (length bars.new.items ≤ 240) }
 {
     let event = journal[place];
     let last = (journal.len() - 1) as u32;
     push_bar(bars, windows, place as u32, event, drops[place], last)?;
-    set_drop(drops, dropped(event.deed, event.outcome), place as u32);
+    set_drop(drops, event, place as u32);
     Ok(())
 }
 
@@ -115,10 +115,12 @@ fn push_bar(
     Ok(())
 }
 
-fn set_drop(drops: &mut Vec<Option<u32>>, file: Option<u32>, place: u32)
-    ensures { drops.new.items ≡ spec.with_drop drops.old.items file place }
+// The file that the event drops was dropped here.
+fn set_drop(drops: &mut [Option<u32>], event: Event, place: u32)
+    ensures { drops.new
+        ≡ spec.with_drop drops.old (dropped event.deed event.outcome) place }
 {
-    if let Some(file) = file {
+    if let Some(file) = dropped(event.deed, event.outcome) {
         let at = file as usize;
         if at < drops.len() {
             drops[at] = Some(place);

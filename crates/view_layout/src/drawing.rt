@@ -3,7 +3,7 @@
 ghost use Rattle.std.specs.Prelude.{◌≡◌, ◌++◌, ◌+◌, ◌≤◌, ◌<◌, ◌^◌, length, IfOk, OnOk};
 ghost use Rattle.std.specs.List.{flat_map, list_any};
 ghost use Rattle.view_layout.specs.Drawing as spec;
-ghost use Rattle.view_layout.specs.SketchView.{sketch_in};
+ghost use Rattle.view_layout.specs.SketchView.{parts_in, sketch_in};
 
 use crate::bars::shown_bars;
 use crate::column::{Column, columns};
@@ -29,7 +29,7 @@ pub struct Sketch {
     pub seats: Vec<Seat>,
     /// Where the axis begins, below the top of the strips.
     pub bottom: u32,
-    pub events: usize,
+    pub events: u64,
 }
 
 /// The parts of a journal's drawing; `states` is what the strips show after each event.
@@ -57,71 +57,86 @@ pub fn draft(
         lanes,
         seats,
         bottom,
-        events: journal.len(),
+        events: journal.len() as u64,
     })
 }
 
+impl Sketch {
+    /// The parts that are drawn.
+    pub fn parts(&self) -> Parts<'_>
+        ensures { parts_in result ≡ sketch_in self.now }
+    {
+        Parts {
+            columns: &self.columns,
+            flags: &self.flags,
+            lanes: &self.lanes,
+            seats: &self.seats,
+            bottom: self.bottom,
+            events: self.events,
+        }
+    }
+}
+
+/// The parts of a drawing.
+#[derive(Clone, Copy)]
+pub struct Parts<'a> {
+    pub columns: &'a [Column],
+    pub flags: &'a [Flag],
+    pub lanes: &'a [Lane],
+    pub seats: &'a [Seat],
+    pub bottom: u32,
+    pub events: u64,
+}
+
 /// Appends the drawing, in the order of painting. `differs` are the places whose columns are marked
-/// as different, and `parts` is the place before which two journals part.
+/// as different, and `parting` is the place before which two journals part.
 pub fn push_items(
     items: &mut Vec<Item>,
-    sketch: &Sketch,
+    parts: Parts<'_>,
     differs: &[u32],
-    parts: Option<u32>,
+    parting: Option<u32>,
 ) -> Result<(), OutOfMemory>
     ensures { OnOk result (items.new.items
-        ≡ items.old.items ++ spec.items_of (sketch_in sketch.now) differs.now parts) }
+        ≡ items.old.items ++ spec.items_of (parts_in parts) differs.now parting) }
 {
-    push_back(items, sketch, differs, parts)?;
-    push_middle(items, sketch)?;
-    push_front(items, sketch)
+    push_back(items, parts, differs, parting)?;
+    push_middle(items, parts)?;
+    push_front(items, parts)
 }
 
 fn push_back(
     items: &mut Vec<Item>,
-    sketch: &Sketch,
+    parts: Parts<'_>,
     differs: &[u32],
-    parts: Option<u32>,
+    parting: Option<u32>,
 ) -> Result<(), OutOfMemory>
     ensures { OnOk result (items.new.items
-        ≡ items.old.items ++ spec.back_items (sketch_in sketch.now) differs.now parts) }
+        ≡ items.old.items ++ spec.back_items (parts_in parts) differs.now parting) }
 {
-    push_lane_items(items, end_of(&sketch.columns), &sketch.lanes)?;
-    push_differing(items, differs, sketch.bottom, &sketch.columns)?;
-    push_parting(items, parts, sketch.bottom, &sketch.columns)
+    push_lane_items(items, parts.columns, parts.lanes)?;
+    push_differing(items, differs, parts.bottom, parts.columns)?;
+    push_parting(items, parting, parts.bottom, parts.columns)
 }
 
-fn push_middle(items: &mut Vec<Item>, sketch: &Sketch) -> Result<(), OutOfMemory>
-    ensures { OnOk result (items.new.items
-        ≡ items.old.items ++ spec.middle_items (sketch_in sketch.now)) }
+fn push_middle(items: &mut Vec<Item>, parts: Parts<'_>) -> Result<(), OutOfMemory>
+    ensures { OnOk result
+        (items.new.items ≡ items.old.items ++ spec.middle_items (parts_in parts)) }
 {
-    push_strips(items, &sketch.columns)?;
-    push_writes(items, sketch.bottom, &sketch.columns)?;
-    push_guides(items, sketch.bottom, &sketch.flags)?;
-    push_bars(items, &sketch.columns, &sketch.seats)?;
-    push_hashing(items, &sketch.seats, &sketch.columns)
+    push_strips(items, parts.columns)?;
+    push_writes(items, parts.bottom, parts.columns)?;
+    push_guides(items, parts.bottom, parts.flags)?;
+    push_bars(items, parts.columns, parts.seats)?;
+    push_hashing(items, parts.seats, parts.columns)
 }
 
-fn push_front(items: &mut Vec<Item>, sketch: &Sketch) -> Result<(), OutOfMemory>
-    ensures { OnOk result (items.new.items
-        ≡ items.old.items ++ spec.front_items (sketch_in sketch.now)) }
+fn push_front(items: &mut Vec<Item>, parts: Parts<'_>) -> Result<(), OutOfMemory>
+    ensures { OnOk result
+        (items.new.items ≡ items.old.items ++ spec.front_items (parts_in parts)) }
 {
-    push_marks(items, &sketch.lanes, &sketch.seats, &sketch.columns)?;
-    push_axes(items, sketch.bottom, &sketch.columns)?;
-    push_flag_items(items, &sketch.flags)?;
-    push_gaps(items, sketch.bottom, sketch.events as u64, &sketch.columns)
-}
-
-/// The right edge of the last column.
-pub fn end_of(columns: &[Column]) -> u64
-    ensures is { result ≡ spec.end_of columns.now }
-    ensures small { result < 2 ^ 33 }
-{
-    let mut x: u64 = 96;
-    for column in columns {
-        x = u64::from(column.x) + 30;
-    }
-    x
+    push_marks(items, parts.lanes, parts.seats, parts.columns)?;
+    push_axes(items, parts.bottom, parts.columns)?;
+    push_flag_items(items, parts.flags)?;
+    push_gaps(items, parts.bottom, parts.events, parts.columns)
 }
 
 /// The height of the flags above the strips.

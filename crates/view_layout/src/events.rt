@@ -9,7 +9,7 @@ use crate::flags::{Flag, flag_width};
 use crate::items::{Area, Item, Look};
 use crate::lanes::{Lane, Seat, row_top, seat_of};
 use crate::notes::mark_of;
-use crate::strips::middle;
+use crate::strips::{middle, right_edge};
 use std::alloc::AllocError as OutOfMemory;
 
 /// Appends the collections that go on after these events.
@@ -134,7 +134,7 @@ pub fn push_gaps(
     for column in columns {
         push_gap(items, bottom, next, x, u64::from(column.place))?;
         next = u64::from(column.place) + 1;
-        x = u64::from(column.x) + 30;
+        x = right_edge(*column);
     }
     push_gap(items, bottom, next, x, events)
 }

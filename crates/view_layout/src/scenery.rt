@@ -9,19 +9,35 @@ use crate::column::Column;
 use crate::flags::{Flag, guide_of};
 use crate::items::{Area, Guide, Item, Look};
 use crate::lanes::{Lane, Seat};
-use crate::strips::middle;
+use crate::strips::{middle, right_edge};
 use report_read::{Deed, Outcome};
 use std::alloc::AllocError as OutOfMemory;
 
 /// Appends the lanes and their names.
-pub fn push_lane_items(items: &mut Vec<Item>, end: u64, lanes: &[Lane]) -> Result<(), OutOfMemory>
-    ensures { OnOk result
-        (items.new.items ≡ items.old.items ++ flat_map (spec.lane_items end) lanes.now) }
+pub fn push_lane_items(
+    items: &mut Vec<Item>,
+    columns: &[Column],
+    lanes: &[Lane],
+) -> Result<(), OutOfMemory>
+    ensures { OnOk result (items.new.items
+        ≡ items.old.items ++ flat_map (spec.lane_items (spec.end_of columns.now)) lanes.now) }
 {
     for lane in lanes {
-        push_lane(items, end, *lane)?;
+        push_lane(items, end_of(columns), *lane)?;
     }
     Ok(())
+}
+
+/// The right edge of the last column.
+pub fn end_of(columns: &[Column]) -> u64
+    ensures is { result ≡ spec.end_of columns.now }
+    ensures small { result < 2 ^ 33 }
+{
+    let mut x: u64 = 96;
+    for column in columns {
+        x = right_edge(*column);
+    }
+    x
 }
 
 fn push_lane(items: &mut Vec<Item>, end: u64, lane: Lane) -> Result<(), OutOfMemory>

@@ -1,6 +1,6 @@
 // The strips of a drawing: the counts, and what is known of the content.
 
-ghost use Rattle.std.specs.Prelude.{◌≡◌, ◌++◌, ◌<◌, ◌^◌, OnOk};
+ghost use Rattle.std.specs.Prelude.{◌≡◌, ◌+◌, ◌++◌, ◌<◌, ◌^◌, OnOk};
 ghost use Rattle.view_layout.specs.Drawing as spec;
 ghost use Rattle.view_layout.specs.Frame.{middle};
 
@@ -75,6 +75,14 @@ pub fn middle(column: Column) -> u64
     ensures small { result < 2 ^ 33 }
 {
     u64::from(column.x) + 15
+}
+
+/// The right edge of a column.
+pub fn right_edge(column: Column) -> u64
+    ensures is { result ≡ column.x + 30 }
+    ensures small { result < 2 ^ 33 }
+{
+    u64::from(column.x) + 30
 }
 
 fn shown_in(strip: Strip, state: State) -> u64

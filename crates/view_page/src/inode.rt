@@ -1,7 +1,7 @@
 // The drawing of an inode.
 
 ghost use Rattle.std.specs.Prelude.{◌≡◌, ◌++◌, ◌<◌, ◌^◌, [], length, IfOk, OnOk};
-ghost use Rattle.view_layout.specs.SketchView.{sketch_in};
+ghost use Rattle.view_layout.specs.SketchView.{parts_in};
 ghost use Rattle.view_page.specs.Drawing as spec;
 ghost use Rattle.view_page.specs.Pieces.{page_of};
 
@@ -11,7 +11,7 @@ use crate::pieces::{Piece, push_pieces};
 use std::alloc::{AllocError as OutOfMemory, Global};
 use view_layout::reading::Event;
 use view_layout::{
-    Item, Sketch, State, Window, draft, end_of, highest, push_items, states, windows,
+    Item, Parts, State, Window, draft, end_of, highest, push_items, states, windows,
 };
 
 /// Which drawing: its report, its inode, and the place before which two journals part.
@@ -45,7 +45,7 @@ pub fn push_inode(
 {
     let sketch = draft(alloc, windows, journal, states)?;
     let mut pieces = Vec::new(alloc);
-    push_sketch(alloc, &mut pieces, view, &[], &sketch, differs)?;
+    push_parts(alloc, &mut pieces, view, &[], sketch.parts(), differs)?;
     push_pieces(out, text, &pieces)
 }
 
@@ -69,7 +69,14 @@ pub fn svg(
         Piece::Own(Own::Rules),
         Piece::Own(Own::StyleEnd),
     ];
-    push_sketch(alloc, &mut pieces, view_alone(inode), &rules, &sketch, &[])?;
+    push_parts(
+        alloc,
+        &mut pieces,
+        view_alone(inode),
+        &rules,
+        sketch.parts(),
+        &[],
+    )?;
     let mut out = Vec::new(alloc);
     push_pieces(&mut out, text, &pieces)?;
     Ok(out)
@@ -103,20 +110,20 @@ fn windows_or(
     }
 }
 
-fn push_sketch(
+fn push_parts(
     alloc: Global,
     out: &mut Vec<Piece>,
     view: View,
     extra: &[Piece],
-    sketch: &Sketch,
+    parts: Parts<'_>,
     differs: &[u32],
 ) -> Result<(), OutOfMemory>
     ensures { OnOk result (out.new.items ≡ out.old.items
-        ++ spec.sketch_pieces view extra.now (sketch_in sketch.now) differs.now) }
+        ++ spec.sketch_pieces view extra.now (parts_in parts) differs.now) }
 {
     let mut items = Vec::new(alloc);
-    push_items(&mut items, sketch, differs, view.parts)?;
-    push_head(out, sketch)?;
+    push_items(&mut items, parts, differs, view.parts)?;
+    push_head(out, parts)?;
     add(out, extra)?;
     add_items(out, view, &items)?;
     add(out, &[Piece::Own(Own::SvgEnd)])
@@ -131,12 +138,12 @@ fn add_items(out: &mut Vec<Piece>, view: View, items: &[Item]) -> Result<(), Out
     Ok(())
 }
 
-fn push_head(out: &mut Vec<Piece>, sketch: &Sketch) -> Result<(), OutOfMemory>
-    ensures { OnOk result (out.new.items ≡ out.old.items ++ spec.head (sketch_in sketch.now)) }
+fn push_head(out: &mut Vec<Piece>, parts: Parts<'_>) -> Result<(), OutOfMemory>
+    ensures { OnOk result (out.new.items ≡ out.old.items ++ spec.head (parts_in parts)) }
 {
-    let width = end_of(&sketch.columns) + 190;
-    let up = u64::from(highest(&sketch.flags)) + 4;
-    let height = up + u64::from(sketch.bottom) + 100;
+    let width = end_of(parts.columns) + 190;
+    let up = u64::from(highest(parts.flags)) + 4;
+    let height = up + u64::from(parts.bottom) + 100;
     let pieces = [
         Piece::Own(Own::Svg),
         Piece::Number(width),

@@ -9,5 +9,5 @@ invariant-loop-column l =
     l.items.items
     ++ segments_from l.strip l.from l.to l.shown (drop l.column-index l.rest)
     ≡ l.fn.items.items
-    ++ segments_from l.strip (middle l.first.x) (middle_end l.first.x)
-    (shown_in l.strip l.first.state) l.rest
+    ++ segments_from l.strip (middle l.fn.first.x) (middle_end l.fn.first.x)
+    (shown_in l.strip l.fn.first.state) l.rest

@@ -1,6 +1,6 @@
 use Rattle.std.proofs.Common.{◌≡◌, ◌<◌, drop}
 use Rattle.view_layout.specs.Drawing.{end_from, end_of}
-use Rattle.view_layout.proofs.drawing.end_of.Given as goal
+use Rattle.view_layout.proofs.scenery.end_of.Given as goal
 
 -- the right edge so far
 abbrev pub invariant-loop-column : goal.invariant-loop-column
