@@ -97,7 +97,7 @@ pub fn push_items(
     parting: Option<u32>,
 ) -> Result<(), OutOfMemory>
     ensures { OnOk result (items.new.items
-        ≡ items.old.items ++ spec.items_of (parts_in parts) differs.now parting) }
+        ≡ items.old.items ++ spec.items_of (parts_in parts.entry) differs.now parting) }
 {
     push_back(items, parts, differs, parting)?;
     push_middle(items, parts)?;
@@ -111,7 +111,7 @@ fn push_back(
     parting: Option<u32>,
 ) -> Result<(), OutOfMemory>
     ensures { OnOk result (items.new.items
-        ≡ items.old.items ++ spec.back_items (parts_in parts) differs.now parting) }
+        ≡ items.old.items ++ spec.back_items (parts_in parts.entry) differs.now parting) }
 {
     push_lane_items(items, parts.columns, parts.lanes)?;
     push_differing(items, differs, parts.bottom, parts.columns)?;
@@ -120,7 +120,7 @@ fn push_back(
 
 fn push_middle(items: &mut Vec<Item>, parts: Parts<'_>) -> Result<(), OutOfMemory>
     ensures { OnOk result
-        (items.new.items ≡ items.old.items ++ spec.middle_items (parts_in parts)) }
+        (items.new.items ≡ items.old.items ++ spec.middle_items (parts_in parts.entry)) }
 {
     push_strips(items, parts.columns)?;
     push_writes(items, parts.bottom, parts.columns)?;
@@ -131,7 +131,7 @@ fn push_middle(items: &mut Vec<Item>, parts: Parts<'_>) -> Result<(), OutOfMemor
 
 fn push_front(items: &mut Vec<Item>, parts: Parts<'_>) -> Result<(), OutOfMemory>
     ensures { OnOk result
-        (items.new.items ≡ items.old.items ++ spec.front_items (parts_in parts)) }
+        (items.new.items ≡ items.old.items ++ spec.front_items (parts_in parts.entry)) }
 {
     push_marks(items, parts.lanes, parts.seats, parts.columns)?;
     push_axes(items, parts.bottom, parts.columns)?;

@@ -119,7 +119,7 @@ fn push_parts(
     differs: &[u32],
 ) -> Result<(), OutOfMemory>
     ensures { OnOk result (out.new.items ≡ out.old.items
-        ++ spec.sketch_pieces view extra.now (parts_in parts) differs.now) }
+        ++ spec.sketch_pieces view extra.now (parts_in parts.entry) differs.now) }
 {
     let mut items = Vec::new(alloc);
     push_items(&mut items, parts, differs, view.parts)?;
@@ -139,7 +139,7 @@ fn add_items(out: &mut Vec<Piece>, view: View, items: &[Item]) -> Result<(), Out
 }
 
 fn push_head(out: &mut Vec<Piece>, parts: Parts<'_>) -> Result<(), OutOfMemory>
-    ensures { OnOk result (out.new.items ≡ out.old.items ++ spec.head (parts_in parts)) }
+    ensures { OnOk result (out.new.items ≡ out.old.items ++ spec.head (parts_in parts.entry)) }
 {
     let width = end_of(parts.columns) + 190;
     let up = u64::from(highest(parts.flags)) + 4;

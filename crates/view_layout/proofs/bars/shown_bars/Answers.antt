@@ -6,7 +6,6 @@ pub loop-place-init : goal.loop-place-init
 loop-place-init c = record {
   within = omega arith;
   few = omega arith;
-  walked = walked_start c.args.windows.now c.args.journal.now c.in_ok-no_drops.field-0.items
-      c.new-bars.result.items c.in_ok-no_drops.ensures.each c.in_ok-no_drops.ensures.none
-      c.new-bars.ensures.items;
+  walked = walked_start c.args.windows.now c.args.journal.now _ _ c.in_ok-drops.ensures.each
+      c.in_ok-drops.ensures.none c.new-bars.ensures.items;
 }

@@ -10,7 +10,7 @@ pub returns : goal.returns
 returns c =
     let same : parts_in c.parts.result
     ≡ sketch_of c.args.windows.now c.args.journal.now c.args.states.now
-    = c.parts.ensures ∙ c.in_ok-draft.ensures in
+    = c.parts.ensures ∙ c.in_ok-sketch.ensures in
     let pieces : List Piece
     = sketch_pieces c.args.view [] (parts_in c.parts.result) c.args.differs.now in
     c.in_ok-push_pieces.ensures
