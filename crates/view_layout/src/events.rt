@@ -100,7 +100,8 @@ fn axis_at(bottom: u32, column: Column) -> Item
 
 /// Appends flags.
 pub fn push_flag_items(items: &mut Vec<Item>, flags: &[Flag]) -> Result<(), OutOfMemory>
-    ensures { OnOk result (items.new.items ≡ items.old.items ++ flat_map spec.flag_items flags.now) }
+    ensures { OnOk result
+        (items.new.items ≡ items.old.items ++ flat_map spec.flag_items flags.now) }
 {
     for flag in flags {
         items.push(flag_at(*flag))?;

@@ -183,8 +183,8 @@ kind_word kind.Exec = codes " x"
 abbrev pub rules_1 : List ℕ
 rules_1 =
     codes "svg.tl{font:10px sans-serif;display:block}text.lane{text-anchor:end;font-size:12px}"
-    ++ (codes ".strip,.gap,.place{fill:#5f6b7a}.strip{text-anchor:end}.gap,.place{text-anchor:middle}"
-    ++ (codes ".in,.place{font-size:9px}.deed{text-anchor:end;fill:#3c4652}"
+    ++ (codes ".strip,.gap,.place{fill:#5f6b7a}.gap,.place{text-anchor:middle}"
+    ++ (codes ".strip{text-anchor:end}.in,.place{font-size:9px}.deed{text-anchor:end;fill:#3c4652}"
     ++ (codes ".deed.red{fill:#b00020;font-weight:bold}.l0{fill:#f5f7f9}.l1{fill:#eef1f4}"
     ++ codes ".differs{fill:#ffe58a}.n-r{fill:#9cc9e6}.n-w{fill:#f2b48a}.n-x{fill:#cdb9dc}")))
 

@@ -25,11 +25,11 @@ fn push_rules_1(out: &mut Vec<u8>) -> Result<(), OutOfMemory>
     )?;
     push_all(
         out,
-        b".strip,.gap,.place{fill:#5f6b7a}.strip{text-anchor:end}.gap,.place{text-anchor:middle}",
+        b".strip,.gap,.place{fill:#5f6b7a}.gap,.place{text-anchor:middle}",
     )?;
     push_all(
         out,
-        b".in,.place{font-size:9px}.deed{text-anchor:end;fill:#3c4652}",
+        b".strip{text-anchor:end}.in,.place{font-size:9px}.deed{text-anchor:end;fill:#3c4652}",
     )?;
     push_all(
         out,

@@ -7,4 +7,5 @@ use Rattle.view_layout.proofs.scenery.push_differing.Given as goal
 abbrev pub invariant-loop-column : goal.invariant-loop-column
 invariant-loop-column l =
     l.items.items
-    ≡ l.fn.items.items ++ flat_map (differing_items l.differs l.bottom) (take l.column-index l.columns)
+    ≡ l.fn.items.items
+    ++ flat_map (differing_items l.differs l.bottom) (take l.column-index l.columns)
