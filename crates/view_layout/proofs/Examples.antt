@@ -18,7 +18,8 @@ use Rattle.view_layout.specs.Files.{counts_at}
 use Rattle.view_layout.specs.Frame.{column_of, rows}
 use Rattle.view_layout.specs.Notes.{mark_of, notes}
 use Rattle.view_layout.specs.State.{freshness_at}
-use Rattle.view_layout.specs.Windows.{Window, windows, windows_around}
+use Rattle.view_layout.specs.declared.window.Window.{Window}
+use Rattle.view_layout.specs.Windows.{windows, windows_around}
 
 abbrev step : ℕ → ℕ → ℕ → Who
 step t c s = record { task = t; call = c; step = s }

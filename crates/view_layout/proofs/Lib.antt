@@ -12,3 +12,5 @@ pub mod RowsLemmas
 pub mod ColumnsLemmas
 pub mod WindowsLemmas
 mod Examples
+pub mod BarsSteps
+pub mod LanesLemmas

@@ -1,7 +1,8 @@
 -- Columns and rows, in whole pixels.
 use Rattle.std.specs.Prelude.{ℕ, suc, ◌+◌, ◌-◌, ◌*◌, ◌≤◌, ◌==◌, nat_le, nat_lt, List, [], ◌∷◌, Option, Some, None, if◌then◌else◌}
 use Rattle.view_layout.specs.declared.frame.Extent.{Extent}
-use Rattle.view_layout.specs.Windows.{Window, width}
+use Rattle.view_layout.specs.declared.window.Window.{Window}
+use Rattle.view_layout.specs.Windows.{width}
 
 -- ---- columns
 
@@ -15,17 +16,29 @@ gap = 90
 abbrev pub margin : ℕ
 margin = 96
 
+-- no drawing is wider
+abbrev pub widest : ℕ
+widest = 4294967296
+
 -- where a window begins, after windows that end at x and before the place `next`
 abbrev pub window_start : ℕ → ℕ → Window → ℕ
 window_start next x w = if w.first == next then x else x + gap
+
+abbrev pub window_end : ℕ → ℕ → Window → ℕ
+window_end next x w = window_start next x w + column * width w
+
+abbrev pub within : ℕ → Option ℕ
+within x = if nat_lt x widest then Some x else None
 
 abbrev pub column_from : ℕ → ℕ → List Window → ℕ → Option ℕ
 column_from next x [] place = None
 column_from next x (w ∷ ws) place =
     if nat_lt place w.first then None
     else if nat_le place w.last
-    then Some (window_start next x w + column * (place - w.first))
-    else column_from (w.last + 1) (window_start next x w + column * width w) ws place
+    then within (window_start next x w + column * (place - w.first))
+    else if nat_lt (window_end next x w) widest
+    then column_from (w.last + 1) (window_end next x w) ws place
+    else None
 
 -- the left edge of the column of a place, if the place is drawn
 abbrev pub column_of : List Window → ℕ → Option ℕ

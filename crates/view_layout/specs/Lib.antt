@@ -6,6 +6,11 @@ pub mod Notes
 pub mod Windows
 pub mod Frame
 pub mod Bars
+pub mod Columns
+pub mod Lanes
+pub mod Flags
+pub mod Drawing
+pub mod SketchView
 pub mod Sentences
 pub mod Promises
 pub use Rattle.report_read.specs as reading

@@ -21,12 +21,13 @@ use Rattle.report_read.specs.reports.model.events.policy.declared.rule.Func.{Fun
 use Rattle.report_read.specs.reports.model.events.templates.declared.entry.Entry.{Entry}
 use Rattle.view_layout.specs.declared.frame.Extent.{Extent}
 use Rattle.view_layout.specs.declared.kinds.Freshness.TheVariants as fresh
-use Rattle.view_layout.specs.Bars.{bars, lane}
+use Rattle.view_layout.specs.Bars.{bars, lane, shown_bars}
 use Rattle.view_layout.specs.Files.{execs, readers, writers}
 use Rattle.view_layout.specs.Frame.{AreInOrder, column, column_of, rows}
 use Rattle.view_layout.specs.Sentences.{adds, holders, names}
 use Rattle.view_layout.specs.State.{freshness}
-use Rattle.view_layout.specs.Windows.{AreWindows, Window, windows}
+use Rattle.view_layout.specs.declared.window.Window.{Window}
+use Rattle.view_layout.specs.Windows.{AreWindows, windows}
 
 abbrev pub event : Who → Deed → Told → Event
 event who d t = record { who = who; deed = d; told = t }
@@ -99,9 +100,12 @@ ColumnsDiffer =
     (ws : List Window) (p q x y : ℕ) → AreWindows 0 ws → p < q → column_of ws p ≡ Some x
     → column_of ws q ≡ Some y → x + column ≤ y
 
--- the bars of a lane stand in the order of their counts
-abbrev pub LanesAreInOrder : Type 0
-LanesAreInOrder = (task : ℕ) (journal : List Read) → AreInOrder (lane task (bars journal))
+-- the bars of a lane stand in the order of their counts, all of a journal's and those that are
+-- drawn
+pub record LanesAreInOrder : Type 0 where
+  pub all : (task : ℕ) (journal : List Read) → AreInOrder (lane task (bars journal))
+  pub drawn : (task : ℕ) (ws : List Window) (journal : List Read)
+      → AreInOrder (lane task (shown_bars ws journal))
 
 -- two bars of one row don't overlap
 abbrev pub BarsDontOverlap : Type 0

@@ -1,13 +1,10 @@
 -- The places of a journal that are drawn: all of a short journal, else windows around what is of
 -- interest.
-use Rattle.std.specs.Prelude.{ℕ, zero, suc, ◌+◌, ◌-◌, ◌≤◌, nat_le, min, max, List, [], ◌∷◌, ◌++◌, length, if◌then◌else◌}
+use Rattle.std.specs.Prelude.{ℕ, ◌+◌, ◌-◌, ◌≤◌, ◌==◌, nat_le, min, max, Bool, true, false, List, [], ◌∷◌, ◌++◌, length, if◌then◌else◌}
 use Rattle.report_read.specs.declared.event.Event.{Event}
+use Rattle.view_layout.specs.declared.window.Growth.{Growth}
+use Rattle.view_layout.specs.declared.window.Window.{Window}
 use Rattle.view_layout.specs.Notes.{is_marked}
-
--- the places from the first to the last
-pub record Window : Type 0 where
-  pub first : ℕ
-  pub last : ℕ
 
 -- a journal of at most as many events is drawn whole, and no more events of a longer one are drawn
 abbrev pub most_drawn : ℕ
@@ -18,8 +15,7 @@ abbrev pub near : ℕ
 near = 8
 
 abbrev pub whole : ℕ → List Window
-whole zero = []
-whole (suc n) = record { first = 0; last = n } ∷ []
+whole n = if n == 0 then [] else record { first = 0; last = n - 1 } ∷ []
 
 -- the window around a place of a journal whose last place is this
 abbrev pub around : ℕ → ℕ → Window
@@ -35,18 +31,43 @@ width w = (w.last + 1) - w.first
 abbrev pub joined : Window → Window → Window
 joined w v = record { first = w.first; last = max w.last v.last }
 
--- the windows from w on, with windows around these places, until more than so many places would be
--- drawn; `used` are drawn up to the end of w. Windows that meet, or have at most two places between
--- them, are one.
-abbrev pub grown : ℕ → ℕ → ℕ → Window → List ℕ → List Window
-grown most last used w [] = w ∷ []
-grown most last used w (p ∷ ps) =
-    if nat_le (around last p).first (w.last + 2)
-    then (if nat_le (used + ((joined w (around last p)).last - w.last)) most
-    then grown most last (used + ((joined w (around last p)).last - w.last))
-    (joined w (around last p)) ps else w ∷ [])
-    else (if nat_le (used + width (around last p)) most
-    then w ∷ grown most last (used + width (around last p)) (around last p) ps else w ∷ [])
+-- no window is joined any more
+abbrev pub closed : Growth → Growth
+closed g = record { window = g.window; used = g.used; more = false; parted = false }
+
+-- the last window becomes w if at most so many places are used then
+abbrev pub grown_to : ℕ → Growth → Window → ℕ → Bool → Growth
+grown_to most g w used parted =
+    if nat_le used most then record { window = w; used = used; more = true; parted = parted }
+    else closed g
+
+-- windows that meet, or have at most two places between them, are one
+abbrev pub grow_open : ℕ → Growth → Window → Growth
+grow_open most g v =
+    if nat_le v.first (g.window.last + 2)
+    then grown_to most g (joined g.window v)
+    (g.used + ((joined g.window v).last - g.window.last)) false
+    else grown_to most g v (g.used + width v) true
+
+abbrev pub grow : ℕ → Growth → Window → Growth
+grow most g v = if g.more then grow_open most g v else closed g
+
+-- the windows from the last one on, with windows around these places
+abbrev pub grown : ℕ → ℕ → Growth → List ℕ → List Window
+grown most last g [] = g.window ∷ []
+grown most last g (p ∷ ps) =
+    if (grow most g (around last p)).parted
+    then g.window ∷ grown most last (grow most g (around last p)) ps
+    else grown most last (grow most g (around last p)) ps
+
+-- the window around the birth
+abbrev pub first_window : ℕ → Growth
+first_window last = record {
+  window = around last 0;
+  used = width (around last 0);
+  more = true;
+  parted = false;
+}
 
 abbrev pub marked_from : ℕ → List Event → List ℕ
 marked_from place [] = []
@@ -59,8 +80,7 @@ of_interest journal = marked_from 0 journal ++ (length journal - 1) ∷ []
 
 -- the windows around the birth and the places of interest of a journal whose last place is this
 abbrev pub windows_around : ℕ → ℕ → List ℕ → List Window
-windows_around most last places =
-    grown most last (width (around last 0)) (around last 0) places
+windows_around most last places = grown most last (first_window last) places
 
 -- the windows of a journal, in order
 abbrev pub windows : ℕ → List Event → List Window

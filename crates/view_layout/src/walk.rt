@@ -95,7 +95,7 @@ impl Walk {
 }
 
 // The file that the event drops.
-fn dropped(deed: Deed, outcome: Outcome) -> Option<u32>
+pub(crate) fn dropped(deed: Deed, outcome: Outcome) -> Option<u32>
     ensures { result ≡ files.dropped deed outcome }
 {
     match (deed, outcome) {
@@ -108,7 +108,7 @@ fn dropped(deed: Deed, outcome: Outcome) -> Option<u32>
 }
 
 // The kind of the file that the event opens.
-fn opened(deed: Deed, outcome: Outcome) -> Option<Kind>
+pub(crate) fn opened(deed: Deed, outcome: Outcome) -> Option<Kind>
     ensures { result ≡ files.opened deed outcome }
 {
     match (deed, outcome) {

@@ -1,4 +1,3 @@
 pub mod Safe
 pub mod PiecesSafe
-pub mod Joined
 pub mod Marks

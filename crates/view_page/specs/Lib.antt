@@ -1,4 +1,5 @@
 pub mod Escape
+pub mod Own
 pub mod Pieces
 pub mod Drawing
 pub use Rattle.view_layout.specs as layout

@@ -19,7 +19,7 @@ pub fn only_own_pieces_make_tags()
         → IsTrue (list_all is_safe (bytes_of text piece)) }
 {}
 
-/// Each event has one mark in the drawing of its journal, and there are no other marks.
+/// Each event that is drawn has one mark, in the order of the columns, and there are no others.
 pub fn each_event_has_one_mark()
     ensures { EachEventHasOneMark }
 {}

@@ -5,17 +5,20 @@
 //! escaped.
 #![tactic(auto)]
 
-mod drawing;
 mod escape;
-mod event;
+mod inode;
+mod items;
 pub mod law;
+mod own;
 mod pieces;
-mod strip;
+mod rules;
+mod segment;
+mod shape;
 
-pub use drawing::{push_columns, svg};
-pub use escape::push_text;
-pub use event::{EventAt, push_event};
-pub use pieces::{Own, Piece, push_pieces};
+pub use escape::{push_all, push_text};
+pub use inode::{View, push_inode, svg};
+pub use own::{Own, Side};
+pub use pieces::{Piece, push_pieces};
+pub use rules::push_rules;
 pub use std::alloc::AllocError as OutOfMemory;
-pub use strip::push_strips;
 pub use view_layout as layout;

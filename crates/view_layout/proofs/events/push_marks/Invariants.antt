@@ -1,0 +1,10 @@
+use Rattle.std.proofs.Common.{◌≡◌, ◌++◌, take}
+use Rattle.std.specs.List.{flat_map}
+use Rattle.view_layout.specs.Drawing.{mark_items}
+use Rattle.view_layout.proofs.events.push_marks.Given as goal
+
+-- the marks of the columns so far
+abbrev pub invariant-loop-column : goal.invariant-loop-column
+invariant-loop-column l =
+    l.items.items
+    ≡ l.fn.items.items ++ flat_map (mark_items l.lanes l.seats) (take l.column-index l.columns)

@@ -1,0 +1,93 @@
+// The columns of the drawn places of a journal.
+
+ghost use Rattle.std.specs.Prelude.{◌≡◌, ◌++◌, ◌≤◌, ◌<◌, ◌^◌, length, IfOk, OnOk};
+ghost use Rattle.view_layout.specs.Columns as spec;
+ghost use Rattle.view_layout.specs.Frame.{column_of};
+
+use crate::frame::column_of;
+use crate::walk::State;
+use crate::window::Window;
+use report_read::{Deed, Event, Outcome};
+use std::alloc::{AllocError as OutOfMemory, Global};
+
+/// The column of an event.
+#[derive(Clone, Copy, Debug, PartialEq, Eq)]
+pub struct Column {
+    pub place: u32,
+    /// The left edge.
+    pub x: u32,
+    pub event: Event,
+    /// What the strips show after the event.
+    pub state: State,
+    /// The file whose content is collected after the event.
+    pub hashing: Option<u32>,
+}
+
+// A drawing has at most as many columns.
+const MOST_COLUMNS: usize = 1000;
+
+/// The columns of a journal's places that the windows show; `states` is what the strips show after
+/// each event.
+pub fn columns(
+    alloc: Global,
+    windows: &[Window],
+    journal: &[Event],
+    states: &[State],
+) -> Result<Vec<Column>, OutOfMemory>
+    requires each { length states.now ≡ length journal.now }
+    requires few { length journal.now < 2 ^ 32 }
+    ensures is { IfOk result
+        (λ v. v.items ≡ spec.columns_of windows.now journal.now states.now) }
+    ensures few { IfOk result (λ v. length v.items ≤ 1000) }
+{
+    let mut columns = Vec::new(alloc);
+    let mut hashing = None;
+    for (place, event) in journal.iter().enumerate() {
+        hashing = hashing_after(event.deed, event.outcome, hashing);
+        push_column(
+            &mut columns,
+            windows,
+            place as u32,
+            *event,
+            states[place],
+            hashing,
+        )?;
+    }
+    columns.truncate(MOST_COLUMNS);
+    Ok(columns)
+}
+
+fn push_column(
+    columns: &mut Vec<Column>,
+    windows: &[Window],
+    place: u32,
+    event: Event,
+    state: State,
+    hashing: Option<u32>,
+) -> Result<(), OutOfMemory>
+    ensures { OnOk result (columns.new.items ≡ columns.old.items
+        ++ spec.column_at (column_of windows.now place) place event state hashing) }
+{
+    if let Some(x) = column_of(windows, place) {
+        columns.push(Column {
+            place,
+            x,
+            event,
+            state,
+            hashing,
+        })?;
+    }
+    Ok(())
+}
+
+fn hashing_after(deed: Deed, outcome: Outcome, hashing: Option<u32>) -> Option<u32>
+    ensures { result ≡ spec.hashing_after deed outcome hashing }
+{
+    match (deed, outcome) {
+        (Deed::Take(file), Outcome::Begun) => Some(file),
+        (Deed::CloseTake(file), Outcome::Begun) => Some(file),
+        (Deed::Finish(_), _) => None,
+        (Deed::CloseFinish(_), _) => None,
+        _ => hashing,
+    }
+}
