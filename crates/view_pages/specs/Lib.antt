@@ -1,0 +1,6 @@
+pub mod Html
+pub mod Look
+pub mod Parts
+pub mod Frame
+pub mod Words
+pub mod Section

@@ -1,0 +1,17 @@
+//! HTML pages of reports.
+//!
+//! A page is a list of parts ([`Part`]): the program's own bytes, numbers, texts of the report, and
+//! the pieces of drawings. `specs/` says which parts a page has.
+#![tactic(auto)]
+
+mod frame;
+mod html;
+mod look;
+mod part;
+mod section;
+mod words;
+
+pub use html::{Frame, Section, Table};
+pub use part::Part;
+pub use std::alloc::AllocError as OutOfMemory;
+pub use view_page as drawn;
