@@ -1,6 +1,7 @@
 -- Pages of lists of parts that are joined.
-use Rattle.std.proofs.Common.{◌≡◌, ℕ, List, ◌++◌, append_assoc, sym, ◌∙◌, ap}
-use Rattle.std.proofs.lemmas.Grind.{flat_map-append}
+use Rattle.std.proofs.Common.{arith, ◌≡◌, ℕ, ◌+◌, ◌<◌, List, [], ◌++◌, append_assoc, append-nil, length, take, get_or, sym, ◌∙◌, ap}
+use Rattle.std.specs.List.{flat_map}
+use Rattle.std.proofs.lemmas.Grind.{common_steps, flat_map-append}
 use Rattle.view_pages.specs.Parts.{Pushed, bytes_of, page_of}
 use Rattle.view_pages.specs.declared.part.Part.{Part}
 
@@ -26,3 +27,20 @@ pub as_parts : {text out a : List ℕ} {p q : List Part} → Pushed text out a p
     → Pushed text out a q
 as_parts {text} {out} {a} {p} {q} pushed same =
     record { is = pushed.is ∙ ap (λ (x : List Part). out ++ page_of text x) same }
+
+-- ---- loops
+
+-- no parts were appended yet
+pub no_parts : (text out : List ℕ) → Pushed text out out []
+unfolding page_of
+no_parts text out = record { is = sym (append-nil out) }
+
+flat_map_more : {A : Type 0} (f : A → List Part) (xs : List A) (i : ℕ) (d : A) → i < length xs
+    → flat_map f (take (i + 1) xs) ≡ flat_map f (take i xs) ++ f (get_or xs i d)
+flat_map_more f xs i d within = grind (arith, common_steps)
+
+-- the parts of one more item were appended
+pub one_more : {A : Type 0} {text out a b : List ℕ} (f : A → List Part) (xs : List A) (i : ℕ) (d : A)
+    → i < length xs → Pushed text out a (flat_map f (take i xs))
+    → Pushed text a b (f (get_or xs i d)) → Pushed text out b (flat_map f (take (i + 1) xs))
+one_more f xs i d within so_far next = as_parts (so_far ▹ next) (sym (flat_map_more f xs i d within))

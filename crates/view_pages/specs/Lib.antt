@@ -4,3 +4,4 @@ pub mod Parts
 pub mod Frame
 pub mod Words
 pub mod Section
+pub mod Slots

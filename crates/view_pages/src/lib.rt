@@ -9,6 +9,7 @@ mod html;
 mod look;
 mod part;
 mod section;
+mod slots;
 mod words;
 
 pub use html::{Frame, Section, Table};
