@@ -44,3 +44,19 @@ pub one_more : {A : Type 0} {text out a b : List ℕ} (f : A → List Part) (xs 
     → i < length xs → Pushed text out a (flat_map f (take i xs))
     → Pushed text a b (f (get_or xs i d)) → Pushed text out b (flat_map f (take (i + 1) xs))
 one_more f xs i d within so_far next = as_parts (so_far ▹ next) (sym (flat_map_more f xs i d within))
+
+-- after the parts of an item were appended, those of the others are left
+pub going : (text total now next : List ℕ) (here rest : List Part) → Pushed text now next here
+    → now ++ page_of text (here ++ rest) ≡ total → next ++ page_of text rest ≡ total
+going text total now next here rest pushed so_far =
+    ap (λ (x : List ℕ). x ++ page_of text rest) pushed.is
+    ∙ (append_assoc now (page_of text here) (page_of text rest)
+    ∙ (ap (λ (x : List ℕ). now ++ x) (sym (page_of-append text here rest)) ∙ so_far))
+
+-- and when none is left, all were appended
+pub gone : (text out now : List ℕ) (all rest : List Part) → rest ≡ []
+    → now ++ page_of text rest ≡ out ++ page_of text all → Pushed text out now all
+unfolding page_of
+gone text out now all rest none so_far =
+    record { is = sym (append-nil now)
+      ∙ (ap (λ (ps : List Part). now ++ page_of text ps) (sym none) ∙ so_far) }

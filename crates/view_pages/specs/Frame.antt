@@ -1,5 +1,7 @@
 -- The frame of a page: its head, and the tiles with the numbers of a report.
 use Rattle.std.specs.Prelude.{ℕ, suc, ◌+◌, nat_lt, not, Bool, true, false, List, [], ◌∷◌, ◌++◌, length, min, if◌then◌else◌}
+use Rattle.view_page.specs.declared.own.Own.TheVariants as own
+use Rattle.view_page.specs.declared.pieces.Piece.TheVariants as piece
 use Rattle.view_page.specs.layout.reading.Report.{InodeValue, ReportValue, TaskValue}
 use Rattle.view_page.specs.layout.reading.declared.report.Reply.{Reply}
 use Rattle.view_page.specs.layout.reading.declared.report.RunEnd.{RunEnd}
@@ -12,7 +14,8 @@ use Rattle.view_pages.specs.declared.part.Part.TheVariants as part
 -- what stands before the body's own parts, under this heading
 abbrev pub head : Frame → List Part
 head heading =
-    part.Frame frame.Begin ∷ part.Style ∷ part.Rules ∷ part.Frame frame.Body
+    part.Frame frame.Begin ∷ part.Style ∷ part.Drawn (piece.Own own.Rules)
+    ∷ part.Frame frame.Body
     ∷ part.Frame heading ∷ part.Legend ∷ []
 
 -- ---- tiles

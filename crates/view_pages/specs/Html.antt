@@ -90,9 +90,9 @@ table_bytes table.Shown = codes "\">"
 table_bytes table.Violation = codes "</td><td class=\"h\"><span class=\"bad\">violation</span>"
 table_bytes table.RowEnd = codes "</td></tr>" ++ 10 ∷ []
 table_bytes table.ListEnd = codes "</table></div>" ++ 10 ∷ []
-table_bytes table.Hidden = codes "<p class=\"soft\">"
+table_bytes table.Hidden = codes "<p class=\"soft\">Of "
 table_bytes table.HiddenEnd =
-    codes " entries not shown: the first 50 and the first 150 violations are.</p>" ++ 10 ∷ []
+    codes " entries the first 50 and the first 150 violations are shown.</p>" ++ 10 ∷ []
 table_bytes table.Boot = codes "boot"
 table_bytes table.ByNone = codes "-"
 table_bytes table.Link = codes "<a href=\"#"
@@ -101,8 +101,7 @@ table_bytes table.E = codes "-e"
 table_bytes table.LinkIs = codes "\">inode "
 table_bytes table.LinkPlace = codes " event "
 table_bytes table.LinkEnd = codes "</a>"
-table_bytes table.PlainInode = codes "inode "
-table_bytes table.TaskIs = codes " <span class=\"soft\">task "
+table_bytes table.Said = codes " <span class=\"soft\">"
 table_bytes table.SpanEnd = codes "</span>"
 table_bytes table.Registers =
     codes "<table><tr><th>bank</th><th>PCR</th><th>value</th></tr>" ++ 10 ∷ []
@@ -128,6 +127,3 @@ table_bytes table.Wait = codes "<span class=\"chip wait\">"
 table_bytes table.WaitEnd = codes " stands here at the end</span>"
 table_bytes table.MoreChips = codes "<span class=\"chip\">and "
 table_bytes table.MoreEnd = codes " more</span>"
-table_bytes table.Space = codes " "
-table_bytes table.A = codes "a-"
-table_bytes table.B = codes "b-"

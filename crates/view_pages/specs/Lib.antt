@@ -5,3 +5,5 @@ pub mod Frame
 pub mod Words
 pub mod Section
 pub mod Slots
+pub mod Entries
+pub mod Page

@@ -1,21 +1,15 @@
 -- The section of an inode in a page.
-use Rattle.std.specs.Prelude.{ℕ, ◌+◌, ◌-◌, ◌≤◌, nat_le, nat_lt, Bool, true, false, List, [], ◌∷◌, ◌++◌, length, map, min, take, if◌then◌else◌}
-use Rattle.std.specs.List.{flat_map, list_any}
+use Rattle.std.specs.Prelude.{ℕ, ◌+◌, ◌-◌, nat_lt, List, [], ◌∷◌, ◌++◌, length, map, take, Option, Some, None, if◌then◌else◌}
+use Rattle.std.specs.List.{flat_map}
 use Rattle.view_page.specs.Drawing.{inode_pieces}
-use Rattle.view_page.specs.declared.drawing.Side.{Side}
-use Rattle.view_page.specs.declared.drawing.View.{View}
+use Rattle.view_page.specs.declared.own.Side.{Side}
+use Rattle.view_page.specs.declared.inode.View.{View}
 use Rattle.view_page.specs.layout.Walk.{states_of}
 use Rattle.view_page.specs.layout.Windows.{windows}
-use Rattle.view_page.specs.layout.declared.places.Window.{Window}
+use Rattle.view_page.specs.layout.declared.window.Window.{Window}
 use Rattle.view_page.specs.layout.reading.Report.{InodeValue}
-use Rattle.view_page.specs.layout.reading.declared.event.Deed.{Deed}
-use Rattle.view_page.specs.layout.reading.declared.event.Deed.TheVariants as deed
 use Rattle.view_page.specs.layout.reading.declared.event.Event.{Event}
-use Rattle.view_page.specs.layout.reading.declared.event.Outcome.{Outcome}
-use Rattle.view_page.specs.layout.reading.declared.event.Outcome.TheVariants as outcome
 use Rattle.view_page.specs.layout.reading.declared.event.Span.{Span}
-use Rattle.view_page.specs.layout.reading.declared.event.Verdict.{Verdict}
-use Rattle.view_page.specs.layout.reading.declared.event.Verdict.TheVariants as verdict
 use Rattle.view_page.specs.layout.reading.declared.report.InodeHead.{InodeHead}
 use Rattle.view_pages.specs.Words.{after_word, cut, first_word}
 use Rattle.view_pages.specs.declared.html.Section.TheVariants as section
@@ -78,10 +72,6 @@ at_end text head lines =
 
 -- ---- the drawing
 
--- a drawing has fewer windows
-abbrev pub most_windows : ℕ
-most_windows = 1048576
-
 -- the drawing of these windows of a journal
 abbrev pub drawing : View → List Event → List Window → List ℕ → List Part
 drawing view journal ws differs =
@@ -93,10 +83,43 @@ abbrev pub not_drawn : ℕ → List Part
 not_drawn number =
     part.Section section.NotDrawn ∷ part.Number number ∷ part.Section section.NotDrawnEnd ∷ []
 
--- a journal is drawn if it has fewer events than 2^32, in fewer windows than a drawing can have
-abbrev pub is_drawn : List Event → List Window → Bool
-is_drawn journal ws = if nat_lt (length journal) 4294967296 then nat_lt (length ws) most_windows else false
+-- ---- the section
 
-abbrev pub drawn : View → List Event → List Window → List ℕ → List Part
-drawn view journal ws differs =
-    if is_drawn journal ws then drawing view journal ws differs else not_drawn view.inode
+-- a journal of at most as many events is drawn whole, and of a longer one windows
+abbrev pub most_drawn : ℕ
+most_drawn = 120
+
+abbrev pub windows_or : Option Window → List Event → List Window
+windows_or None journal = windows most_drawn journal
+windows_or (Some w) journal = w ∷ []
+
+-- the drawing of a range of a journal, or of its windows
+abbrev pub drawing_of : View → Option Window → List Event → List Part
+drawing_of view range journal = drawing view journal (windows_or range journal) []
+
+-- a journal of fewer than 2^32 events is drawn
+abbrev pub drawn : View → Option Window → List Event → List Part
+drawn view range journal =
+    if nat_lt (length journal) 4294967296 then drawing_of view range journal
+    else not_drawn view.inode
+
+abbrev pub view_of : Side → ℕ → View
+view_of s number = record { side = s; inode = number; parts = None }
+
+abbrev pub section_by : List ℕ → View → Option Window → InodeHead → List Span → List Event
+    → List Part
+section_by text view range head lines journal =
+    heading text view.inode (length journal) head
+    ++ part.Section section.Close ∷ []
+    ++ drawn view range journal
+    ++ at_end text head lines
+
+-- the section of an inode
+abbrev pub section_of : List ℕ → View → Option Window → InodeValue → List Part
+section_of text view range i = section_by text view range i.head i.attrs i.events
+
+-- the sections of these inodes, the first of which has this number
+abbrev pub sections_from : List ℕ → Side → ℕ → List InodeValue → List Part
+sections_from text s number [] = []
+sections_from text s number (i ∷ is) =
+    section_of text (view_of s number) None i ++ sections_from text s (number + 1) is

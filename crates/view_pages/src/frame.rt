@@ -7,6 +7,7 @@ ghost use Rattle.view_pages.specs.Parts.{Pushed};
 use crate::html::Frame;
 use crate::part::{Part, push_parts};
 use std::alloc::AllocError as OutOfMemory;
+use view_page::{Own, Piece};
 use view_page::layout::reading::{Inode, Reply, Report, RunEnd, Task};
 
 /// Appends what stands before the body's own parts, under this heading.
@@ -17,7 +18,7 @@ pub fn push_head(out: &mut Vec<u8>, text: &[u8], heading: Frame) -> Result<(), O
     let parts = [
         Part::Frame(Frame::Begin),
         Part::Style,
-        Part::Rules,
+        Part::Drawn(Piece::Own(Own::Rules)),
         Part::Frame(Frame::Body),
         Part::Frame(heading),
         Part::Legend,

@@ -167,8 +167,7 @@ pub enum Table {
     LinkIs,
     LinkPlace,
     LinkEnd,
-    PlainInode,
-    TaskIs,
+    Said,
     SpanEnd,
     Registers,
     BankRow,
@@ -189,9 +188,6 @@ pub enum Table {
     WaitEnd,
     MoreChips,
     MoreEnd,
-    Space,
-    A,
-    B,
 }
 
 // Its bytes.
@@ -215,10 +211,8 @@ pub fn table_bytes(table: Table) -> &'static [u8]
         Table::Violation => b"</td><td class=\"h\"><span class=\"bad\">violation</span>",
         Table::RowEnd => b"</td></tr>\n",
         Table::ListEnd => b"</table></div>\n",
-        Table::Hidden => b"<p class=\"soft\">",
-        Table::HiddenEnd => {
-            b" entries not shown: the first 50 and the first 150 violations are.</p>\n"
-        }
+        Table::Hidden => b"<p class=\"soft\">Of ",
+        Table::HiddenEnd => b" entries the first 50 and the first 150 violations are shown.</p>\n",
         Table::Boot => b"boot",
         Table::ByNone => b"-",
         Table::Link => b"<a href=\"#",
@@ -227,8 +221,7 @@ pub fn table_bytes(table: Table) -> &'static [u8]
         Table::LinkIs => b"\">inode ",
         Table::LinkPlace => b" event ",
         Table::LinkEnd => b"</a>",
-        Table::PlainInode => b"inode ",
-        Table::TaskIs => b" <span class=\"soft\">task ",
+        Table::Said => b" <span class=\"soft\">",
         Table::SpanEnd => b"</span>",
         Table::Registers => b"<table><tr><th>bank</th><th>PCR</th><th>value</th></tr>\n",
         Table::BankRow => b"<tr><td>",
@@ -249,8 +242,5 @@ pub fn table_bytes(table: Table) -> &'static [u8]
         Table::WaitEnd => b" stands here at the end</span>",
         Table::MoreChips => b"<span class=\"chip\">and ",
         Table::MoreEnd => b" more</span>",
-        Table::Space => b" ",
-        Table::A => b"a-",
-        Table::B => b"b-",
     }
 }

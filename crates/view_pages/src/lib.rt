@@ -4,15 +4,18 @@
 //! the pieces of drawings. `specs/` says which parts a page has.
 #![tactic(auto)]
 
+mod entries;
 mod frame;
 mod html;
 mod look;
+mod page;
 mod part;
 mod section;
 mod slots;
 mod words;
 
 pub use html::{Frame, Section, Table};
+pub use page::{push_inode_page, push_page};
 pub use part::Part;
 pub use std::alloc::AllocError as OutOfMemory;
 pub use view_page as drawn;

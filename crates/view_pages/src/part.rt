@@ -7,7 +7,7 @@ use crate::html::{Frame, Section, Table, frame_bytes, section_bytes, table_bytes
 use crate::look::{push_legend, push_style};
 use std::alloc::AllocError as OutOfMemory;
 use view_page::layout::reading::Span;
-use view_page::{Piece, push_all, push_pieces, push_rules};
+use view_page::{Piece, Side, push_all, push_pieces};
 
 /// A part of a page.
 #[derive(Clone, Copy, Debug, PartialEq, Eq)]
@@ -15,10 +15,10 @@ pub enum Part {
     Frame(Frame),
     Section(Section),
     Table(Table),
+    /// What the identifiers of a report begin with.
+    Side(Side),
     /// The rules of the page's classes, without those of drawings.
     Style,
-    /// The rules of the classes of drawings.
-    Rules,
     Legend,
     /// In decimal digits.
     Number(u64),
@@ -45,11 +45,21 @@ fn push_part(out: &mut Vec<u8>, text: &[u8], part: Part) -> Result<(), OutOfMemo
         Part::Frame(frame) => push_all(out, frame_bytes(frame)),
         Part::Section(section) => push_all(out, section_bytes(section)),
         Part::Table(table) => push_all(out, table_bytes(table)),
+        Part::Side(side) => push_all(out, side_bytes(side)),
         Part::Style => push_style(out),
-        Part::Rules => push_rules(out),
         Part::Legend => push_legend(out),
         Part::Number(number) => push_pieces(out, text, &[Piece::Number(number)]),
         Part::Text(span) => push_pieces(out, text, &[Piece::Text(span)]),
         Part::Drawn(piece) => push_pieces(out, text, &[piece]),
+    }
+}
+
+fn side_bytes(side: Side) -> &'static [u8]
+    ensures { result.now ≡ spec.side_bytes side }
+{
+    match side {
+        Side::Alone => b"",
+        Side::First => b"a-",
+        Side::Second => b"b-",
     }
 }

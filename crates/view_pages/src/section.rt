@@ -1,6 +1,6 @@
 // The section of an inode in a page.
 
-ghost use Rattle.std.specs.Prelude.{◌≡◌, ◌++◌, ◌<◌, length, OnOk};
+ghost use Rattle.std.specs.Prelude.{◌≡◌, ◌<◌, length, IfOk, OnOk};
 ghost use Rattle.view_pages.specs.Parts.{Pushed};
 ghost use Rattle.view_pages.specs.Section as spec;
 
@@ -8,15 +8,15 @@ use crate::html::Section;
 use crate::part::{Part, push_parts};
 use crate::words::{after_word, cut, first_word};
 use std::alloc::{AllocError as OutOfMemory, Global};
-use view_page::layout::reading::{Event, InodeHead, Span};
-use view_page::layout::{Window, states};
-use view_page::{View, push_inode};
+use view_page::layout::reading::{Event, Inode, InodeHead, Span};
+use view_page::layout::{Window, states, windows};
+use view_page::{Side, View, push_inode};
 
 // No more attributes of an inode are shown.
 const MOST_ATTRS: usize = 8;
 
-// A drawing has fewer windows.
-const MOST_WINDOWS: usize = 1_048_576;
+// A journal of at most as many events is drawn whole, and of a longer one windows.
+const MOST_DRAWN: u32 = 120;
 
 // A text that is shown up to its first `most` bytes, and more of it when one points at it.
 fn push_titled(out: &mut Vec<u8>, text: &[u8], most: u32, span: Span) -> Result<(), OutOfMemory>
@@ -152,8 +152,7 @@ fn push_drawing(
     windows: &[Window],
     differs: &[u32],
 ) -> Result<(), OutOfMemory>
-    requires few { length journal.now < 4294967296 }
-    requires narrow { length windows.now < 1048576 }
+    requires { length journal.now < 4294967296 }
     ensures { OnOk result (Pushed text.now out.old.items out.new.items
         (spec.drawing view journal.now windows.now differs.now)) }
 {
@@ -175,32 +174,120 @@ fn push_not_drawn(out: &mut Vec<u8>, text: &[u8], number: u64) -> Result<(), Out
     push_parts(out, text, &parts)
 }
 
-/// Appends the drawing of these windows of a journal.
-pub fn push_drawn(
+fn windows_or(
+    alloc: Global,
+    range: Option<Window>,
+    journal: &[Event],
+) -> Result<Vec<Window>, OutOfMemory>
+    requires { length journal.now < 4294967296 }
+    ensures { IfOk result (λ v. v.items ≡ spec.windows_or range journal.now) }
+{
+    match range {
+        None => windows(alloc, MOST_DRAWN, journal),
+        Some(window) => {
+            let mut windows = Vec::new(alloc);
+            windows.push(window)?;
+            Ok(windows)
+        }
+    }
+}
+
+// The drawing of a range of a journal, or of its windows.
+fn push_drawing_of(
     alloc: Global,
     out: &mut Vec<u8>,
     text: &[u8],
     view: View,
+    range: Option<Window>,
     journal: &[Event],
-    windows: &[Window],
-    differs: &[u32],
+) -> Result<(), OutOfMemory>
+    requires { length journal.now < 4294967296 }
+    ensures { OnOk result (Pushed text.now out.old.items out.new.items
+        (spec.drawing_of view range journal.now)) }
+{
+    let windows = windows_or(alloc, range, journal)?;
+    push_drawing(alloc, out, text, view, journal, &windows, &[])?;
+    Ok(())
+}
+
+fn push_drawn(
+    alloc: Global,
+    out: &mut Vec<u8>,
+    text: &[u8],
+    view: View,
+    range: Option<Window>,
+    journal: &[Event],
 ) -> Result<(), OutOfMemory>
     ensures { OnOk result (Pushed text.now out.old.items out.new.items
-        (spec.drawn view journal.now windows.now differs.now)) }
+        (spec.drawn view range journal.now)) }
 {
-    if is_drawn(journal, windows) {
-        push_drawing(alloc, out, text, view, journal, windows, differs)
+    if journal.len() < 4_294_967_296 {
+        push_drawing_of(alloc, out, text, view, range, journal)
     } else {
         push_not_drawn(out, text, view.inode)
     }
 }
 
-fn is_drawn(journal: &[Event], windows: &[Window]) -> bool
-    ensures { result ≡ spec.is_drawn journal.now windows.now }
+/// The view of an inode whose identifiers begin so.
+pub fn view_of(side: Side, number: u64) -> View
+    ensures { result ≡ spec.view_of side number }
 {
-    if journal.len() < 4_294_967_296 {
-        windows.len() < MOST_WINDOWS
-    } else {
-        false
+    View {
+        side,
+        inode: number,
+        parts: None,
     }
+}
+
+fn push_section_by(
+    alloc: Global,
+    out: &mut Vec<u8>,
+    text: &[u8],
+    view: View,
+    range: Option<Window>,
+    head: InodeHead,
+    attrs: &[Span],
+    journal: &[Event],
+) -> Result<(), OutOfMemory>
+    ensures { OnOk result (Pushed text.now out.old.items out.new.items
+        (spec.section_by text.now view range head attrs.now journal.now)) }
+{
+    push_heading(out, text, view.inode, journal.len() as u64, head)?;
+    push_parts(out, text, &[Part::Section(Section::Close)])?;
+    push_drawn(alloc, out, text, view, range, journal)?;
+    push_at_end(out, text, head, attrs)?;
+    Ok(())
+}
+
+/// Appends the section of an inode: its heading, the drawing of a range of its journal, or of its
+/// windows, and its state at the end.
+pub fn push_section(
+    alloc: Global,
+    out: &mut Vec<u8>,
+    text: &[u8],
+    view: View,
+    range: Option<Window>,
+    inode: &Inode,
+) -> Result<(), OutOfMemory>
+    ensures { OnOk result (Pushed text.now out.old.items out.new.items
+        (spec.section_of text.now view range inode.now)) }
+{
+    push_section_by(alloc, out, text, view, range, inode.head, &inode.attrs, &inode.events)
+}
+
+/// Appends the sections of the inodes of a report.
+pub fn push_sections(
+    alloc: Global,
+    out: &mut Vec<u8>,
+    text: &[u8],
+    side: Side,
+    inodes: &[Inode],
+) -> Result<(), OutOfMemory>
+    ensures { OnOk result (Pushed text.now out.old.items out.new.items
+        (spec.sections_from text.now side 0 inodes.now)) }
+{
+    for (number, inode) in inodes.iter().enumerate() {
+        push_section(alloc, out, text, view_of(side, number as u64), None, inode)?;
+    }
+    Ok(())
 }
