@@ -4,6 +4,7 @@ use Rattle.std.specs.List.{list_all}
 use Rattle.view_page.specs.Pieces.{text_at}
 use Rattle.view_page.specs.declared.own.Side.{Side}
 use Rattle.view_page.specs.layout.reading.declared.event.Span.{Span}
+use Rattle.view_pages.specs.Frame.{sum_up_to}
 use Rattle.view_pages.specs.Words.{after_word, cut, first_word}
 use Rattle.view_pages.specs.declared.html.Table.TheVariants as table
 use Rattle.view_pages.specs.declared.part.Part.{Part}
@@ -97,7 +98,7 @@ is_shown most place marks marked =
     if nat_lt place first_shown then true else (if marked then nat_lt marks most else false)
 
 abbrev pub counted : Bool → ℕ → ℕ
-counted marked marks = if marked then marks + 1 else marks
+counted marked marks = if marked then sum_up_to marks 1 else marks
 
 abbrev pub most_violations : ℕ
 most_violations = 150

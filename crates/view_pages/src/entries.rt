@@ -1,6 +1,6 @@
 // The list in a page.
 
-ghost use Rattle.std.specs.Prelude.{◌≡◌, ◌<◌, ◌^◌, slice_get, OnOk};
+ghost use Rattle.std.specs.Prelude.{◌≡◌, slice_get, OnOk};
 ghost use Rattle.view_pages.specs.Entries as spec;
 ghost use Rattle.view_pages.specs.Parts.{Pushed};
 
@@ -248,10 +248,13 @@ fn added_at(added: &[Option<At>], place: usize) -> Option<At>
 }
 
 fn counted(marked: bool, marks: u64) -> u64
-    requires { marks < 2 ^ 63 }
     ensures { result ≡ spec.counted marked marks }
 {
-    if marked { marks + 1 } else { marks }
+    if marked {
+        marks.saturating_add(1)
+    } else {
+        marks
+    }
 }
 
 // The row at a place, after so many violations, if it is shown.

@@ -20,17 +20,14 @@ loop-place-preserved c =
     = λ m. rows_from text c.args.side c.args.added.now m (i + 1) (drop (i + 1) c.args.lines.now) in
     let same : c.counted-marks.result ≡ counted (is_violation text line) marks
     = c.counted-marks.ensures ∙ ap (λ (b : Bool). counted b marks) c.is_violation.ensures in
-    record {
-      counted = ?;
-      left = ap (λ (m : ℕ). c.push_row_at.new.out.items ++ page_of text (rows m)) same
-          ∙ going text _ c.loop-place.out.items c.push_row_at.new.out.items
-          (row_at text c.args.side c.args.added.now marks i line)
-          (rows (counted (is_violation text line) marks)) c.in_ok-push_row_at.ensures
-          (ap (λ (ps : List Part). c.loop-place.out.items ++ page_of text ps)
-          (sym (at_drop_more (rows_from text c.args.side c.args.added.now marks i) c.args.lines.now
-          i none c.loop-place-test.true))
-          ∙ c.loop-place.invariant.left);
-    }
+    ap (λ (m : ℕ). c.push_row_at.new.out.items ++ page_of text (rows m)) same
+    ∙ going text _ c.loop-place.out.items c.push_row_at.new.out.items
+    (row_at text c.args.side c.args.added.now marks i line)
+    (rows (counted (is_violation text line) marks)) c.in_ok-push_row_at.ensures
+    (ap (λ (ps : List Part). c.loop-place.out.items ++ page_of text ps)
+    (sym (at_drop_more (rows_from text c.args.side c.args.added.now marks i) c.args.lines.now
+    i none c.loop-place-test.true))
+    ∙ c.loop-place.invariant)
 
 pub returns : goal.returns
 returns c =
@@ -38,4 +35,4 @@ returns c =
     (rows_from c.args.text.now c.args.side c.args.added.now 0 0 c.args.lines.now) _
     (at_drop_all (rows_from c.args.text.now c.args.side c.args.added.now c.loop-place.marks
     c.loop-place.place) c.args.lines.now c.loop-place.place (omega arith))
-    c.loop-place.invariant.left
+    c.loop-place.invariant

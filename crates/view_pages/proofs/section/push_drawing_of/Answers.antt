@@ -8,4 +8,4 @@ pub returns : goal.returns
 returns c =
     as_parts c.in_ok-push_drawing.ensures
     (ap (λ (ws : List Window). drawing c.args.view c.args.journal.now ws [])
-    (c.deref.ensures.value ∙ c.in_ok-windows_or.ensures))
+    (c.deref.ensures.value ∙ c.in_ok-windows.ensures))
