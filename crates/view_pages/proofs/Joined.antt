@@ -58,5 +58,7 @@ pub gone : (text out now : List ℕ) (all rest : List Part) → rest ≡ []
     → now ++ page_of text rest ≡ out ++ page_of text all → Pushed text out now all
 unfolding page_of
 gone text out now all rest none so_far =
-    record { is = sym (append-nil now)
-      ∙ (ap (λ (ps : List Part). now ++ page_of text ps) (sym none) ∙ so_far) }
+    record {
+      is = sym (append-nil now)
+          ∙ (ap (λ (ps : List Part). now ++ page_of text ps) (sym none) ∙ so_far);
+    }

@@ -57,4 +57,3 @@ abbrev pub after_inodes : Asked → List (Option At) → ℕ → List InodeValue
 after_inodes a table inode [] = table
 after_inodes a table inode (i ∷ is) =
     after_inodes a (after_events a table inode 0 i.events) (inode + 1) is
-

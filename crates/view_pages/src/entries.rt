@@ -121,12 +121,7 @@ fn push_by(
     }
 }
 
-fn push_added(
-    out: &mut Vec<u8>,
-    text: &[u8],
-    side: Side,
-    at: Option<At>,
-) -> Result<(), OutOfMemory>
+fn push_added(out: &mut Vec<u8>, text: &[u8], side: Side, at: Option<At>) -> Result<(), OutOfMemory>
     ensures { OnOk result
         (Pushed text.now out.old.items out.new.items (spec.by_added text.now side at)) }
 {

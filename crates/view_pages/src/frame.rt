@@ -7,8 +7,8 @@ ghost use Rattle.view_pages.specs.Parts.{Pushed};
 use crate::html::Frame;
 use crate::part::{Part, push_parts};
 use std::alloc::AllocError as OutOfMemory;
-use view_page::{Own, Piece};
 use view_page::layout::reading::{Inode, Reply, Report, RunEnd, Task};
+use view_page::{Own, Piece};
 
 /// Appends what stands before the body's own parts, under this heading.
 pub fn push_head(out: &mut Vec<u8>, text: &[u8], heading: Frame) -> Result<(), OutOfMemory>
@@ -57,7 +57,13 @@ fn push_counts(out: &mut Vec<u8>, text: &[u8], report: &Report) -> Result<(), Ou
     let violations = u64::from(report.violations);
     let refused = refused(&report.tasks);
     let events = events(&report.inodes);
-    push_tile(out, text, false, report.entries.len() as u64, Frame::Entries)?;
+    push_tile(
+        out,
+        text,
+        false,
+        report.entries.len() as u64,
+        Frame::Entries,
+    )?;
     push_tile(out, text, violations > 0, violations, Frame::Violations)?;
     push_tile(out, text, refused > 0, refused, Frame::Refused)?;
     push_tile(out, text, false, report.inodes.len() as u64, Frame::Inodes)?;
@@ -76,7 +82,11 @@ fn push_tile(
     ensures { OnOk result
         (Pushed text.now out.old.items out.new.items (spec.tile hot number name)) }
 {
-    push_parts(out, text, &[tile_by(hot), Part::Number(number), Part::Frame(name)])
+    push_parts(
+        out,
+        text,
+        &[tile_by(hot), Part::Number(number), Part::Frame(name)],
+    )
 }
 
 fn tile_by(hot: bool) -> Part

@@ -28,7 +28,14 @@ pub fn push_page(
     push_head(out, text, Frame::OneRun)?;
     push_tiles(out, text, report)?;
     push_sections(alloc, out, text, Side::Alone, &report.inodes)?;
-    push_list(alloc, out, text, Side::Alone, &report.inodes, &report.entries)?;
+    push_list(
+        alloc,
+        out,
+        text,
+        Side::Alone,
+        &report.inodes,
+        &report.entries,
+    )?;
     push_parts(out, text, &[Part::Frame(Frame::End)])?;
     Ok(())
 }

@@ -272,7 +272,16 @@ pub fn push_section(
     ensures { OnOk result (Pushed text.now out.old.items out.new.items
         (spec.section_of text.now view range inode.now)) }
 {
-    push_section_by(alloc, out, text, view, range, inode.head, &inode.attrs, &inode.events)
+    push_section_by(
+        alloc,
+        out,
+        text,
+        view,
+        range,
+        inode.head,
+        &inode.attrs,
+        &inode.events,
+    )
 }
 
 /// Appends the sections of the inodes of a report.
