@@ -35,15 +35,17 @@ pub no_parts : (text out : List ℕ) → Pushed text out out []
 unfolding page_of
 no_parts text out = record { is = sym (append-nil out) }
 
-flat_map_more : {A : Type 0} (f : A → List Part) (xs : List A) (i : ℕ) (d : A) → i < length xs
+flat_map_more : {A : Type 0} (f : A → List Part) (xs : List A) (i : ℕ) (d : A)
+    → i < length xs
     → flat_map f (take (i + 1) xs) ≡ flat_map f (take i xs) ++ f (get_or xs i d)
 flat_map_more f xs i d within = grind (arith, common_steps)
 
 -- the parts of one more item were appended
-pub one_more : {A : Type 0} {text out a b : List ℕ} (f : A → List Part) (xs : List A) (i : ℕ) (d : A)
-    → i < length xs → Pushed text out a (flat_map f (take i xs))
+pub one_more : {A : Type 0} {text out a b : List ℕ} (f : A → List Part) (xs : List A) (i : ℕ)
+    (d : A) → i < length xs → Pushed text out a (flat_map f (take i xs))
     → Pushed text a b (f (get_or xs i d)) → Pushed text out b (flat_map f (take (i + 1) xs))
-one_more f xs i d within so_far next = as_parts (so_far ▹ next) (sym (flat_map_more f xs i d within))
+one_more f xs i d within so_far next =
+    as_parts (so_far ▹ next) (sym (flat_map_more f xs i d within))
 
 -- after the parts of an item were appended, those of the others are left
 pub going : (text total now next : List ℕ) (here rest : List Part) → Pushed text now next here

@@ -11,7 +11,8 @@ use Rattle.view_pages.specs.declared.html.Table.TheVariants as table
 abbrev pub frame_bytes : Frame → List ℕ
 frame_bytes frame.Begin =
     codes "<!doctype html>" ++ 10 ∷ []
-    ++ codes "<html lang=\"en\"><head><meta charset=\"utf-8\"><title>imakern report</title><style>" ++ 10 ∷ []
+    ++ codes "<html lang=\"en\"><head><meta charset=\"utf-8\">" ++ 10 ∷ []
+    ++ codes "<title>imakern report</title><style>" ++ 10 ∷ []
 frame_bytes frame.Body =
     codes "</style></head>" ++ 10 ∷ []
     ++ codes "<body>" ++ 10 ∷ []

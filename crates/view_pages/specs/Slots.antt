@@ -1,5 +1,5 @@
--- Which event added an entry of the list, and which was the first of a call: tables over the entries
--- and over the calls of a task, filled by one walk over the journals.
+-- Which event added an entry of the list, and which was the first of a call: tables over the
+-- entries and over the calls of a task, filled by one walk over the journals.
 use Rattle.std.specs.Prelude.{ℕ, ◌+◌, ◌==◌, List, [], ◌∷◌, slice_get, slice_set, Option, Some, None, if◌then◌else◌}
 use Rattle.view_page.specs.layout.reading.Report.{InodeValue}
 use Rattle.view_page.specs.layout.reading.declared.event.Deed.{Deed}

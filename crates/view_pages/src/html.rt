@@ -39,7 +39,8 @@ pub fn frame_bytes(frame: Frame) -> &'static [u8]
     match frame {
         Frame::Begin => {
             b"<!doctype html>\n\
-              <html lang=\"en\"><head><meta charset=\"utf-8\"><title>imakern report</title><style>\n"
+              <html lang=\"en\"><head><meta charset=\"utf-8\">\n\
+              <title>imakern report</title><style>\n"
         }
         Frame::Body => b"</style></head>\n<body>\n",
         Frame::End => b"</body></html>\n",
