@@ -1,0 +1,11 @@
+use Rattle.std.proofs.Common.{◌≡◌, ◌++◌, drop}
+use Rattle.view_pages.specs.Entries.{rows_from}
+use Rattle.view_pages.specs.Parts.{page_of}
+use Rattle.view_pages.proofs.entries.push_rows.Given as goal
+
+-- the rows so far have been appended, and the others are left
+abbrev pub invariant-loop-place : goal.invariant-loop-place
+invariant-loop-place l =
+    l.out.items
+    ++ page_of l.text (rows_from l.text l.side l.added l.marks l.place (drop l.place l.lines))
+    ≡ l.fn.out.items ++ page_of l.text (rows_from l.text l.side l.added 0 0 l.lines)

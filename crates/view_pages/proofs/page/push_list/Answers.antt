@@ -1,0 +1,11 @@
+use Rattle.std.proofs.Common.{List, Option, ap, ◌∙◌}
+use Rattle.view_pages.specs.Entries.{entries}
+use Rattle.view_pages.specs.declared.slots.At.{At}
+use Rattle.view_pages.proofs.Joined.{as_parts}
+use Rattle.view_pages.proofs.page.push_list.Goals as goal
+
+pub returns : goal.returns
+returns c =
+    as_parts c.in_ok-push_entries.ensures
+    (ap (λ (t : List (Option At)). entries c.args.text.now c.args.side t c.args.lines.now)
+    (c.deref.ensures.value ∙ c.in_ok-added.ensures))

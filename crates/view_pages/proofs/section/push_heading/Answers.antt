@@ -1,0 +1,10 @@
+use Rattle.std.proofs.Common.{ap}
+use Rattle.view_pages.specs.Section.{titled}
+use Rattle.view_pages.proofs.Joined.{as_parts, ◌▹◌}
+use Rattle.view_pages.proofs.section.push_heading.Goals as goal
+
+pub returns : goal.returns
+returns c =
+    c.in_ok-push_parts.ensures
+    ▹ as_parts c.in_ok-push_titled.ensures (ap (titled 80) c.path.ensures)
+    ▹ c.in_ok-push_parts-2.ensures

@@ -1,0 +1,9 @@
+pub mod Html
+pub mod Look
+pub mod Parts
+pub mod Frame
+pub mod Words
+pub mod Section
+pub mod Slots
+pub mod Entries
+pub mod Page

@@ -1,0 +1,21 @@
+//! HTML pages of reports.
+//!
+//! A page is a list of parts ([`Part`]): the program's own bytes, numbers, texts of the report, and
+//! the pieces of drawings. `specs/` says which parts a page has.
+#![tactic(auto)]
+
+mod entries;
+mod frame;
+mod html;
+mod look;
+mod page;
+mod part;
+mod section;
+mod slots;
+mod words;
+
+pub use html::{Frame, Section, Table};
+pub use page::{push_inode_page, push_page};
+pub use part::Part;
+pub use std::alloc::AllocError as OutOfMemory;
+pub use view_page as drawn;

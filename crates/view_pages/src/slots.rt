@@ -1,0 +1,99 @@
+// Which event added an entry of the list, and which was the first of a call.
+
+ghost use Rattle.std.specs.Prelude.{◌≡◌};
+ghost use Rattle.view_pages.specs.Slots as spec;
+
+use view_page::layout::reading::{Deed, Event, Inode, Outcome, Placed, Span};
+
+/// An event: its inode, its place in the journal, and its line.
+#[derive(Clone, Copy, Debug, PartialEq, Eq)]
+pub struct At {
+    pub inode: u64,
+    pub place: u64,
+    pub line: Span,
+}
+
+/// What a table says of its slots: which event added the entry, or which was the first of the call
+/// of this task.
+#[derive(Clone, Copy, Debug, PartialEq, Eq)]
+pub enum Asked {
+    Entries,
+    Calls(u32),
+}
+
+fn placed_entry(placed: Option<Placed>) -> Option<u32>
+    ensures { result ≡ spec.placed_entry placed }
+{
+    match placed {
+        Some(Placed::Added(entry)) => Some(entry),
+        Some(Placed::Already(_)) | None => None,
+    }
+}
+
+fn added_entry(outcome: Outcome) -> Option<u32>
+    ensures { result ≡ spec.added_entry outcome }
+{
+    match outcome {
+        Outcome::ToMToU(entry) => Some(entry),
+        Outcome::OpenWriters(entry) => Some(entry),
+        Outcome::Granted(grant) => placed_entry(grant.placed),
+        _ => None,
+    }
+}
+
+fn call_of(task: u32, event: Event) -> Option<u32>
+    ensures { result ≡ spec.call_of task event event.deed }
+{
+    match event.deed {
+        Deed::Birth => None,
+        _ => {
+            if event.who.task == task {
+                Some(event.who.call)
+            } else {
+                None
+            }
+        }
+    }
+}
+
+fn slot(asked: Asked, event: Event) -> Option<u32>
+    ensures { result ≡ spec.slot asked event }
+{
+    match asked {
+        Asked::Entries => added_entry(event.outcome),
+        Asked::Calls(task) => call_of(task, event),
+    }
+}
+
+fn put(table: &mut [Option<At>], slot: Option<u32>, at: At)
+    ensures { table.new ≡ spec.put table.old slot at }
+{
+    if let Some(slot) = slot {
+        let k = slot as usize;
+        if let Some(None) = table.get(k) {
+            table[k] = Some(at);
+        }
+    }
+}
+
+fn fill_events(table: &mut [Option<At>], asked: Asked, inode: u64, journal: &[Event])
+    ensures { table.new ≡ spec.after_events asked table.old inode 0 journal.now }
+{
+    for (place, event) in journal.iter().enumerate() {
+        let at = At {
+            inode,
+            place: place as u64,
+            line: event.line,
+        };
+        put(table, slot(asked, *event), at);
+    }
+}
+
+/// Fills a table by the events of these inodes.
+pub fn fill(table: &mut [Option<At>], asked: Asked, inodes: &[Inode])
+    ensures { table.new ≡ spec.after_inodes asked table.old 0 inodes.now }
+{
+    for (number, inode) in inodes.iter().enumerate() {
+        fill_events(table, asked, number as u64, &inode.events);
+    }
+}
