@@ -1,5 +1,5 @@
 -- A report as it is read, with ranges of the text for its lines.
-use Rattle.std.specs.Prelude.{ℕ, Bool, List}
+use Rattle.std.specs.Prelude.{ℕ, ◌^◌, ◌<◌, Bool, List, length, All}
 use Rattle.report_read.specs.declared.event.Event.{Event}
 use Rattle.report_read.specs.declared.event.Span.{Span}
 use Rattle.report_read.specs.declared.report.InodeHead.{InodeHead}
@@ -25,3 +25,7 @@ pub record ReportValue : Type 0 where
   pub rules : List Span
   pub inodes : List InodeValue
   pub tasks : List TaskValue
+
+-- each event has a place of 32 bits
+abbrev pub HasShortJournals : ReportValue → Type 0
+HasShortJournals r = All (λ (i : InodeValue). length i.events < 2 ^ 32) r.inodes

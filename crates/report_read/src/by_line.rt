@@ -1,9 +1,10 @@
 // Reading a text line by line.
 
-ghost use Rattle.std.specs.Prelude.{◌≡◌, ◌+◌, ◌-◌, ◌<◌, ◌^◌, length};
+ghost use Rattle.std.specs.Prelude.{◌≡◌, ◌+◌, ◌-◌, ◌<◌, ◌^◌, length, All, IfOk};
 ghost use Rattle.report_text.specs.model.events.forms.Lines.{lines};
 ghost use Rattle.report_read.specs.Makes.{Gives, Makes, ReadsAs};
 ghost use Rattle.report_read.specs.Read.{reports_of, with_line, read_from};
+ghost use Rattle.report_read.specs.Report.{HasShortJournals};
 
 use crate::draft::Draft;
 use crate::event::Span;
@@ -18,7 +19,9 @@ use std::alloc::Global;
 /// The result is `Refused` exactly if the text isn't as many reports, with its first bad line.
 pub fn read(alloc: Global, text: &[u8], more: u32) -> Result<Vec<Report>, ReadErr>
     requires { length text.now < 2 ^ 32 - 1 }
-    ensures { ReadsAs result (reports_of more text.now) }
+    ensures reports { ReadsAs result (reports_of more text.now) }
+    ensures count { IfOk result (λ reports. length reports.items ≡ more + 1) }
+    ensures short { IfOk result (λ reports. All HasShortJournals reports.items) }
 {
     let draft = read_lines(alloc, Draft::new(alloc, more), text)?;
     Ok(draft.finish())
@@ -34,7 +37,7 @@ fn read_lines(alloc: Global, start: Draft, text: &[u8]) -> Result<Draft, ReadErr
     let mut number = 1u32;
     let mut rest = text;
     while let Some((line, after)) = cut(rest, b'\n') {
-        match with_line(&mut draft, alloc, offset, line) {
+        match with_line(&mut draft, alloc, offset, line, after.len()) {
             Ok(()) => {}
             Err(err) => return Err(err.at(number)),
         }
@@ -49,8 +52,14 @@ fn read_lines(alloc: Global, start: Draft, text: &[u8]) -> Result<Draft, ReadErr
     }
 }
 
-// Takes one more line, which begins at this index.
-fn with_line(draft: &mut Draft, alloc: Global, at: usize, line: &[u8]) -> Result<(), LineErr>
+// Takes one more line, which begins at this index and has so many bytes after it.
+fn with_line(
+    draft: &mut Draft,
+    alloc: Global,
+    at: usize,
+    line: &[u8],
+    after: usize,
+) -> Result<(), LineErr>
     requires { at + length line.now < 2 ^ 32 }
     ensures { Makes result (with_line at draft.old line.now) draft.new }
 {
@@ -59,5 +68,7 @@ fn with_line(draft: &mut Draft, alloc: Global, at: usize, line: &[u8]) -> Result
         at: at as u32,
         len: line.len() as u32,
     };
-    draft.with_words(alloc, span, &words)
+    draft.with_words(alloc, span, &words)?;
+    draft.make_room(after)?;
+    Ok(())
 }

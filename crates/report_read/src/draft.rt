@@ -82,6 +82,9 @@ impl Model for Draft {
     ghost view = { draft_value };
 }
 
+// The line of an event but the first has at least so many bytes.
+const SHORTEST: usize = 22;
+
 const NO_SPAN: Span = Span { at: 0, len: 0 };
 
 const NO_HEAD: InodeHead = InodeHead {
@@ -112,6 +115,20 @@ impl Draft {
             replies: Vec::new(alloc),
             done: Vec::new(alloc),
             more,
+        }
+    }
+
+    /// Makes room for the journal whose events come next, as many of them as so many bytes can
+    /// have, so that it isn't moved while it grows.
+    pub fn make_room(&mut self, bytes: usize) -> Result<(), OutOfMemory>
+        ensures { OnOk result (self.new ≡ self.old) }
+    {
+        match self.stage {
+            Stage::Events(left) if self.events.is_empty() => {
+                let most = bytes / SHORTEST + 1;
+                self.events.reserve_exact(most.min(left as usize))
+            }
+            _ => Ok(()),
         }
     }
 
