@@ -1,8 +1,9 @@
 -- What a draft has stays bounded with each line: it reads as many reports as are wanted, and a line
 -- adds at most one event.
-use Rattle.std.proofs.Common.{◌≡◌, ℕ, zero, suc, ◌+◌, ◌-◌, ◌≤◌, ◌==◌, Bool, true, false, cond, List, [], ◌∷◌, ◌++◌, length, length-append, Option, Some, None, refl, sym, ap, subst, ◌∙◌, arith}
+use Rattle.std.proofs.Common.{◌≡◌, ℕ, ◌+◌, ◌-◌, ◌≤◌, ◌==◌, Bool, true, false, cond, List, [], ◌∷◌, ◌++◌, length, length-append, Option, Some, None, refl, sym, ap, subst, arith}
 use Rattle.std.specs.Prelude.{All, IfSome, codes, slice_index_or}
 use Rattle.std.proofs.lemmas.List.Elements.{All-nil, All-push}
+use borrow.Author.Tests.{eqb-false, eqb-true}
 use Rattle.report_text.specs.model.events.forms.Options.{◌>>=◌}
 use Rattle.report_read.specs.declared.draft.Stage.{Stage}
 use Rattle.report_read.specs.declared.draft.Stage.TheVariants as stage
@@ -69,9 +70,15 @@ left_if : (c : Bool) (a b : Stage) (more : ℕ) → left_of a more ≡ more + 1
 left_if true a b more p q = p
 left_if false a b more p q = q
 
+next_by : (more : ℕ) (none : Bool) → (more == 0) ≡ none
+    → left_of (cond none stage.Over stage.Version) (more - 1) ≡ more
+next_by more true is = omega (arith, eqb-true more 0 is)
+next_by more false is =
+    let some : more ≡ 0 → ⊥ = eqb-false more 0 is in omega (arith, some)
+
+-- how many reports are left after one that is finished
 left_next : (more : ℕ) → left_of (draft.next_stage more) (more - 1) ≡ more
-left_next zero = refl
-left_next (suc k) = omega arith
+left_next more = next_by more (more == 0) refl
 
 -- ---- one more line
 
@@ -82,7 +89,7 @@ greater : (m n total : ℕ) (done : List ReportValue) (inodes : List InodeValue)
 greater m n total done inodes events left le k = record {
   reports = λ i r small j inode here.
       let short : length (slice_index_or (slice_index_or done i r).inodes j inode).events ≤ m =
-          k.reports i r small j inode here in
+      k.reports i r small j inode here in
       omega (arith, short, le);
   journals = λ j inode here.
       let short : length (slice_index_or inodes j inode).events ≤ m = k.journals j inode here in

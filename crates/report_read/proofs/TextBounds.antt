@@ -11,7 +11,7 @@ use Rattle.report_read.specs.declared.draft.Stage.{Stage}
 use Rattle.report_read.specs.declared.draft.Stage.TheVariants as stage
 use Rattle.report_read.specs.Draft.{Draft, is_last, is_over, start}
 use Rattle.report_read.specs.Forms.{first_words}
-use Rattle.report_read.specs.Read.{ended, read_from, reports_of, span_at, with_line}
+use Rattle.report_read.specs.Read.{read_from, span_at, with_line}
 use Rattle.report_read.specs.Report.{HasShortJournals, InodeValue, ReportValue}
 use Rattle.report_read.proofs.DraftBounds.{Bounded, HasShort, left_of, one_more}
 
@@ -35,7 +35,7 @@ fewer : (m n total : ℕ) (d : Draft) → m ≤ n → Bounded m total d → Boun
 fewer m n total d le b = record {
   reports = λ i r small j inode here.
       let short : length (slice_index_or (slice_index_or d.done i r).inodes j inode).events ≤ m =
-          b.reports i r small j inode here in
+      b.reports i r small j inode here in
       omega (arith, short, le);
   journals = λ j inode here.
       let short : length (slice_index_or d.inodes j inode).events ≤ m = b.journals j inode here in
@@ -75,22 +75,18 @@ start_bounded more = record {
 }
 
 -- as many reports as are wanted, with short journals
-abbrev AreAsWanted : ℕ → List ReportValue → Type 0
+abbrev pub AreAsWanted : ℕ → List ReportValue → Type 0
 AreAsWanted more rs = (length rs ≡ more + 1) × All HasShortJournals rs
 
 wanted : (more most : ℕ) (d : Draft) → most < 2 ^ 32 → Ends most (more + 1) d
     → AreAsWanted more d.done
-wanted more most d small e =
-    (omega (arith, none_left d.stage d.more e.0, e.1.count),
-    λ i r here j inode there.
-    let short : length (slice_index_or (slice_index_or d.done i r).inodes j inode).events ≤ most =
-        e.1.reports i r here j inode there in
-    omega (arith, short, small))
-
-finish : (r : Result Draft ℕ) (P : Draft → Type 0) (Q : List ReportValue → Type 0) → IfOk r P
-    → ((d : Draft) → P d → Q d.done) → IfOk (r >>= λ d. Ok d.done) Q
-finish (Ok d) P Q h f = f d h
-finish (Err n) P Q h f = tt
+wanted more most d small e = (
+  omega (arith, none_left d.stage d.more e.0, e.1.count),
+  λ i r here j inode there.
+      let short : length (slice_index_or (slice_index_or d.done i r).inodes j inode).events ≤ most =
+      e.1.reports i r here j inode there in
+      omega (arith, short, small),
+)
 
 few_lines : (text : List ℕ) → length (lines text) ≤ length text + 1
 few_lines text =
@@ -100,22 +96,23 @@ few_lines text =
       count_by-le-length (λ (b : ℕ). b == 10) text,
     )
 
--- the reports of a text are as many as are wanted, and their journals are short
-text_bounded : (more : ℕ) (text : List ℕ) → length text < 2 ^ 32 - 1
-    → IfOk (reports_of more text) (AreAsWanted more)
-text_bounded more text small =
-    finish (read_from 0 1 (start more) (lines text)) (Ends (length text + 1) (more + 1))
-    (AreAsWanted more)
+at_ok : (r : Result Draft ℕ) (d : Draft) (P : Draft → Type 0) → r ≡ Ok d → IfOk r P → P d
+at_ok r d P is h = subst (λ (x : Result Draft ℕ). IfOk x P) is h
+
+-- the reports of the draft that a text makes
+read_as_wanted : (more : ℕ) (text : List ℕ) (d : Draft) → length text < 2 ^ 32 - 1
+    → read_from 0 1 (start more) (lines text) ≡ Ok d → AreAsWanted more d.done
+read_as_wanted more text d small is =
+    wanted more (length text + 1) d (omega (arith, small))
+    (at_ok (read_from 0 1 (start more) (lines text)) d (Ends (length text + 1) (more + 1)) is
     (lines_bounded (lines text) 0 1 0 (length text + 1) (more + 1) (start more)
-    (omega (arith, few_lines text)) (start_bounded more))
-    (λ d e. wanted more (length text + 1) d (omega (arith, small)) e)
+    (omega (arith, few_lines text)) (start_bounded more)))
 
-ok_is : (r : Result (List ReportValue) ℕ) (rs : List ReportValue) (P : List ReportValue → Type 0)
-    → r ≡ Ok rs → IfOk r P → P rs
-ok_is r rs P is h = subst (λ (x : Result (List ReportValue) ℕ). IfOk x P) is h
-
--- the same, of reports that were read
-pub as_wanted : (more : ℕ) (text : List ℕ) (rs : List ReportValue) → length text < 2 ^ 32 - 1
-    → reports_of more text ≡ Ok rs → AreAsWanted more rs
-as_wanted more text rs small is =
-    ok_is (reports_of more text) rs (AreAsWanted more) is (text_bounded more text small)
+-- the reports of a text are as many as are wanted, and their journals are short
+pub as_wanted : (more : ℕ) (text : List ℕ) (s d : Draft) (rs : List ReportValue)
+    → length text < 2 ^ 32 - 1 → s ≡ start more → read_from 0 1 s (lines text) ≡ Ok d
+    → rs ≡ d.done → AreAsWanted more rs
+as_wanted more text s d rs small begins is are =
+    let made : read_from 0 1 (start more) (lines text) ≡ Ok d =
+    rw begins at is in
+    subst (AreAsWanted more) (sym are) (read_as_wanted more text d small made)

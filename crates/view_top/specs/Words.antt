@@ -6,7 +6,6 @@ use Rattle.text_forms.specs.Options.{◌>>=◌}
 use Rattle.view_top.specs.declared.command.Asked.{Asked}
 use Rattle.view_top.specs.declared.command.Command.{Command}
 use Rattle.view_top.specs.declared.command.Command.TheVariants as command
-use Rattle.view_top.specs.declared.command.Range.{Range}
 
 -- the most that a number is read as; each place of each report is below it
 abbrev pub far : ℕ

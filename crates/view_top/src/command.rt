@@ -4,19 +4,13 @@ ghost use Rattle.std.specs.Prelude.{◌≡◌, map, string_bytes};
 ghost use Rattle.view_top.specs.Words as spec;
 
 use text_forms::{is_short_numeral, short_number_of};
-
-/// Places of a journal, from the first to the last.
-#[derive(Clone, Copy, Debug, PartialEq, Eq)]
-pub struct Range {
-    pub first: u32,
-    pub last: u32,
-}
+use view_pages::view::layout::Window;
 
 /// An inode of a report, and the places of its journal if not all are asked for.
 #[derive(Clone, Copy, Debug, PartialEq, Eq)]
 pub struct Asked {
     pub inode: u32,
-    pub range: Option<Range>,
+    pub range: Option<Window>,
 }
 
 /// What the words ask for.
@@ -79,7 +73,7 @@ fn at_places(word: &str, inode: &str, first: &str, last: &str) -> Option<Command
     let inode = number_of(inode)?;
     let first = number_of(first)?;
     let last = number_of(last)?;
-    let range = Some(Range { first, last });
+    let range = Some(Window { first, last });
     drawn(word, Asked { inode, range })
 }
 

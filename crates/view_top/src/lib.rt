@@ -13,7 +13,7 @@ mod not_done;
 mod status;
 mod top;
 
-pub use command::{Asked, Command, Range, command_of};
+pub use command::{Asked, Command, command_of};
 pub use status::{
     DONE, NO_PLACE, OUT_OF_MEMORY, READ_FAULT, REFUSED, TOO_LONG, USAGE, WRITE_FAULT,
 };
