@@ -147,12 +147,7 @@ fn inode_page(
     }
 }
 
-fn drawing(
-    alloc: Global,
-    text: &[u8],
-    asked: Asked,
-    reports: &[Report],
-) -> Result<Vec<u8>, NotDone>
+fn drawing(alloc: Global, text: &[u8], asked: Asked, reports: &[Report]) -> Result<Vec<u8>, NotDone>
     requires { All HasShortJournals reports.now }
     ensures { Answers result (spec.drawing text.now asked reports.now) }
 {

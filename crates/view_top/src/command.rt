@@ -38,12 +38,7 @@ pub fn command_of(words: &[String]) -> Option<Command>
         [word] => whole(word.as_str()),
         [word, inode] => at_inode(word.as_str(), inode.as_str()),
         [word, inode, first, last] => {
-            at_places(
-                word.as_str(),
-                inode.as_str(),
-                first.as_str(),
-                last.as_str(),
-            )
+            at_places(word.as_str(), inode.as_str(), first.as_str(), last.as_str())
         }
         _ => None,
     }

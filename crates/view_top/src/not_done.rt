@@ -4,9 +4,7 @@ ghost use Rattle.std.specs.Prelude.{◌≡◌};
 ghost use Rattle.view_top.specs.declared.not_done.NotDone.TheVariants as not_done;
 ghost use Rattle.view_top.specs.NotDone.{not_done_of_read, not_done_status, not_done_line};
 
-use crate::status::{
-    NO_PLACE, OUT_OF_MEMORY, READ_FAULT, REFUSED, TOO_LONG, USAGE, WRITE_FAULT,
-};
+use crate::status::{NO_PLACE, OUT_OF_MEMORY, READ_FAULT, REFUSED, TOO_LONG, USAGE, WRITE_FAULT};
 use std::alloc::AllocError as OutOfMemory;
 use view_pages::view::layout::reading::reports::outer::{Failed, ReadErr};
 
