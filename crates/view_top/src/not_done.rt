@@ -5,8 +5,8 @@ ghost use Rattle.view_top.specs.declared.not_done.NotDone.TheVariants as not_don
 ghost use Rattle.view_top.specs.NotDone.{not_done_of_read, not_done_status, not_done_line};
 
 use crate::status::{NO_PLACE, OUT_OF_MEMORY, READ_FAULT, REFUSED, TOO_LONG, USAGE, WRITE_FAULT};
+use ima_io::{Failed, ReadErr};
 use std::alloc::AllocError as OutOfMemory;
-use view_pages::view::layout::reading::reports::outer::{Failed, ReadErr};
 
 /// Why no page was written, or not the whole of it: one variant for each status but `DONE`.
 #[derive(Debug, Drop)]

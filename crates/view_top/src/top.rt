@@ -15,8 +15,8 @@ use crate::answer::answer;
 use crate::command::{Command, command_of};
 use crate::not_done::NotDone;
 use crate::status::DONE;
+use ima_io::{Sink, Source, read_all, write_all};
 use std::alloc::Global;
-use view_pages::view::layout::reading::reports::outer::{Sink, Source, read_all, write_all};
 
 /// The most bytes that an input may have: 128 MiB.
 pub const MOST_INPUT: usize = 134_217_728;
