@@ -1,10 +1,10 @@
 -- What the status says about the answer to the input.
 use Rattle.std.proofs.Common.{◌≡◌, ◌≢◌, ℕ, ◌+◌, ◌<◌, ◌≤◌, ◌↔◌, ◌⊎◌, inl, inr, List, [], ◌++◌, Option, Some, None, Err, length, length-append, refl, sym, ap, ◌∙◌, subst, arith}
 use Rattle.std.specs.Prelude.{IfSome, IsNone, IsSomeAnd}
-use Rattle.std.specs.Io.KnownBytes.{Appends, Consumes, IsAtEnd}
+use Rattle.std.specs.Io.KnownBytes.{Consumes, IsAtEnd}
 use Rattle.std.proofs.lemmas.List.{append-nil}
-use Rattle.ima_io.specs.Bytes.{Gave, TookPart}
-use Rattle.view_top.specs.Answer.{Answer, Page, BadLine, NoPlace, answer_of, page_in, refusal_in}
+use Rattle.ima_io.specs.Bytes.{Gave}
+use Rattle.view_top.specs.Answer.{Answer, Page, BadLine, NoPlace, answer_of, refusal_in}
 use Rattle.view_top.specs.Limits.{most_input}
 use Rattle.view_top.specs.NotDone.{not_done_line, not_done_status}
 use Rattle.view_top.specs.Served.{IsPastReading, Performed, Serves, WrotePart, WroteWhole, status_by}
