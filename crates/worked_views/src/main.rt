@@ -1,10 +1,11 @@
 //! Worked pages: `serve_view` on sources and sinks in memory, with the reports of `data/`.
 //!
 //! The reports are those of `examples/`, except for `hostile.report`, whose names of files and
-//! attributes would be tags if they weren't escaped, and `busy.report`. `bench/pages.py` compares
-//! the copies, and writes the stored pages anew. They were looked at in a browser, and are compared
-//! byte by byte. Each report is also cut after each of its bytes: what is left is refused with its
-//! first bad line. A line is printed for each case, and the status is 1 if one differs.
+//! attributes would be tags if they weren't escaped, `busy.report`, and `race_swapped.report`, which
+//! is that of `examples/race.script` with the schedule `0 0 1 0 0 0 1 1 0`. `bench/pages.py` compares
+//! the copies, and writes the stored pages anew; `bench/look` shows them. Each report is also cut
+//! after each of its bytes: what is left is refused with its first bad line. A line is printed for
+//! each case, and the status is 1 if one differs.
 #![tactic(auto)]
 
 mod cuts;
@@ -44,7 +45,8 @@ const REPORTS: [&str; 23] = [
 ];
 
 // The words of other pages, the reports that they read, and the names of the stored pages.
-const OTHERS: [(&str, &[&str], &str); 6] = [
+const OTHERS: [(&str, &[&str], &str); 7] = [
+    ("pair", &["race", "race_swapped"], "pair_race.html"),
     ("pair", &["race", "tomtou"], "pair_race_tomtou.html"),
     ("pair", &["race", "race"], "pair_same.html"),
     ("inode 0", &["race"], "inode_race.html"),
