@@ -1,0 +1,73 @@
+#!/usr/bin/env python3
+"""bench/pages.py [write] [PROGRAM]: are the stored pages those that `imakern_view` writes?
+
+crates/worked_views sees only its own folder, so its data/ repeats the reports of examples/ and has
+the pages that the gate compares. That the copies are the same is compared here, and that each page
+is what the program writes. After the drawing or an example was changed, `bench/pages.py write`
+writes the copies and the pages; look at the pages (bench/look) before you keep them.
+
+The program is crates/imakern_view/out/imakern_view, which `rt run imakern_view` builds, or PROGRAM.
+Status 1: something differs.
+"""
+import os, re, subprocess, sys
+
+TOP = os.path.dirname(os.path.dirname(os.path.abspath(__file__)))
+WORKED = os.path.join(TOP, 'crates', 'worked_views')
+DATA = os.path.join(WORKED, 'data')
+WRITE = sys.argv[1:2] == ['write']
+BUILT = os.path.join(TOP, 'crates', 'imakern_view', 'out', 'imakern_view')
+PROGRAM = (sys.argv[2 if WRITE else 1:] or [BUILT])[0]
+OTHER_CASE = re.compile(r'\("([a-z0-9 ]+)", &\[([a-z_0-9", ]+)\], "([a-z_0-9.]+)"\)')
+differing = []
+
+
+def read(path):
+    try:
+        with open(path, 'rb') as file:
+            return file.read()
+    except FileNotFoundError:
+        return b''
+
+
+def keep(path, data):
+    """Writes the file, or notes that it isn't this."""
+    if read(path) == data:
+        return
+    if WRITE:
+        with open(path, 'wb') as file:
+            file.write(data)
+    else:
+        differing.append(os.path.relpath(path, TOP))
+
+
+def page(words, report):
+    got = subprocess.run([PROGRAM] + words.split(), input=report, capture_output=True)
+    if got.returncode != 0 or got.stderr:
+        sys.exit('%s: status %d, %r' % (words, got.returncode, got.stderr))
+    return got.stdout
+
+
+def report(name):
+    return read(os.path.join(DATA, name + '.report'))
+
+
+for name in sorted(os.listdir(os.path.join(TOP, 'examples'))):
+    if name.endswith('.report'):
+        keep(os.path.join(DATA, name), read(os.path.join(TOP, 'examples', name)))
+lines = []
+source = open(os.path.join(WORKED, 'src', 'main.rt'), encoding='utf-8').read()
+names = re.search(r'const REPORTS: .*?= \[(.*?)\];', source, re.S).group(1)
+for name in re.findall(r'"([a-z_0-9]+)"', names):
+    keep(os.path.join(DATA, name + '.html'), page('page', report(name)))
+    lines += ['page: %s.html' % name, '%s: is refused if it is cut' % name]
+for words, names, file in OTHER_CASE.findall(source):
+    texts = b''.join(report(name) for name in re.findall(r'"([a-z_0-9]+)"', names))
+    keep(os.path.join(DATA, file), page(words, texts))
+    lines.append('%s: %s' % (words, file))
+for words in re.findall(r'\("([^"]*)", (?:USAGE|REFUSED|NO_PLACE),', source):
+    lines.append('refused: %s' % words)
+keep(os.path.join(WORKED, 'stdout'), ('\n'.join(lines) + '\n').encode())
+for path in differing:
+    print('DIFFERS: %s' % path)
+print('%d pages, %d differ' % (len(lines), len(differing)))
+sys.exit(1 if differing else 0)

@@ -1,0 +1,30 @@
+//! The program: [`view_top::serve_view`] on the process's own words and streams.
+#![tactic(auto)]
+
+use std::io::ErrorKind;
+use std::process::ExitCode;
+use std::{env, io};
+use view_top::outer::{StdSink, StdSource};
+use view_top::{OUT_OF_MEMORY, serve_view};
+
+fn main(rt: HostRuntime) -> ExitCode {
+    let mut report = StdSource::new(rt.stdin());
+    let mut out = StdSink::new(rt.stdout());
+    let mut note = StdSink::new(rt.stderr());
+    let words = match words(&rt) {
+        Ok(words) => words,
+        Err(error) if error.kind() == ErrorKind::OutOfMemory => {
+            let _ = rt.eprintln("out of memory");
+            return ExitCode::from(OUT_OF_MEMORY);
+        }
+        // A word that isn't UTF-8 makes the words none of the forms, just as if there were none.
+        Err(_) => Vec::new(rt.alloc()),
+    };
+    let status = serve_view(rt.alloc(), &words, &mut report, &mut out, &mut note);
+    ExitCode::from(status)
+}
+
+// The words of the command line, without the program's name.
+fn words(rt: &HostRuntime) -> io::Result<Vec<String>> {
+    Ok(env::args(rt)?.skip(1).collect(rt.alloc())?)
+}

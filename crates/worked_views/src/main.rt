@@ -1,0 +1,138 @@
+//! Worked pages: `serve_view` on sources and sinks in memory, with the reports of `data/`.
+//!
+//! The reports are those of `examples/`, except for `hostile.report`, whose names of files and
+//! attributes would be tags if they weren't escaped, `busy.report`, and `race_swapped.report`, which
+//! is that of `examples/race.script` with the schedule `0 0 1 0 0 0 1 1 0`. `bench/pages.py` compares
+//! the copies, and writes the stored pages anew; `bench/look` shows them. Each report is also cut
+//! after each of its bytes: what is left is refused with its first bad line. A line is printed for
+//! each case, and the status is 1 if one differs.
+#![tactic(auto)]
+
+mod cuts;
+mod outcome;
+
+use crate::outcome::{Outcome, answer};
+use anyhow::{Context, Result, ensure};
+use std::alloc::Global;
+use std::fs;
+use view_top::{NO_PLACE, REFUSED, USAGE};
+
+// The names of the reports.
+const REPORTS: [&str; 23] = [
+    "addrule",
+    "appraise",
+    "busy",
+    "chown",
+    "create",
+    "cron",
+    "evm",
+    "firmware",
+    "fix",
+    "ftruncate",
+    "hostile",
+    "log",
+    "measure",
+    "mmap",
+    "module",
+    "noversions",
+    "pcr",
+    "race",
+    "setxattr",
+    "six_orders",
+    "stuck",
+    "template",
+    "tomtou",
+];
+
+// The words of other pages, the reports that they read, and the names of the stored pages.
+const OTHERS: [(&str, &[&str], &str); 7] = [
+    ("pair", &["race", "race_swapped"], "pair_race.html"),
+    ("pair", &["race", "tomtou"], "pair_race_tomtou.html"),
+    ("pair", &["race", "race"], "pair_same.html"),
+    ("inode 0", &["race"], "inode_race.html"),
+    ("inode 0 2 5", &["race"], "places_race.html"),
+    ("svg 0", &["race"], "race.svg"),
+    ("svg 0 2 5", &["race"], "places_race.svg"),
+];
+
+// What is told of words that are none of the forms.
+const FORMS: &str = "usage: imakern_view page | pair | inode I [A B] | svg I [A B]\n";
+
+// Words for which there is no page of the report of `race`, the status, and what is told.
+const REFUSALS: [(&str, u8, &str); 20] = [
+    ("", USAGE, FORMS),
+    ("pages", USAGE, FORMS),
+    ("page 0", USAGE, FORMS),
+    ("pair 0", USAGE, FORMS),
+    ("-", USAGE, FORMS),
+    ("inode", USAGE, FORMS),
+    ("inode 00", USAGE, FORMS),
+    ("inode +0", USAGE, FORMS),
+    ("inode 0 1", USAGE, FORMS),
+    ("inode 0 1 2 3", USAGE, FORMS),
+    ("svg", USAGE, FORMS),
+    ("svg 0 0x1 2", USAGE, FORMS),
+    ("pair", REFUSED, "line 31: bad-line\n"),
+    ("inode 1", NO_PLACE, "no such place\n"),
+    ("inode 4294967296", NO_PLACE, "no such place\n"),
+    ("inode 99999999999999999999999", NO_PLACE, "no such place\n"),
+    ("inode 0 3 2", NO_PLACE, "no such place\n"),
+    ("inode 0 0 1000", NO_PLACE, "no such place\n"),
+    ("svg 1", NO_PLACE, "no such place\n"),
+    ("svg 0 0 99", NO_PLACE, "no such place\n"),
+];
+
+fn main(rt: HostRuntime) -> Result<()> {
+    let mut all = true;
+    for name in REPORTS {
+        let text = report(&rt, name)?;
+        let page = format!(in rt.alloc(); "{name}.html")?;
+        all = page_holds(&rt, rt.alloc(), "page", &text, page.as_str())? && all;
+        all = row(
+            &rt,
+            name,
+            "is refused if it is cut",
+            cuts::are_refused(rt.alloc(), &text)?,
+        )? && all;
+    }
+    for (words, names, page) in OTHERS {
+        let mut text = Vec::new(rt.alloc());
+        for name in names {
+            text.extend_from_slice(&report(&rt, name)?)?;
+        }
+        all = page_holds(&rt, rt.alloc(), words, &text, page)? && all;
+    }
+    let text = report(&rt, "race")?;
+    for (words, status, note) in REFUSALS {
+        let got = answer(rt.alloc(), words, &text)?;
+        all = row(&rt, "refused", words, got.is(status, b"", note))? && all;
+    }
+    ensure!(all, "not as it should be");
+    Ok(())
+}
+
+// The text of the report of this name.
+fn report(rt: &HostRuntime, name: &str) -> Result<Vec<u8>> {
+    let file = format!(in rt.alloc(); "{name}.report")?;
+    let text = fs::read(rt, file.as_str()).context(file.as_str())?;
+    Ok(text)
+}
+
+// Compares the page with the stored one, and prints a line.
+fn page_holds(
+    rt: &HostRuntime,
+    alloc: Global,
+    words: &str,
+    text: &[u8],
+    page: &str,
+) -> Result<bool> {
+    let stored = fs::read(rt, page).context(page)?;
+    let got = answer(alloc, words, text)?;
+    row(rt, words, page, got.is(0, &stored, ""))
+}
+
+// Prints a line, and returns whether the case holds.
+fn row(rt: &HostRuntime, family: &str, name: &str, holds: bool) -> Result<bool> {
+    println!(rt; "{family}: {name}{}", if holds { "" } else { ": DIFFERS" })?;
+    Ok(holds)
+}
