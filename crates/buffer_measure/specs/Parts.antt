@@ -1,6 +1,5 @@
 -- The lines of a list's entries, made in parts.
 use Rattle.std.specs.Prelude.{◌≡◌, ℕ, ◌<◌, true, List, [], length, get_or, Option, Some, None, IfSome, is_some, map}
-use Rattle.std.specs.Fork.{slice_chunk}
 use Rattle.std.specs.Global.{Vec}
 use Rattle.report_text.specs.Report.{entry_words}
 use Rattle.script_text.specs.events.forms.Words.{text_of}
@@ -13,10 +12,14 @@ entries_text list = text_of (map entry_words list)
 abbrev pub IsPart : List Entry → Option (Vec ℕ) → Type 0
 IsPart entries part = IfSome part (λ text. text.items ≡ entries_text entries)
 
--- each part has the lines of the chunk of its number
-abbrev pub ArePartsOf : List Entry → ℕ → List (Option (Vec ℕ)) → Type 0
-ArePartsOf list size parts = (n : ℕ) (d : Option (Vec ℕ)) → n < length parts
-    → IsPart (slice_chunk list size n) (get_or parts n d)
+-- the entries that a part is made of
+abbrev pub entries_in : Vec Entry → List Entry
+entries_in job = job.items
+
+-- each part has the lines of the entries at its place
+abbrev pub ArePartsOf : List (Vec Entry) → List (Option (Vec ℕ)) → Type 0
+ArePartsOf jobs parts = (n : ℕ) (job : Vec Entry) (d : Option (Vec ℕ)) → n < length jobs
+    → IsPart (get_or jobs n job).items (get_or parts n d)
 
 -- the bytes of a part
 abbrev pub part_bytes : Option (Vec ℕ) → List ℕ

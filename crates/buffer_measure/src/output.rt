@@ -32,21 +32,28 @@ pub fn print(alloc: Global, r: &BufferRun) -> Result<Vec<u8>, OutOfMemory>
     Ok(out)
 }
 
-/// Prints a run as [`print`] does, in pieces. The lines of the list are made in at most `threads`
-/// parts, each on a thread of its own if one can be created.
+/// Prints a run as [`print`] does, in pieces, and consumes it. The lines of the list are made in at
+/// most `threads` parts, each on a thread of its own if one can be created.
 pub fn print_in_pieces<R: Threads + Sync>(
     rt: &R,
     alloc: Global,
-    r: &BufferRun,
+    r: BufferRun,
     threads: usize,
 ) -> Result<Pieces, OutOfMemory>
-    ensures { IfOk result (λ out. out ≡ printed r.now) }
+    ensures { IfOk result (λ out. out ≡ printed r) }
 {
-    let list = r.list.as_slice();
+    let BufferRun {
+        list,
+        banks,
+        answers,
+    } = r;
+    let entries = list.as_slice();
+    let head = head_of(alloc, entries.len() as u64)?;
+    let rest = rest_of(alloc, entries, &banks, answers.as_slice())?;
     let mut out = Pieces::new(alloc);
-    out.push(head_of(alloc, list.len() as u64)?)?;
+    out.push(head)?;
     push_lines(rt, alloc, &mut out, list, threads)?;
-    out.push(rest_of(alloc, list, &r.banks, r.answers.as_slice())?)?;
+    out.push(rest)?;
     Ok(out)
 }
 

@@ -20,6 +20,7 @@ use Rattle.report_text.specs.Report.{report_of}
 use Rattle.script_scene.specs.Scene.{IsForFiles, scene_of}
 use Rattle.script_text.specs.ScriptValue.{ScriptValue}
 use Rattle.script_text.specs.declared.blocks.TaskBlock.{TaskBlock}
+use Rattle.task_runner.specs.Passes.{HasRunOnThreads}
 use Rattle.task_runner.specs.frames.Runs.{AreTasks}
 use Rattle.task_runner.specs.frames.Tasks.{Tasked}
 use Rattle.task_runner.specs.frames.World.{WorldValue}
@@ -100,3 +101,8 @@ LeadsTo scene count (ending.Schedule turns) m end = end ≡ turns_of scene m tur
 LeadsTo scene count ending.Rounds m end =
     RoundsTo scene m end × ((k : ℕ) → k < count → moves scene end k ≡ false)
 LeadsTo scene count (ending.Threads n) m end = (k : ℕ) → k < count → moves scene end k ≡ false
+
+-- with `threads n`, the tasks have run in at most n parts
+abbrev pub HaveRunAs : Ending → WorldValue → WorldValue → List Tasked → List Tasked → Type 0
+HaveRunAs (ending.Threads n) world after old new = HasRunOnThreads world after n old new
+HaveRunAs _ world after old new = Unit {0}

@@ -1,7 +1,7 @@
 //! The run of a script, from its start to its end.
 
 ghost use Rattle.std.specs.Prelude.{◌≡◌, ◌<◌, All, IfOk, length};
-ghost use Rattle.script_run.specs.Run.{AreWithin, HasRun, HasStarted, LeadsTo};
+ghost use Rattle.script_run.specs.Run.{AreWithin, HasRun, HasStarted, HaveRunAs, LeadsTo};
 ghost use Rattle.task_runner.specs.frames.Runs.{AreTasks};
 ghost use Rattle.task_runner.specs.laws_of_turns.Runs.{StillRuns, moment_in, scene_in};
 
@@ -56,6 +56,8 @@ fn turn_all<G: Gate + Sync, R: Threads + Wait + Sync>(
     ensures run { IfOk result (λ w. LeadsTo (scene_in world tasks.old.items)
         (length tasks.old.items) ending.now (moment_in world tasks.old.items)
         (moment_in w tasks.new.items)) }
+    ensures parts { IfOk result (λ w. HaveRunAs ending.now world w tasks.old.items
+        tasks.new.items) }
     ensures still { IfOk result (λ w. StillRuns world w tasks.old.items tasks.new.items) }
 {
     match ending {
@@ -75,8 +77,8 @@ fn turn_all<G: Gate + Sync, R: Threads + Wait + Sync>(
 
 /// Runs the script, passing the gate before each step, and returns the state that the run leaves.
 /// The turns are those of the script's schedule, or rounds of all tasks until a round moves none of
-/// them. With `threads n` the tasks run on `n` threads, with their steps in any order, and then in
-/// rounds until none moves.
+/// them. With `threads n` the tasks run on at most `n` threads, with their steps in any order, and then
+/// in rounds until none moves.
 pub fn run<G: Gate + Sync, R: Threads + Wait + Sync>(
     rt: &R,
     alloc: Global,

@@ -1,16 +1,18 @@
 -- Tasks that have gone on still belong to their world.
-use Rattle.std.proofs.Common.{◌≡◌, ℕ, zero, suc, ◌<◌, ◌⊎◌, inl, inr, List, [], ◌∷◌, ◌++◌, length, map, get_or, take, Some, refl, sym, ◌∙◌, ap, subst, arith}
+use Rattle.std.proofs.Common.{◌≡◌, ℕ, zero, suc, ◌+◌, ◌-◌, ◌<◌, ◌≤◌, ◌⊎◌, inl, inr, List, [], ◌∷◌, ◌++◌, length, map, take, Some, refl, sym, ◌∙◌, ap, subst, arith}
 use Rattle.std.specs.Prelude.{All, slice_get, slice_set}
-use Rattle.std.proofs.lemmas.List.{length-set, take-append-le, take_all}
+use Rattle.std.proofs.Math.Nat.{suc-add, zero-add}
+use Rattle.std.proofs.lemmas.Bool.{cases_lt}
+use Rattle.std.proofs.lemmas.List.{length-append, length-set, take-append-le, take_all}
 use Rattle.std.proofs.lemmas.List.Elements.{All-head, All-tail}
-use Rattle.std.proofs.lemmas.Option.{same_Some, slice_get_within}
+use Rattle.std.proofs.lemmas.Option.{same_Some}
 use Rattle.task_core.specs.frames.Frame.{Frame}
 use Rattle.task_core.specs.frames.Runs.{AreTasks, program_of}
 use Rattle.task_core.specs.frames.Tasks.{IsTask, Tasked}
 use Rattle.task_core.specs.frames.World.{WorldValue}
 use Rattle.task_runner.specs.Parts.{AreStill, GoneFrom, HaveGone}
 use Rattle.task_core.specs.laws_of_turns.Runs.{StillRuns}
-use Rattle.task_core.proofs.about_closes.Gets.{all_by_get, get_set, got}
+use Rattle.task_core.proofs.about_closes.Gets.{all_by_get, get_set}
 
 -- a property of all elements holds of the one at a place
 all_at : {A : Type 0} (P : A → Type 0) (xs : List A) (k : ℕ) (x : A) → All P xs
@@ -79,44 +81,54 @@ gone_step frame tasks k t t2 all there number program task = record {
     task = all_at (IsTask frame) tasks j x all w.1;
   }
 
--- ---- parts of the tasks
+-- ---- halves of the tasks
 
--- the task at this place is in a part that has gone on
-pub record InPart (frame : Frame) (old new : List Tasked) (i : ℕ) (d : Tasked) : Type 0 where
-  pub part : List Tasked
-  pub after : List Tasked
-  pub offset : ℕ
-  pub gone : HaveGone frame part after
-  pub within : offset < length part
-  pub was : get_or part offset d ≡ get_or old i d
-  pub is : get_or after offset d ≡ get_or new i d
+-- an element of the first half
+get_front : {A : Type 0} (xs ys : List A) (k : ℕ) → k < length xs
+    → slice_get (xs ++ ys) k ≡ slice_get xs k
+get_front [] ys k h = absurd (omega (arith, h))
+get_front (x ∷ xs) ys zero h = refl
+get_front (x ∷ xs) ys (suc k) h = get_front xs ys k (omega (arith, h))
 
--- if each part has gone on, all tasks have
-pub gone_parts : (frame : Frame) (old new : List Tasked) → length new ≡ length old
-    → ((i : ℕ) (d : Tasked) → i < length old → InPart frame old new i d)
-    → HaveGone frame old new
-gone_parts frame old new even parts = record {
-  even = even;
-  each = λ k t at.
-      let below : k < length new = slice_get_within new k t at in
-      let within : k < length old = omega arith in
-      let p = parts k t within in
-      let inside : p.offset < length p.after =
-      subst (λ (n : ℕ). p.offset < n) (sym p.gone.even) p.within in
-      let here : get_or new k t ≡ t =
-      same_Some (get_or new k t) t (sym (got new k t below) ∙ at) in
-      let there : slice_get p.after p.offset ≡ Some t =
-      got p.after p.offset t inside ∙ ap (λ (x : Tasked). Some x) (p.is ∙ here) in
-      let gone = p.gone.each p.offset t there in
+-- an element of the second half
+get_back : {A : Type 0} (xs ys : List A) (k : ℕ)
+    → slice_get (xs ++ ys) (length xs + k) ≡ slice_get ys k
+get_back [] ys k = ap (λ (n : ℕ). slice_get ys n) (zero-add k)
+get_back (x ∷ xs) ys k =
+    ap (λ (n : ℕ). slice_get (x ∷ (xs ++ ys)) n) (suc-add (length xs) k) ∙ get_back xs ys k
+
+-- if both halves have gone on, all tasks have
+pub gone_both : (frame : Frame) (xs ys xs2 ys2 : List Tasked) → HaveGone frame xs xs2
+    → HaveGone frame ys ys2 → HaveGone frame (xs ++ ys) (xs2 ++ ys2)
+gone_both frame xs ys xs2 ys2 one other = record {
+  even = omega (arith, one.even, other.even, length-append xs ys, length-append xs2 ys2);
+  each = λ k t at. gone k t at (cases_lt k (length xs2));
+} where
+  gone : (k : ℕ) (t : Tasked) → slice_get (xs2 ++ ys2) k ≡ Some t
+      → (k < length xs2) ⊎ (length xs2 ≤ k) → GoneFrom frame (xs ++ ys) k t
+  gone k t at (inl h) =
+      let g = one.each k t (sym (get_front xs2 ys2 k h) ∙ at) in
+      let below : k < length xs = omega (arith, h, one.even) in
       record {
-        before = gone.before;
-        at = got old k t within ∙ ap (λ (x : Tasked). Some x) (sym p.was)
-            ∙ sym (got p.part p.offset t p.within) ∙ gone.at;
-        number = gone.number;
-        program = gone.program;
-        task = gone.task;
-      };
-}
+        before = g.before;
+        at = get_front xs ys k below ∙ g.at;
+        number = g.number;
+        program = g.program;
+        task = g.task;
+      }
+  gone k t at (inr h) =
+      let m = k - length xs2 in
+      let later : length xs2 + m ≡ k = omega (arith, h) in
+      let same : k ≡ length xs + m = omega (arith, h, one.even) in
+      let g = other.each m t (sym (get_back xs2 ys2 m)
+      ∙ ap (λ (n : ℕ). slice_get (xs2 ++ ys2) n) later ∙ at) in
+      record {
+        before = g.before;
+        at = ap (λ (n : ℕ). slice_get (xs ++ ys) n) same ∙ get_back xs ys m ∙ g.at;
+        number = g.number;
+        program = g.program;
+        task = g.task;
+      }
 
 -- ---- all tasks
 

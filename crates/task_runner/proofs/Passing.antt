@@ -1,9 +1,13 @@
 -- Passes over the tasks of one part.
-use Rattle.std.proofs.Common.{◌≡◌, ◌+◌, ◌<◌, ◌⊎◌, ℕ, zero, suc, Bool, true, false, inl, inr, List, [], ◌∷◌, ◌++◌, length, Option, Some, None, add-one, refl, sym, ◌∙◌, ap, subst, arith}
-use Rattle.std.specs.Prelude.{◌||◌, OnErr, OnOk, Result, Ok, Err, slice_get}
+use Rattle.std.proofs.Common.{◌≡◌, ◌+◌, ◌-◌, ◌*◌, ◌^◌, ◌<◌, ◌≤◌, min, ◌⊎◌, ℕ, zero, suc, Bool, true, false, inl, inr, List, [], ◌∷◌, ◌++◌, length, Option, Some, None, add-one, refl, sym, ◌∙◌, ap, subst, arith}
+use Rattle.std.specs.Prelude.{◌||◌, slice_get}
 use Rattle.std.specs.List.{list_any}
 use Rattle.std.proofs.Math.Bool.{or-false, or_comm}
-use Rattle.std.proofs.lemmas.List.{length-append, length-set}
+use Rattle.std.proofs.Math.Nat.{add-mul, mul-le-mul_right, one-mul, suc-mul}
+use Rattle.std.proofs.lemmas.Bool.{cases_lt}
+use Rattle.std.proofs.lemmas.Grind.{flat_map-append}
+use Rattle.std.proofs.lemmas.List.{append-nil, length-append, length-set}
+use Rattle.std.proofs.lemmas.List.Elements.{All-append, All-cons, All-nil}
 use Rattle.std.proofs.lemmas.List.Folds.{list_any-append}
 use Rattle.std.proofs.lemmas.Option.{same_Some, slice_get_past}
 use Rattle.run_model.specs.Rounds.{is_moved}
@@ -12,7 +16,7 @@ use Rattle.run_model.specs.declared.turn.Turn.{Turn}
 use Rattle.task_core.specs.frames.Frame.{Frame, scene_of}
 use Rattle.task_core.specs.frames.Tasks.{Tasked}
 use Rattle.task_core.proofs.about_closes.Gets.{get_last, get_set}
-use Rattle.task_runner.specs.Passes.{HasStayed, HavePassed, HaveRunInParts, HaveStepped, IsInPass, IsPartOver, IsPartStopped, IsPass, PartEnds, SteppedBy, StepsAt}
+use Rattle.task_runner.specs.Passes.{AreOver, IsPartIn, HasStayed, HavePassed, HaveRunInParts, HaveStepped, IsPartOver, IsPass, SteppedBy, StepsAt}
 
 -- ---- one step
 
@@ -110,26 +114,6 @@ pass_more frame old mid new k moved moved2 r p s e = record {
       ∙ sym (any_last p.turns r);
 }
 
--- a pass in which the next task ran out of memory
-pub pass_fails : (frame : Frame) (old mid new : List Tasked) (k : ℕ) (moved : Bool)
-    → k < length old → IsPass frame old mid k moved → StepsAt frame mid new k None
-    → IsInPass frame old new
-pass_fails frame old mid new k moved below p s =
-    let past : slice_get p.turns k ≡ None =
-    slice_get_past p.turns k (omega (arith, p.count)) in
-    record {
-      count = k;
-      moved = moved;
-      left = below;
-      pass = record {
-        turns = p.turns;
-        count = p.count;
-        made = steps_on frame old mid new p.turns p.turns k None p.made s past past
-            (λ j other. refl);
-        moves = p.moves;
-      };
-    }
-
 -- ---- a part
 
 -- one more pass that moved a task
@@ -151,42 +135,66 @@ passed_last frame n old mid new moved h p e = record {
   last = subst (λ (b : Bool). IsPass frame mid new (length mid) b) e p;
 }
 
--- if an answer is a move, there is an answer
-some_answer : (turns : List Turn) → true ≡ list_any is_moved turns → 0 < length turns
-some_answer [] e = absurd (cc)
-some_answer (r ∷ turns) e = omega arith
+-- all tasks are one part
+pub over_alone : (frame : Frame) (count size : ℕ) (old new : List Tasked) → count ≡ 1
+    → length old ≤ count * size → IsPartOver frame old new → AreOver frame count size old new
+over_alone frame count size old new one most over = record {
+  parts = (old, new) ∷ [];
+  few = omega (arith, one);
+  before = append-nil old;
+  after = append-nil new;
+  each = All-cons (IsPartIn frame size) (old, new) [] (short, over) (All-nil (IsPartIn frame size));
+} where
+  short : length old ≤ size
+  short = omega (arith, most, ap (λ (n : ℕ). n * size) one ∙ one-mul size)
 
--- a part that stops where its next pass would begin
-pub passed_out : (frame : Frame) (n : ℕ) (old new : List Tasked) → 0 < n
-    → HavePassed frame n old new → IsPartStopped frame old new
-passed_out frame zero old new some h = absurd (omega arith)
-passed_out frame (suc n) old new some h =
-    let p : IsPass frame h.0 new (length h.0) true = h.1.1 in
-    let s : 0 < length p.turns = some_answer p.turns p.moves in
-    record {
-      count = suc n;
-      mid = new;
-      before = h;
-      next = record {
-        count = 0;
-        moved = false;
-        left = omega (arith, s, p.count, p.made.even);
-        pass = pass_none frame new;
-      };
-    }
+-- both halves have few enough parts
+pub halves_fit : (low count size m cut front back len : ℕ) → low ≤ count
+    → m ≡ min (low * size) (2 ^ 64 - 1) → cut ≡ min m len → front ≡ cut → back + cut ≡ len
+    → len ≤ count * size → len < 2 ^ 64
+    → (front ≤ low * size) × (back ≤ (count - low) * size)
+halves_fit low count size m cut front back len within m_is cut_is front_is back_is most fits = (
+  omega (arith, m_is, cut_is, front_is),
+  omega (arith, m_is, cut_is, back_is, most, fits, all),
+) where
+  all : low * size + (count - low) * size ≡ count * size
+  all = sym (add-mul low (count - low) size) ∙ ap (λ (n : ℕ). n * size) (omega (arith, within))
 
--- a part that has answered has ended
-pub part_ends : {T E : Type 0} (r : Result T E) (frame : Frame) (old new : List Tasked)
-    → OnOk r (IsPartOver frame old new) → OnErr r (IsPartStopped frame old new)
-    → PartEnds frame old new
-part_ends (Ok x) frame old new over stopped = inl over
-part_ends (Err e) frame old new over stopped = inr stopped
+-- the parts of both halves are the parts of all tasks
+pub over_both : (frame : Frame) (low high count size : ℕ) (xs ys xs2 ys2 : List Tasked)
+    → low + high ≡ count → AreOver frame low size xs xs2 → AreOver frame high size ys ys2
+    → AreOver frame count size (xs ++ ys) (xs2 ++ ys2)
+over_both frame low high count size xs ys xs2 ys2 sum one other = record {
+  parts = one.parts ++ other.parts;
+  few = omega (arith, sum, one.few, other.few, length-append one.parts other.parts);
+  before = flat_map-append (λ p. p.0) one.parts other.parts
+      ∙ (λ i. one.before i ++ other.before i);
+  after = flat_map-append (λ p. p.1) one.parts other.parts
+      ∙ (λ i. one.after i ++ other.after i);
+  each = All-append (IsPartIn frame size) one.parts other.parts one.each other.each;
+}
 
--- the part under other names
-pub part_named : (frame : Frame) (old old2 new new2 : List Tasked) → old ≡ old2 → new ≡ new2
-    → PartEnds frame old new → PartEnds frame old2 new2
-part_named frame old old2 new new2 a b p =
-    subst (λ (x : List Tasked × List Tasked). PartEnds frame x.0 x.1) (λ i. (a i, b i)) p
+-- n parts of this size hold all tasks, and so many that the last one isn't empty are at most n
+pub few_enough : (count n size len : ℕ) → len ≤ n * size → count * size < len + size → count ≤ n
+few_enough count n size len most less = fits (cases_lt n count) where
+  up : n < count → suc n ≤ count
+  up h = omega (arith, h)
+
+  fits : (n < count) ⊎ (count ≤ n) → count ≤ n
+  fits (inl more) =
+      absurd (omega (arith, most, less, suc-mul n size, mul-le-mul_right size (up more)))
+  fits (inr h) = h
+
+-- at most so many parts are at most more
+pub over_most : (frame : Frame) (count n size : ℕ) (old new : List Tasked) → count ≤ n
+    → AreOver frame count size old new → AreOver frame n size old new
+over_most frame count n size old new most over = record {
+  parts = over.parts;
+  few = omega (arith, most, over.few);
+  before = over.before;
+  after = over.after;
+  each = over.each;
+}
 
 -- the parts with the constants under a name and the tasks lent and returned
 pub parts_named : (frame frame2 : Frame) (n : ℕ) (old lent new back : List Tasked)

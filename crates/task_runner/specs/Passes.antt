@@ -1,7 +1,6 @@
 -- How threads run the tasks of a world that they share: in parts, by passes over each part.
-use Rattle.std.specs.Prelude.{◌≡◌, ℕ, zero, suc, ◌*◌, ◌<◌, ◌≤◌, ◌⊎◌, Bool, true, false, List, length, Option, Some, None, slice_get, slice_set}
-use Rattle.std.specs.Fork.{slice_chunk}
-use Rattle.std.specs.List.{list_any}
+use Rattle.std.specs.Prelude.{◌≡◌, ℕ, zero, suc, ◌*◌, ◌-◌, ◌<◌, ◌≤◌, All, Bool, true, false, List, length, Option, Some, None, slice_get, slice_set}
+use Rattle.std.specs.List.{flat_map, list_any}
 use Rattle.run_model.specs.Rounds.{RoundsTo, is_moved}
 use Rattle.run_model.specs.declared.turn.Turn.{Turn}
 use Rattle.task_core.specs.Shared.{StepsTo}
@@ -52,13 +51,6 @@ pub record IsPass (frame : Frame) (old new : List Tasked) (k : ℕ) (moved : Boo
   pub made : HaveStepped frame old new turns
   pub moves : moved ≡ list_any is_moved turns
 
--- some first tasks made a turn each, and at least one task made none
-pub record IsInPass (frame : Frame) (old new : List Tasked) : Type 0 where
-  pub count : ℕ
-  pub moved : Bool
-  pub left : count < length old
-  pub pass : IsPass frame old new count moved
-
 -- ---- a part
 
 -- n passes over all tasks, each of which moved one
@@ -74,23 +66,23 @@ pub record IsPartOver (frame : Frame) (old new : List Tasked) : Type 0 where
   pub before : HavePassed frame count old mid
   pub last : IsPass frame mid new (length mid) false
 
--- a part that ran out of memory: passes that each moved a task, and some first turns of the next
-pub record IsPartStopped (frame : Frame) (old new : List Tasked) : Type 0 where
-  pub count : ℕ
-  pub mid : List Tasked
-  pub before : HavePassed frame count old mid
-  pub next : IsInPass frame mid new
+-- a part of at most this size is over: its tasks before and afterwards
+abbrev pub IsPartIn : Frame → ℕ → List Tasked × List Tasked → Type 0
+IsPartIn frame size p = (length p.0 ≤ size) × IsPartOver frame p.0 p.1
 
--- a part that is over or ran out of memory
-abbrev pub PartEnds : Frame → List Tasked → List Tasked → Type 0
-PartEnds frame old new = IsPartOver frame old new ⊎ IsPartStopped frame old new
+-- the tasks were cut into at most so many parts of at most this size, and each part is over
+pub record AreOver (frame : Frame) (count size : ℕ) (old new : List Tasked) : Type 0 where
+  pub parts : List (List Tasked × List Tasked)
+  pub few : length parts ≤ count
+  pub before : flat_map (λ p. p.0) parts ≡ old
+  pub after : flat_map (λ p. p.1) parts ≡ new
+  pub each : All (IsPartIn frame size) parts
 
--- the tasks were cut into at most n parts of this size, and each part has ended
+-- the tasks were cut into at most n parts, none longer than n parts need, and each part is over
 pub record HaveRunInParts (frame : Frame) (n : ℕ) (old new : List Tasked) : Type 0 where
   pub size : ℕ
-  pub few : length old ≤ n * size
-  pub each : (k : ℕ) → k * size < length old
-      → PartEnds frame (slice_chunk old size k) (slice_chunk new size k)
+  pub short : 1 < size → n * (size - 1) < length old
+  pub over : AreOver frame n size old new
 
 -- ---- the run
 

@@ -1,17 +1,16 @@
 //! The tasks of one thread, and the threads that run all tasks.
 
-ghost use Rattle.std.specs.Prelude.{◌≡◌, ◌*◌, ◌<◌, ◌≤◌, None, Some, All, IfOk, OnErr, OnOk, length};
+ghost use Rattle.std.specs.Prelude.{◌≡◌, ◌*◌, ◌-◌, ◌<◌, ◌≤◌, Some, All, IfOk, OnOk, length};
+ghost use denote.Param.Send.{IsSync};
 ghost use Rattle.task_core.specs.frames.Tasks.{IsTask};
 ghost use Rattle.task_runner.specs.Parts.{HaveGone};
-ghost use Rattle.task_runner.specs.Passes.{HaveRunInParts, IsInPass, IsPartOver, IsPartStopped, IsPass, PartEnds, StepsAt};
+ghost use Rattle.task_runner.specs.Passes.{AreOver, HaveRunInParts, IsPartOver, IsPass, StepsAt};
 
 use crate::rounds::has_moved;
 use ima_io::{Gate, Who};
 use std::alloc::AllocError as OutOfMemory;
 use std::sync::Wait;
-use std::sync::atomic::{AtomicBool, Ordering};
-use std::thread;
-use std::thread::Threads;
+use std::thread::{Threads, join_mut};
 use task_core::{Live, Name, Task, Turn};
 
 // Makes one step of the task at this place; passes the gate first unless its program is over.
@@ -26,7 +25,6 @@ fn step_at<N: Name, G: Gate, R: Wait>(
     requires tasks { All (IsTask N.frame) tasks.old }
     ensures gone { HaveGone N.frame tasks.old tasks.new }
     ensures step { IfOk result (λ r. StepsAt N.frame tasks.old tasks.new k (Some r)) }
-    ensures err { OnErr result (StepsAt N.frame tasks.old tasks.new k None) }
 {
     let task = &mut tasks[k];
     if let Some(who) = task.who() {
@@ -50,7 +48,6 @@ fn pass_over<N: Name, G: Gate, R: Wait>(
     ensures gone { HaveGone N.frame tasks.old tasks.new }
     ensures pass { IfOk result (λ moved. IsPass N.frame tasks.old tasks.new
         (length tasks.old) moved) }
-    ensures err { OnErr result (IsInPass N.frame tasks.old tasks.new) }
 {
     let mut moved = false;
     for k in 0..tasks.len() {
@@ -69,7 +66,6 @@ fn run_part<N: Name, G: Gate, R: Wait>(
     requires { All (IsTask N.frame) tasks.old }
     ensures gone { HaveGone N.frame tasks.old tasks.new }
     ensures over { OnOk result (IsPartOver N.frame tasks.old tasks.new) }
-    ensures err { OnErr result (IsPartStopped N.frame tasks.old tasks.new) }
 {
     for _ in 0..u64::MAX {
         if !pass_over(rt, world, tasks, gate)? {
@@ -79,57 +75,95 @@ fn run_part<N: Name, G: Gate, R: Wait>(
     Err(OutOfMemory)
 }
 
-// Runs a part, and notes whether memory ran out.
-fn run_noted<N: Name, G: Gate, R: Wait>(
-    rt: &R,
-    world: &Live<N>,
-    tasks: &mut [Task],
-    gate: &G,
-    failed: &AtomicBool,
-)
-    requires { All (IsTask N.frame) tasks.old }
-    ensures gone { HaveGone N.frame tasks.old tasks.new }
-    ensures part { PartEnds N.frame tasks.old tasks.new }
-{
-    if run_part(rt, world, tasks, gate).is_err() {
-        failed.store(true, Ordering::SeqCst);
-    }
-}
-
 // The size of the parts if so many tasks are cut into at most `n` of them.
 fn part_size(count: usize, n: usize) -> usize
     requires { 1 ≤ n }
     ensures some { 1 ≤ result }
     ensures few { count ≤ n * result }
+    ensures short { 1 < result → n * (result - 1) < count }
 {
     count.div_ceil(n).max(1)
 }
 
-/// Cuts the tasks into at most `n` parts, each of which runs in a thread of its own until a pass
-/// over its tasks moves none. If no thread can be created, the parts run one after another. Returns
-/// whether memory ran out.
+// Runs the tasks in `count` parts of this size, the last of which may be shorter, each in a thread
+// of its own if one can be created. Memory has run out if it has in one of them.
+#[cycle(halves)]
+fn run_halves<N: Name, G: Gate + Sync, R: Threads + Wait + Sync>(
+    rt: &R,
+    world: &Live<N>,
+    gate: &G,
+    size: usize,
+    count: usize,
+    tasks: &mut [Task],
+) -> Result<(), OutOfMemory>
+    requires some { 1 ≤ count }
+    requires most { length tasks.old ≤ count * size }
+    requires tasks { All (IsTask N.frame) tasks.old }
+    ensures gone { HaveGone N.frame tasks.old tasks.new }
+    ensures parts { OnOk result (AreOver N.frame count size tasks.old tasks.new) }
+{
+    if count == 1 {
+        return run_part(rt, world, tasks, gate);
+    }
+    let low = count / 2;
+    let cut = low.saturating_mul(size).min(tasks.len());
+    let (front, back) = tasks.split_at_mut(cut);
+    run_both(rt, world, gate, size, low, front, count - low, back)
+}
+
+// Runs two halves side by side.
+#[cycle(halves)]
+fn run_both<N: Name, G: Gate + Sync, R: Threads + Wait + Sync>(
+    rt: &R,
+    world: &Live<N>,
+    gate: &G,
+    size: usize,
+    low: usize,
+    front: &mut [Task],
+    high: usize,
+    back: &mut [Task],
+) -> Result<(), OutOfMemory>
+    requires some { (1 ≤ low) × (1 ≤ high) }
+    requires most { (length front.old ≤ low * size) × (length back.old ≤ high * size) }
+    requires tasks { All (IsTask N.frame) front.old × All (IsTask N.frame) back.old }
+    ensures front { HaveGone N.frame front.old front.new }
+    ensures back { HaveGone N.frame back.old back.new }
+    ensures parts { OnOk result (AreOver N.frame low size front.old front.new
+        × AreOver N.frame high size back.old back.new) }
+{
+    let mut first = || -> Result<(), OutOfMemory>
+        requires { IsSync R.row × IsSync G.row × (1 ≤ low) × (length front.now ≤ low * size)
+            × All (IsTask N.frame) front.now }
+        ensures { HaveGone N.frame front.entry.now front.exit.now
+            × OnOk result (AreOver N.frame low size front.entry.now front.exit.now) }
+    { run_halves(rt, world, gate, size, low, front) };
+    let mut second = || -> Result<(), OutOfMemory>
+        requires { IsSync R.row × IsSync G.row × (1 ≤ high) × (length back.now ≤ high * size)
+            × All (IsTask N.frame) back.now }
+        ensures { HaveGone N.frame back.entry.now back.exit.now
+            × OnOk result (AreOver N.frame high size back.entry.now back.exit.now) }
+    { run_halves(rt, world, gate, size, high, back) };
+    let (one, other) = join_mut(rt, &mut first, &mut second);
+    one?;
+    other
+}
+
+/// Cuts the tasks into at most `n` parts, none longer than so many parts need, each of which runs in
+/// a thread of its own until a pass over its tasks moves none. If no thread can be created, the parts
+/// run one after another. Memory has run out if it has in one of them.
 pub(crate) fn run_parts<N: Name, G: Gate + Sync, R: Threads + Wait + Sync>(
     rt: &R,
     world: &Live<N>,
     tasks: &mut [Task],
     n: u32,
     gate: &G,
-) -> bool
+) -> Result<(), OutOfMemory>
     requires threads { 1 ≤ n }
     requires tasks { All (IsTask N.frame) tasks.old }
     ensures gone { HaveGone N.frame tasks.old tasks.new }
-    ensures parts { HaveRunInParts N.frame n tasks.old tasks.new }
+    ensures parts { OnOk result (HaveRunInParts N.frame n tasks.old tasks.new) }
 {
-    let failed = AtomicBool::new(false);
     let size = part_size(tasks.len(), n as usize);
-    thread::for_each_chunk_mut(
-        rt,
-        tasks,
-        size,
-        &|_: usize, part: &mut [Task]|
-            requires { All (IsTask N.frame) part.old }
-            ensures { HaveGone N.frame part.old part.new × PartEnds N.frame part.old part.new }
-        { run_noted(rt, world, part, gate, &failed) },
-    );
-    failed.load(Ordering::SeqCst)
+    let count = tasks.len().div_ceil(size).max(1);
+    run_halves(rt, world, gate, size, count, tasks)
 }

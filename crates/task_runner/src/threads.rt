@@ -31,16 +31,14 @@ fn run_shared<N: Name, G: Gate + Sync, R: Threads + Wait + Sync>(
     ensures tasks { AreStill world.frame tasks.old.items tasks.new.items }
 {
     let live = world.share::<N>()?;
-    if run_parts(rt, &live, tasks.as_mut_slice(), n, gate) {
-        return Err(OutOfMemory);
-    }
+    run_parts(rt, &live, tasks.as_mut_slice(), n, gate)?;
     let after = live.back()?;
     Ok(after)
 }
 
 /// Runs the tasks on at most `n` threads. The world is shared, and the tasks are cut into
-/// contiguous parts, each of which makes steps of its tasks in turn until a pass over them moves
-/// none. Then the world is taken back, each task looks at it, and rounds of all tasks go on until
+/// contiguous parts, none longer than `n` parts need, each of which makes steps of its tasks in turn
+/// until a pass over them moves none. Then the world is taken back, each task looks at it, and rounds of all tasks go on until
 /// one moves none. If memory runs out, the tasks have made some of their steps, and the world is
 /// dropped. A part of 2^64 passes counts as out of memory, as a run of 2^64 rounds does.
 pub fn run_threads<N: Name, G: Gate + Sync, R: Threads + Wait + Sync>(

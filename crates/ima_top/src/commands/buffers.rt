@@ -56,6 +56,6 @@ fn measured<G: Gate + Sync, R: Threads + Wait + Sync>(
     print_determines();
     let threads = text.threads() as usize;
     let run = measure_owned(rt, alloc, text, gate)?;
-    let output = print_in_pieces(rt, alloc, &run, threads)?;
+    let output = print_in_pieces(rt, alloc, run, threads)?;
     Ok(output)
 }

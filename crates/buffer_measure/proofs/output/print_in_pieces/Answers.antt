@@ -7,20 +7,20 @@ use Rattle.buffer_measure.proofs.output.print_in_pieces.Goals as goal
 
 pub returns : goal.returns
 returns g c =
-    let r = c.args.r.now in
+    let r = c.args.r in
     let list_is : c.r.inside.list.items ≡ r.list = ap (λ (v : RunValue). v.list) c.r.view_is in
     let banks_are : c.r.inside.banks ≡ r.banks = ap (λ (v : RunValue). v.banks) c.r.view_is in
     let answers_are : c.r.inside.answers.items ≡ r.answers =
     ap (λ (v : RunValue). v.answers) c.r.view_is in
     rw (
       c.in_ok-push-2.ensures,
-      c.in_ok-rest_of.ensures,
-      c.as_slice.ensures.value,
       c.in_ok-push_lines.ensures,
       c.in_ok-push.ensures,
-      c.in_ok-head_of.ensures,
+      c.in_ok-rest.ensures,
+      c.in_ok-head.ensures,
       c.new-out.ensures,
-      c.as_slice-list.ensures.value,
+      c.as_slice-entries.ensures.value,
+      c.as_slice.ensures.value,
       list_is,
       banks_are,
       answers_are,

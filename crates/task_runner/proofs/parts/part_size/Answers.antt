@@ -1,4 +1,4 @@
--- The parts hold all tasks.
+-- The parts hold all tasks, and fewer or shorter ones wouldn't.
 use Rattle.std.proofs.Common.{◌≤◌, arith}
 use Rattle.std.specs.Int.{div_ceil}
 use Rattle.std.proofs.lemmas.Grind.{div_ceil_times}

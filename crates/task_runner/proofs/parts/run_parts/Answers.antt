@@ -1,34 +1,29 @@
--- Each task is in a part that has gone on, and each part has ended.
-use Rattle.std.proofs.Common.{arith}
-use Rattle.std.specs.Fork.{slice_chunk}
-use Rattle.task_runner.proofs.Going.{gone_parts}
-use Rattle.task_runner.proofs.Passing.{part_named}
+-- Each part is over, and no part is longer than so many parts need.
+use Rattle.std.proofs.Common.{◌≤◌, length, arith}
+use Rattle.std.specs.Int.{div_ceil}
+use Rattle.std.proofs.lemmas.Grind.{div_ceil_times}
+use Rattle.std.proofs.lemmas.Result.{on_ok_weaker}
+use Rattle.task_runner.proofs.Passing.{few_enough, over_most}
+use Rattle.task_runner.specs.Passes.{AreOver}
 use Rattle.task_runner.proofs.parts.run_parts.Goals as goal
-
-pub returns-clause-gone : goal.returns-clause-gone
-returns-clause-gone g c =
-    gone_parts g.N.Name.frame c.args.tasks.now c.for_each_chunk_mut.new.s (omega arith)
-    (λ i d l.
-    let at = (c.for_each_chunk_mut.ensures.by_index i d l).1 in
-    record {
-      part = at.argument.now;
-      after = at.after_call.now;
-      offset = at.offset;
-      gone = at.call.0;
-      within = at.offset_in_chunk;
-      was = at.old_element;
-      is = at.new_element;
-    })
 
 pub returns-clause-parts : goal.returns-clause-parts
 returns-clause-parts g c =
+    let frame = g.N.Name.frame in
+    let old = c.args.tasks.now in
+    let new = c.run_halves.new.tasks in
     let size = c.part_size-size.result in
-    record {
+    let count = c.max-count.result in
+    let n = c.args.n in
+    let spans = div_ceil_times (length old) size (omega (arith, c.part_size-size.ensures.some)) in
+    let least : div_ceil (length old) size ≤ n =
+    few_enough (div_ceil (length old) size) n size (length old) c.part_size-size.ensures.few
+    spans.1 in
+    let few : count ≤ n = omega (arith, least, c.requires.threads) in
+    on_ok_weaker c.run_halves.result
+    (λ (over : AreOver frame count size old new). record {
       size = size;
-      few = c.part_size-size.ensures.few;
-      each = λ k below.
-          let at = c.for_each_chunk_mut.ensures.chunks k below in
-          part_named g.N.Name.frame at.argument.now (slice_chunk c.args.tasks.now size k)
-          at.after_call.now (slice_chunk c.for_each_chunk_mut.new.s size k) at.argument_is at.left
-          at.call.1;
-    }
+      short = c.part_size-size.ensures.short;
+      over = over_most frame count n size old new few over;
+    })
+    c.run_halves.ensures.parts

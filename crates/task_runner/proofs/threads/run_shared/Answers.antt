@@ -1,6 +1,7 @@
 -- The parts have run, and the world has been taken back.
 use Rattle.std.proofs.Common.{◌≡◌, ◌++◌, drop, length, refl, sym, take, ◌∙◌, subst}
 use Rattle.std.specs.Prelude.{All, List}
+use Rattle.std.proofs.lemmas.Result.{err_from_is_err_and}
 use Rattle.task_core.specs.frames.Tasks.{IsTask, Tasked}
 use Rattle.task_runner.proofs.Going.{all_tasks, front_is, gone_named, gone_none, still_runs}
 use Rattle.task_runner.proofs.Passing.{parts_named}
@@ -21,8 +22,8 @@ run_parts-requires-clause-tasks g c =
     (all_tasks c.args.world.frame g.N.Name.frame c.args.tasks.now.items c.requires.frame
     c.requires.tasks)
 
-pub returns-then-run_parts-clause-tasks : goal.returns-then-run_parts-clause-tasks
-returns-then-run_parts-clause-tasks g c =
+pub returns-in_err-run_parts-clause-tasks : goal.returns-in_err-run_parts-clause-tasks
+returns-in_err-run_parts-clause-tasks g c =
     let old = c.args.tasks.now.items in
     let new = c.run_parts.new.tasks in
     let back = take c.args.tasks.now.len (new ++ drop (length new) old) in
@@ -42,6 +43,12 @@ returns-in_err-after-clause-tasks g c =
     (c.run_parts.ensures.gone.even ∙ c.as_mut_slice.ensures.len) in
     gone_named c.args.world.frame g.N.Name.frame old c.as_mut_slice.result.now new back
     c.requires.frame c.as_mut_slice.ensures.value is c.requires.tasks c.run_parts.ensures.gone
+
+pub returns-in_err-after-clause-parts : goal.returns-in_err-after-clause-parts
+returns-in_err-after-clause-parts g c =
+    let p = err_from_is_err_and c.from_residual-in_err-after.result
+    c.from_residual-in_err-after.ensures.1 in
+    rw (p.1) tt
 
 pub returns-clause-still : goal.returns-clause-still
 returns-clause-still g c =
@@ -65,7 +72,7 @@ returns-clause-parts g c =
     front_is new (drop (length new) old) c.args.tasks.now.len
     (c.run_parts.ensures.gone.even ∙ c.as_mut_slice.ensures.len) in
     parts_named c.args.world.frame g.N.Name.frame c.args.n old c.as_mut_slice.result.now new back
-    c.requires.frame c.as_mut_slice.ensures.value is c.run_parts.ensures.parts
+    c.requires.frame c.as_mut_slice.ensures.value is c.in_ok-run_parts.ensures.parts
 
 pub returns-clause-tasks : goal.returns-clause-tasks
 returns-clause-tasks g c =

@@ -1,0 +1,48 @@
+-- Both halves have few enough parts, and the parts of the halves are those of all tasks.
+use Rattle.std.proofs.Common.{◌-◌, ◌/◌, ◌++◌, List, length, sym, subst, arith}
+use Rattle.std.proofs.lemmas.Result.{on_ok_weaker}
+use Rattle.task_core.specs.frames.Tasks.{Tasked}
+use Rattle.task_runner.proofs.Going.{gone_both}
+use Rattle.task_runner.proofs.Passing.{halves_fit, over_alone, over_both}
+use Rattle.task_runner.specs.Parts.{HaveGone}
+use Rattle.task_runner.specs.Passes.{AreOver}
+use Rattle.task_runner.proofs.parts.+halves.Goals as goal
+
+pub run_halves-returns-then-count-eq1-clause-parts :
+    goal.run_halves-returns-then-count-eq1-clause-parts
+run_halves-returns-then-count-eq1-clause-parts g t c =
+    on_ok_weaker c.run_part.result
+    (over_alone g.N.Name.frame c.args.count c.args.size c.args.tasks.now c.run_part.new.tasks
+    c.if-count-eq1.true c.requires.most)
+    c.run_part.ensures.over
+
+pub run_halves-run_both-requires-clause-most : goal.run_halves-run_both-requires-clause-most
+run_halves-run_both-requires-clause-most g t c κs within =
+    halves_fit (c.args.count / 2) c.args.count c.args.size c.saturating_mul.result c.min-cut.result
+    (length c.split_at_mut-front.result.0.now) (length c.split_at_mut-front.result.1.now)
+    (length c.args.tasks.now) (omega arith) c.saturating_mul.ensures c.min-cut.ensures
+    c.split_at_mut-front.ensures.front_len c.split_at_mut-front.ensures.back_len c.requires.most
+    (omega arith)
+
+pub run_halves-returns-clause-gone : goal.run_halves-returns-clause-gone
+run_halves-returns-clause-gone g t c =
+    subst (λ (old : List Tasked). HaveGone g.N.Name.frame old
+    (c.run_both.new.front ++ c.run_both.new.back)) (sym c.split_at_mut-front.ensures.value)
+    (gone_both g.N.Name.frame c.split_at_mut-front.result.0.now c.split_at_mut-front.result.1.now
+    c.run_both.new.front c.run_both.new.back c.run_both.ensures.front c.run_both.ensures.back)
+
+pub run_halves-returns-clause-parts : goal.run_halves-returns-clause-parts
+run_halves-returns-clause-parts g t c =
+    let frame = g.N.Name.frame in
+    let cut = c.split_at_mut-front in
+    let low = c.args.count / 2 in
+    let size = c.args.size in
+    let new = c.run_both.new.front ++ c.run_both.new.back in
+    on_ok_weaker c.run_both.result
+    (λ (both : AreOver frame low size cut.result.0.now c.run_both.new.front
+    × AreOver frame (c.args.count - low) size cut.result.1.now c.run_both.new.back).
+    subst (λ (old : List Tasked). AreOver frame c.args.count size old new)
+    (sym cut.ensures.value)
+    (over_both frame low (c.args.count - low) c.args.count size cut.result.0.now
+    cut.result.1.now c.run_both.new.front c.run_both.new.back (omega arith) both.0 both.1))
+    c.run_both.ensures.parts
