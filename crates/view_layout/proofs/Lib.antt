@@ -2,6 +2,7 @@ pub mod Tests
 pub mod FilesLemmas
 pub mod WalkLemmas
 pub mod Small
+pub mod ColumnsSteps
 pub mod CountsLemmas
 pub mod StagesLemmas
 pub mod HashedLemmas

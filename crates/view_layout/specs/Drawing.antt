@@ -255,9 +255,9 @@ sketch_by columns bars events = record {
   events = events;
 }
 
-abbrev pub sketch_of : List Window → List Event → List State → Sketch
-sketch_of ws journal states =
-    sketch_by (columns_of ws journal states) (shown_bars ws journal) (length journal)
+abbrev pub sketch_of : List Window → List Event → Sketch
+sketch_of ws journal =
+    sketch_by (columns_of ws journal) (shown_bars ws journal) (length journal)
 
 -- ---- its size
 

@@ -246,6 +246,6 @@ of_sketch s differs parts =
     ∙ (first_quiet (middle_items s) (front_items s) (middle_quiet s) ∙ front_marks s)
 
 pub each_event_has_one_mark : EachEventHasOneMark
-each_event_has_one_mark view journal states ws differs =
-    of_items view (items_of (sketch_of ws journal states) differs view.parts)
-    ∙ of_sketch (sketch_of ws journal states) differs view.parts
+each_event_has_one_mark view journal ws differs =
+    of_items view (items_of (sketch_of ws journal) differs view.parts)
+    ∙ of_sketch (sketch_of ws journal) differs view.parts

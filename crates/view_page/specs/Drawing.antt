@@ -14,7 +14,6 @@ use Rattle.view_layout.specs.declared.kinds.Mark.{Mark}
 use Rattle.view_layout.specs.declared.kinds.Mark.TheVariants as mark
 use Rattle.view_layout.specs.declared.kinds.Note.{Note}
 use Rattle.view_layout.specs.declared.kinds.Note.TheVariants as note
-use Rattle.view_layout.specs.declared.walk.State.{State}
 use Rattle.view_layout.specs.declared.window.Window.{Window}
 use Rattle.view_layout.specs.reading.declared.event.Deed.{Deed}
 use Rattle.view_layout.specs.reading.declared.event.Deed.TheVariants as deed
@@ -27,7 +26,6 @@ use Rattle.view_layout.specs.Columns.{columns_of}
 use Rattle.view_layout.specs.Notes.{mark_of}
 use Rattle.view_page.specs.Pieces.{marks_in}
 use Rattle.view_layout.specs.Drawing.{Sketch, end_of, highest, items_of, sketch_of}
-use Rattle.view_layout.specs.Walk.{states_of}
 use Rattle.view_layout.specs.Windows.{windows}
 use Rattle.view_page.specs.declared.own.Own.{Own}
 use Rattle.view_page.specs.declared.own.Own.TheVariants as own
@@ -202,10 +200,9 @@ sketch_pieces view extra s differs =
     head s ++ (extra
     ++ (items_pieces view (items_of s differs view.parts) ++ piece.Own own.SvgEnd ∷ []))
 
--- the drawing of an inode's journal; `states` is what the strips show after each event
-abbrev pub inode_pieces : View → List Event → List State → List Window → List ℕ → List Piece
-inode_pieces view journal states ws differs =
-    sketch_pieces view [] (sketch_of ws journal states) differs
+-- the drawing of an inode's journal
+abbrev pub inode_pieces : View → List Event → List Window → List ℕ → List Piece
+inode_pieces view journal ws differs = sketch_pieces view [] (sketch_of ws journal) differs
 
 -- ---- a file of its own
 
@@ -224,11 +221,11 @@ windows_or (Some w) journal = w ∷ []
 abbrev pub svg_of : ℕ → List Event → Option Window → List Piece
 svg_of inode journal range =
     sketch_pieces (view_alone inode) rules_pieces
-    (sketch_of (windows_or range journal) journal (states_of journal)) []
+    (sketch_of (windows_or range journal) journal) []
 
 -- each event that is drawn has one mark, in the order of the columns, and there are no other marks
 abbrev pub EachEventHasOneMark : Type 0
 EachEventHasOneMark =
-    (view : View) (journal : List Event) (states : List State) (ws : List Window)
-    (differs : List ℕ) → marks_in (inode_pieces view journal states ws differs)
-    ≡ map (λ (c : Column). mark_of c.event) (columns_of ws journal states)
+    (view : View) (journal : List Event) (ws : List Window) (differs : List ℕ)
+    → marks_in (inode_pieces view journal ws differs)
+    ≡ map (λ (c : Column). mark_of c.event) (columns_of ws journal)
