@@ -11,6 +11,9 @@ pub mod HoldersLemmas
 pub mod BarsLemmas
 pub mod RowsLemmas
 pub mod ColumnsLemmas
+pub mod ColumnsStand
+pub mod FlagsLemmas
+pub mod InLanes
 pub mod WindowsLemmas
 mod Examples
 pub mod BarsSteps

@@ -183,7 +183,7 @@ mark_items lanes seats c = mark_at lanes seats c ∷ []
 
 abbrev pub axis_at : ℕ → Column → Item
 axis_at bottom c =
-    item.Axis (middle c.x) bottom c.place c.event.deed c.event.outcome (mark_of c.event)
+    item.Axis (middle c.x) bottom c.place c.event (mark_of c.event)
 
 abbrev pub axis_items : ℕ → Column → List Item
 axis_items bottom c = axis_at bottom c ∷ []

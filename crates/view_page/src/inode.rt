@@ -137,7 +137,7 @@ fn push_head(out: &mut Vec<Piece>, parts: Parts<'_>) -> Result<(), OutOfMemory>
 {
     let width = end_of(parts.columns) + 190;
     let up = u64::from(highest(parts.flags)) + 4;
-    let height = up + u64::from(parts.bottom) + 100;
+    let height = up + u64::from(parts.bottom) + 120;
     let pieces = [
         Piece::Own(Own::Svg),
         Piece::Number(width),
