@@ -32,11 +32,7 @@ pub struct Sketch {
 }
 
 /// The parts of a journal's drawing.
-pub fn draft(
-    alloc: Global,
-    windows: &[Window],
-    journal: &[Event],
-) -> Result<Sketch, OutOfMemory>
+pub fn draft(alloc: Global, windows: &[Window], journal: &[Event]) -> Result<Sketch, OutOfMemory>
     requires { length journal.now < 2 ^ 32 }
     ensures { IfOk result (λ s. sketch_in s ≡ spec.sketch_of windows.now journal.now) }
 {

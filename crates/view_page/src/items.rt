@@ -230,10 +230,7 @@ fn push_detail(
 fn push_word(out: &mut Vec<Piece>, line: Span, spaces: u32) -> Result<(), OutOfMemory>
     ensures { OnOk result (out.new.items ≡ out.old.items ++ spec.word_pieces line spaces) }
 {
-    let pieces = [
-        Piece::Own(Own::Space),
-        Piece::Word(cut(line), spaces),
-    ];
+    let pieces = [Piece::Own(Own::Space), Piece::Word(cut(line), spaces)];
     add(out, &pieces)
 }
 
