@@ -35,6 +35,6 @@ pub use kinds::{Collection, Freshness, Mark, Note};
 pub use lanes::{Lane, Seat};
 pub use notes::{mark_of, push_notes};
 pub use report_read as reading;
-pub use scenery::end_of;
-pub use walk::{State, Walk};
+pub use scenery::{end_of, is_write};
+pub use walk::{State, Walk, is_reader, is_writer};
 pub use window::{Window, is_marked, width, windows};

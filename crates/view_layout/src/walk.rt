@@ -58,6 +58,13 @@ impl Walk {
         }
     }
 
+    /// For each place, the kind of the file that its event opened, while that file is open.
+    pub fn held(&self) -> &[Option<Kind>]
+        ensures { result.now ≡ (walk_of self.now).held }
+    {
+        &self.held
+    }
+
     /// Goes on over one more event.
     pub fn step(&mut self, event: Event) -> Result<(), OutOfMemory>
         requires { spec.IsSmall (walk_of self.old) }
@@ -146,7 +153,8 @@ fn passes_reader(kind: Option<Kind>) -> bool
     }
 }
 
-fn is_reader(kind: Kind) -> bool
+/// Whether a file of this kind counts as a reader.
+pub fn is_reader(kind: Kind) -> bool
     ensures { result ≡ files.is_reader kind }
 {
     match kind {
@@ -164,7 +172,8 @@ fn passes_writer(kind: Option<Kind>) -> bool
     }
 }
 
-fn is_writer(kind: Kind) -> bool
+/// Whether a file of this kind counts as a writer.
+pub fn is_writer(kind: Kind) -> bool
     ensures { result ≡ files.is_writer kind }
 {
     match kind {
