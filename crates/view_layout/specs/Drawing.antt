@@ -86,9 +86,10 @@ middle_end x = middle x + column
 abbrev pub segment : Strip → ℕ → ℕ → ℕ → Item
 segment kind from to shown = item.Segment kind from (to - from) shown
 
--- the segments from one on that begins at `from` and reaches to `to` so far
+-- the segments from one on that begins at `from` and reaches to `to` so far; the last one ends at
+-- the edge of its column
 abbrev pub segments_from : Strip → ℕ → ℕ → ℕ → List Column → List Item
-segments_from kind from to shown [] = segment kind from to shown ∷ []
+segments_from kind from to shown [] = segment kind from (to - 15) shown ∷ []
 segments_from kind from to shown (c ∷ cs) =
     if shown_in kind c.state == shown && middle c.x == to
     then segments_from kind from (middle_end c.x) shown cs
