@@ -1,5 +1,5 @@
 -- The pieces of which a page is made: the program's own bytes, numbers, and texts of the report.
-use Rattle.std.specs.Prelude.{ℕ, ◌-◌, ◌==◌, Bool, true, false, List, [], ◌∷◌, take, drop, if◌then◌else◌}
+use Rattle.std.specs.Prelude.{ℕ, suc, ◌-◌, ◌==◌, Bool, true, false, List, [], ◌∷◌, take, drop, if◌then◌else◌}
 use Rattle.std.specs.List.{flat_map}
 use Rattle.view_layout.specs.declared.kinds.Mark.{Mark}
 use Rattle.view_layout.specs.reading.declared.event.Span.{Span}
@@ -14,10 +14,13 @@ use Rattle.view_page.specs.declared.pieces.Piece.TheVariants as piece
 abbrev pub text_at : List ℕ → Span → List ℕ
 text_at text span = take span.len (drop span.at text)
 
--- the bytes before the first space
+-- how many bytes are before the first space
+abbrev pub word_len : List ℕ → ℕ
+word_len [] = 0
+word_len (b ∷ bytes) = if b == 32 then 0 else suc (word_len bytes)
+
 abbrev pub first_word : List ℕ → List ℕ
-first_word [] = []
-first_word (b ∷ bytes) = if b == 32 then [] else b ∷ first_word bytes
+first_word line = take (word_len line) line
 
 -- the word after so many spaces
 abbrev pub word_at : ℕ → List ℕ → List ℕ

@@ -1,6 +1,6 @@
 // The pieces of which a page is made.
 
-ghost use Rattle.std.specs.Prelude.{◌≡◌, ◌++◌, take, drop, OnOk};
+ghost use Rattle.std.specs.Prelude.{◌≡◌, ◌++◌, ◌≤◌, length, OnOk};
 ghost use Rattle.view_page.specs.Pieces as spec;
 
 use crate::escape::push_text;
@@ -71,10 +71,18 @@ fn word_at(line: &[u8], spaces: u32) -> &[u8]
 fn first_word(line: &[u8]) -> &[u8]
     ensures { result.now ≡ spec.first_word line.now }
 {
+    &line[..word_len(line)]
+}
+
+// How many bytes are before the first space.
+fn word_len(line: &[u8]) -> usize
+    ensures is { result ≡ spec.word_len line.now }
+    ensures within { result ≤ length line.now }
+{
     for (at, byte) in line.iter().enumerate() {
         if *byte == b' ' {
-            return &line[..at];
+            return at;
         }
     }
-    line
+    line.len()
 }
