@@ -1,6 +1,6 @@
 // What stands behind the events of a drawing.
 
-ghost use Rattle.std.specs.Prelude.{◌≡◌, ◌++◌, ◌==◌, ◌<◌, ◌≤◌, ◌^◌, OnOk};
+ghost use Rattle.std.specs.Prelude.{◌≡◌, ◌++◌, ◌==◌, ◌<◌, ◌^◌, OnOk};
 ghost use Rattle.std.specs.List.{flat_map, list_any};
 ghost use Rattle.view_layout.specs.Drawing as spec;
 
@@ -192,7 +192,8 @@ fn push_write(items: &mut Vec<Item>, bottom: u32, column: Column) -> Result<(), 
     Ok(())
 }
 
-fn is_write(deed: Deed, outcome: Outcome) -> bool
+/// Whether the event is a write or a truncation that was done.
+pub fn is_write(deed: Deed, outcome: Outcome) -> bool
     ensures { result ≡ spec.is_write deed outcome }
 {
     match (deed, outcome) {
