@@ -1,5 +1,6 @@
 pub mod Html
 pub mod Look
+pub mod Told
 pub mod Parts
 pub mod Frame
 pub mod Words
@@ -7,3 +8,8 @@ pub mod Section
 pub mod Slots
 pub mod Entries
 pub mod Page
+pub mod Alike
+pub mod Holders
+pub mod Sentences
+pub mod Overview
+pub mod Pair

@@ -8,6 +8,7 @@ use Rattle.view_page.specs.declared.own.Side.TheVariants as side
 use Rattle.view_page.specs.declared.pieces.Piece.TheVariants as piece
 use Rattle.view_pages.specs.Html.{frame_bytes, section_bytes, table_bytes}
 use Rattle.view_pages.specs.Look.{legend, style}
+use Rattle.view_pages.specs.Told.{overview_bytes, told_bytes}
 use Rattle.view_pages.specs.declared.part.Part.{Part}
 use Rattle.view_pages.specs.declared.part.Part.TheVariants as part
 
@@ -21,6 +22,8 @@ abbrev pub bytes_of : List ℕ → Part → List ℕ
 bytes_of text (part.Frame f) = frame_bytes f
 bytes_of text (part.Section s) = section_bytes s
 bytes_of text (part.Table t) = table_bytes t
+bytes_of text (part.Told t) = told_bytes t
+bytes_of text (part.Overview o) = overview_bytes o
 bytes_of text (part.Side s) = side_bytes s
 bytes_of text part.Style = style
 bytes_of text part.Legend = legend

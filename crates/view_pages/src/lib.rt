@@ -4,18 +4,27 @@
 //! the pieces of drawings. `specs/` says which parts a page has.
 #![tactic(auto)]
 
+mod alike;
 mod entries;
 mod frame;
+mod holders;
 mod html;
 mod look;
+mod overview;
 mod page;
+mod pair;
 mod part;
 mod section;
+mod sentences;
 mod slots;
+mod tales;
+mod told;
 mod words;
 
 pub use html::{Frame, Section, Table};
 pub use page::{push_inode_page, push_page};
+pub use pair::push_pair;
 pub use part::Part;
 pub use std::alloc::AllocError as OutOfMemory;
+pub use told::{Overview, Told};
 pub use view_page as drawn;

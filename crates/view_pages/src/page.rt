@@ -69,7 +69,7 @@ fn added(alloc: Global, n: usize, inodes: &[Inode]) -> Result<Vec<Option<At>>, O
     Ok(table)
 }
 
-fn push_list(
+pub fn push_list(
     alloc: Global,
     out: &mut Vec<u8>,
     text: &[u8],

@@ -143,7 +143,7 @@ pub fn push_at_end(
     Ok(())
 }
 
-fn push_drawing(
+pub fn push_drawing(
     alloc: Global,
     out: &mut Vec<u8>,
     text: &[u8],
@@ -163,7 +163,7 @@ fn push_drawing(
     Ok(())
 }
 
-fn push_not_drawn(out: &mut Vec<u8>, text: &[u8], number: u64) -> Result<(), OutOfMemory>
+pub fn push_not_drawn(out: &mut Vec<u8>, text: &[u8], number: u64) -> Result<(), OutOfMemory>
     ensures { OnOk result (Pushed text.now out.old.items out.new.items (spec.not_drawn number)) }
 {
     let parts = [
