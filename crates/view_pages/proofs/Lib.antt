@@ -1,3 +1,4 @@
 pub mod Joined
 pub mod States
 pub mod Drawings
+pub mod Walks

@@ -48,7 +48,8 @@ fn same_letters(a: &[u8], b: &[u8]) -> bool
     next_letter(b, next).is_none()
 }
 
-fn file_of(deed: Deed) -> Option<u32>
+/// The place of the count of a deed's file.
+pub fn file_of(deed: Deed) -> Option<u32>
     ensures { result ≡ spec.file_of deed }
 {
     match deed {
@@ -104,7 +105,8 @@ fn same_who(event: Event, other: Event) -> bool
         && (event.who.call == other.who.call && event.who.step == other.who.step)
 }
 
-fn opener(journal: &[Event], file: Option<u32>) -> Option<Event>
+/// The event that opened the file.
+pub fn opener(journal: &[Event], file: Option<u32>) -> Option<Event>
     ensures { result ≡ spec.opener journal.now file }
 {
     match file {
@@ -186,7 +188,8 @@ pub fn parted(text: &[u8], mine: &[Event], other: &[Event]) -> Option<usize>
     }
 }
 
-fn is_drawn(windows: &[Window], place: u32) -> bool
+/// The place is in one of the windows.
+pub fn is_drawn(windows: &[Window], place: u32) -> bool
     ensures { result ≡ spec.is_drawn windows.now place }
 {
     for window in windows {

@@ -12,7 +12,7 @@ use view_page::layout::reading::{Deed, Event, Kind, Outcome};
 use view_page::layout::{Walk, is_reader, is_writer};
 
 /// Who holds a file at a violation.
-#[derive(Clone, Copy, Debug, PartialEq, Eq)]
+#[derive(Clone, Copy)]
 pub enum Holding {
     Readers,
     Writers,

@@ -5,6 +5,7 @@
 #![tactic(auto)]
 
 mod alike;
+mod buckets;
 mod entries;
 mod frame;
 mod holders;
@@ -14,6 +15,7 @@ mod overview;
 mod page;
 mod pair;
 mod part;
+mod said;
 mod section;
 mod sentences;
 mod slots;
