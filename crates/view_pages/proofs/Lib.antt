@@ -1,4 +1,5 @@
 pub mod Joined
-pub mod States
 pub mod Drawings
 pub mod Walks
+pub mod TalesSteps
+pub mod HoldersSteps

@@ -5,11 +5,22 @@ use Rattle.std.proofs.lemmas.Bool.{eq-eqb, ne_eqb}
 use Rattle.std.proofs.lemmas.List.{reverse-append}
 use Rattle.view_page.specs.layout.Files.{dropped, files, less_file, opened, with_file, without_file}
 use Rattle.view_page.specs.layout.Walk.{IsSmall, Walk, cleared, start, walked}
+use Rattle.view_page.specs.layout.reading.declared.event.Deed.TheVariants as deed
 use Rattle.view_page.specs.layout.reading.declared.event.Event.{Event}
 use Rattle.view_page.specs.layout.reading.declared.event.Kind.{Kind}
+use Rattle.view_page.specs.layout.reading.declared.event.Outcome.TheVariants as outcome
 use Rattle.view_page.proofs.about_layouts.Small.{held_next, small_next, starts_small}
 use Rattle.view_page.proofs.about_layouts.WalkLemmas.{length-cleared, length-push}
 use Rattle.view_pages.specs.Holders.{held_files, held_from, walked_all}
+
+-- an event for where there is none
+abbrev pub no_event : Event
+no_event = record {
+  line = record { at = 0; len = 0 };
+  who = record { task = 0; call = 0; step = 0 };
+  deed = deed.Birth;
+  outcome = outcome.Born;
+}
 
 -- a walk over so many events
 pub record IsAt (place : ℕ) (w : Walk) : Type 0 where

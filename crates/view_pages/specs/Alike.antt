@@ -23,7 +23,7 @@ letters (b ∷ bytes) = if is_digit b then letters bytes else b ∷ letters byte
 
 abbrev pub same_bytes : List ℕ → List ℕ → Bool
 same_bytes [] [] = true
-same_bytes (a ∷ as) (b ∷ bs) = if a == b then same_bytes as bs else false
+same_bytes (x ∷ xs) (y ∷ ys) = if x == y then same_bytes xs ys else false
 same_bytes _ _ = false
 
 abbrev pub same_letters : List ℕ → List ℕ → Bool

@@ -12,13 +12,18 @@ use Rattle.view_page.specs.layout.reading.declared.report.InodeHead.{InodeHead}
 use Rattle.view_pages.specs.Alike.{differing, parted}
 use Rattle.view_pages.specs.Frame.{head, tiles}
 use Rattle.view_pages.specs.Page.{list_parts}
-use Rattle.view_pages.specs.Section.{at_end, drawing, heading, most_drawn, not_drawn}
+use Rattle.view_pages.specs.Parts.{more}
+use Rattle.view_pages.specs.Section.{at_end, drawing, heading, not_drawn}
 use Rattle.view_pages.specs.declared.html.Frame.TheVariants as frame
 use Rattle.view_pages.specs.declared.html.Section.TheVariants as section
 use Rattle.view_pages.specs.declared.part.Part.{Part}
 use Rattle.view_pages.specs.declared.part.Part.TheVariants as part
 
 -- ---- one side
+
+-- a journal of at most as many events is drawn whole, and of a longer one windows
+abbrev pub most_drawn : ℕ
+most_drawn = 120
 
 -- which report the section is of
 abbrev pub which : Side → Part
@@ -102,17 +107,11 @@ pairs_from text number room (i ∷ is) (j ∷ js) =
 abbrev pub shown : List InodeValue → List InodeValue → ℕ
 shown is js = min (min (length is) (length js)) most_lines
 
--- how many inodes there are beyond these
-abbrev pub more_inodes : ℕ → List Part
-more_inodes n =
-    if nat_lt 0 n
-    then part.Section section.MoreInodes ∷ part.Number n ∷ part.Section section.MoreInodesEnd ∷ []
-    else []
-
 abbrev pub pairs : List ℕ → List InodeValue → List InodeValue → List Part
 pairs text is js =
     pairs_from text 0 most_pairs (take (shown is js) is) (take (shown is js) js)
-    ++ more_inodes (max (length is) (length js) - shown is js)
+    ++ more (part.Section section.MoreInodes) (max (length is) (length js) - shown is js)
+    (part.Section section.MoreInodesEnd)
 
 -- ---- the page
 

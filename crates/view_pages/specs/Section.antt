@@ -4,7 +4,6 @@ use Rattle.std.specs.List.{flat_map}
 use Rattle.view_page.specs.Drawing.{inode_pieces}
 use Rattle.view_page.specs.declared.own.Side.{Side}
 use Rattle.view_page.specs.declared.inode.View.{View}
-use Rattle.view_page.specs.layout.Walk.{states_of}
 use Rattle.view_page.specs.layout.Windows.{windows}
 use Rattle.view_page.specs.layout.declared.window.Window.{Window}
 use Rattle.view_page.specs.layout.reading.Report.{InodeValue}
@@ -76,7 +75,7 @@ at_end text head lines =
 abbrev pub drawing : View → List Event → List Window → List ℕ → List Part
 drawing view journal ws differs =
     part.Section section.Wide ∷ []
-    ++ map part.Drawn (inode_pieces view journal (states_of journal) ws differs)
+    ++ map part.Drawn (inode_pieces view journal ws differs)
     ++ part.Section section.WideEnd ∷ []
 
 abbrev pub not_drawn : ℕ → List Part

@@ -22,6 +22,7 @@ use Rattle.view_page.specs.layout.reading.declared.event.Outcome.TheVariants as 
 use Rattle.view_page.specs.layout.reading.declared.event.Verdict.{Verdict}
 use Rattle.view_page.specs.layout.reading.declared.event.Verdict.TheVariants as verdict
 use Rattle.view_pages.specs.Alike.{file_of, is_drawn, opener}
+use Rattle.view_pages.specs.Parts.{more}
 use Rattle.view_pages.specs.Words.{after_word, cut}
 use Rattle.view_pages.specs.declared.html.Table.TheVariants as table
 use Rattle.view_pages.specs.declared.part.Part.{Part}
@@ -104,14 +105,11 @@ named_from journal n (file ∷ files) =
 abbrev pub most_named : ℕ
 most_named = 4
 
-abbrev pub more_holders : ℕ → List Part
-more_holders n =
-    if nat_lt 0 n then part.Told told.And ∷ part.Number n ∷ part.Told told.More ∷ [] else []
-
 -- the holders of a file, the first of which are named
 abbrev pub named : List Event → List ℕ → List Part
 named journal files =
-    named_from journal 0 (take most_named files) ++ more_holders (length files - most_named)
+    named_from journal 0 (take most_named files)
+    ++ more (part.Told told.And) (length files - most_named) (part.Told told.More)
 
 -- the holders of the file at a violation, in the order in which they opened it
 abbrev pub holders_at : List Event → ℕ → Event → List ℕ
@@ -218,18 +216,12 @@ abbrev pub sentence : List ℕ → View → List Event → List Window → ℕ �
 sentence text view journal ws place =
     sentence_by text view journal ws place (slice_get journal place)
 
--- how many sentences there are beyond these
-abbrev pub more_told : ℕ → List Part
-more_told n =
-    if nat_lt 0 n
-    then part.Told told.MoreItems ∷ part.Number n ∷ part.Told told.MoreItemsEnd ∷ [] else []
-
 -- the sentences of these places, which are the first of so many
 abbrev pub list_of : List ℕ → View → List Event → List Window → List ℕ → ℕ → List Part
 list_of text view journal ws places n =
     part.Told told.List ∷ []
     ++ flat_map (sentence text view journal ws) places
-    ++ more_told (n - most_told)
+    ++ more (part.Told told.MoreItems) (n - most_told) (part.Told told.MoreItemsEnd)
     ++ part.Told told.ListEnd ∷ []
 
 abbrev pub list_by : List ℕ → View → List Event → List Window → List ℕ → ℕ → List Part

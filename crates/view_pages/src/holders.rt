@@ -1,6 +1,6 @@
 // The holders of a file at a violation.
 
-ghost use Rattle.std.specs.Prelude.{◌≡◌, ◌<◌, length, reverse, IfOk};
+ghost use Rattle.std.specs.Prelude.{◌≡◌, ◌<◌, ◌++◌, [], ◌∷◌, length, reverse, if◌then◌else◌, IfOk, OnOk};
 ghost use Rattle.view_page.specs.layout.Files.{files};
 ghost use Rattle.view_page.specs.layout.Sentences.{held_by, holders};
 ghost use Rattle.view_page.specs.layout.Walk.{start};
@@ -48,6 +48,16 @@ fn walked(alloc: Global, journal: &[Event]) -> Result<Walk, OutOfMemory>
     Ok(walk)
 }
 
+fn add_if(holds: bool, holders: &mut Vec<u32>, place: u32) -> Result<(), OutOfMemory>
+    ensures { OnOk result (holders.new.items
+        ≡ (if holds then holders.old.items ++ place ∷ [] else holders.old.items)) }
+{
+    if holds {
+        holders.push(place)?;
+    }
+    Ok(())
+}
+
 // The open files that count, other than the file itself, in the order in which they were opened.
 fn holders_in(
     alloc: Global,
@@ -62,14 +72,12 @@ fn holders_in(
     let mut holders = Vec::new(alloc);
     for (place, kind) in held.iter().enumerate() {
         let place = place as u32;
-        if is_holder(holding, file, place, *kind) {
-            holders.push(place)?;
-        }
+        add_if(is_holder(holding, file, place, *kind), &mut holders, place)?;
     }
     Ok(holders)
 }
 
-fn holding(
+fn holders_by(
     alloc: Global,
     holding: Holding,
     file: u32,
@@ -95,10 +103,10 @@ pub fn holders(
 {
     match (event.deed, event.outcome) {
         (Deed::Check(file), Outcome::ToMToU(_)) => {
-            holding(alloc, Holding::Readers, file, journal)
+            holders_by(alloc, Holding::Readers, file, journal)
         }
         (Deed::Check(file), Outcome::OpenWriters(_)) => {
-            holding(alloc, Holding::Writers, file, journal)
+            holders_by(alloc, Holding::Writers, file, journal)
         }
         _ => Ok(Vec::new(alloc)),
     }

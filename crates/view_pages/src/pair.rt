@@ -8,7 +8,7 @@ use crate::alike::{differing, parted};
 use crate::frame::{push_head, push_tiles};
 use crate::html::{Frame, Section};
 use crate::page::push_list;
-use crate::part::{Part, push_parts};
+use crate::part::{Part, push_more, push_parts};
 use crate::section::{push_at_end, push_drawing, push_heading, push_not_drawn};
 use std::alloc::{AllocError as OutOfMemory, Global};
 use view_page::layout::reading::{Event, Inode, InodeHead, Report, Span};
@@ -242,21 +242,6 @@ fn shown(first: &[Inode], second: &[Inode]) -> usize
     first.len().min(second.len()).min(MOST_LINES)
 }
 
-fn push_more(out: &mut Vec<u8>, text: &[u8], n: u64) -> Result<(), OutOfMemory>
-    ensures { OnOk result (Pushed text.now out.old.items out.new.items (spec.more_inodes n)) }
-{
-    if n > 0 {
-        let parts = [
-            Part::Section(Section::MoreInodes),
-            Part::Number(n),
-            Part::Section(Section::MoreInodesEnd),
-        ];
-        push_parts(out, text, &parts)
-    } else {
-        push_parts(out, text, &[])
-    }
-}
-
 fn push_pairs(
     alloc: Global,
     out: &mut Vec<u8>,
@@ -270,7 +255,13 @@ fn push_pairs(
     let n = shown(first, second);
     let more = first.len().max(second.len()) - n;
     push_pairs_of(alloc, out, text, &first[..n], &second[..n])?;
-    push_more(out, text, more as u64)?;
+    push_more(
+        out,
+        text,
+        Part::Section(Section::MoreInodes),
+        more as u64,
+        Part::Section(Section::MoreInodesEnd),
+    )?;
     Ok(())
 }
 

@@ -1,12 +1,12 @@
 // What the sentence of an event says.
 
-ghost use Rattle.std.specs.Prelude.{◌≡◌, ◌++◌, ◌≤◌, ◌<◌, length, reverse, OnOk};
+ghost use Rattle.std.specs.Prelude.{◌≡◌, ◌++◌, ◌≤◌, ◌<◌, length, reverse, if◌then◌else◌, OnOk};
 ghost use Rattle.view_pages.specs.Parts.{Pushed};
 ghost use Rattle.view_pages.specs.Sentences as spec;
 
 use crate::alike::{file_of, opener};
 use crate::holders::holders;
-use crate::part::{Part, push_parts};
+use crate::part::{Part, push_more, push_parts};
 use crate::told::Told;
 use crate::words::{after_word, cut};
 use std::alloc::{AllocError as OutOfMemory, Global};
@@ -121,21 +121,6 @@ fn push_named(
     Ok(())
 }
 
-fn push_more_holders(out: &mut Vec<u8>, text: &[u8], n: u64) -> Result<(), OutOfMemory>
-    ensures { OnOk result (Pushed text.now out.old.items out.new.items (spec.more_holders n)) }
-{
-    if n > 0 {
-        let parts = [
-            Part::Told(Told::And),
-            Part::Number(n),
-            Part::Told(Told::More),
-        ];
-        push_parts(out, text, &parts)
-    } else {
-        push_parts(out, text, &[])
-    }
-}
-
 // The holders of a file, the first of which are named.
 fn push_holders(
     out: &mut Vec<u8>,
@@ -148,7 +133,7 @@ fn push_holders(
 {
     let more = files.len().saturating_sub(MOST_NAMED) as u64;
     push_named(out, text, journal, &files[..files.len().min(MOST_NAMED)])?;
-    push_more_holders(out, text, more)?;
+    push_more(out, text, Part::Told(Told::And), more, Part::Told(Told::More))?;
     Ok(())
 }
 
@@ -267,6 +252,12 @@ fn push_labelled(out: &mut Vec<u8>, text: &[u8], event: Event) -> Result<(), Out
     push_parts(out, text, &parts)
 }
 
+fn later(written: bool, place: u32, last: Option<u32>) -> Option<u32>
+    ensures { result ≡ (if written then Some place else last) }
+{
+    if written { Some(place) } else { last }
+}
+
 // The place of the last write of these events.
 fn last_write(journal: &[Event]) -> Option<u32>
     requires { length journal.now < 4294967296 }
@@ -274,9 +265,7 @@ fn last_write(journal: &[Event]) -> Option<u32>
 {
     let mut last = None;
     for (place, event) in journal.iter().enumerate() {
-        if is_write(event.deed, event.outcome) {
-            last = Some(place as u32);
-        }
+        last = later(is_write(event.deed, event.outcome), place as u32, last);
     }
     last
 }

@@ -9,7 +9,7 @@ use crate::part::{Part, push_parts};
 use crate::words::{after_word, cut, first_word};
 use std::alloc::{AllocError as OutOfMemory, Global};
 use view_page::layout::reading::{Event, Inode, InodeHead, Span};
-use view_page::layout::{Window, states, windows};
+use view_page::layout::{Window, windows};
 use view_page::{Side, View, push_inode};
 
 // No more attributes of an inode are shown.
@@ -156,9 +156,8 @@ pub fn push_drawing(
     ensures { OnOk result (Pushed text.now out.old.items out.new.items
         (spec.drawing view journal.now windows.now differs.now)) }
 {
-    let states = states(alloc, journal)?;
     push_parts(out, text, &[Part::Section(Section::Wide)])?;
-    push_inode(alloc, out, text, view, journal, &states, windows, differs)?;
+    push_inode(alloc, out, text, view, journal, windows, differs)?;
     push_parts(out, text, &[Part::Section(Section::WideEnd)])?;
     Ok(())
 }

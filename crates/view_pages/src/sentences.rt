@@ -7,7 +7,7 @@ ghost use Rattle.view_pages.specs.Sentences as spec;
 
 use crate::alike::is_drawn;
 use crate::html::Table;
-use crate::part::{Part, push_parts};
+use crate::part::{Part, push_more, push_parts};
 use crate::said::{is_denied, push_said};
 use crate::tales::told_places;
 use crate::told::Told;
@@ -109,21 +109,6 @@ fn push_sentence(
     }
 }
 
-fn push_more_told(out: &mut Vec<u8>, text: &[u8], n: u64) -> Result<(), OutOfMemory>
-    ensures { OnOk result (Pushed text.now out.old.items out.new.items (spec.more_told n)) }
-{
-    if n > 0 {
-        let parts = [
-            Part::Told(Told::MoreItems),
-            Part::Number(n),
-            Part::Told(Told::MoreItemsEnd),
-        ];
-        push_parts(out, text, &parts)
-    } else {
-        push_parts(out, text, &[])
-    }
-}
-
 fn push_each(
     alloc: Global,
     out: &mut Vec<u8>,
@@ -159,7 +144,13 @@ fn push_list_of(
 {
     push_parts(out, text, &[Part::Told(Told::List)])?;
     push_each(alloc, out, text, view, journal, windows, places)?;
-    push_more_told(out, text, n.saturating_sub(MOST_TOLD))?;
+    push_more(
+        out,
+        text,
+        Part::Told(Told::MoreItems),
+        n.saturating_sub(MOST_TOLD),
+        Part::Told(Told::MoreItemsEnd),
+    )?;
     push_parts(out, text, &[Part::Told(Told::ListEnd)])?;
     Ok(())
 }
