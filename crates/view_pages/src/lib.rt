@@ -4,18 +4,24 @@
 //! the pieces of drawings. `specs/` says which parts a page has.
 #![tactic(auto)]
 
+mod calls;
 mod entries;
 mod frame;
 mod html;
 mod look;
+mod order;
 mod page;
 mod part;
+mod plan;
 mod section;
 mod slots;
+mod tables;
 mod words;
 
 pub use html::{Frame, Section, Table};
 pub use page::{push_inode_page, push_page};
 pub use part::Part;
+pub use plan::Shown;
+pub use slots::At;
 pub use std::alloc::AllocError as OutOfMemory;
 pub use view_page as drawn;

@@ -54,6 +54,24 @@ fn push_part(out: &mut Vec<u8>, text: &[u8], part: Part) -> Result<(), OutOfMemo
     }
 }
 
+/// Appends how many there are beyond what is shown, if there are any.
+pub fn push_more(
+    out: &mut Vec<u8>,
+    text: &[u8],
+    before: Part,
+    n: u64,
+    after: Part,
+) -> Result<(), OutOfMemory>
+    ensures { OnOk result
+        (spec.Pushed text.now out.old.items out.new.items (spec.more before n after)) }
+{
+    if n > 0 {
+        push_parts(out, text, &[before, Part::Number(n), after])
+    } else {
+        push_parts(out, text, &[])
+    }
+}
+
 fn side_bytes(side: Side) -> &'static [u8]
     ensures { result.now ≡ spec.side_bytes side }
 {
