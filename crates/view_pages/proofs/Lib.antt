@@ -3,3 +3,4 @@ pub mod Drawings
 pub mod Walks
 pub mod TalesSteps
 pub mod HoldersSteps
+pub mod BucketsSteps

@@ -142,3 +142,13 @@ pub files_by_walk : (journal : List Event)
     → held_files (walked_all start journal).held ≡ files (reverse journal)
 files_by_walk journal =
     all_files start [] journal refl refl ∙ ap files (append-nil (reverse journal))
+
+-- which has a kind for each place
+pub length-walked_all : (w : Walk) (es : List Event)
+    → length (walked_all w es).held ≡ length w.held + length es
+length-walked_all w [] = omega arith
+length-walked_all w (e ∷ es) =
+    let size : length (walked e w).held ≡ suc (length w.held)
+    = length-push (cleared w.held (dropped e.deed e.outcome)) (opened e.deed e.outcome)
+    ∙ ap suc (length-cleared (dropped e.deed e.outcome) w.held) in
+    omega (arith, length-walked_all (walked e w) es, size)

@@ -121,12 +121,16 @@ shows place w = nat_le w.first place && nat_le place w.last
 abbrev pub is_drawn : List Window → ℕ → Bool
 is_drawn ws place = list_any (shows place) ws
 
+-- the event is drawn and differs
+abbrev pub is_differing : List ℕ → List Event → List Event → List Window → ℕ → Event → Bool
+is_differing text mine other ws place e = is_drawn ws place && differs text mine other e
+
 -- of the events from this place on, the places of those that are drawn and differ
 abbrev pub differing_from : List ℕ → List Event → List Event → List Window → ℕ → List Event
     → List ℕ
 differing_from text mine other ws place [] = []
 differing_from text mine other ws place (e ∷ es) =
-    if is_drawn ws place && differs text mine other e
+    if is_differing text mine other ws place e
     then place ∷ differing_from text mine other ws (place + 1) es
     else differing_from text mine other ws (place + 1) es
 

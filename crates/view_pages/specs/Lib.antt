@@ -3,13 +3,18 @@ pub mod Look
 pub mod Told
 pub mod Parts
 pub mod Frame
+pub mod Order
+pub mod Plan
 pub mod Words
 pub mod Section
 pub mod Slots
 pub mod Entries
+pub mod Tables
+pub mod Calls
 pub mod Page
 pub mod Alike
 pub mod Holders
 pub mod Sentences
 pub mod Overview
 pub mod Pair
+pub use Rattle.view_page.specs as drawn

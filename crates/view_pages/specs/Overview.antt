@@ -181,7 +181,7 @@ length_of scale w =
 abbrev pub window : Scale → Window → List Part
 window scale w =
     part.Overview overview.At
-    ∷ part.Number (left scale.width (bucket_at scale w.first)) ∷ part.Overview overview.Window
+    ∷ part.Number (96 + bucket_at scale w.first * scale.width) ∷ part.Overview overview.Window
     ∷ part.Number (max (length_of scale w) 2) ∷ part.Overview overview.Back
     ∷ part.Number (max (length_of scale w) 2) ∷ part.Overview overview.Close ∷ []
 

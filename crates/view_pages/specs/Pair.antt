@@ -3,7 +3,6 @@ use Rattle.std.specs.Prelude.{ℕ, ◌+◌, ◌-◌, nat_lt, max, min, List, [],
 use Rattle.view_page.specs.declared.inode.View.{View}
 use Rattle.view_page.specs.declared.own.Side.{Side}
 use Rattle.view_page.specs.declared.own.Side.TheVariants as side
-use Rattle.view_page.specs.layout.Windows.{windows}
 use Rattle.view_page.specs.layout.declared.window.Window.{Window}
 use Rattle.view_page.specs.layout.reading.Report.{InodeValue, ReportValue}
 use Rattle.view_page.specs.layout.reading.declared.event.Event.{Event}
@@ -11,8 +10,9 @@ use Rattle.view_page.specs.layout.reading.declared.event.Span.{Span}
 use Rattle.view_page.specs.layout.reading.declared.report.InodeHead.{InodeHead}
 use Rattle.view_pages.specs.Alike.{differing, parted}
 use Rattle.view_pages.specs.Frame.{head, tiles}
-use Rattle.view_pages.specs.Page.{list_parts}
+use Rattle.view_pages.specs.Page.{tables}
 use Rattle.view_pages.specs.Parts.{more}
+use Rattle.view_pages.specs.Plan.{windows_of}
 use Rattle.view_pages.specs.Section.{at_end, drawing, heading, not_drawn}
 use Rattle.view_pages.specs.declared.html.Frame.TheVariants as frame
 use Rattle.view_pages.specs.declared.html.Section.TheVariants as section
@@ -20,10 +20,6 @@ use Rattle.view_pages.specs.declared.part.Part.{Part}
 use Rattle.view_pages.specs.declared.part.Part.TheVariants as part
 
 -- ---- one side
-
--- a journal of at most as many events is drawn whole, and of a longer one windows
-abbrev pub most_drawn : ℕ
-most_drawn = 120
 
 -- which report the section is of
 abbrev pub which : Side → Part
@@ -37,7 +33,7 @@ compared text view mine other ws = drawing view mine ws (differing text mine oth
 abbrev pub compared_by : List ℕ → View → List Event → List Event → List Part
 compared_by text view mine other =
     if nat_lt (length mine) 4294967296
-    then compared text view mine other (windows most_drawn mine) else not_drawn view.inode
+    then compared text view mine other (windows_of mine) else not_drawn view.inode
 
 abbrev pub side_by : List ℕ → View → InodeHead → List Span → List Event → List Event → List Part
 side_by text view head lines mine other =
@@ -119,16 +115,13 @@ abbrev pub both_tiles : ReportValue → ReportValue → List Part
 both_tiles r s =
     part.Frame frame.First ∷ [] ++ tiles r ++ part.Frame frame.Second ∷ [] ++ tiles s
 
-abbrev pub list_of : List ℕ → Side → ReportValue → List Part
-list_of text s r = list_parts text s r.inodes r.entries
-
--- the lists, side by side
+-- the lists and the calls, side by side
 abbrev pub both_lists : List ℕ → ReportValue → ReportValue → List Part
 both_lists text r s =
     part.Frame frame.Both ∷ []
-    ++ list_of text side.First r
+    ++ tables text side.First [] r
     ++ part.Frame frame.Beside ∷ []
-    ++ list_of text side.Second s
+    ++ tables text side.Second [] s
     ++ part.Frame frame.BothEnd ∷ []
 
 -- the page of two reports, which were read from one text

@@ -1,19 +1,23 @@
 -- The section of an inode in a page.
-use Rattle.std.specs.Prelude.{ℕ, ◌+◌, ◌-◌, nat_lt, List, [], ◌∷◌, ◌++◌, length, map, take, Option, Some, None, if◌then◌else◌}
+use Rattle.std.specs.Prelude.{ℕ, ◌-◌, ◌==◌, nat_lt, List, [], ◌∷◌, ◌++◌, length, map, slice_get, take, Option, Some, None, if◌then◌else◌}
 use Rattle.std.specs.List.{flat_map}
 use Rattle.view_page.specs.Drawing.{inode_pieces}
 use Rattle.view_page.specs.declared.own.Side.{Side}
 use Rattle.view_page.specs.declared.inode.View.{View}
-use Rattle.view_page.specs.layout.Windows.{windows}
 use Rattle.view_page.specs.layout.declared.window.Window.{Window}
 use Rattle.view_page.specs.layout.reading.Report.{InodeValue}
 use Rattle.view_page.specs.layout.reading.declared.event.Event.{Event}
 use Rattle.view_page.specs.layout.reading.declared.event.Span.{Span}
 use Rattle.view_page.specs.layout.reading.declared.report.InodeHead.{InodeHead}
+use Rattle.view_pages.specs.Order.{count}
+use Rattle.view_pages.specs.Parts.{more}
+use Rattle.view_pages.specs.Plan.{windows_in}
 use Rattle.view_pages.specs.Words.{after_word, cut, first_word}
 use Rattle.view_pages.specs.declared.html.Section.TheVariants as section
+use Rattle.view_pages.specs.declared.order.Grade.TheVariants as grade
 use Rattle.view_pages.specs.declared.part.Part.{Part}
 use Rattle.view_pages.specs.declared.part.Part.TheVariants as part
+use Rattle.view_pages.specs.declared.plan.Shown.{Shown}
 
 -- a text that is shown up to its first `most` bytes, and more of it when one points at it
 abbrev pub titled : ℕ → Span → List Part
@@ -48,12 +52,6 @@ most_attrs = 8
 abbrev pub attrs : List ℕ → List Span → List Part
 attrs text lines = flat_map (attr text) (take most_attrs lines)
 
--- how many there are beyond so many
-abbrev pub more : ℕ → List Part
-more n =
-    if nat_lt 0 n
-    then part.Section section.More ∷ part.Number n ∷ part.Section section.MoreAttrs ∷ [] else []
-
 abbrev pub counts : InodeHead → List Part
 counts head =
     part.Section section.AtEnd ∷ part.Number head.writers ∷ part.Section section.Readers
@@ -66,7 +64,8 @@ at_end text head lines =
     ++ titled 23 (after_word text head.force)
     ++ part.Section section.Code ∷ []
     ++ attrs text lines
-    ++ more (length lines - most_attrs)
+    ++ more (part.Section section.More) (length lines - most_attrs)
+    (part.Section section.MoreAttrs)
     ++ part.Section section.ParaEnd ∷ []
 
 -- ---- the drawing
@@ -82,43 +81,51 @@ abbrev pub not_drawn : ℕ → List Part
 not_drawn number =
     part.Section section.NotDrawn ∷ part.Number number ∷ part.Section section.NotDrawnEnd ∷ []
 
+-- the drawing of these windows, if there are any
+abbrev pub drawn : View → List Window → List Event → List Part
+drawn view ws journal =
+    if nat_lt (length journal) 2 then part.Section section.Birth ∷ []
+    else if length ws == 0 then not_drawn view.inode
+    else if nat_lt (length journal) 4294967296 then drawing view journal ws []
+    else not_drawn view.inode
+
 -- ---- the section
 
--- a journal of at most as many events is drawn whole, and of a longer one windows
-abbrev pub most_drawn : ℕ
-most_drawn = 120
+-- how many events are violations, and how many others are denials or labels
+abbrev pub marked_by : ℕ → ℕ → List Part
+marked_by violations denials =
+    more (part.Section section.Bad) violations (part.Section section.Violations)
+    ++ more (part.Section section.Bad) denials (part.Section section.Denials)
 
-abbrev pub windows_or : Option Window → List Event → List Window
-windows_or None journal = windows most_drawn journal
-windows_or (Some w) journal = w ∷ []
-
--- the drawing of a range of a journal, or of its windows
-abbrev pub drawing_of : View → Option Window → List Event → List Part
-drawing_of view range journal = drawing view journal (windows_or range journal) []
-
--- a journal of fewer than 2^32 events is drawn
-abbrev pub drawn : View → Option Window → List Event → List Part
-drawn view range journal =
-    if nat_lt (length journal) 4294967296 then drawing_of view range journal
-    else not_drawn view.inode
+abbrev pub marked : List Event → List Part
+marked journal =
+    marked_by (count grade.Violated journal)
+    (count grade.Marked journal - count grade.Violated journal)
 
 abbrev pub view_of : Side → ℕ → View
 view_of s number = record { side = s; inode = number; parts = None }
 
-abbrev pub section_by : List ℕ → View → Option Window → InodeHead → List Span → List Event
+abbrev pub section_by : List ℕ → View → List Window → InodeHead → List Span → List Event
     → List Part
-section_by text view range head lines journal =
+section_by text view ws head lines journal =
     heading text view.inode (length journal) head
+    ++ marked journal
     ++ part.Section section.Close ∷ []
-    ++ drawn view range journal
+    ++ drawn view ws journal
     ++ at_end text head lines
 
--- the section of an inode
-abbrev pub section_of : List ℕ → View → Option Window → InodeValue → List Part
-section_of text view range i = section_by text view range i.head i.attrs i.events
+-- the section of an inode, with these windows of its journal
+abbrev pub section_of : List ℕ → View → List Window → InodeValue → List Part
+section_of text view ws i = section_by text view ws i.head i.attrs i.events
 
--- the sections of these inodes, the first of which has this number
-abbrev pub sections_from : List ℕ → Side → ℕ → List InodeValue → List Part
-sections_from text s number [] = []
-sections_from text s number (i ∷ is) =
-    section_of text (view_of s number) None i ++ sections_from text s (number + 1) is
+abbrev pub section_if : List ℕ → View → List Window → Option InodeValue → List Part
+section_if text view ws (Some i) = section_of text view ws i
+section_if text view ws None = []
+
+abbrev pub section_at : List ℕ → Side → List Shown → List InodeValue → ℕ → List Part
+section_at text s shown inodes n =
+    section_if text (view_of s n) (windows_in n shown) (slice_get inodes n)
+
+-- the sections of the inodes of these numbers, each with the windows that are its own
+abbrev pub sections : List ℕ → Side → List Shown → List InodeValue → List ℕ → List Part
+sections text s shown inodes order = flat_map (section_at text s shown inodes) order

@@ -1,6 +1,6 @@
 // How the journals of an inode compare in two runs of one script.
 
-ghost use Rattle.std.specs.Prelude.{◌≡◌, ◌+◌, ◌<◌, ◌^◌, [], ◌∷◌, length, drop, slice_index, MatchOption, IfOk};
+ghost use Rattle.std.specs.Prelude.{◌≡◌, ◌+◌, ◌<◌, ◌^◌, [], ◌∷◌, length, drop, slice_get, slice_index, MatchOption, IfOk};
 ghost use Rattle.std.specs.List.{list_any};
 ghost use Rattle.view_pages.specs.Alike as spec;
 
@@ -172,12 +172,19 @@ fn alike_at(
     }
 }
 
+fn is_alike(text: &[u8], mine: &[Event], other: &[Event], place: usize, event: Event) -> bool
+    ensures { result ≡ spec.alike_at text.now mine.now other.now event
+        (slice_get other.now place) }
+{
+    alike_at(text, mine, other, event, other.get(place).copied())
+}
+
 /// The first place at which the journals aren't told alike, if there is one.
 pub fn parted(text: &[u8], mine: &[Event], other: &[Event]) -> Option<usize>
     ensures { result ≡ spec.parted text.now mine.now other.now }
 {
     for (place, event) in mine.iter().enumerate() {
-        if !alike_at(text, mine, other, *event, other.get(place).copied()) {
+        if !is_alike(text, mine, other, place, *event) {
             return Some(place);
         }
     }
@@ -200,6 +207,20 @@ pub fn is_drawn(windows: &[Window], place: u32) -> bool
     false
 }
 
+fn is_differing(
+    text: &[u8],
+    mine: &[Event],
+    other: &[Event],
+    windows: &[Window],
+    place: u32,
+    event: Event,
+) -> bool
+    ensures { result
+        ≡ spec.is_differing text.now mine.now other.now windows.now place event }
+{
+    is_drawn(windows, place) && differs(text, mine, other, event)
+}
+
 /// The drawn places whose events the other run lacks or tells otherwise.
 pub fn differing(
     alloc: Global,
@@ -214,9 +235,8 @@ pub fn differing(
 {
     let mut places = Vec::new(alloc);
     for (place, event) in mine.iter().enumerate() {
-        let place = place as u32;
-        if is_drawn(windows, place) && differs(text, mine, other, *event) {
-            places.push(place)?;
+        if is_differing(text, mine, other, windows, place as u32, *event) {
+            places.push(place as u32)?;
         }
     }
     Ok(places)

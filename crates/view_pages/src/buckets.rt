@@ -1,6 +1,7 @@
 // The buckets of a long journal: the highest counts and the gravest note of some places.
 
-ghost use Rattle.std.specs.Prelude.{◌≡◌, ◌<◌, ◌≤◌, length, min, replicate, IfOk};
+ghost use Rattle.std.specs.Prelude.{◌≡◌, ◌<◌, ◌≤◌, length, min, replicate, IfOk, OnOk};
+ghost use Rattle.view_page.specs.layout.Walk.{states_of};
 ghost use Rattle.view_pages.specs.Overview as spec;
 
 use std::alloc::{AllocError as OutOfMemory, Global};
@@ -127,22 +128,36 @@ fn no_buckets(alloc: Global, n: u64) -> Result<Vec<Bucket>, OutOfMemory>
     Ok(buckets)
 }
 
+// Raises the buckets to what the events of a journal show.
+fn fill(
+    alloc: Global,
+    buckets: &mut [Bucket],
+    scale: Scale,
+    journal: &[Event],
+) -> Result<(), OutOfMemory>
+    requires scale { spec.IsScale scale }
+    requires few { length journal.now < 4294967296 }
+    ensures { OnOk result
+        (buckets.new ≡ spec.filled scale buckets.old 0 journal.now (states_of journal.now)) }
+{
+    let mut walk = Walk::new(alloc);
+    let mut notes = Vec::new(alloc);
+    for (place, event) in journal.iter().enumerate() {
+        walk.step(*event)?;
+        let shown = bucket_of(rank(&mut notes, *event)?, walk.state());
+        raise(buckets, bucket_at(scale, place as u32) as usize, shown);
+    }
+    Ok(())
+}
+
 /// The buckets of a journal.
 pub fn buckets(alloc: Global, scale: Scale, journal: &[Event]) -> Result<Vec<Bucket>, OutOfMemory>
     requires scale { spec.IsScale scale }
     requires few { length journal.now < 4294967296 }
     ensures is { IfOk result (λ v. v.items ≡ spec.buckets_of scale journal.now) }
-    ensures few { IfOk result (λ v. length v.items ≤ 4294967296) }
+    ensures few { IfOk result (λ v. length v.items ≤ 900) }
 {
     let mut buckets = no_buckets(alloc, scale.buckets)?;
-    let mut walk = Walk::new(alloc);
-    let mut notes = Vec::new(alloc);
-    for (place, event) in journal.iter().enumerate() {
-        walk.step(*event)?;
-        let rank = rank(&mut notes, *event)?;
-        let k = bucket_at(scale, place as u32);
-        raise(&mut buckets, k as usize, bucket_of(rank, walk.state()));
-    }
+    fill(alloc, &mut buckets, scale, journal)?;
     Ok(buckets)
 }
-

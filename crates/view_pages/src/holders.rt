@@ -88,7 +88,8 @@ fn holders_by(
         ≡ reverse (held_by (spec.holds holding) file (files (reverse journal.now)))) }
 {
     let walk = walked(alloc, journal)?;
-    holders_in(alloc, holding, file, walk.held())
+    let holders = holders_in(alloc, holding, file, walk.held())?;
+    Ok(holders)
 }
 
 /// The holders of the file at a violation after these events, in the order in which they opened

@@ -158,23 +158,32 @@ fn colour_of(rank: u32) -> Overview
     }
 }
 
+// The left edge of a bucket.
+fn left(width: u64, k: usize) -> u64
+    requires width { width ≤ 900 }
+    requires k { k ≤ 900 }
+    ensures { result ≡ spec.left width k }
+{
+    96 + k as u64 * width
+}
+
 fn push_mark(
     out: &mut Vec<u8>,
     text: &[u8],
     rank: u32,
     width: u64,
-    k: u64,
+    k: usize,
     bucket: Bucket,
 ) -> Result<(), OutOfMemory>
     requires width { width ≤ 900 }
-    requires few { k ≤ 4294967296 }
+    requires k { k ≤ 900 }
     ensures { OnOk result
         (Pushed text.now out.old.items out.new.items (spec.mark rank width k bucket)) }
 {
     if bucket.rank == rank {
         let parts = [
             Part::Overview(Overview::At),
-            Part::Number(96 + k * width),
+            Part::Number(left(width, k)),
             Part::Overview(mark_of(rank)),
         ];
         push_parts(out, text, &parts)
@@ -191,12 +200,12 @@ fn push_marks_of(
     buckets: &[Bucket],
 ) -> Result<(), OutOfMemory>
     requires width { width ≤ 900 }
-    requires few { length buckets.now ≤ 4294967296 }
+    requires few { length buckets.now ≤ 900 }
     ensures { OnOk result (Pushed text.now out.old.items out.new.items
         (spec.marks_from rank width 0 buckets.now)) }
 {
     for (k, bucket) in buckets.iter().enumerate() {
-        push_mark(out, text, rank, width, k as u64, *bucket)?;
+        push_mark(out, text, rank, width, k, *bucket)?;
     }
     Ok(())
 }
@@ -209,7 +218,7 @@ fn push_marks(
     buckets: &[Bucket],
 ) -> Result<(), OutOfMemory>
     requires width { width ≤ 900 }
-    requires few { length buckets.now ≤ 4294967296 }
+    requires few { length buckets.now ≤ 900 }
     ensures { OnOk result
         (Pushed text.now out.old.items out.new.items (spec.marks rank width buckets.now)) }
 {
@@ -291,7 +300,7 @@ fn push_strips(
     buckets: &[Bucket],
 ) -> Result<(), OutOfMemory>
     requires width { width ≤ 900 }
-    requires few { length buckets.now ≤ 4294967296 }
+    requires few { length buckets.now ≤ 900 }
     ensures { OnOk result
         (Pushed text.now out.old.items out.new.items (spec.strips width buckets.now)) }
 {
@@ -312,7 +321,7 @@ fn push_overview_by(
     windows: &[Window],
 ) -> Result<(), OutOfMemory>
     requires scale { spec.IsScale scale }
-    requires few { length buckets.now ≤ 4294967296 }
+    requires few { length buckets.now ≤ 900 }
     ensures { OnOk result (Pushed text.now out.old.items out.new.items
         (spec.overview_by scale buckets.now windows.now)) }
 {

@@ -7,16 +7,14 @@ ghost use Rattle.view_pages.specs.Parts.{Pushed};
 use crate::alike::{differing, parted};
 use crate::frame::{push_head, push_tiles};
 use crate::html::{Frame, Section};
-use crate::page::push_list;
+use crate::page::push_tables;
 use crate::part::{Part, push_more, push_parts};
+use crate::plan::windows_of;
 use crate::section::{push_at_end, push_drawing, push_heading, push_not_drawn};
 use std::alloc::{AllocError as OutOfMemory, Global};
 use view_page::layout::reading::{Event, Inode, InodeHead, Report, Span};
-use view_page::layout::{Window, windows};
+use view_page::layout::Window;
 use view_page::{Side, View};
-
-// A journal of at most as many events is drawn whole, and of a longer one windows.
-const MOST_DRAWN: u32 = 120;
 
 // At most as many inodes are drawn.
 const MOST_PAIRS: u64 = 12;
@@ -63,7 +61,7 @@ fn push_compared_by(
         (spec.compared_by text.now view mine.now other.now)) }
 {
     if mine.len() < 4_294_967_296 {
-        let windows = windows(alloc, MOST_DRAWN, mine)?;
+        let windows = windows_of(alloc, mine)?;
         push_compared(alloc, out, text, view, mine, other, &windows)?;
         Ok(())
     } else {
@@ -281,7 +279,7 @@ fn push_both_tiles(
     Ok(())
 }
 
-// The lists, side by side.
+// The lists and the calls, side by side.
 fn push_both_lists(
     alloc: Global,
     out: &mut Vec<u8>,
@@ -293,24 +291,11 @@ fn push_both_lists(
         (spec.both_lists text.now first.now second.now)) }
 {
     push_parts(out, text, &[Part::Frame(Frame::Both)])?;
-    push_list_of(alloc, out, text, Side::First, first)?;
+    push_tables(alloc, out, text, Side::First, &[], first)?;
     push_parts(out, text, &[Part::Frame(Frame::Beside)])?;
-    push_list_of(alloc, out, text, Side::Second, second)?;
+    push_tables(alloc, out, text, Side::Second, &[], second)?;
     push_parts(out, text, &[Part::Frame(Frame::BothEnd)])?;
     Ok(())
-}
-
-fn push_list_of(
-    alloc: Global,
-    out: &mut Vec<u8>,
-    text: &[u8],
-    side: Side,
-    report: &Report,
-) -> Result<(), OutOfMemory>
-    ensures { OnOk result (Pushed text.now out.old.items out.new.items
-        (spec.list_of text.now side report.now)) }
-{
-    push_list(alloc, out, text, side, &report.inodes, &report.entries)
 }
 
 /// Appends the page of two reports, which were read from `text`: the inodes whose journals differ,

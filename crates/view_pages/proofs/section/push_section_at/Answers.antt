@@ -1,0 +1,16 @@
+use Rattle.std.proofs.Common.{List, ap, ◌∙◌}
+use Rattle.std.specs.Prelude.{slice_get}
+use Rattle.view_page.specs.declared.inode.View.{View}
+use Rattle.view_page.specs.layout.declared.window.Window.{Window}
+use Rattle.view_pages.specs.Section.{section_if, view_of}
+use Rattle.view_pages.proofs.Joined.{as_parts}
+use Rattle.view_pages.proofs.section.push_section_at.Goals as goal
+
+pub returns : goal.returns
+returns c =
+    as_parts c.in_ok-push_section_if.ensures
+    (ap (λ (v : View). section_if c.args.text.now v c.deref.result.now
+    (slice_get c.args.inodes.now c.args.number)) c.view_of-view.ensures
+    ∙ ap (λ (ws : List Window). section_if c.args.text.now (view_of c.args.side c.args.number) ws
+    (slice_get c.args.inodes.now c.args.number))
+    (c.deref.ensures.value ∙ c.in_ok-windows.ensures))

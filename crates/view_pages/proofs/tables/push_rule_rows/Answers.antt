@@ -1,0 +1,13 @@
+use Rattle.std.proofs.Common.{take}
+use Rattle.view_pages.specs.Tables.{rule}
+use Rattle.view_pages.proofs.Joined.{no_parts, one_more}
+use Rattle.view_pages.proofs.tables.push_rule_rows.Goals as goal
+
+pub loop-line-init : goal.loop-line-init
+loop-line-init c = no_parts c.args.text.now c.args.out.now.items
+
+pub loop-line-preserved : goal.loop-line-preserved
+loop-line-preserved c =
+    one_more (rule c.args.text.now) (take c.min.result c.args.lines.now) c.loop-line.line-index
+    (record { at = 0; len = 0 }) c.loop-line-test.true c.loop-line.invariant
+    c.in_ok-push_rule.ensures
