@@ -11,4 +11,5 @@ pub mod Entries
 pub mod Tables
 pub mod Calls
 pub mod Page
+pub mod Promises
 pub use Rattle.view_page.specs as drawn
