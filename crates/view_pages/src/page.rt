@@ -10,8 +10,8 @@ use crate::frame::{push_head, push_tiles};
 use crate::html::{Frame, Section};
 use crate::order::order;
 use crate::part::{Part, push_more, push_parts};
-use crate::plan::{Shown, beyond, first_of, shown, windows_of};
-use crate::section::{push_section, push_sections, view_of};
+use crate::plan::{Shown, beyond, first_of, planned, windows_of};
+use crate::section::{Detail, push_section, push_sections, view_of};
 use crate::slots::{Asked, At, fill};
 use crate::tables::{push_registers, push_rules};
 use std::alloc::{AllocError as OutOfMemory, Global};
@@ -46,7 +46,7 @@ fn push_ordered(
         (spec.ordered_parts text.now order.now report.now)) }
 {
     let first = first_of(order);
-    let shown = shown(alloc, &report.inodes, first)?;
+    let shown = planned(alloc, &report.inodes, first)?;
     push_planned(alloc, out, text, report, &shown, first, beyond(order))?;
     Ok(())
 }
@@ -110,7 +110,7 @@ fn push_inode_in(
 {
     let view = view_of(Side::Alone, number);
     push_head(out, text, Frame::OneRun)?;
-    push_section(alloc, out, text, view, windows, inode)?;
+    push_section(alloc, out, text, Detail::Overview, view, windows, inode)?;
     push_parts(out, text, &[Part::Frame(Frame::End)])?;
     Ok(())
 }

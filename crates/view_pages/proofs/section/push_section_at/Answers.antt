@@ -9,8 +9,8 @@ use Rattle.view_pages.proofs.section.push_section_at.Goals as goal
 pub returns : goal.returns
 returns c =
     as_parts c.in_ok-push_section_if.ensures
-    (ap (λ (v : View). section_if c.args.text.now v c.deref.result.now
-    (slice_get c.args.inodes.now c.args.number)) c.view_of-view.ensures
-    ∙ ap (λ (ws : List Window). section_if c.args.text.now (view_of c.args.side c.args.number) ws
-    (slice_get c.args.inodes.now c.args.number))
+    (ap (λ (v : View). section_if c.args.text.now c.args.detail v
+    c.deref.result.now (slice_get c.args.inodes.now c.args.number)) c.view_of-view.ensures
+    ∙ ap (λ (ws : List Window). section_if c.args.text.now c.args.detail
+    (view_of c.args.side c.args.number) ws (slice_get c.args.inodes.now c.args.number))
     (c.deref.ensures.value ∙ c.in_ok-windows.ensures))

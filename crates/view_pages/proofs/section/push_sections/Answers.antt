@@ -1,12 +1,14 @@
-use Rattle.view_pages.specs.Section.{section_at}
-use Rattle.view_pages.proofs.Joined.{no_parts, one_more}
+use Rattle.std.proofs.Common.{ℕ, List, ap}
+use Rattle.view_pages.specs.Section.{sections_of}
+use Rattle.view_pages.specs.declared.section.Detail.TheVariants as detail
+use Rattle.view_pages.proofs.Joined.{as_parts, ◌▹◌}
 use Rattle.view_pages.proofs.section.push_sections.Goals as goal
 
-pub loop-number-init : goal.loop-number-init
-loop-number-init c = no_parts c.args.text.now c.args.out.now.items
-
-pub loop-number-preserved : goal.loop-number-preserved
-loop-number-preserved c =
-    one_more (section_at c.args.text.now c.args.side c.args.shown.now c.args.inodes.now)
-    c.args.order.now c.loop-number.number-index 0 c.loop-number-test.true
-    c.loop-number.invariant c.in_ok-push_section_at.ensures
+pub returns : goal.returns
+returns c =
+    as_parts c.in_ok-push_sections_of.ensures
+    (ap (λ (ns : List ℕ). sections_of c.args.text.now detail.Overview c.args.side
+    c.args.shown.now c.args.inodes.now ns) c.first_of-first.ensures)
+    ▹ as_parts c.in_ok-push_sections_of-2.ensures
+    (ap (λ (ns : List ℕ). sections_of c.args.text.now detail.Windows c.args.side
+    c.args.shown.now c.args.inodes.now ns) c.others_of-others.ensures)
