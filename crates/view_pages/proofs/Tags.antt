@@ -18,6 +18,7 @@ tags_are_own text (part.Frame f) h = cc
 tags_are_own text (part.Section s) h = cc
 tags_are_own text (part.Table t) h = cc
 tags_are_own text (part.Told t) h = cc
+tags_are_own text (part.Overview o) h = cc
 tags_are_own text (part.Side s) h = cc
 tags_are_own text part.Style h = cc
 tags_are_own text part.Legend h = cc

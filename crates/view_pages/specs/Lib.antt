@@ -11,6 +11,7 @@ pub mod Holders
 pub mod Sentences
 pub mod Overview
 pub mod Section
+pub mod Sections
 pub mod Slots
 pub mod Entries
 pub mod Tables

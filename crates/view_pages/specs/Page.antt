@@ -12,7 +12,8 @@ use Rattle.view_pages.specs.Frame.{head, tiles}
 use Rattle.view_pages.specs.Order.{order}
 use Rattle.view_pages.specs.Parts.{more}
 use Rattle.view_pages.specs.Plan.{beyond, most_sections, planned, windows_of}
-use Rattle.view_pages.specs.Section.{section_of, sections, view_of}
+use Rattle.view_pages.specs.Section.{section_of, view_of}
+use Rattle.view_pages.specs.Sections.{sections}
 use Rattle.view_pages.specs.Slots.{after_inodes}
 use Rattle.view_pages.specs.Tables.{registers, rules}
 use Rattle.view_pages.specs.declared.html.Frame.TheVariants as frame

@@ -1,5 +1,5 @@
 -- The section of an inode in a page.
-use Rattle.std.specs.Prelude.{ℕ, ◌-◌, ◌==◌, nat_lt, List, [], ◌∷◌, ◌++◌, drop, length, map, slice_get, take, Option, Some, None, if◌then◌else◌}
+use Rattle.std.specs.Prelude.{ℕ, ◌-◌, ◌==◌, nat_lt, List, [], ◌∷◌, ◌++◌, length, map, take, None, if◌then◌else◌}
 use Rattle.std.specs.List.{flat_map}
 use Rattle.view_page.specs.Drawing.{inode_pieces}
 use Rattle.view_page.specs.declared.own.Side.{Side}
@@ -12,14 +12,13 @@ use Rattle.view_page.specs.layout.reading.declared.report.InodeHead.{InodeHead}
 use Rattle.view_pages.specs.Order.{count}
 use Rattle.view_pages.specs.Overview.{overview_of}
 use Rattle.view_pages.specs.Parts.{more}
-use Rattle.view_pages.specs.Plan.{most_drawn, windows_in}
+use Rattle.view_pages.specs.Plan.{most_drawn}
 use Rattle.view_pages.specs.Sentences.{sentences}
 use Rattle.view_pages.specs.Words.{after_word, cut, first_word}
 use Rattle.view_pages.specs.declared.html.Section.TheVariants as section
 use Rattle.view_pages.specs.declared.order.Grade.TheVariants as grade
 use Rattle.view_pages.specs.declared.part.Part.{Part}
 use Rattle.view_pages.specs.declared.part.Part.TheVariants as part
-use Rattle.view_pages.specs.declared.plan.Shown.{Shown}
 use Rattle.view_pages.specs.declared.section.Detail.{Detail}
 use Rattle.view_pages.specs.declared.section.Detail.TheVariants as detail
 
@@ -139,25 +138,3 @@ section_by text d view ws head lines journal =
 -- the section of an inode, with these windows of its journal
 abbrev pub section_of : List ℕ → Detail → View → List Window → InodeValue → List Part
 section_of text d view ws i = section_by text d view ws i.head i.attrs i.events
-
-abbrev pub section_if : List ℕ → Detail → View → List Window → Option InodeValue → List Part
-section_if text d view ws (Some i) = section_of text d view ws i
-section_if text d view ws None = []
-
-abbrev pub section_at : List ℕ → Detail → Side → List Shown → List InodeValue → ℕ → List Part
-section_at text d s shown inodes n =
-    section_if text d (view_of s n) (windows_in n shown) (slice_get inodes n)
-
-abbrev pub sections_of : List ℕ → Detail → Side → List Shown → List InodeValue → List ℕ
-    → List Part
-sections_of text d s shown inodes order = flat_map (section_at text d s shown inodes) order
-
--- at most as many sections of a page have an overview
-abbrev pub most_overviews : ℕ
-most_overviews = 16
-
--- the sections of the inodes of these numbers, each with the windows that are its own
-abbrev pub sections : List ℕ → Side → List Shown → List InodeValue → List ℕ → List Part
-sections text s shown inodes order =
-    sections_of text detail.Overview s shown inodes (take most_overviews order)
-    ++ sections_of text detail.Windows s shown inodes (drop most_overviews order)

@@ -1,8 +1,8 @@
 use Rattle.std.proofs.Common.{take}
 use Rattle.std.specs.List.{flat_map}
 use Rattle.view_pages.specs.Parts.{Pushed}
-use Rattle.view_pages.specs.Section.{section_at}
-use Rattle.view_pages.proofs.section.push_sections_of.Given as goal
+use Rattle.view_pages.specs.Sections.{section_at}
+use Rattle.view_pages.proofs.sections.push_sections_of.Given as goal
 
 -- the sections so far have been appended
 abbrev pub invariant-loop-number : goal.invariant-loop-number

@@ -1,6 +1,6 @@
-use Rattle.view_pages.specs.Section.{section_at}
+use Rattle.view_pages.specs.Sections.{section_at}
 use Rattle.view_pages.proofs.Joined.{no_parts, one_more}
-use Rattle.view_pages.proofs.section.push_sections_of.Goals as goal
+use Rattle.view_pages.proofs.sections.push_sections_of.Goals as goal
 
 pub loop-number-init : goal.loop-number-init
 loop-number-init c = no_parts c.args.text.now c.args.out.now.items

@@ -1,8 +1,8 @@
 use Rattle.std.proofs.Common.{ℕ, List, ap}
-use Rattle.view_pages.specs.Section.{sections_of}
+use Rattle.view_pages.specs.Sections.{sections_of}
 use Rattle.view_pages.specs.declared.section.Detail.TheVariants as detail
 use Rattle.view_pages.proofs.Joined.{as_parts, ◌▹◌}
-use Rattle.view_pages.proofs.section.push_sections.Goals as goal
+use Rattle.view_pages.proofs.sections.push_sections.Goals as goal
 
 pub returns : goal.returns
 returns c =
