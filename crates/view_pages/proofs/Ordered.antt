@@ -19,7 +19,7 @@ one b = cond b 1 0
 number_more : (n k : ℕ) (b : Bool) (ns : List ℕ)
     → times n (cond b (k ∷ ns) ns) ≡ cond b (one (k == n)) 0 + times n ns
 number_more n k true ns = sum_by-cons (λ (m : ℕ). cond (m == n) 1 0) k ns
-number_more n k false ns = refl
+number_more n k false ns = omega arith
 
 -- an inode has one grade
 one_grade : (v m : Bool) (x : ℕ)

@@ -1,6 +1,6 @@
 //! Promises about pages, over all reports.
 
-ghost use Rattle.view_pages.specs.Promises.{EachInodeIsOrdered, EntriesLeadToTheirEvents, LinksLeadToDrawnEvents, OnlyOwnPartsMakeTags};
+ghost use Rattle.view_pages.specs.Promises.{CallsLeadToTheirEvents, EachInodeIsOrdered, EntriesLeadToTheirEvents, LinksLeadToDrawnEvents, OnlyOwnPartsMakeTags};
 
 /// Of the parts of a page only the program's own have `<`, `>` and `"`, whatever the report is.
 pub fn only_own_parts_make_tags()
@@ -15,6 +15,11 @@ pub fn each_inode_is_ordered()
 /// The event that the list names for an entry is one that added it.
 pub fn entries_lead_to_their_events()
     ensures { EntriesLeadToTheirEvents }
+{}
+
+/// The event that a page names for a call is one of this call.
+pub fn calls_lead_to_their_events()
+    ensures { CallsLeadToTheirEvents }
 {}
 
 /// Each event that has a link is in a window of its inode's drawing.
