@@ -11,7 +11,7 @@ use Rattle.view_pages.specs.Entries.{entries}
 use Rattle.view_pages.specs.Frame.{head, tiles}
 use Rattle.view_pages.specs.Order.{order}
 use Rattle.view_pages.specs.Parts.{more}
-use Rattle.view_pages.specs.Plan.{beyond, most_sections, shown, windows_of}
+use Rattle.view_pages.specs.Plan.{beyond, most_sections, planned, windows_of}
 use Rattle.view_pages.specs.Section.{section_of, sections, view_of}
 use Rattle.view_pages.specs.Slots.{after_inodes}
 use Rattle.view_pages.specs.Tables.{registers, rules}
@@ -56,7 +56,7 @@ planned_parts text ss ns others r =
 -- the page with the first inodes of this order
 abbrev pub ordered_parts : List ℕ → List ℕ → ReportValue → List Part
 ordered_parts text ns r =
-    planned_parts text (shown r.inodes (take most_sections ns)) (take most_sections ns)
+    planned_parts text (planned r.inodes (take most_sections ns)) (take most_sections ns)
     (beyond ns) r
 
 -- the page of a report

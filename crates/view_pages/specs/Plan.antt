@@ -65,8 +65,8 @@ shown_from room inodes (n ∷ ns) =
     shown_of n (fitting room (journal_at inodes n))
     ++ shown_from (room_after room (journal_at inodes n)) inodes ns
 
-abbrev pub shown : List InodeValue → List ℕ → List Shown
-shown inodes order = shown_from most_places inodes order
+abbrev pub planned : List InodeValue → List ℕ → List Shown
+planned inodes order = shown_from most_places inodes order
 
 -- the windows of an inode
 abbrev pub windows_in : ℕ → List Shown → List Window

@@ -10,7 +10,7 @@ use crate::frame::{push_head, push_tiles};
 use crate::html::{Frame, Section};
 use crate::order::order;
 use crate::part::{Part, push_more, push_parts};
-use crate::plan::{Shown, beyond, first_of, shown, windows_of};
+use crate::plan::{Shown, beyond, first_of, planned, windows_of};
 use crate::section::{push_section, push_sections, view_of};
 use crate::slots::{Asked, At, fill};
 use crate::tables::{push_registers, push_rules};
@@ -46,7 +46,7 @@ fn push_ordered(
         (spec.ordered_parts text.now order.now report.now)) }
 {
     let first = first_of(order);
-    let shown = shown(alloc, &report.inodes, first)?;
+    let shown = planned(alloc, &report.inodes, first)?;
     push_planned(alloc, out, text, report, &shown, first, beyond(order))?;
     Ok(())
 }
@@ -191,7 +191,7 @@ fn added(alloc: Global, n: usize, inodes: &[Inode]) -> Result<Vec<Option<At>>, O
     Ok(table)
 }
 
-pub fn push_list(
+fn push_list(
     alloc: Global,
     out: &mut Vec<u8>,
     text: &[u8],

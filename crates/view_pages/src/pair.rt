@@ -1,6 +1,7 @@
 // The page of two reports of one script.
 
 ghost use Rattle.std.specs.Prelude.{◌≡◌, ◌<◌, ◌≤◌, length, take, OnOk};
+ghost use Rattle.view_pages.specs.Alike.{parted};
 ghost use Rattle.view_pages.specs.Pair as spec;
 ghost use Rattle.view_pages.specs.Parts.{Pushed};
 
@@ -209,6 +210,12 @@ fn room_after(parted: Option<usize>, room: u64) -> u64
     }
 }
 
+fn parted_of(text: &[u8], first: &Inode, second: &Inode) -> Option<usize>
+    ensures { result ≡ parted text.now first.now.events second.now.events }
+{
+    parted(text, &first.events, &second.events)
+}
+
 // The inodes of two reports, as many of each.
 fn push_pairs_of(
     alloc: Global,
@@ -225,7 +232,7 @@ fn push_pairs_of(
     for number in 0..first.len() {
         let inode = &first[number];
         let other = &second[number];
-        let parted = parted(text, &inode.events, &other.events);
+        let parted = parted_of(text, inode, other);
         push_pair_by(alloc, out, text, number as u64, room, parted, inode, other)?;
         room = room_after(parted, room);
     }

@@ -114,12 +114,12 @@ pub fn beyond(order: &[usize]) -> u64
 }
 
 /// The windows that a page draws of the inodes of these numbers.
-pub fn shown(
+pub fn planned(
     alloc: Global,
     inodes: &[Inode],
     order: &[usize],
 ) -> Result<Vec<Shown>, OutOfMemory>
-    ensures { IfOk result (λ v. v.items ≡ spec.shown inodes.now order.now) }
+    ensures { IfOk result (λ v. v.items ≡ spec.planned inodes.now order.now) }
 {
     let mut shown = Vec::new(alloc);
     let mut room = MOST_PLACES;
