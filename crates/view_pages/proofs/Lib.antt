@@ -1,5 +1,9 @@
 pub mod Joined
 pub mod Drawings
+pub mod Drawn
+pub mod Ordered
+pub mod Links
+pub mod Tags
 pub mod Walks
 pub mod TalesSteps
 pub mod HoldersSteps

@@ -12,7 +12,8 @@ use Rattle.view_pages.specs.Frame.{head, tiles}
 use Rattle.view_pages.specs.Order.{order}
 use Rattle.view_pages.specs.Parts.{more}
 use Rattle.view_pages.specs.Plan.{beyond, most_sections, planned, windows_of}
-use Rattle.view_pages.specs.Section.{section_of, sections, view_of}
+use Rattle.view_pages.specs.Section.{section_of, view_of}
+use Rattle.view_pages.specs.Sections.{sections}
 use Rattle.view_pages.specs.Slots.{after_inodes}
 use Rattle.view_pages.specs.Tables.{registers, rules}
 use Rattle.view_pages.specs.declared.html.Frame.TheVariants as frame
@@ -20,6 +21,7 @@ use Rattle.view_pages.specs.declared.html.Section.TheVariants as section
 use Rattle.view_pages.specs.declared.part.Part.{Part}
 use Rattle.view_pages.specs.declared.part.Part.TheVariants as part
 use Rattle.view_pages.specs.declared.plan.Shown.{Shown}
+use Rattle.view_pages.specs.declared.section.Detail.TheVariants as detail
 use Rattle.view_pages.specs.declared.slots.Asked.TheVariants as asked
 use Rattle.view_pages.specs.declared.slots.At.{At}
 
@@ -70,7 +72,7 @@ windows_or (Some w) journal = w ∷ []
 abbrev pub inode_parts : List ℕ → ℕ → InodeValue → List Window → List Part
 inode_parts text number i ws =
     head frame.OneRun
-    ++ section_of text (view_of side.Alone number) ws i
+    ++ section_of text detail.Overview (view_of side.Alone number) ws i
     ++ part.Frame frame.End ∷ []
 
 -- the page of an inode with this number, or of a range of its journal

@@ -1,5 +1,5 @@
 -- The section of an inode in a page.
-use Rattle.std.specs.Prelude.{ℕ, ◌-◌, ◌==◌, nat_lt, List, [], ◌∷◌, ◌++◌, length, map, slice_get, take, Option, Some, None, if◌then◌else◌}
+use Rattle.std.specs.Prelude.{ℕ, ◌-◌, ◌==◌, nat_lt, List, [], ◌∷◌, ◌++◌, length, map, take, None, if◌then◌else◌}
 use Rattle.std.specs.List.{flat_map}
 use Rattle.view_page.specs.Drawing.{inode_pieces}
 use Rattle.view_page.specs.declared.own.Side.{Side}
@@ -10,14 +10,17 @@ use Rattle.view_page.specs.layout.reading.declared.event.Event.{Event}
 use Rattle.view_page.specs.layout.reading.declared.event.Span.{Span}
 use Rattle.view_page.specs.layout.reading.declared.report.InodeHead.{InodeHead}
 use Rattle.view_pages.specs.Order.{count}
+use Rattle.view_pages.specs.Overview.{overview_of}
 use Rattle.view_pages.specs.Parts.{more}
-use Rattle.view_pages.specs.Plan.{windows_in}
+use Rattle.view_pages.specs.Plan.{most_drawn}
+use Rattle.view_pages.specs.Sentences.{sentences}
 use Rattle.view_pages.specs.Words.{after_word, cut, first_word}
 use Rattle.view_pages.specs.declared.html.Section.TheVariants as section
 use Rattle.view_pages.specs.declared.order.Grade.TheVariants as grade
 use Rattle.view_pages.specs.declared.part.Part.{Part}
 use Rattle.view_pages.specs.declared.part.Part.TheVariants as part
-use Rattle.view_pages.specs.declared.plan.Shown.{Shown}
+use Rattle.view_pages.specs.declared.section.Detail.{Detail}
+use Rattle.view_pages.specs.declared.section.Detail.TheVariants as detail
 
 -- a text that is shown up to its first `most` bytes, and more of it when one points at it
 abbrev pub titled : ℕ → Span → List Part
@@ -81,12 +84,30 @@ abbrev pub not_drawn : ℕ → List Part
 not_drawn number =
     part.Section section.NotDrawn ∷ part.Number number ∷ part.Section section.NotDrawnEnd ∷ []
 
+-- the overview of a journal that isn't drawn whole
+abbrev pub long_overview : List Event → List Window → List Part
+long_overview journal ws =
+    if nat_lt most_drawn (length journal) then overview_of journal ws else []
+
+abbrev pub overview_if : Detail → List Event → List Window → List Part
+overview_if detail.Overview journal ws = long_overview journal ws
+overview_if detail.Windows journal ws = []
+
 -- the drawing of these windows, if there are any
-abbrev pub drawn : View → List Window → List Event → List Part
-drawn view ws journal =
+abbrev pub windows_drawn : View → List Window → List Event → List Part
+windows_drawn view ws journal =
+    if length ws == 0 then not_drawn view.inode else drawing view journal ws []
+
+-- the overview, the drawing and the sentences
+abbrev pub drawn_by : List ℕ → Detail → View → List Window → List Event → List Part
+drawn_by text d view ws journal =
+    overview_if d journal ws ++ windows_drawn view ws journal ++ sentences text view journal ws
+
+-- of a journal with more than its birth
+abbrev pub drawn : List ℕ → Detail → View → List Window → List Event → List Part
+drawn text d view ws journal =
     if nat_lt (length journal) 2 then part.Section section.Birth ∷ []
-    else if length ws == 0 then not_drawn view.inode
-    else if nat_lt (length journal) 4294967296 then drawing view journal ws []
+    else if nat_lt (length journal) 4294967296 then drawn_by text d view ws journal
     else not_drawn view.inode
 
 -- ---- the section
@@ -105,27 +126,15 @@ marked journal =
 abbrev pub view_of : Side → ℕ → View
 view_of s number = record { side = s; inode = number; parts = None }
 
-abbrev pub section_by : List ℕ → View → List Window → InodeHead → List Span → List Event
-    → List Part
-section_by text view ws head lines journal =
+abbrev pub section_by : List ℕ → Detail → View → List Window → InodeHead → List Span
+    → List Event → List Part
+section_by text d view ws head lines journal =
     heading text view.inode (length journal) head
     ++ marked journal
     ++ part.Section section.Close ∷ []
-    ++ drawn view ws journal
+    ++ drawn text d view ws journal
     ++ at_end text head lines
 
 -- the section of an inode, with these windows of its journal
-abbrev pub section_of : List ℕ → View → List Window → InodeValue → List Part
-section_of text view ws i = section_by text view ws i.head i.attrs i.events
-
-abbrev pub section_if : List ℕ → View → List Window → Option InodeValue → List Part
-section_if text view ws (Some i) = section_of text view ws i
-section_if text view ws None = []
-
-abbrev pub section_at : List ℕ → Side → List Shown → List InodeValue → ℕ → List Part
-section_at text s shown inodes n =
-    section_if text (view_of s n) (windows_in n shown) (slice_get inodes n)
-
--- the sections of the inodes of these numbers, each with the windows that are its own
-abbrev pub sections : List ℕ → Side → List Shown → List InodeValue → List ℕ → List Part
-sections text s shown inodes order = flat_map (section_at text s shown inodes) order
+abbrev pub section_of : List ℕ → Detail → View → List Window → InodeValue → List Part
+section_of text d view ws i = section_by text d view ws i.head i.attrs i.events

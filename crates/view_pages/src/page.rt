@@ -11,7 +11,8 @@ use crate::html::{Frame, Section};
 use crate::order::order;
 use crate::part::{Part, push_more, push_parts};
 use crate::plan::{Shown, beyond, first_of, planned, windows_of};
-use crate::section::{push_section, push_sections, view_of};
+use crate::section::{Detail, push_section, view_of};
+use crate::sections::push_sections;
 use crate::slots::{Asked, At, fill};
 use crate::tables::{push_registers, push_rules};
 use std::alloc::{AllocError as OutOfMemory, Global};
@@ -110,7 +111,7 @@ fn push_inode_in(
 {
     let view = view_of(Side::Alone, number);
     push_head(out, text, Frame::OneRun)?;
-    push_section(alloc, out, text, view, windows, inode)?;
+    push_section(alloc, out, text, Detail::Overview, view, windows, inode)?;
     push_parts(out, text, &[Part::Frame(Frame::End)])?;
     Ok(())
 }
@@ -191,7 +192,7 @@ fn added(alloc: Global, n: usize, inodes: &[Inode]) -> Result<Vec<Option<At>>, O
     Ok(table)
 }
 
-fn push_list(
+pub fn push_list(
     alloc: Global,
     out: &mut Vec<u8>,
     text: &[u8],

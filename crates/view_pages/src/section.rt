@@ -1,18 +1,31 @@
 // The section of an inode in a page.
 
-ghost use Rattle.std.specs.Prelude.{◌≡◌, ◌<◌, length, slice_get, OnOk};
+ghost use Rattle.std.specs.Prelude.{◌≡◌, ◌<◌, length, OnOk};
 ghost use Rattle.view_pages.specs.Parts.{Pushed};
 ghost use Rattle.view_pages.specs.Section as spec;
 
 use crate::html::Section;
 use crate::order::{Grade, count};
+use crate::overview::push_overview;
 use crate::part::{Part, push_more, push_parts};
-use crate::plan::{Shown, windows_in};
+use crate::sentences::push_sentences;
 use crate::words::{after_word, cut, first_word};
 use std::alloc::{AllocError as OutOfMemory, Global};
 use view_page::layout::reading::{Event, Inode, InodeHead, Span};
 use view_page::layout::Window;
 use view_page::{Side, View, push_inode};
+
+/// What a section has of a journal that isn't drawn whole.
+#[derive(Clone, Copy, Debug, PartialEq, Eq)]
+pub enum Detail {
+    /// An overview, and windows.
+    Overview,
+    /// Windows.
+    Windows,
+}
+
+// A journal of at most as many events is drawn whole.
+const MOST_WHOLE: usize = 120;
 
 // No more attributes of an inode are shown.
 const MOST_ATTRS: usize = 8;
@@ -165,8 +178,45 @@ pub fn push_not_drawn(out: &mut Vec<u8>, text: &[u8], number: u64) -> Result<(),
     push_parts(out, text, &parts)
 }
 
+// The overview of a journal that isn't drawn whole.
+fn push_long_overview(
+    alloc: Global,
+    out: &mut Vec<u8>,
+    text: &[u8],
+    journal: &[Event],
+    windows: &[Window],
+) -> Result<(), OutOfMemory>
+    requires { length journal.now < 4294967296 }
+    ensures { OnOk result (Pushed text.now out.old.items out.new.items
+        (spec.long_overview journal.now windows.now)) }
+{
+    if journal.len() > MOST_WHOLE {
+        push_overview(alloc, out, text, journal, windows)
+    } else {
+        push_parts(out, text, &[])
+    }
+}
+
+fn push_overview_if(
+    alloc: Global,
+    out: &mut Vec<u8>,
+    text: &[u8],
+    detail: Detail,
+    journal: &[Event],
+    windows: &[Window],
+) -> Result<(), OutOfMemory>
+    requires { length journal.now < 4294967296 }
+    ensures { OnOk result (Pushed text.now out.old.items out.new.items
+        (spec.overview_if detail journal.now windows.now)) }
+{
+    match detail {
+        Detail::Overview => push_long_overview(alloc, out, text, journal, windows),
+        Detail::Windows => push_parts(out, text, &[]),
+    }
+}
+
 // The drawing of these windows, or that there is none.
-fn push_drawn(
+fn push_windows(
     alloc: Global,
     out: &mut Vec<u8>,
     text: &[u8],
@@ -174,15 +224,53 @@ fn push_drawn(
     windows: &[Window],
     journal: &[Event],
 ) -> Result<(), OutOfMemory>
+    requires { length journal.now < 4294967296 }
     ensures { OnOk result (Pushed text.now out.old.items out.new.items
-        (spec.drawn view windows.now journal.now)) }
+        (spec.windows_drawn view windows.now journal.now)) }
+{
+    if windows.is_empty() {
+        push_not_drawn(out, text, view.inode)
+    } else {
+        push_drawing(alloc, out, text, view, journal, windows, &[])
+    }
+}
+
+fn push_drawn_by(
+    alloc: Global,
+    out: &mut Vec<u8>,
+    text: &[u8],
+    detail: Detail,
+    view: View,
+    windows: &[Window],
+    journal: &[Event],
+) -> Result<(), OutOfMemory>
+    requires { length journal.now < 4294967296 }
+    ensures { OnOk result (Pushed text.now out.old.items out.new.items
+        (spec.drawn_by text.now detail view windows.now journal.now)) }
+{
+    push_overview_if(alloc, out, text, detail, journal, windows)?;
+    push_windows(alloc, out, text, view, windows, journal)?;
+    push_sentences(alloc, out, text, view, journal, windows)?;
+    Ok(())
+}
+
+// The overview, the drawing and the sentences of a journal with more than its birth.
+fn push_drawn(
+    alloc: Global,
+    out: &mut Vec<u8>,
+    text: &[u8],
+    detail: Detail,
+    view: View,
+    windows: &[Window],
+    journal: &[Event],
+) -> Result<(), OutOfMemory>
+    ensures { OnOk result (Pushed text.now out.old.items out.new.items
+        (spec.drawn text.now detail view windows.now journal.now)) }
 {
     if journal.len() < 2 {
         push_parts(out, text, &[Part::Section(Section::Birth)])
-    } else if windows.is_empty() {
-        push_not_drawn(out, text, view.inode)
     } else if journal.len() < 4_294_967_296 {
-        push_drawing(alloc, out, text, view, journal, windows, &[])
+        push_drawn_by(alloc, out, text, detail, view, windows, journal)
     } else {
         push_not_drawn(out, text, view.inode)
     }
@@ -241,6 +329,7 @@ fn push_section_by(
     alloc: Global,
     out: &mut Vec<u8>,
     text: &[u8],
+    detail: Detail,
     view: View,
     windows: &[Window],
     head: InodeHead,
@@ -248,12 +337,12 @@ fn push_section_by(
     journal: &[Event],
 ) -> Result<(), OutOfMemory>
     ensures { OnOk result (Pushed text.now out.old.items out.new.items
-        (spec.section_by text.now view windows.now head attrs.now journal.now)) }
+        (spec.section_by text.now detail view windows.now head attrs.now journal.now)) }
 {
     push_heading(out, text, view.inode, journal.len() as u64, head)?;
     push_marked(out, text, journal)?;
     push_parts(out, text, &[Part::Section(Section::Close)])?;
-    push_drawn(alloc, out, text, view, windows, journal)?;
+    push_drawn(alloc, out, text, detail, view, windows, journal)?;
     push_at_end(out, text, head, attrs)?;
     Ok(())
 }
@@ -264,76 +353,23 @@ pub fn push_section(
     alloc: Global,
     out: &mut Vec<u8>,
     text: &[u8],
+    detail: Detail,
     view: View,
     windows: &[Window],
     inode: &Inode,
 ) -> Result<(), OutOfMemory>
     ensures { OnOk result (Pushed text.now out.old.items out.new.items
-        (spec.section_of text.now view windows.now inode.now)) }
+        (spec.section_of text.now detail view windows.now inode.now)) }
 {
     push_section_by(
         alloc,
         out,
         text,
+        detail,
         view,
         windows,
         inode.head,
         &inode.attrs,
         &inode.events,
     )
-}
-
-fn push_section_if(
-    alloc: Global,
-    out: &mut Vec<u8>,
-    text: &[u8],
-    view: View,
-    windows: &[Window],
-    inodes: &[Inode],
-    number: usize,
-) -> Result<(), OutOfMemory>
-    ensures { OnOk result (Pushed text.now out.old.items out.new.items
-        (spec.section_if text.now view windows.now (slice_get inodes.now number))) }
-{
-    match inodes.get(number) {
-        Some(inode) => push_section(alloc, out, text, view, windows, inode),
-        None => push_parts(out, text, &[]),
-    }
-}
-
-fn push_section_at(
-    alloc: Global,
-    out: &mut Vec<u8>,
-    text: &[u8],
-    side: Side,
-    shown: &[Shown],
-    inodes: &[Inode],
-    number: usize,
-) -> Result<(), OutOfMemory>
-    ensures { OnOk result (Pushed text.now out.old.items out.new.items
-        (spec.section_at text.now side shown.now inodes.now number)) }
-{
-    let view = view_of(side, number as u64);
-    let windows = windows_in(alloc, shown, number as u64)?;
-    push_section_if(alloc, out, text, view, &windows, inodes, number)?;
-    Ok(())
-}
-
-/// Appends the sections of the inodes of these numbers, each with the windows that are its own.
-pub fn push_sections(
-    alloc: Global,
-    out: &mut Vec<u8>,
-    text: &[u8],
-    side: Side,
-    shown: &[Shown],
-    inodes: &[Inode],
-    order: &[usize],
-) -> Result<(), OutOfMemory>
-    ensures { OnOk result (Pushed text.now out.old.items out.new.items
-        (spec.sections text.now side shown.now inodes.now order.now)) }
-{
-    for number in order {
-        push_section_at(alloc, out, text, side, shown, inodes, *number)?;
-    }
-    Ok(())
 }
