@@ -11,7 +11,8 @@ use crate::html::{Frame, Section};
 use crate::page::push_tables;
 use crate::part::{Part, push_more, push_parts};
 use crate::plan::windows_of;
-use crate::section::{push_at_end, push_drawing, push_heading, push_not_drawn};
+use crate::section::{push_at_end, push_drawing, push_heading, push_marked, push_not_drawn};
+use crate::sentences::push_sentences;
 use std::alloc::{AllocError as OutOfMemory, Global};
 use view_page::layout::reading::{Event, Inode, InodeHead, Report, Span};
 use view_page::layout::Window;
@@ -47,6 +48,7 @@ fn push_compared(
 {
     let differs = differing(alloc, text, mine, other, windows)?;
     push_drawing(alloc, out, text, view, mine, windows, &differs)?;
+    push_sentences(alloc, out, text, view, mine, windows)?;
     Ok(())
 }
 
@@ -84,6 +86,7 @@ fn push_side_by(
         (spec.side_by text.now view head attrs.now mine.now other.now)) }
 {
     push_heading(out, text, view.inode, mine.len() as u64, head)?;
+    push_marked(out, text, mine)?;
     push_parts(out, text, &[which(view.side), Part::Section(Section::Close)])?;
     push_compared_by(alloc, out, text, view, mine, other)?;
     push_at_end(out, text, head, attrs)?;
