@@ -1,6 +1,7 @@
 pub mod Joined
+pub mod Firsts
 pub mod Drawings
-pub mod Drawn
+pub mod InWindows
 pub mod Ordered
 pub mod Links
 pub mod Tags

@@ -49,8 +49,12 @@ total_none n k [] below = refl
 total_none n k (i ∷ is) below =
     elim (cases_Bool (k == n)) [
       | inl t ↦ omega (arith, below, eqb-true k n t)
-      | inr f ↦ omega (arith, total_none n (k + 1) is (omega (arith, below)),
-          total_more n k i is, ap one f)
+      | inr f ↦ omega (
+        arith,
+        total_none n (k + 1) is (omega (arith, below)),
+        total_more n k i is,
+        ap one f,
+      )
     ]
 
 total_one : (n k : ℕ) (is : List InodeValue) → k ≤ n → n < k + length is → total n k is ≡ 1
@@ -59,8 +63,12 @@ total_one n k (i ∷ is) from within =
     elim (cases_Bool (k == n)) [
       | inl t ↦
           let same : k ≡ n = eqb-true k n t in
-          omega (arith, total_none n (k + 1) is (omega (arith, same)), total_more n k i is,
-          ap one t)
+          omega (
+            arith,
+            total_none n (k + 1) is (omega (arith, same)),
+            total_more n k i is,
+            ap one t,
+          )
       | inr f ↦
           let more : k + 1 ≤ n = omega (arith, from, eqb-false k n f) in
           let few : n < k + 1 + length is = omega (arith, within) in

@@ -353,16 +353,7 @@ fn push_tasks(
         (spec.tasks_from text.now side shown.now inodes.now 0 tasks.now)) }
 {
     for (number, task) in tasks.iter().enumerate() {
-        push_task(
-            alloc,
-            out,
-            text,
-            side,
-            shown,
-            inodes,
-            number as u64,
-            task,
-        )?;
+        push_task(alloc, out, text, side, shown, inodes, number as u64, task)?;
     }
     Ok(())
 }

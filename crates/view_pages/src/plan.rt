@@ -58,11 +58,7 @@ fn fitting(alloc: Global, room: u64, journal: &[Event]) -> Result<Vec<Window>, O
     }
 }
 
-fn push_windows(
-    out: &mut Vec<Shown>,
-    inode: u64,
-    windows: &[Window],
-) -> Result<(), OutOfMemory>
+fn push_windows(out: &mut Vec<Shown>, inode: u64, windows: &[Window]) -> Result<(), OutOfMemory>
     ensures { OnOk result
         (out.new.items ≡ out.old.items ++ spec.shown_of inode windows.now) }
 {
@@ -114,11 +110,7 @@ pub fn beyond(order: &[usize]) -> u64
 }
 
 /// The windows that a page draws of the inodes of these numbers.
-pub fn planned(
-    alloc: Global,
-    inodes: &[Inode],
-    order: &[usize],
-) -> Result<Vec<Shown>, OutOfMemory>
+pub fn planned(alloc: Global, inodes: &[Inode], order: &[usize]) -> Result<Vec<Shown>, OutOfMemory>
     ensures { IfOk result (λ v. v.items ≡ spec.planned inodes.now order.now) }
 {
     let mut shown = Vec::new(alloc);
@@ -131,11 +123,7 @@ pub fn planned(
 }
 
 /// The windows of an inode.
-pub fn windows_in(
-    alloc: Global,
-    shown: &[Shown],
-    inode: u64,
-) -> Result<Vec<Window>, OutOfMemory>
+pub fn windows_in(alloc: Global, shown: &[Shown], inode: u64) -> Result<Vec<Window>, OutOfMemory>
     ensures { IfOk result (λ v. v.items ≡ spec.windows_in inode shown.now) }
 {
     let mut windows = Vec::new(alloc);

@@ -11,8 +11,8 @@ use crate::part::{Part, push_more, push_parts};
 use crate::sentences::push_sentences;
 use crate::words::{after_word, cut, first_word};
 use std::alloc::{AllocError as OutOfMemory, Global};
-use view_page::layout::reading::{Event, Inode, InodeHead, Span};
 use view_page::layout::Window;
+use view_page::layout::reading::{Event, Inode, InodeHead, Span};
 use view_page::{Side, View, push_inode};
 
 /// What a section has of a journal that isn't drawn whole.

@@ -100,7 +100,25 @@ pub fn push_sections(
 {
     let first = first_of(order);
     let others = others_of(order);
-    push_sections_of(alloc, out, text, Detail::Overview, side, shown, inodes, first)?;
-    push_sections_of(alloc, out, text, Detail::Windows, side, shown, inodes, others)?;
+    push_sections_of(
+        alloc,
+        out,
+        text,
+        Detail::Overview,
+        side,
+        shown,
+        inodes,
+        first,
+    )?;
+    push_sections_of(
+        alloc,
+        out,
+        text,
+        Detail::Windows,
+        side,
+        shown,
+        inodes,
+        others,
+    )?;
     Ok(())
 }

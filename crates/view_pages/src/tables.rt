@@ -33,11 +33,7 @@ fn push_register(out: &mut Vec<u8>, text: &[u8], line: Span) -> Result<(), OutOf
     push_parts(out, text, &parts)
 }
 
-fn push_register_rows(
-    out: &mut Vec<u8>,
-    text: &[u8],
-    lines: &[Span],
-) -> Result<(), OutOfMemory>
+fn push_register_rows(out: &mut Vec<u8>, text: &[u8], lines: &[Span]) -> Result<(), OutOfMemory>
     ensures { OnOk result
         (Pushed text.now out.old.items out.new.items (spec.register_rows text.now lines.now)) }
 {
@@ -48,11 +44,7 @@ fn push_register_rows(
 }
 
 /// Appends the registers.
-pub fn push_registers(
-    out: &mut Vec<u8>,
-    text: &[u8],
-    lines: &[Span],
-) -> Result<(), OutOfMemory>
+pub fn push_registers(out: &mut Vec<u8>, text: &[u8], lines: &[Span]) -> Result<(), OutOfMemory>
     ensures { OnOk result
         (Pushed text.now out.old.items out.new.items (spec.registers text.now lines.now)) }
 {
@@ -84,11 +76,7 @@ fn push_rule_rows(out: &mut Vec<u8>, text: &[u8], lines: &[Span]) -> Result<(), 
     Ok(())
 }
 
-fn push_rules_shown(
-    out: &mut Vec<u8>,
-    text: &[u8],
-    lines: &[Span],
-) -> Result<(), OutOfMemory>
+fn push_rules_shown(out: &mut Vec<u8>, text: &[u8], lines: &[Span]) -> Result<(), OutOfMemory>
     ensures { OnOk result
         (Pushed text.now out.old.items out.new.items (spec.rules_shown text.now lines.now)) }
 {

@@ -20,7 +20,7 @@ loop-call-preserved c =
     let r : Reply = get_or c.args.replies.now i none in
     let rest : ℕ → List Part
     = λ m. chips_from text c.args.side c.args.shown.now c.args.inodes.now c.args.firsts.now m
-        (i + 1) (drop (i + 1) c.args.replies.now) in
+    (i + 1) (drop (i + 1) c.args.replies.now) in
     let same : c.counted-marks.result ≡ counted (not r.ok) marks = c.counted-marks.ensures in
     ap (λ (m : ℕ). c.push_chip_at.new.out.items ++ page_of text (rest m)) same
     ∙ going text _ c.loop-call.out.items c.push_chip_at.new.out.items

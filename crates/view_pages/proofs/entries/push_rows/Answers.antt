@@ -19,7 +19,7 @@ loop-place-preserved c =
     let line : Span = get_or c.args.lines.now i none in
     let rows : ℕ → List Part
     = λ m. rows_from text c.args.side c.args.shown.now c.args.added.now m (i + 1)
-        (drop (i + 1) c.args.lines.now) in
+    (drop (i + 1) c.args.lines.now) in
     let same : c.counted-marks.result ≡ counted (is_violation text line) marks
     = c.counted-marks.ensures ∙ ap (λ (b : Bool). counted b marks) c.is_violation.ensures in
     ap (λ (m : ℕ). c.push_row_at.new.out.items ++ page_of text (rows m)) same

@@ -1,4 +1,4 @@
-use Rattle.view_pages.proofs.Drawn.{drawn_in}
+use Rattle.view_pages.proofs.InWindows.{drawn_in}
 use Rattle.view_pages.proofs.law.links_lead_to_drawn_events.Goals as goal
 
 pub returns : goal.returns
