@@ -9,3 +9,4 @@ pub mod Walks
 pub mod TalesSteps
 pub mod HoldersSteps
 pub mod BucketsSteps
+pub mod PairsSteps

@@ -37,13 +37,17 @@ highest_from rank (n ∷ ns) = highest_from (max rank (rank_of n)) ns
 abbrev pub rank : Event → ℕ
 rank e = highest_from 0 (notes e)
 
--- what an event shows: the counts after it, and its rank
-abbrev pub bucket_of : Event → State → Bucket
-bucket_of e s = record {
+-- what the strips show, with a rank
+abbrev pub bucket_with : ℕ → State → Bucket
+bucket_with r s = record {
   readers = min s.readers 4294967295;
   writers = min s.writers 4294967295;
-  rank = rank e;
+  rank = r;
 }
+
+-- what an event shows: the counts after it, and its rank
+abbrev pub bucket_of : Event → State → Bucket
+bucket_of e s = bucket_with (rank e) s
 
 -- the highest of both
 abbrev pub higher : Bucket → Bucket → Bucket

@@ -13,7 +13,8 @@ use Rattle.view_pages.specs.Frame.{head, tiles}
 use Rattle.view_pages.specs.Page.{tables}
 use Rattle.view_pages.specs.Parts.{more}
 use Rattle.view_pages.specs.Plan.{windows_of}
-use Rattle.view_pages.specs.Section.{at_end, drawing, heading, not_drawn}
+use Rattle.view_pages.specs.Section.{at_end, drawing, heading, marked, not_drawn}
+use Rattle.view_pages.specs.Sentences.{sentences}
 use Rattle.view_pages.specs.declared.html.Frame.TheVariants as frame
 use Rattle.view_pages.specs.declared.html.Section.TheVariants as section
 use Rattle.view_pages.specs.declared.part.Part.{Part}
@@ -26,9 +27,10 @@ abbrev pub which : Side → Part
 which side.First = part.Section section.IsFirst
 which _ = part.Section section.IsSecond
 
--- the drawing of these windows, with the columns that differ
+-- the drawing of these windows, with the columns that differ, and the sentences
 abbrev pub compared : List ℕ → View → List Event → List Event → List Window → List Part
-compared text view mine other ws = drawing view mine ws (differing text mine other ws)
+compared text view mine other ws =
+    drawing view mine ws (differing text mine other ws) ++ sentences text view mine ws
 
 abbrev pub compared_by : List ℕ → View → List Event → List Event → List Part
 compared_by text view mine other =
@@ -38,6 +40,7 @@ compared_by text view mine other =
 abbrev pub side_by : List ℕ → View → InodeHead → List Span → List Event → List Event → List Part
 side_by text view head lines mine other =
     heading text view.inode (length mine) head
+    ++ marked mine
     ++ which view.side ∷ part.Section section.Close ∷ []
     ++ compared_by text view mine other
     ++ at_end text head lines

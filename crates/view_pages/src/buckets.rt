@@ -1,6 +1,6 @@
 // The buckets of a long journal: the highest counts and the gravest note of some places.
 
-ghost use Rattle.std.specs.Prelude.{◌≡◌, ◌<◌, ◌≤◌, length, min, replicate, IfOk, OnOk};
+ghost use Rattle.std.specs.Prelude.{◌≡◌, ◌<◌, ◌≤◌, length, replicate, IfOk, OnOk};
 ghost use Rattle.view_page.specs.layout.Walk.{states_of};
 ghost use Rattle.view_pages.specs.Overview as spec;
 
@@ -59,10 +59,7 @@ fn rank(notes: &mut Vec<Note>, event: Event) -> Result<u32, OutOfMemory>
 }
 
 fn bucket_of(rank: u32, state: State) -> Bucket
-    ensures { result ≡ record {
-        readers = min state.readers 4294967295;
-        writers = min state.writers 4294967295;
-        rank = rank } }
+    ensures { result ≡ spec.bucket_with rank state }
 {
     Bucket {
         readers: state.readers.min(4_294_967_295) as u32,

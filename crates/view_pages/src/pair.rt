@@ -1,6 +1,7 @@
 // The page of two reports of one script.
 
 ghost use Rattle.std.specs.Prelude.{◌≡◌, ◌<◌, ◌≤◌, length, take, OnOk};
+ghost use Rattle.view_pages.specs.Alike.{parted};
 ghost use Rattle.view_pages.specs.Pair as spec;
 ghost use Rattle.view_pages.specs.Parts.{Pushed};
 
@@ -10,7 +11,8 @@ use crate::html::{Frame, Section};
 use crate::page::push_tables;
 use crate::part::{Part, push_more, push_parts};
 use crate::plan::windows_of;
-use crate::section::{push_at_end, push_drawing, push_heading, push_not_drawn};
+use crate::section::{push_at_end, push_drawing, push_heading, push_marked, push_not_drawn};
+use crate::sentences::push_sentences;
 use std::alloc::{AllocError as OutOfMemory, Global};
 use view_page::layout::reading::{Event, Inode, InodeHead, Report, Span};
 use view_page::layout::Window;
@@ -46,6 +48,7 @@ fn push_compared(
 {
     let differs = differing(alloc, text, mine, other, windows)?;
     push_drawing(alloc, out, text, view, mine, windows, &differs)?;
+    push_sentences(alloc, out, text, view, mine, windows)?;
     Ok(())
 }
 
@@ -83,6 +86,7 @@ fn push_side_by(
         (spec.side_by text.now view head attrs.now mine.now other.now)) }
 {
     push_heading(out, text, view.inode, mine.len() as u64, head)?;
+    push_marked(out, text, mine)?;
     push_parts(out, text, &[which(view.side), Part::Section(Section::Close)])?;
     push_compared_by(alloc, out, text, view, mine, other)?;
     push_at_end(out, text, head, attrs)?;
@@ -209,6 +213,12 @@ fn room_after(parted: Option<usize>, room: u64) -> u64
     }
 }
 
+fn parted_of(text: &[u8], first: &Inode, second: &Inode) -> Option<usize>
+    ensures { result ≡ parted text.now first.now.events second.now.events }
+{
+    parted(text, &first.events, &second.events)
+}
+
 // The inodes of two reports, as many of each.
 fn push_pairs_of(
     alloc: Global,
@@ -225,7 +235,7 @@ fn push_pairs_of(
     for number in 0..first.len() {
         let inode = &first[number];
         let other = &second[number];
-        let parted = parted(text, &inode.events, &other.events);
+        let parted = parted_of(text, inode, other);
         push_pair_by(alloc, out, text, number as u64, room, parted, inode, other)?;
         room = room_after(parted, room);
     }

@@ -276,8 +276,8 @@ fn push_drawn(
     }
 }
 
-// How many events of a journal are violations, and how many others are denials or labels.
-fn push_marked(out: &mut Vec<u8>, text: &[u8], journal: &[Event]) -> Result<(), OutOfMemory>
+/// Appends how many events of a journal are violations, and how many others are denials or labels.
+pub fn push_marked(out: &mut Vec<u8>, text: &[u8], journal: &[Event]) -> Result<(), OutOfMemory>
     ensures { OnOk result (Pushed text.now out.old.items out.new.items
         (spec.marked journal.now)) }
 {

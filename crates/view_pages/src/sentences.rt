@@ -155,6 +155,27 @@ fn push_list_of(
     Ok(())
 }
 
+fn push_list_by(
+    alloc: Global,
+    out: &mut Vec<u8>,
+    text: &[u8],
+    view: View,
+    journal: &[Event],
+    windows: &[Window],
+    places: &[u32],
+    n: u64,
+) -> Result<(), OutOfMemory>
+    requires { length journal.now < 4294967296 }
+    ensures { OnOk result (Pushed text.now out.old.items out.new.items
+        (spec.list_by text.now view journal.now windows.now places.now n)) }
+{
+    if n == 0 {
+        push_parts(out, text, &[])
+    } else {
+        push_list_of(alloc, out, text, view, journal, windows, places, n)
+    }
+}
+
 /// Appends the sentences of a journal; events of the windows have a link.
 pub fn push_sentences(
     alloc: Global,
@@ -169,17 +190,7 @@ pub fn push_sentences(
         (spec.sentences text.now view journal.now windows.now)) }
 {
     let tales = told_places(alloc, journal)?;
-    if tales.n == 0 {
-        return push_parts(out, text, &[]);
-    }
-    push_list_of(
-        alloc,
-        out,
-        text,
-        view,
-        journal,
-        windows,
-        &tales.places,
-        tales.n,
-    )
+    let n = tales.n;
+    push_list_by(alloc, out, text, view, journal, windows, &tales.places, n)?;
+    Ok(())
 }
