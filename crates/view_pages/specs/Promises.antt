@@ -1,9 +1,10 @@
 -- What has to be true of a page.
-use Rattle.std.specs.Prelude.{◌≡◌, ℕ, ◌==◌, ◌<◌, nat_le, ◌&&◌, Bool, true, false, IsTrue, List, count_by, length, slice_get, Option, Some}
+use Rattle.std.specs.Prelude.{◌≡◌, ℕ, ◌==◌, ◌<◌, ◌≤◌, nat_le, ◌&&◌, Bool, true, false, IsTrue, List, count_by, length, sum_by, slice_get, Option, Some}
 use Rattle.std.specs.List.{list_all, list_any}
 use Rattle.view_page.specs.Escape.{is_safe}
 use Rattle.view_page.specs.Pieces.{is_own as is_own_piece}
 use Rattle.view_page.specs.layout.Sentences.{adds}
+use Rattle.view_page.specs.layout.Windows.{width}
 use Rattle.view_page.specs.layout.declared.window.Window.{Window}
 use Rattle.view_page.specs.layout.reading.Report.{InodeValue}
 use Rattle.view_page.specs.layout.reading.declared.event.Event.{Event}
@@ -11,7 +12,7 @@ use Rattle.view_pages.specs.Calls.{firsts}
 use Rattle.view_pages.specs.Order.{order}
 use Rattle.view_pages.specs.Page.{added}
 use Rattle.view_pages.specs.Parts.{bytes_of}
-use Rattle.view_pages.specs.Plan.{is_drawn, windows_in}
+use Rattle.view_pages.specs.Plan.{is_drawn, most_places, planned, windows_in}
 use Rattle.view_pages.specs.declared.part.Part.{Part}
 use Rattle.view_pages.specs.declared.part.Part.TheVariants as part
 use Rattle.view_pages.specs.declared.plan.Shown.{Shown}
@@ -38,6 +39,14 @@ abbrev pub EachInodeIsOrdered : Type 0
 EachInodeIsOrdered =
     (inodes : List InodeValue) (n : ℕ) → n < length inodes
     → count_by (λ m. m == n) (order inodes) ≡ 1
+
+-- ---- the room
+
+-- a page draws at most so many events
+abbrev pub DrawnEventsAreBounded : Type 0
+DrawnEventsAreBounded =
+    (inodes : List InodeValue) (order : List ℕ)
+    → sum_by (λ (s : Shown). width s.window) (planned inodes order) ≤ most_places
 
 -- ---- links
 

@@ -1,6 +1,6 @@
 //! Promises about pages, over all reports.
 
-ghost use Rattle.view_pages.specs.Promises.{CallsLeadToTheirEvents, EachInodeIsOrdered, EntriesLeadToTheirEvents, LinksLeadToDrawnEvents, OnlyOwnPartsMakeTags};
+ghost use Rattle.view_pages.specs.Promises.{CallsLeadToTheirEvents, DrawnEventsAreBounded, EachInodeIsOrdered, EntriesLeadToTheirEvents, LinksLeadToDrawnEvents, OnlyOwnPartsMakeTags};
 
 /// Of the parts of a page only the program's own have `<`, `>` and `"`, whatever the report is.
 pub fn only_own_parts_make_tags()
@@ -10,6 +10,11 @@ pub fn only_own_parts_make_tags()
 /// Each inode stands once in the order in which a page shows them.
 pub fn each_inode_is_ordered()
     ensures { EachInodeIsOrdered }
+{}
+
+/// A page draws at most 3,000 events.
+pub fn drawn_events_are_bounded()
+    ensures { DrawnEventsAreBounded }
 {}
 
 /// The event that the list names for an entry is one that added it.
