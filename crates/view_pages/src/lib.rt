@@ -7,6 +7,7 @@
 mod alike;
 mod buckets;
 mod calls;
+mod chosen;
 mod entries;
 mod frame;
 mod holders;
