@@ -1,6 +1,6 @@
 // What the sentence of an event says.
 
-ghost use Rattle.std.specs.Prelude.{◌≡◌, ◌++◌, ◌≤◌, ◌<◌, length, reverse, if◌then◌else◌, OnOk};
+ghost use Rattle.std.specs.Prelude.{◌≡◌, ◌++◌, ◌≤◌, ◌<◌, length, reverse, take, if◌then◌else◌, OnOk};
 ghost use Rattle.view_pages.specs.Parts.{Pushed};
 ghost use Rattle.view_pages.specs.Sentences as spec;
 
@@ -121,6 +121,12 @@ fn push_named(
     Ok(())
 }
 
+fn first_of(files: &[u32]) -> &[u32]
+    ensures { result.now ≡ take spec.most_named files.now }
+{
+    &files[..files.len().min(MOST_NAMED)]
+}
+
 // The holders of a file, the first of which are named.
 fn push_holders(
     out: &mut Vec<u8>,
@@ -132,7 +138,7 @@ fn push_holders(
         (Pushed text.now out.old.items out.new.items (spec.named journal.now files.now)) }
 {
     let more = files.len().saturating_sub(MOST_NAMED) as u64;
-    push_named(out, text, journal, &files[..files.len().min(MOST_NAMED)])?;
+    push_named(out, text, journal, first_of(files))?;
     push_more(out, text, Part::Told(Told::And), more, Part::Told(Told::More))?;
     Ok(())
 }
@@ -171,6 +177,27 @@ fn push_entry(
     push_parts(out, text, &parts)
 }
 
+fn push_opened(
+    out: &mut Vec<u8>,
+    text: &[u8],
+    event: Event,
+    before: Told,
+    used: Told,
+    after: Told,
+) -> Result<(), OutOfMemory>
+    ensures { OnOk result
+        (Pushed text.now out.old.items out.new.items (spec.opened event before used after)) }
+{
+    let parts = [
+        Part::Told(Told::Task),
+        Part::Number(u64::from(event.who.task)),
+        Part::Told(before),
+        Part::Told(used),
+        Part::Told(after),
+    ];
+    push_parts(out, text, &parts)
+}
+
 fn push_tomtou(
     alloc: Global,
     out: &mut Vec<u8>,
@@ -184,14 +211,8 @@ fn push_tomtou(
     ensures { OnOk result (Pushed text.now out.old.items out.new.items
         (spec.tomtou journal.now place event entry)) }
 {
-    let parts = [
-        Part::Told(Told::Task),
-        Part::Number(u64::from(event.who.task)),
-        Part::Told(Told::OpenedFor),
-        Part::Told(use_of(opener(journal, file_of(event.deed)))),
-        Part::Told(Told::Measured),
-    ];
-    push_parts(out, text, &parts)?;
+    let used = use_of(opener(journal, file_of(event.deed)));
+    push_opened(out, text, event, Told::OpenedFor, used, Told::Measured)?;
     push_holders_at(alloc, out, text, journal, place, event)?;
     push_entry(out, text, entry, Told::ToMToU)?;
     Ok(())
@@ -210,14 +231,8 @@ fn push_open_writers(
     ensures { OnOk result (Pushed text.now out.old.items out.new.items
         (spec.open_writers journal.now place event entry)) }
 {
-    let parts = [
-        Part::Told(Told::Task),
-        Part::Number(u64::from(event.who.task)),
-        Part::Told(Told::OpenedToMeasure),
-        Part::Told(use_of(opener(journal, file_of(event.deed)))),
-        Part::Told(Told::HeldBy),
-    ];
-    push_parts(out, text, &parts)?;
+    let used = use_of(opener(journal, file_of(event.deed)));
+    push_opened(out, text, event, Told::OpenedToMeasure, used, Told::HeldBy)?;
     push_holders_at(alloc, out, text, journal, place, event)?;
     push_entry(out, text, entry, Told::OpenWriters)?;
     Ok(())
@@ -306,6 +321,21 @@ fn push_writer(
     }
 }
 
+fn push_not_as_hashed(
+    out: &mut Vec<u8>,
+    text: &[u8],
+    event: Event,
+) -> Result<(), OutOfMemory>
+    ensures { OnOk result (Pushed text.now out.old.items out.new.items (spec.not_as_hashed event)) }
+{
+    let parts = [
+        Part::Told(Told::Task),
+        Part::Number(u64::from(event.who.task)),
+        Part::Told(Told::NotAsHashed),
+    ];
+    push_parts(out, text, &parts)
+}
+
 fn push_stale(
     out: &mut Vec<u8>,
     text: &[u8],
@@ -318,12 +348,7 @@ fn push_stale(
     ensures { OnOk result
         (Pushed text.now out.old.items out.new.items (spec.stale journal.now place event)) }
 {
-    let parts = [
-        Part::Told(Told::Task),
-        Part::Number(u64::from(event.who.task)),
-        Part::Told(Told::NotAsHashed),
-    ];
-    push_parts(out, text, &parts)?;
+    push_not_as_hashed(out, text, event)?;
     push_writer(out, text, journal, last_write(&journal[..place]))?;
     Ok(())
 }

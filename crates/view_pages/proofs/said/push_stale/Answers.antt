@@ -5,6 +5,6 @@ use Rattle.view_pages.proofs.said.push_stale.Goals as goal
 
 pub returns : goal.returns
 returns c =
-    c.in_ok-push_parts.ensures
+    c.in_ok-push_not_as_hashed.ensures
     ▹ as_parts c.in_ok-push_writer.ensures
     (ap (λ (o : Option ℕ). writer c.args.journal.now o) c.last_write.ensures)
