@@ -14,6 +14,7 @@ mod holders;
 mod html;
 pub mod law;
 mod look;
+mod named;
 mod order;
 mod overview;
 mod page;

@@ -1,7 +1,7 @@
 use Rattle.std.proofs.Common.{ℕ, List, ap, ◌∙◌}
 use Rattle.view_pages.specs.Sentences.{named}
 use Rattle.view_pages.proofs.Joined.{as_parts}
-use Rattle.view_pages.proofs.said.push_holders_at.Goals as goal
+use Rattle.view_pages.proofs.named.push_holders_at.Goals as goal
 
 pub returns : goal.returns
 returns c =

@@ -4,7 +4,7 @@ use Rattle.view_pages.specs.Sentences.{named_from}
 use Rattle.view_pages.specs.declared.part.Part.TheVariants as part
 use Rattle.view_pages.specs.declared.told.Told.TheVariants as told
 use Rattle.view_pages.proofs.Joined.{as_parts, ◌▹◌}
-use Rattle.view_pages.proofs.said.push_holders.Goals as goal
+use Rattle.view_pages.proofs.named.push_holders.Goals as goal
 
 pub returns : goal.returns
 returns c =
