@@ -150,7 +150,8 @@ pub fn push_holders_at(
     place: usize,
     event: Event,
 ) -> Result<(), OutOfMemory>
-    requires { place ≤ length journal.now }
+    requires within { place ≤ length journal.now }
+    requires few { length journal.now < 4294967296 }
     ensures { OnOk result (Pushed text.now out.old.items out.new.items
         (spec.named journal.now (spec.holders_at journal.now place event))) }
 {

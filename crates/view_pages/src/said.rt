@@ -60,7 +60,8 @@ fn push_tomtou(
     event: Event,
     entry: u32,
 ) -> Result<(), OutOfMemory>
-    requires { place ≤ length journal.now }
+    requires within { place ≤ length journal.now }
+    requires few { length journal.now < 4294967296 }
     ensures { OnOk result (Pushed text.now out.old.items out.new.items
         (spec.tomtou journal.now place event entry)) }
 {
@@ -80,7 +81,8 @@ fn push_open_writers(
     event: Event,
     entry: u32,
 ) -> Result<(), OutOfMemory>
-    requires { place ≤ length journal.now }
+    requires within { place ≤ length journal.now }
+    requires few { length journal.now < 4294967296 }
     ensures { OnOk result (Pushed text.now out.old.items out.new.items
         (spec.open_writers journal.now place event entry)) }
 {
