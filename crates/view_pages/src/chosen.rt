@@ -98,5 +98,6 @@ pub fn numbers(
     ensures { IfOk result (λ v. v.items ≡ spec.numbers text.now first.now second.now) }
 {
     let n = shown(first, second);
-    numbers_of(alloc, text, &first[..n], &second[..n])
+    let found = numbers_of(alloc, text, &first[..n], &second[..n])?;
+    Ok(found)
 }
