@@ -3,6 +3,7 @@ pub mod Firsts
 pub mod Drawings
 pub mod InWindows
 pub mod Ordered
+pub mod Bounded
 pub mod Links
 pub mod Tags
 pub mod Walks

@@ -19,7 +19,7 @@ one b = cond b 1 0
 number_more : (n k : ℕ) (b : Bool) (ns : List ℕ)
     → times n (cond b (k ∷ ns) ns) ≡ cond b (one (k == n)) 0 + times n ns
 number_more n k true ns = sum_by-cons (λ (m : ℕ). cond (m == n) 1 0) k ns
-number_more n k false ns = refl
+number_more n k false ns = omega arith
 
 -- an inode has one grade
 one_grade : (v m : Bool) (x : ℕ)
@@ -38,10 +38,12 @@ total n k is =
 total_more : (n k : ℕ) (i : InodeValue) (is : List InodeValue)
     → total n k (i ∷ is) ≡ one (k == n) + total n (k + 1) is
 total_more n k i is =
-    let v = number_more n k (is_graded grade.Violated i.events) (graded grade.Violated (k + 1) is) in
+    let v =
+        number_more n k (is_graded grade.Violated i.events) (graded grade.Violated (k + 1) is) in
     let m = number_more n k (is_graded grade.Marked i.events) (graded grade.Marked (k + 1) is) in
     let p = number_more n k (is_graded grade.Plain i.events) (graded grade.Plain (k + 1) is) in
-    let one_of = one_grade (has grade.Violated i.events) (has grade.Marked i.events) (one (k == n)) in
+    let one_of =
+        one_grade (has grade.Violated i.events) (has grade.Marked i.events) (one (k == n)) in
     omega (arith, v, m, p, one_of)
 
 total_none : (n k : ℕ) (is : List InodeValue) → n < k → total n k is ≡ 0

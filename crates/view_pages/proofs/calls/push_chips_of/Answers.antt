@@ -1,4 +1,4 @@
-use Rattle.std.proofs.Common.{◌≡◌, ℕ, ◌+◌, true, List, ◌++◌, drop, get_or, ap, sym, ◌∙◌, arith}
+use Rattle.std.proofs.Common.{◌≡◌, ℕ, ◌+◌, false, List, ◌++◌, drop, get_or, ap, sym, ◌∙◌, arith}
 use Rattle.std.proofs.lemmas.List.{at_drop_all, at_drop_more}
 use Rattle.std.specs.Prelude.{not}
 use Rattle.view_page.specs.layout.reading.declared.report.Reply.{Reply}
@@ -10,7 +10,7 @@ use Rattle.view_pages.proofs.Joined.{going, gone}
 use Rattle.view_pages.proofs.calls.push_chips_of.Goals as goal
 
 abbrev none : Reply
-none = record { line = record { at = 0; len = 0 }; ok = true }
+none = record { line = record { at = 0; len = 0 }; ok = false }
 
 pub loop-call-preserved : goal.loop-call-preserved
 loop-call-preserved c =

@@ -9,6 +9,7 @@ pub returns : goal.returns
 returns c =
     c.in_ok-push_head.ensures
     ▹ as_parts c.in_ok-push_section.ensures
-    (ap (λ (v : View). section_of c.args.text.now detail.Overview v c.args.windows.now c.args.inode.now)
+    (ap (λ (v : View).
+    section_of c.args.text.now detail.Overview v c.args.windows.now c.args.inode.now)
     c.view_of-view.ensures)
     ▹ c.in_ok-push_parts.ensures
