@@ -114,7 +114,9 @@ pub all_count : (journal : List Event) (i : ℕ) (w : Walk) (n : ℕ) → length
     ≡ length (told_from 0 journal (shown_by start journal))
     → n ≡ length (told_places journal)
 all_count journal i w n past so_far =
-    omega (arith,
-    ap length (at_drop_all (λ (es : List Event). told_from i es (shown_by w es)) journal i past),
-    so_far,
-    ap (λ (ss : List State). length (told_from 0 journal ss)) (states_by_walk journal))
+    omega (
+      arith,
+      ap length (at_drop_all (λ (es : List Event). told_from i es (shown_by w es)) journal i past),
+      so_far,
+      ap (λ (ss : List State). length (told_from 0 journal ss)) (states_by_walk journal),
+    )

@@ -84,7 +84,11 @@ fn push_side_by(
 {
     push_heading(out, text, view.inode, mine.len() as u64, head)?;
     push_marked(out, text, mine)?;
-    push_parts(out, text, &[which(view.side), Part::Section(Section::Close)])?;
+    push_parts(
+        out,
+        text,
+        &[which(view.side), Part::Section(Section::Close)],
+    )?;
     push_compared_by(alloc, out, text, view, mine, other)?;
     push_at_end(out, text, head, attrs)?;
     Ok(())
@@ -333,5 +337,13 @@ pub fn push_pair(
     ensures { OnOk result (Pushed text.now out.old.items out.new.items
         (spec.pair_parts text.now first.now second.now)) }
 {
-    push_pair_by_inodes(alloc, out, text, first, second, &first.inodes, &second.inodes)
+    push_pair_by_inodes(
+        alloc,
+        out,
+        text,
+        first,
+        second,
+        &first.inodes,
+        &second.inodes,
+    )
 }

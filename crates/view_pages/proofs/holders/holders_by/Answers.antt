@@ -10,10 +10,12 @@ use Rattle.view_pages.proofs.holders.holders_by.Goals as goal
 
 pub holders_in-requires : goal.holders_in-requires
 holders_in-requires c =
-    omega (arith,
-    ap length (c.held.ensures ∙ ap (λ (w : Walk). w.held) c.in_ok-walk.ensures),
-    length-walked_all start c.args.journal.now,
-    c.requires)
+    omega (
+      arith,
+      ap length (c.held.ensures ∙ ap (λ (w : Walk). w.held) c.in_ok-walk.ensures),
+      length-walked_all start c.args.journal.now,
+      c.requires,
+    )
 
 pub returns : goal.returns
 returns c =
