@@ -7,3 +7,4 @@ pub mod Section
 pub mod Slots
 pub mod Entries
 pub mod Page
+pub use Rattle.view_page.specs as drawn
