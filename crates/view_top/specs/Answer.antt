@@ -1,7 +1,8 @@
 -- The answer to an input.
 use Rattle.std.specs.Prelude.{◌≡◌, ℕ, ◌-◌, Bool, true, ◌&&◌, nat_le, nat_lt, List, [], ◌∷◌, ◌++◌, length, codes, slice_get, Vec, Option, Some, None, Result, Ok, Err, if◌then◌else◌, ⊤}
 use Rattle.text_forms.specs.Options.{◌>>=◌}
-use Rattle.view_pages.specs.Page.{inode_page_parts, pair_parts, report_parts}
+use Rattle.view_pages.specs.Page.{inode_page_parts, report_parts}
+use Rattle.view_pages.specs.Pair.{pair_parts}
 use Rattle.view_pages.specs.Parts.{page_of}
 use Rattle.view_pages.specs.drawn.Drawing.{svg_of}
 use Rattle.view_pages.specs.drawn.layout.declared.window.Window.{Window}
