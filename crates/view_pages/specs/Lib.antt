@@ -7,4 +7,3 @@ pub mod Section
 pub mod Slots
 pub mod Entries
 pub mod Page
-pub use Rattle.view_page.specs as drawn
