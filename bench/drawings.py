@@ -1,5 +1,7 @@
-"""Checks drawings (SVG, one after another, on standard input): that each is well-formed, that each
-event has one mark in its own column and in one lane, and that no two bars or flags overlap."""
+#!/usr/bin/env python3
+"""bench/drawings.py < PAGES: checks the drawings in pages or SVG files, one after another: that each
+is well-formed, that each event has one mark in its own column and in one lane, and that no two bars
+or flags overlap. Status 1: one isn't so, or there is none."""
 import re
 import sys
 import xml.dom.minidom
