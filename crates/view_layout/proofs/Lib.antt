@@ -2,6 +2,7 @@ pub mod Tests
 pub mod FilesLemmas
 pub mod WalkLemmas
 pub mod Small
+pub mod ColumnsSteps
 pub mod CountsLemmas
 pub mod StagesLemmas
 pub mod HashedLemmas
@@ -10,6 +11,9 @@ pub mod HoldersLemmas
 pub mod BarsLemmas
 pub mod RowsLemmas
 pub mod ColumnsLemmas
+pub mod ColumnsStand
+pub mod FlagsLemmas
+pub mod InLanes
 pub mod WindowsLemmas
 mod Examples
 pub mod BarsSteps

@@ -1,7 +1,6 @@
 -- A walk over a journal finds what the strips show.
-use Rattle.std.proofs.Common.{◌≡◌, ℕ, zero, suc, ◌+◌, ◌-◌, ◌<◌, ◌≤◌, ◌==◌, Bool, false, List, [], ◌∷◌, ◌++◌, length, Option, Some, None, refl, ap, sym, ◌∙◌, subst, arith, append_assoc, drop, get_or, inl, inr}
+use Rattle.std.proofs.Common.{◌≡◌, ℕ, zero, suc, ◌+◌, ◌-◌, ◌<◌, ◌≤◌, ◌==◌, Bool, false, List, [], ◌∷◌, ◌++◌, length, Option, Some, None, refl, ap, sym, ◌∙◌, subst, arith, inl, inr}
 use Rattle.std.specs.Prelude.{slice_get, slice_set}
-use Rattle.std.proofs.lemmas.List.{append-nil, at_drop_all, at_drop_more, get_or_default}
 use Rattle.std.proofs.lemmas.Option.{slice_get_past}
 use Rattle.std.proofs.lemmas.Bool.{cases_Bool, eqb-true}
 use Rattle.report_read.specs.declared.event.Event.{Event}
@@ -203,37 +202,6 @@ shown_by-walk before w (e ∷ es) i =
       shown_by-walk (e ∷ before) (walked e w) es next,
     ) refl
 
--- ---- the loop over a journal
-
--- the states so far, and those of the other events
-pub shows_on : (journal : List Event) (states : List State) (w : Walk) (i : ℕ) (e : Event)
-    → i < length journal → e ≡ get_or journal i e
-    → states ++ shown_by w (drop i journal) ≡ shown_by start journal
-    → (states ++ state_of (walked e w) ∷ []) ++ shown_by (walked e w) (drop (i + 1) journal)
-    ≡ shown_by start journal
-shows_on journal states w i e lt item h =
-    append_assoc states (state_of (walked e w) ∷ []) (shown_by (walked e w) (drop (i + 1) journal))
-    ∙ (ap (λ (s : List State). states ++ s)
-    (sym (at_drop_more (shown_by w) journal i e lt
-    ∙ ap (λ (x : Event). shown_by w (x ∷ drop (i + 1) journal)) (sym item)))
-    ∙ h)
-
--- the same, if the states and the walk are given by equations
-pub shows_next : (journal : List Event) (states more : List State) (w next : Walk) (s : State)
-    (i : ℕ) (d : Event) → i < length journal → next ≡ walked (get_or journal i d) w
-    → more ≡ states ++ s ∷ [] → s ≡ state_of next
-    → states ++ shown_by w (drop i journal) ≡ shown_by start journal
-    → more ++ shown_by next (drop (i + 1) journal) ≡ shown_by start journal
-shows_next journal states more w next s i d lt is pushed state h =
-    let e : Event = get_or journal i d in
-    rw (pushed, state, is)
-    (shows_on journal states w i e lt (get_or_default journal i d e lt) h)
-
--- after the last event the states are those of the journal
-pub shows_all : (journal : List Event) (states : List State) (w : Walk) (i : ℕ)
-    → length journal ≤ i → states ++ shown_by w (drop i journal) ≡ shown_by start journal
-    → states ≡ states_of journal
-shows_all journal states w i past h =
-    sym (append-nil states)
-    ∙ (ap (λ (s : List State). states ++ s) (sym (at_drop_all (shown_by w) journal i past))
-    ∙ (h ∙ shown_by-walk [] start journal starts))
+-- over a whole journal
+pub states_by_walk : (journal : List Event) → shown_by start journal ≡ states_of journal
+states_by_walk journal = shown_by-walk [] start journal starts

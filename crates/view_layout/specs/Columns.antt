@@ -9,6 +9,7 @@ use Rattle.view_layout.specs.declared.column.Column.{Column}
 use Rattle.view_layout.specs.declared.walk.State.{State}
 use Rattle.view_layout.specs.declared.window.Window.{Window}
 use Rattle.view_layout.specs.Frame.{column_of}
+use Rattle.view_layout.specs.Walk.{states_of}
 
 -- a drawing has at most as many columns
 abbrev pub most_columns : ℕ
@@ -28,6 +29,7 @@ column_at None place e s hashing = []
 column_at (Some x) place e s hashing =
     record { place = place; x = x; event = e; state = s; hashing = hashing } ∷ []
 
+-- the columns of these events, after each of which the strips show one of these states
 abbrev pub columns_from : List Window → ℕ → Option ℕ → List Event → List State → List Column
 columns_from ws place hashing [] ss = []
 columns_from ws place hashing (e ∷ es) [] = []
@@ -35,6 +37,6 @@ columns_from ws place hashing (e ∷ es) (s ∷ ss) =
     column_at (column_of ws place) place e s (hashing_after e.deed e.outcome hashing)
     ++ columns_from ws (place + 1) (hashing_after e.deed e.outcome hashing) es ss
 
--- the columns of a journal, with what the strips show after each event
-abbrev pub columns_of : List Window → List Event → List State → List Column
-columns_of ws journal states = take most_columns (columns_from ws 0 None journal states)
+-- the columns of a journal
+abbrev pub columns_of : List Window → List Event → List Column
+columns_of ws journal = take most_columns (columns_from ws 0 None journal (states_of journal))

@@ -86,9 +86,10 @@ middle_end x = middle x + column
 abbrev pub segment : Strip → ℕ → ℕ → ℕ → Item
 segment kind from to shown = item.Segment kind from (to - from) shown
 
--- the segments from one on that begins at `from` and reaches to `to` so far
+-- the segments from one on that begins at `from` and reaches to `to` so far; the last one ends at
+-- the edge of its column
 abbrev pub segments_from : Strip → ℕ → ℕ → ℕ → List Column → List Item
-segments_from kind from to shown [] = segment kind from to shown ∷ []
+segments_from kind from to shown [] = segment kind from (to - 15) shown ∷ []
 segments_from kind from to shown (c ∷ cs) =
     if shown_in kind c.state == shown && middle c.x == to
     then segments_from kind from (middle_end c.x) shown cs
@@ -183,7 +184,7 @@ mark_items lanes seats c = mark_at lanes seats c ∷ []
 
 abbrev pub axis_at : ℕ → Column → Item
 axis_at bottom c =
-    item.Axis (middle c.x) bottom c.place c.event.deed c.event.outcome (mark_of c.event)
+    item.Axis (middle c.x) bottom c.place c.event (mark_of c.event)
 
 abbrev pub axis_items : ℕ → Column → List Item
 axis_items bottom c = axis_at bottom c ∷ []
@@ -255,9 +256,9 @@ sketch_by columns bars events = record {
   events = events;
 }
 
-abbrev pub sketch_of : List Window → List Event → List State → Sketch
-sketch_of ws journal states =
-    sketch_by (columns_of ws journal states) (shown_bars ws journal) (length journal)
+abbrev pub sketch_of : List Window → List Event → Sketch
+sketch_of ws journal =
+    sketch_by (columns_of ws journal) (shown_bars ws journal) (length journal)
 
 -- ---- its size
 

@@ -119,6 +119,16 @@ abbrev pub seat_of : Option ℕ → List Seat → Option ℕ
 seat_of None seats = None
 seat_of (Some file) seats = seat_in file seats
 
+-- the same, if the bar is one of the task
+abbrev pub own_seat_in : ℕ → ℕ → List Seat → Option ℕ
+own_seat_in file task [] = None
+own_seat_in file task (s ∷ ss) =
+    if s.bar.file == file && s.bar.task == task then Some s.y else own_seat_in file task ss
+
+abbrev pub own_seat : Option ℕ → ℕ → List Seat → Option ℕ
+own_seat None task seats = None
+own_seat (Some file) task seats = own_seat_in file task seats
+
 -- the top of the first row of a task's lane
 abbrev pub top_in : ℕ → List Lane → ℕ
 top_in task [] = lanes_top
@@ -135,7 +145,7 @@ birth_top = 51
 abbrev pub row_by : List Lane → List Seat → ℕ → Deed → ℕ → ℕ
 row_by lanes seats place deed.Birth task = birth_top
 row_by lanes seats place d task =
-    row_or (seat_of (file_of place d) seats) (top_in task lanes)
+    row_or (own_seat (file_of place d) task seats) (top_in task lanes)
 
 -- the top of the row in which an event stands
 abbrev pub row_top : List Lane → List Seat → ℕ → Event → ℕ

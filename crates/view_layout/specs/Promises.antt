@@ -1,6 +1,7 @@
 -- What has to be true of a picture.
-use Rattle.std.specs.Prelude.{◌≡◌, ℕ, ◌+◌, ◌<◌, ◌≤◌, All, List, [], ◌∷◌, length, map, count_by, sum_by, slice_get, Option, Some, None, option_map}
+use Rattle.std.specs.Prelude.{◌≡◌, ◌≢◌, ℕ, ◌+◌, ◌<◌, ◌≤◌, All, Contains, List, [], ◌∷◌, length, map, count_by, sum_by, slice_get, Option, Some, None, option_map}
 use Rattle.report_read.specs.Short.{short}
+use Rattle.report_read.specs.declared.event.Deed.TheVariants as read
 use Rattle.report_read.specs.declared.event.Event.{Event as Read}
 use Rattle.report_read.specs.reports.model.events.Files.{execs as execs_of, held, holds, is_reader, is_writer, readers as readers_of, writers as writers_of}
 use Rattle.report_read.specs.reports.model.events.Inode.{Inode}
@@ -21,12 +22,20 @@ use Rattle.report_read.specs.reports.model.events.policy.declared.rule.Func.{Fun
 use Rattle.report_read.specs.reports.model.events.templates.declared.entry.Entry.{Entry}
 use Rattle.view_layout.specs.declared.frame.Extent.{Extent}
 use Rattle.view_layout.specs.declared.kinds.Freshness.TheVariants as fresh
+use Rattle.view_layout.specs.declared.bars.Bar.{Bar}
+use Rattle.view_layout.specs.declared.column.Column.{Column}
+use Rattle.view_layout.specs.declared.lanes.Lane.{Lane}
+use Rattle.view_layout.specs.declared.window.Window.{Window}
 use Rattle.view_layout.specs.Bars.{bars, lane, shown_bars}
-use Rattle.view_layout.specs.Files.{execs, readers, writers}
+use Rattle.view_layout.specs.Columns.{columns_of}
+use Rattle.view_layout.specs.Drawing.{Sketch, sketch_by}
+use Rattle.view_layout.specs.Files.{execs, readers, up_to, writers}
+use Rattle.view_layout.specs.Flags.{flag_extents, notes_of}
 use Rattle.view_layout.specs.Frame.{AreInOrder, column, column_of, rows}
+use Rattle.view_layout.specs.Lanes.{row_height, row_top}
 use Rattle.view_layout.specs.Sentences.{adds, holders, names}
 use Rattle.view_layout.specs.State.{freshness}
-use Rattle.view_layout.specs.declared.window.Window.{Window}
+use Rattle.view_layout.specs.Walk.{state_after}
 use Rattle.view_layout.specs.Windows.{AreWindows, windows}
 
 abbrev pub event : Who → Deed → Told → Event
@@ -99,6 +108,46 @@ abbrev pub ColumnsDiffer : Type 0
 ColumnsDiffer =
     (ws : List Window) (p q x y : ℕ) → AreWindows 0 ws → p < q → column_of ws p ≡ Some x
     → column_of ws q ≡ Some y → x + column ≤ y
+
+-- a column is that of its place: it stands where the windows put it, and has the event there and
+-- what the strips show after it
+pub record IsColumnOf (ws : List Window) (journal : List Read) (c : Column) : Type 0 where
+  pub x : column_of ws c.place ≡ Some c.x
+  pub event : slice_get journal c.place ≡ Some c.event
+  pub state : c.state ≡ state_after (up_to c.place journal)
+
+abbrev pub ColumnsAreTheJournals : Type 0
+ColumnsAreTheJournals =
+    (ws : List Window) (journal : List Read)
+    → All (IsColumnOf ws journal) (columns_of ws journal)
+
+-- a row that begins at y is a row of the lane
+pub record IsRowOf (l : Lane) (y : ℕ) : Type 0 where
+  pub below : l.top ≤ y
+  pub above : y + row_height ≤ l.top + l.height
+
+-- a lane of the task has a row that begins at y
+pub record HasRow (lanes : List Lane) (task y : ℕ) : Type 0 where
+  pub lane : Lane
+  pub among : Contains lanes lane
+  pub own : lane.task ≡ task
+  pub row : IsRowOf lane y
+
+abbrev pub StandsIn : Sketch → Column → Type 0
+StandsIn s c = HasRow s.lanes c.event.who.task (row_top s.lanes s.seats c.place c.event)
+
+-- each event but the birth stands in a lane of its task
+abbrev pub EventsStandInTheirLanes : Type 0
+EventsStandInTheirLanes =
+    (columns : List Column) (bars : List Bar) (events : ℕ)
+    → All (λ (c : Column). c.event.deed ≢ read.Birth
+    → StandsIn (sketch_by columns bars events) c) columns
+
+-- the flags stand in the order of their beginnings
+abbrev pub FlagsAreInOrder : Type 0
+FlagsAreInOrder =
+    (ws : List Window) (journal : List Read) → AreWindows 0 ws
+    → AreInOrder (flag_extents (notes_of (columns_of ws journal)))
 
 -- the bars of a lane stand in the order of their counts, all of a journal's and those that are
 -- drawn

@@ -54,7 +54,7 @@ fn no_drops(alloc: Global, events: usize) -> Result<Vec<Option<u32>>, OutOfMemor
     ensures each { IfOk result (λ v. length v.items ≡ events) }
     ensures none { IfOk result (λ v. (f : ℕ) → slice_index_or v.items f None ≡ None) }
 {
-    let mut drops = Vec::new(alloc);
+    let mut drops = Vec::with_capacity(alloc, events)?;
     while drops.len() < events {
         drops.push(None)?;
     }

@@ -5,7 +5,7 @@ ghost use Rattle.view_layout.specs.Columns as spec;
 ghost use Rattle.view_layout.specs.Frame.{column_of};
 
 use crate::frame::column_of;
-use crate::walk::State;
+use crate::walk::{State, Walk};
 use crate::window::Window;
 use report_read::{Deed, Event, Outcome};
 use std::alloc::{AllocError as OutOfMemory, Global};
@@ -26,30 +26,28 @@ pub struct Column {
 // A drawing has at most as many columns.
 const MOST_COLUMNS: usize = 1000;
 
-/// The columns of a journal's places that the windows show; `states` is what the strips show after
-/// each event.
+/// The columns of a journal's places that the windows show.
 pub fn columns(
     alloc: Global,
     windows: &[Window],
     journal: &[Event],
-    states: &[State],
 ) -> Result<Vec<Column>, OutOfMemory>
-    requires each { length states.now ≡ length journal.now }
-    requires few { length journal.now < 2 ^ 32 }
-    ensures is { IfOk result
-        (λ v. v.items ≡ spec.columns_of windows.now journal.now states.now) }
+    requires { length journal.now < 2 ^ 32 }
+    ensures is { IfOk result (λ v. v.items ≡ spec.columns_of windows.now journal.now) }
     ensures few { IfOk result (λ v. length v.items ≤ 1000) }
 {
     let mut columns = Vec::new(alloc);
+    let mut walk = Walk::new(alloc);
     let mut hashing = None;
     for (place, event) in journal.iter().enumerate() {
+        walk.step(*event)?;
         hashing = hashing_after(event.deed, event.outcome, hashing);
         push_column(
             &mut columns,
             windows,
             place as u32,
             *event,
-            states[place],
+            walk.state(),
             hashing,
         )?;
     }

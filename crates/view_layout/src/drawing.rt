@@ -15,7 +15,6 @@ use crate::scenery::{
     push_bars, push_differing, push_guides, push_lane_items, push_parting, push_writes,
 };
 use crate::strips::push_strips;
-use crate::walk::State;
 use crate::window::Window;
 use report_read::Event;
 use std::alloc::{AllocError as OutOfMemory, Global};
@@ -32,19 +31,12 @@ pub struct Sketch {
     pub events: u64,
 }
 
-/// The parts of a journal's drawing; `states` is what the strips show after each event.
-pub fn draft(
-    alloc: Global,
-    windows: &[Window],
-    journal: &[Event],
-    states: &[State],
-) -> Result<Sketch, OutOfMemory>
-    requires each { length states.now ≡ length journal.now }
-    requires few { length journal.now < 2 ^ 32 }
-    ensures { IfOk result
-        (λ s. sketch_in s ≡ spec.sketch_of windows.now journal.now states.now) }
+/// The parts of a journal's drawing.
+pub fn draft(alloc: Global, windows: &[Window], journal: &[Event]) -> Result<Sketch, OutOfMemory>
+    requires { length journal.now < 2 ^ 32 }
+    ensures { IfOk result (λ s. sketch_in s ≡ spec.sketch_of windows.now journal.now) }
 {
-    let columns = columns(alloc, windows, journal, states)?;
+    let columns = columns(alloc, windows, journal)?;
     let bars = shown_bars(alloc, windows, journal)?;
     let flags = flags(alloc, &columns)?;
     let tasks = tasks(alloc, &columns)?;

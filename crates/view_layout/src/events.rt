@@ -92,8 +92,7 @@ fn axis_at(bottom: u32, column: Column) -> Item
         x: middle(column),
         y: u64::from(bottom),
         place: column.place,
-        deed: column.event.deed,
-        outcome: column.event.outcome,
+        event: column.event,
         mark: mark_of(column.event),
     }
 }

@@ -1,7 +1,7 @@
 // What a drawing is made of.
 
 use crate::kinds::{Mark, Note};
-use report_read::{Deed, Kind, Outcome, Span};
+use report_read::{Event, Kind, Span};
 
 /// The strips above the lanes.
 #[derive(Clone, Copy, Debug, PartialEq, Eq)]
@@ -82,8 +82,7 @@ pub enum Item {
         x: u64,
         y: u64,
         place: u32,
-        deed: Deed,
-        outcome: Outcome,
+        event: Event,
         mark: Mark,
     },
     Flag {

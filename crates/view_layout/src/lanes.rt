@@ -181,7 +181,7 @@ fn row_by(lanes: &[Lane], seats: &[Seat], place: u32, deed: Deed, task: u32) -> 
 {
     match deed {
         Deed::Birth => BIRTH_TOP,
-        _ => match seat_of(file_of(place, deed), seats) {
+        _ => match own_seat(file_of(place, deed), task, seats) {
             Some(y) => y,
             None => top_in(task, lanes),
         },
@@ -203,6 +203,27 @@ fn seat_in(file: u32, seats: &[Seat]) -> Option<u32>
 {
     for seat in seats {
         if seat.bar.file == file {
+            return Some(seat.y);
+        }
+    }
+    None
+}
+
+// The same, if the bar is one of the task.
+fn own_seat(file: Option<u32>, task: u32, seats: &[Seat]) -> Option<u32>
+    ensures { result ≡ spec.own_seat file task seats.now }
+{
+    match file {
+        Some(file) => own_seat_in(file, task, seats),
+        None => None,
+    }
+}
+
+fn own_seat_in(file: u32, task: u32, seats: &[Seat]) -> Option<u32>
+    ensures { result ≡ spec.own_seat_in file task seats.now }
+{
+    for seat in seats {
+        if seat.bar.file == file && seat.bar.task == task {
             return Some(seat.y);
         }
     }

@@ -1,6 +1,6 @@
 //! Promises about pictures, over all journals.
 
-ghost use Rattle.view_layout.specs.Promises.{AsHashedIsSound, BarsDontOverlap, ColumnsDiffer, CountsAreTheJournals, EntriesAreAddedOnce, HoldersAreNamed, LanesAreInOrder, WindowsAreInOrder};
+ghost use Rattle.view_layout.specs.Promises.{AsHashedIsSound, BarsDontOverlap, ColumnsAreTheJournals, ColumnsDiffer, CountsAreTheJournals, EntriesAreAddedOnce, EventsStandInTheirLanes, FlagsAreInOrder, HoldersAreNamed, LanesAreInOrder, WindowsAreInOrder};
 
 /// The counts that the strips show are those of the journal that the report prints.
 pub fn counts_are_the_journals()
@@ -31,6 +31,22 @@ pub fn windows_are_in_order()
 /// The columns of drawn places don't overlap, and stand in the order of the places.
 pub fn columns_differ()
     ensures { ColumnsDiffer }
+{}
+
+/// A column stands where the windows put its place, and has the event there and what the strips
+/// show after it.
+pub fn columns_are_the_journals()
+    ensures { ColumnsAreTheJournals }
+{}
+
+/// Each event but the birth stands in a lane of its task.
+pub fn events_stand_in_their_lanes()
+    ensures { EventsStandInTheirLanes }
+{}
+
+/// The flags stand in the order of their beginnings.
+pub fn flags_are_in_order()
+    ensures { FlagsAreInOrder }
 {}
 
 /// The bars of a lane stand in the order of their counts.

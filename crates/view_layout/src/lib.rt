@@ -5,8 +5,8 @@
 //! name, `Windows` the places that are drawn, `Frame` columns and rows in whole pixels, `Bars` the
 //! open files, `Lanes` where they stand, `Flags` what stands above the strips, `Drawing` the items
 //! of a drawing, and `Promises` what has to be true of a picture: [`law`] has each of these
-//! promises. [`states`] finds what the strips show, [`windows`] the places, [`draft`] the parts of
-//! a drawing, and [`push_items`] its items in the order of painting.
+//! promises. [`Walk`] finds what the strips show, [`windows`] the places, [`draft`] the parts of a
+//! drawing, and [`push_items`] its items in the order of painting.
 #![tactic(auto)]
 
 mod bars;
@@ -35,6 +35,6 @@ pub use kinds::{Collection, Freshness, Mark, Note};
 pub use lanes::{Lane, Seat};
 pub use notes::{mark_of, push_notes};
 pub use report_read as reading;
-pub use scenery::end_of;
-pub use walk::{State, states};
+pub use scenery::{end_of, is_write};
+pub use walk::{State, Walk, is_reader, is_writer};
 pub use window::{Window, is_marked, width, windows};

@@ -192,7 +192,8 @@ fn push_write(items: &mut Vec<Item>, bottom: u32, column: Column) -> Result<(), 
     Ok(())
 }
 
-fn is_write(deed: Deed, outcome: Outcome) -> bool
+/// Whether the event is a write or a truncation that was done.
+pub fn is_write(deed: Deed, outcome: Outcome) -> bool
     ensures { result ≡ spec.is_write deed outcome }
 {
     match (deed, outcome) {

@@ -54,7 +54,7 @@ fn push_segments(
         }
         to = x + 30;
     }
-    items.push(segment(strip, from, to, shown))?;
+    items.push(segment(strip, from, to.saturating_sub(15), shown))?;
     Ok(())
 }
 

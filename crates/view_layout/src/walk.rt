@@ -1,6 +1,6 @@
 // A walk over a journal, event by event.
 
-ghost use Rattle.std.specs.Prelude.{◌≡◌, ◌+◌, ◌-◌, ◌≤◌, ◌<◌, ◌^◌, length, slice_get, IfOk, OnOk};
+ghost use Rattle.std.specs.Prelude.{◌≡◌, ◌<◌, ◌^◌, slice_get, OnOk};
 ghost use Rattle.view_layout.specs.Files as files;
 ghost use Rattle.view_layout.specs.State as state;
 ghost use Rattle.view_layout.specs.Walk as spec;
@@ -19,9 +19,9 @@ pub struct State {
     pub freshness: Freshness,
 }
 
-// A walk so far.
+/// A walk over a journal, event by event.
 #[derive(Drop)]
-struct Walk {
+pub struct Walk {
     // For each place, the kind of the file that its event opened, while that file is open.
     held: Vec<Option<Kind>>,
     readers: u64,
@@ -31,22 +31,9 @@ struct Walk {
     freshness: Freshness,
 }
 
-/// What the strips show after each event of a journal.
-pub fn states(alloc: Global, journal: &[Event]) -> Result<Vec<State>, OutOfMemory>
-    requires { length journal.now < 2 ^ 32 }
-    ensures { IfOk result (λ v. v.items ≡ spec.states_of journal.now) }
-{
-    let mut walk = Walk::new(alloc);
-    let mut states = Vec::new(alloc);
-    for event in journal {
-        walk.step(*event)?;
-        states.push(walk.state())?;
-    }
-    Ok(states)
-}
-
 impl Walk {
-    fn new(alloc: Global) -> Walk
+    /// Before the first event.
+    pub fn new(alloc: Global) -> Walk
         ensures { walk_of result ≡ spec.start }
     {
         Walk {
@@ -59,7 +46,8 @@ impl Walk {
         }
     }
 
-    fn state(&self) -> State
+    /// What the strips show after the last event.
+    pub fn state(&self) -> State
         ensures { result ≡ spec.state_of (walk_of self.now) }
     {
         State {
@@ -70,8 +58,15 @@ impl Walk {
         }
     }
 
-    // Goes on over one more event.
-    fn step(&mut self, event: Event) -> Result<(), OutOfMemory>
+    /// For each place, the kind of the file that its event opened, while that file is open.
+    pub fn held(&self) -> &[Option<Kind>]
+        ensures { result.now ≡ (walk_of self.now).held }
+    {
+        &self.held
+    }
+
+    /// Goes on over one more event.
+    pub fn step(&mut self, event: Event) -> Result<(), OutOfMemory>
         requires { spec.IsSmall (walk_of self.old) }
         ensures { OnOk result (walk_of self.new ≡ spec.walked event (walk_of self.old)) }
     {
@@ -158,7 +153,8 @@ fn passes_reader(kind: Option<Kind>) -> bool
     }
 }
 
-fn is_reader(kind: Kind) -> bool
+/// Whether a file of this kind counts as a reader.
+pub fn is_reader(kind: Kind) -> bool
     ensures { result ≡ files.is_reader kind }
 {
     match kind {
@@ -176,7 +172,8 @@ fn passes_writer(kind: Option<Kind>) -> bool
     }
 }
 
-fn is_writer(kind: Kind) -> bool
+/// Whether a file of this kind counts as a writer.
+pub fn is_writer(kind: Kind) -> bool
     ensures { result ≡ files.is_writer kind }
 {
     match kind {

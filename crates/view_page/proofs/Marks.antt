@@ -21,6 +21,7 @@ use Rattle.view_layout.specs.declared.lanes.Seat.{Seat}
 use Rattle.view_layout.specs.reading.declared.event.Deed.{Deed}
 use Rattle.view_layout.specs.reading.declared.event.Deed.TheVariants as deed
 use Rattle.view_layout.specs.reading.declared.event.Outcome.{Outcome}
+use Rattle.view_layout.specs.reading.declared.event.Span.{Span}
 use Rattle.view_layout.specs.Drawing.{Sketch, axis_items, back_items, bar_items, differing_items, end_of, flag_items, front_items, gap_between, gaps_from, gaps_items, guide_by, guide_items, hashing_at, hashing_items, is_place, is_write, items_of, lane_items, mark_items, middle_end, middle_items, parting_items, segment, segments_from, shown_in, sketch_of, strip_items, strips_items, write_items}
 use Rattle.view_layout.specs.Flags.{guide_of}
 use Rattle.view_layout.specs.Frame.{column, margin, middle}
@@ -59,13 +60,10 @@ slant_quiet : (x y : ℕ) (d : Deed) (m : Mark) (rest : List Piece)
 slant_quiet x y d mark.Violated rest = refl
 slant_quiet x y d _ rest = refl
 
-detail_quiet : (d : Deed) (o : Outcome) (rest : List Piece)
-    → marks_in ((detail_pieces d o ++ piece.Own own.TextEnd ∷ []) ++ rest) ≡ marks_in rest
-detail_quiet (deed.Count k create) o rest = refl
-detail_quiet (deed.Read file from len) o rest = refl
-detail_quiet (deed.Write file from len) o rest = refl
-detail_quiet (deed.Trunc file len) o rest = refl
-detail_quiet _ o rest = refl
+detail_quiet : (line : Span) (d : Deed) (o : Outcome) (rest : List Piece)
+    → marks_in ((detail_pieces line d o ++ piece.Own own.TextEnd ∷ []) ++ rest) ≡ marks_in rest
+detail_quiet line (deed.Count k create) o rest = refl
+detail_quiet line _ o rest = refl
 
 flag_quiet : (x up width : ℕ) (n : Note) (rest : List Piece)
     → marks_in (flag_pieces x up width n ++ rest) ≡ marks_in rest
@@ -80,9 +78,10 @@ of_item view (item.StripName s) rest = refl
 of_item view (item.Segment s x width n) rest = segment_quiet s x width n rest
 of_item view (item.LaneName y task) rest = refl
 of_item view (item.Mark place x y line m) rest = refl
-of_item view (item.Axis x y place d o m) rest =
-    slant_quiet x y d m ((detail_pieces d o ++ piece.Own own.TextEnd ∷ []) ++ rest)
-    ∙ detail_quiet d o rest
+of_item view (item.Axis x y place e m) rest =
+    slant_quiet x y e.deed m
+    ((detail_pieces e.line e.deed e.outcome ++ piece.Own own.TextEnd ∷ []) ++ rest)
+    ∙ detail_quiet e.line e.deed e.outcome rest
 of_item view (item.Flag x up width n) rest = flag_quiet x up width n rest
 of_item view (item.Gap x height events) rest = refl
 
@@ -246,6 +245,6 @@ of_sketch s differs parts =
     ∙ (first_quiet (middle_items s) (front_items s) (middle_quiet s) ∙ front_marks s)
 
 pub each_event_has_one_mark : EachEventHasOneMark
-each_event_has_one_mark view journal states ws differs =
-    of_items view (items_of (sketch_of ws journal states) differs view.parts)
-    ∙ of_sketch (sketch_of ws journal states) differs view.parts
+each_event_has_one_mark view journal ws differs =
+    of_items view (items_of (sketch_of ws journal) differs view.parts)
+    ∙ of_sketch (sketch_of ws journal) differs view.parts

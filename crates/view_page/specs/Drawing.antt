@@ -14,7 +14,6 @@ use Rattle.view_layout.specs.declared.kinds.Mark.{Mark}
 use Rattle.view_layout.specs.declared.kinds.Mark.TheVariants as mark
 use Rattle.view_layout.specs.declared.kinds.Note.{Note}
 use Rattle.view_layout.specs.declared.kinds.Note.TheVariants as note
-use Rattle.view_layout.specs.declared.walk.State.{State}
 use Rattle.view_layout.specs.declared.window.Window.{Window}
 use Rattle.view_layout.specs.reading.declared.event.Deed.{Deed}
 use Rattle.view_layout.specs.reading.declared.event.Deed.TheVariants as deed
@@ -27,7 +26,6 @@ use Rattle.view_layout.specs.Columns.{columns_of}
 use Rattle.view_layout.specs.Notes.{mark_of}
 use Rattle.view_page.specs.Pieces.{marks_in}
 use Rattle.view_layout.specs.Drawing.{Sketch, end_of, highest, items_of, sketch_of}
-use Rattle.view_layout.specs.Walk.{states_of}
 use Rattle.view_layout.specs.Windows.{windows}
 use Rattle.view_page.specs.declared.own.Own.{Own}
 use Rattle.view_page.specs.declared.own.Own.TheVariants as own
@@ -65,8 +63,8 @@ room_for fresh.NotHashed = 64
 room_for fresh.AsHashed = 58
 room_for fresh.Written = 124
 
-abbrev pub word_pieces : Freshness → ℕ → ℕ → List Piece
-word_pieces f x width =
+abbrev pub content_pieces : Freshness → ℕ → ℕ → List Piece
+content_pieces f x width =
     if nat_le (room_for f) width
     then piece.Own own.ContentText ∷ piece.Number x ∷ piece.Own (own.ContentWord f) ∷ []
     else []
@@ -79,7 +77,7 @@ number_pieces s x n =
 
 -- what a segment says: a number, or the word for the content
 abbrev pub label_pieces : Strip → ℕ → ℕ → ℕ → List Piece
-label_pieces strip.Content x width n = word_pieces (fresh_of n) x width
+label_pieces strip.Content x width n = content_pieces (fresh_of n) x width
 label_pieces s x width n = number_pieces s x n
 
 abbrev pub segment_pieces : Strip → ℕ → ℕ → ℕ → List Piece
@@ -121,13 +119,20 @@ bytes_read _ = 0
 abbrev pub range_pieces : ℕ → ℕ → List Piece
 range_pieces from len = piece.Number from ∷ piece.Own own.Plus ∷ piece.Number len ∷ []
 
--- the offset and the length of a deed, or how it opens a file
-abbrev pub detail_pieces : Deed → Outcome → List Piece
-detail_pieces (deed.Count k create) o = piece.Own (own.KindWord k) ∷ []
-detail_pieces (deed.Read file from len) o = range_pieces from (bytes_read o)
-detail_pieces (deed.Write file from len) o = range_pieces from len
-detail_pieces (deed.Trunc file len) o = piece.Number len ∷ []
-detail_pieces _ _ = []
+abbrev pub word_pieces : Span → ℕ → List Piece
+word_pieces line spaces = piece.Own own.Space ∷ piece.Word (cut line) spaces ∷ []
+
+-- the offset and the length of a deed, how it opens a file, the function of a check, or the name of
+-- an attribute
+abbrev pub detail_pieces : Span → Deed → Outcome → List Piece
+detail_pieces line (deed.Count k create) o = piece.Own (own.KindWord k) ∷ []
+detail_pieces line (deed.Check file) o = word_pieces line 4
+detail_pieces line deed.SetAttr o = word_pieces line 3
+detail_pieces line deed.RemoveAttr o = word_pieces line 3
+detail_pieces line (deed.Read file from len) o = range_pieces from (bytes_read o)
+detail_pieces line (deed.Write file from len) o = range_pieces from len
+detail_pieces line (deed.Trunc file len) o = piece.Number len ∷ []
+detail_pieces line _ _ = []
 
 abbrev pub place_pieces : ℕ → ℕ → ℕ → List Piece
 place_pieces x y place =
@@ -139,10 +144,11 @@ slant_pieces x y d m =
     piece.Own (deed_text m) ∷ piece.Number x ∷ piece.Own own.Comma ∷ piece.Number y
     ∷ piece.Own own.Slant ∷ piece.Own (own.DeedWord d) ∷ []
 
-abbrev pub axis_pieces : ℕ → ℕ → ℕ → Deed → Outcome → Mark → List Piece
-axis_pieces x y place d o m =
+abbrev pub axis_pieces : ℕ → ℕ → ℕ → Event → Mark → List Piece
+axis_pieces x y place e m =
     place_pieces x y place
-    ++ (slant_pieces x y d m ++ (detail_pieces d o ++ piece.Own own.TextEnd ∷ []))
+    ++ (slant_pieces x y e.deed m
+    ++ (detail_pieces e.line e.deed e.outcome ++ piece.Own own.TextEnd ∷ []))
 
 -- ---- flags and gaps
 
@@ -178,7 +184,7 @@ item_pieces view (item.StripName s) = piece.Own (own.StripName s) ∷ []
 item_pieces view (item.Segment s x width n) = segment_pieces s x width n
 item_pieces view (item.LaneName y task) = lane_pieces y task
 item_pieces view (item.Mark place x y line m) = mark_pieces view place x y line m
-item_pieces view (item.Axis x y place d o m) = axis_pieces x y place d o m
+item_pieces view (item.Axis x y place e m) = axis_pieces x y place e m
 item_pieces view (item.Flag x up width n) = flag_pieces x up width n
 item_pieces view (item.Gap x height events) = gap_pieces x height events
 
@@ -189,9 +195,9 @@ items_pieces view items = flat_map (item_pieces view) items
 abbrev pub head_of : ℕ → ℕ → ℕ → List Piece
 head_of end up bottom =
     piece.Own own.Svg ∷ piece.Number (end + 190) ∷ piece.Own own.SvgHeight
-    ∷ piece.Number (up + 4 + bottom + 100) ∷ piece.Own own.SvgBox ∷ piece.Number (up + 4)
+    ∷ piece.Number (up + 4 + bottom + 120) ∷ piece.Own own.SvgBox ∷ piece.Number (up + 4)
     ∷ piece.Own own.Space ∷ piece.Number (end + 190) ∷ piece.Own own.Space
-    ∷ piece.Number (up + 4 + bottom + 100) ∷ piece.Own own.SvgOpen ∷ []
+    ∷ piece.Number (up + 4 + bottom + 120) ∷ piece.Own own.SvgOpen ∷ []
 
 abbrev pub head : Sketch → List Piece
 head s = head_of (end_of s.columns) (highest s.flags) s.bottom
@@ -202,10 +208,9 @@ sketch_pieces view extra s differs =
     head s ++ (extra
     ++ (items_pieces view (items_of s differs view.parts) ++ piece.Own own.SvgEnd ∷ []))
 
--- the drawing of an inode's journal; `states` is what the strips show after each event
-abbrev pub inode_pieces : View → List Event → List State → List Window → List ℕ → List Piece
-inode_pieces view journal states ws differs =
-    sketch_pieces view [] (sketch_of ws journal states) differs
+-- the drawing of an inode's journal
+abbrev pub inode_pieces : View → List Event → List Window → List ℕ → List Piece
+inode_pieces view journal ws differs = sketch_pieces view [] (sketch_of ws journal) differs
 
 -- ---- a file of its own
 
@@ -224,11 +229,11 @@ windows_or (Some w) journal = w ∷ []
 abbrev pub svg_of : ℕ → List Event → Option Window → List Piece
 svg_of inode journal range =
     sketch_pieces (view_alone inode) rules_pieces
-    (sketch_of (windows_or range journal) journal (states_of journal)) []
+    (sketch_of (windows_or range journal) journal) []
 
 -- each event that is drawn has one mark, in the order of the columns, and there are no other marks
 abbrev pub EachEventHasOneMark : Type 0
 EachEventHasOneMark =
-    (view : View) (journal : List Event) (states : List State) (ws : List Window)
-    (differs : List ℕ) → marks_in (inode_pieces view journal states ws differs)
-    ≡ map (λ (c : Column). mark_of c.event) (columns_of ws journal states)
+    (view : View) (journal : List Event) (ws : List Window) (differs : List ℕ)
+    → marks_in (inode_pieces view journal ws differs)
+    ≡ map (λ (c : Column). mark_of c.event) (columns_of ws journal)

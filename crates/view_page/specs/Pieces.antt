@@ -1,5 +1,5 @@
 -- The pieces of which a page is made: the program's own bytes, numbers, and texts of the report.
-use Rattle.std.specs.Prelude.{ℕ, Bool, true, false, List, [], ◌∷◌, take, drop}
+use Rattle.std.specs.Prelude.{ℕ, suc, ◌-◌, ◌==◌, Bool, true, false, List, [], ◌∷◌, take, drop, if◌then◌else◌}
 use Rattle.std.specs.List.{flat_map}
 use Rattle.view_layout.specs.declared.kinds.Mark.{Mark}
 use Rattle.view_layout.specs.reading.declared.event.Span.{Span}
@@ -14,10 +14,26 @@ use Rattle.view_page.specs.declared.pieces.Piece.TheVariants as piece
 abbrev pub text_at : List ℕ → Span → List ℕ
 text_at text span = take span.len (drop span.at text)
 
+-- how many bytes are before the first space
+abbrev pub word_len : List ℕ → ℕ
+word_len [] = 0
+word_len (b ∷ bytes) = if b == 32 then 0 else suc (word_len bytes)
+
+abbrev pub first_word : List ℕ → List ℕ
+first_word line = take (word_len line) line
+
+-- the word after so many spaces
+abbrev pub word_at : ℕ → List ℕ → List ℕ
+word_at spaces [] = []
+word_at spaces (b ∷ bytes) =
+    if spaces == 0 then first_word (b ∷ bytes)
+    else word_at (if b == 32 then spaces - 1 else spaces) bytes
+
 abbrev pub bytes_of : List ℕ → Piece → List ℕ
 bytes_of text (piece.Own o) = own_bytes o
 bytes_of text (piece.Number n) = numeral n
 bytes_of text (piece.Text span) = escaped (text_at text span)
+bytes_of text (piece.Word span spaces) = escaped (word_at spaces (text_at text span))
 
 -- the bytes of these pieces, with the texts of this report
 abbrev pub page_of : List ℕ → List Piece → List ℕ

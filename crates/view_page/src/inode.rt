@@ -10,9 +10,7 @@ use crate::own::{Own, Side};
 use crate::pieces::{Piece, push_pieces};
 use std::alloc::{AllocError as OutOfMemory, Global};
 use view_layout::reading::Event;
-use view_layout::{
-    Item, Parts, State, Window, draft, end_of, highest, push_items, states, windows,
-};
+use view_layout::{Item, Parts, Window, draft, end_of, highest, push_items, windows};
 
 /// Which drawing: its report, its inode, and the place before which two journals part.
 #[derive(Clone, Copy, Debug, PartialEq, Eq)]
@@ -26,24 +24,21 @@ pub struct View {
 const MOST_DRAWN: u32 = 120;
 
 /// Appends the drawing of an inode's journal: an `svg` element with a column for each place of the
-/// windows. `states` is what the strips show after each event, and `differs` are the places whose
-/// columns are marked as different.
+/// windows. `differs` are the places whose columns are marked as different.
 pub fn push_inode(
     alloc: Global,
     out: &mut Vec<u8>,
     text: &[u8],
     view: View,
     journal: &[Event],
-    states: &[State],
     windows: &[Window],
     differs: &[u32],
 ) -> Result<(), OutOfMemory>
-    requires each { length states.now ≡ length journal.now }
-    requires few { length journal.now < 2 ^ 32 }
+    requires { length journal.now < 2 ^ 32 }
     ensures { OnOk result (out.new.items ≡ out.old.items ++ page_of text.now
-        (spec.inode_pieces view journal.now states.now windows.now differs.now)) }
+        (spec.inode_pieces view journal.now windows.now differs.now)) }
 {
-    let sketch = draft(alloc, windows, journal, states)?;
+    let sketch = draft(alloc, windows, journal)?;
     let mut pieces = Vec::new(alloc);
     push_parts(alloc, &mut pieces, view, &[], sketch.parts(), differs)?;
     push_pieces(out, text, &pieces)
@@ -60,9 +55,8 @@ pub fn svg(
     requires { length journal.now < 2 ^ 32 }
     ensures { IfOk result (λ v. v.items ≡ page_of text.now (spec.svg_of inode journal.now range)) }
 {
-    let states = states(alloc, journal)?;
     let windows = windows_or(alloc, range, journal)?;
-    let sketch = draft(alloc, &windows, journal, &states)?;
+    let sketch = draft(alloc, &windows, journal)?;
     let mut pieces = Vec::new(alloc);
     let rules = [
         Piece::Own(Own::Style),
@@ -143,7 +137,7 @@ fn push_head(out: &mut Vec<Piece>, parts: Parts<'_>) -> Result<(), OutOfMemory>
 {
     let width = end_of(parts.columns) + 190;
     let up = u64::from(highest(parts.flags)) + 4;
-    let height = up + u64::from(parts.bottom) + 100;
+    let height = up + u64::from(parts.bottom) + 120;
     let pieces = [
         Piece::Own(Own::Svg),
         Piece::Number(width),

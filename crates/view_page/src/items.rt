@@ -8,7 +8,7 @@ use crate::own::Own;
 use crate::pieces::Piece;
 use crate::segment::push_segment;
 use std::alloc::AllocError as OutOfMemory;
-use view_layout::reading::{Deed, Outcome, Span};
+use view_layout::reading::{Deed, Event, Outcome, Span};
 use view_layout::{Area, Guide, Item, Look, Mark, Note};
 
 /// Appends the pieces of an item.
@@ -37,10 +37,9 @@ pub fn push_item(out: &mut Vec<Piece>, view: View, item: Item) -> Result<(), Out
             x,
             y,
             place,
-            deed,
-            outcome,
+            event,
             mark,
-        } => { push_axis(out, x, y, place, deed, outcome, mark) }
+        } => push_axis(out, x, y, place, event, mark),
         Item::Flag { x, up, width, note } => push_flag(out, x, up, width, note),
         Item::Gap { x, height, events } => push_gap(out, x, height, events),
     }
@@ -152,16 +151,15 @@ fn push_axis(
     x: u64,
     y: u64,
     place: u32,
-    deed: Deed,
-    outcome: Outcome,
+    event: Event,
     mark: Mark,
 ) -> Result<(), OutOfMemory>
     ensures { OnOk result
-        (out.new.items ≡ out.old.items ++ spec.axis_pieces x y place deed outcome mark) }
+        (out.new.items ≡ out.old.items ++ spec.axis_pieces x y place event mark) }
 {
     push_place(out, x, y, place)?;
-    push_slant(out, x, y, deed, mark)?;
-    push_detail(out, deed, outcome)?;
+    push_slant(out, x, y, event.deed, mark)?;
+    push_detail(out, event.line, event.deed, event.outcome)?;
     add(out, &[Piece::Own(Own::TextEnd)])
 }
 
@@ -209,16 +207,31 @@ fn deed_text(mark: Mark) -> Own
     }
 }
 
-fn push_detail(out: &mut Vec<Piece>, deed: Deed, outcome: Outcome) -> Result<(), OutOfMemory>
-    ensures { OnOk result (out.new.items ≡ out.old.items ++ spec.detail_pieces deed outcome) }
+fn push_detail(
+    out: &mut Vec<Piece>,
+    line: Span,
+    deed: Deed,
+    outcome: Outcome,
+) -> Result<(), OutOfMemory>
+    ensures { OnOk result
+        (out.new.items ≡ out.old.items ++ spec.detail_pieces line deed outcome) }
 {
     match deed {
         Deed::Count { kind, .. } => add(out, &[Piece::Own(Own::KindWord(kind))]),
+        Deed::Check(_) => push_word(out, line, 4),
+        Deed::SetAttr | Deed::RemoveAttr => push_word(out, line, 3),
         Deed::Read { from, .. } => push_range(out, from, bytes_read(outcome)),
         Deed::Write { from, len, .. } => push_range(out, from, len),
         Deed::Trunc { len, .. } => add(out, &[Piece::Number(u64::from(len))]),
         _ => Ok(()),
     }
+}
+
+fn push_word(out: &mut Vec<Piece>, line: Span, spaces: u32) -> Result<(), OutOfMemory>
+    ensures { OnOk result (out.new.items ≡ out.old.items ++ spec.word_pieces line spaces) }
+{
+    let pieces = [Piece::Own(Own::Space), Piece::Word(cut(line), spaces)];
+    add(out, &pieces)
 }
 
 fn push_range(out: &mut Vec<Piece>, from: u32, len: u32) -> Result<(), OutOfMemory>

@@ -1,6 +1,6 @@
 // The pieces of which a page is made.
 
-ghost use Rattle.std.specs.Prelude.{◌≡◌, ◌++◌, take, drop, OnOk};
+ghost use Rattle.std.specs.Prelude.{◌≡◌, ◌++◌, ◌≤◌, length, OnOk};
 ghost use Rattle.view_page.specs.Pieces as spec;
 
 use crate::escape::push_text;
@@ -17,6 +17,8 @@ pub enum Piece {
     Number(u64),
     /// A text of the report, escaped.
     Text(Span),
+    /// The word of a line of the report that stands after so many spaces, escaped.
+    Word(Span, u32),
 }
 
 /// Appends pieces of a page, with the texts of this report.
@@ -36,6 +38,7 @@ fn push_piece(out: &mut Vec<u8>, text: &[u8], piece: Piece) -> Result<(), OutOfM
         Piece::Own(own) => push_own(out, own),
         Piece::Number(number) => push_number(out, number),
         Piece::Text(span) => push_text(out, text_at(text, span)),
+        Piece::Word(span, spaces) => push_text(out, word_at(text_at(text, span), spaces)),
     }
 }
 
@@ -47,4 +50,39 @@ fn text_at(text: &[u8], span: Span) -> &[u8]
     let rest = &text[from..];
     let len = rest.len().min(span.len as usize);
     &rest[..len]
+}
+
+// The word after so many spaces.
+fn word_at(line: &[u8], spaces: u32) -> &[u8]
+    ensures { result.now ≡ spec.word_at spaces line.now }
+{
+    let mut left = spaces;
+    for (at, byte) in line.iter().enumerate() {
+        if left == 0 {
+            return first_word(&line[at..]);
+        }
+        if *byte == b' ' {
+            left -= 1;
+        }
+    }
+    &line[line.len()..]
+}
+
+fn first_word(line: &[u8]) -> &[u8]
+    ensures { result.now ≡ spec.first_word line.now }
+{
+    &line[..word_len(line)]
+}
+
+// How many bytes are before the first space.
+fn word_len(line: &[u8]) -> usize
+    ensures is { result ≡ spec.word_len line.now }
+    ensures within { result ≤ length line.now }
+{
+    for (at, byte) in line.iter().enumerate() {
+        if *byte == b' ' {
+            return at;
+        }
+    }
+    line.len()
 }

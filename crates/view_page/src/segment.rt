@@ -80,7 +80,7 @@ fn push_word(
     x: u64,
     width: u64,
 ) -> Result<(), OutOfMemory>
-    ensures { OnOk result (out.new.items ≡ out.old.items ++ spec.word_pieces freshness x width) }
+    ensures { OnOk result (out.new.items ≡ out.old.items ++ spec.content_pieces freshness x width) }
 {
     if width < room_for(freshness) {
         return Ok(());

@@ -1,10 +1,16 @@
-use Rattle.std.proofs.Common.{◌≡◌, ◌++◌, drop, None}
+use Rattle.std.proofs.Common.{◌≡◌, ◌++◌, drop, length, None}
 use Rattle.view_layout.specs.Columns.{columns_from}
+use Rattle.view_layout.specs.Walk.{IsSmall, shown_by, start}
+use Rattle.view_layout.specs.WalkView.{walk_of}
 use Rattle.view_layout.proofs.column.columns.Given as goal
 
--- the columns so far, and those of the other events
+-- the columns so far, and those of the other events, which the walk goes on to show
 abbrev pub invariant-loop-place : goal.invariant-loop-place
-invariant-loop-place l =
-    l.columns.items
-    ++ columns_from l.windows l.place l.hashing (drop l.place l.journal) (drop l.place l.states)
-    ≡ columns_from l.windows 0 None l.journal l.states
+invariant-loop-place l = record {
+  held : length l.walk.held.items ≡ l.place;
+  small : IsSmall (walk_of l.walk);
+  same : l.columns.items
+      ++ columns_from l.windows l.place l.hashing (drop l.place l.journal)
+      (shown_by (walk_of l.walk) (drop l.place l.journal))
+      ≡ columns_from l.windows 0 None l.journal (shown_by start l.journal);
+}

@@ -9,7 +9,7 @@ use Rattle.view_page.proofs.inode.push_inode.Goals as goal
 pub returns : goal.returns
 returns c =
     let same : parts_in c.parts.result
-    ≡ sketch_of c.args.windows.now c.args.journal.now c.args.states.now
+    ≡ sketch_of c.args.windows.now c.args.journal.now
     = c.parts.ensures ∙ c.in_ok-sketch.ensures in
     let pieces : List Piece
     = sketch_pieces c.args.view [] (parts_in c.parts.result) c.args.differs.now in

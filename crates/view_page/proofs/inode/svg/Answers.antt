@@ -1,10 +1,8 @@
 use Rattle.std.proofs.Common.{◌≡◌, ℕ, List, [], ◌++◌, ◌∙◌, ap}
-use Rattle.view_layout.specs.declared.walk.State.{State}
 use Rattle.view_layout.specs.declared.window.Window.{Window}
 use Rattle.view_layout.specs.reading.declared.event.Event.{Event}
 use Rattle.view_layout.specs.Drawing.{Sketch, sketch_of}
 use Rattle.view_layout.specs.SketchView.{parts_in}
-use Rattle.view_layout.specs.Walk.{states_of}
 use Rattle.view_page.specs.Drawing.{rules_pieces, sketch_pieces, view_alone, windows_or}
 use Rattle.view_page.specs.Pieces.{page_of}
 use Rattle.view_page.specs.declared.inode.View.{View}
@@ -17,19 +15,15 @@ returns c =
     let journal : List Event = c.args.journal.now in
     let windows : c.deref.result.now ≡ windows_or c.args.range journal
     = c.deref.ensures.value ∙ c.in_ok-windows.ensures in
-    let states : c.deref-2.result.now ≡ states_of journal
-    = c.deref-2.ensures.value ∙ c.in_ok-states.ensures in
-    let sketch : parts_in c.parts.result
-    ≡ sketch_of (windows_or c.args.range journal) journal (states_of journal)
-    = c.parts.ensures ∙ (c.in_ok-sketch.ensures
-    ∙ (ap (λ (ws : List Window). sketch_of ws journal c.deref-2.result.now) windows
-    ∙ ap (λ (ss : List State). sketch_of (windows_or c.args.range journal) journal ss) states)) in
+    let sketch : parts_in c.parts.result ≡ sketch_of (windows_or c.args.range journal) journal
+    = c.parts.ensures
+    ∙ (c.in_ok-sketch.ensures ∙ ap (λ (ws : List Window). sketch_of ws journal) windows) in
     let pieces : List Piece
     = sketch_pieces c.view_alone.result rules_pieces (parts_in c.parts.result) [] in
     c.in_ok-push_pieces.ensures
-    ∙ (ap (λ (x : List ℕ). x ++ page_of text c.deref-3.result.now) c.new-out.ensures.items
+    ∙ (ap (λ (x : List ℕ). x ++ page_of text c.deref-2.result.now) c.new-out.ensures.items
     ∙ (ap (λ (x : List Piece). page_of text x)
-    (c.deref-3.ensures.value ∙ (c.in_ok-push_parts.ensures
+    (c.deref-2.ensures.value ∙ (c.in_ok-push_parts.ensures
     ∙ ap (λ (x : List Piece). x ++ pieces) c.new-pieces.ensures.items))
     ∙ (ap (λ (v : View).
     page_of text (sketch_pieces v rules_pieces (parts_in c.parts.result) []))
