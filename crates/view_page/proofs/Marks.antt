@@ -1,5 +1,5 @@
 -- Each event that is drawn has one mark.
-use Rattle.std.proofs.Common.{◌≡◌, ℕ, ◌+◌, ◌==◌, ◌&&◌, Bool, true, false, List, [], ◌∷◌, ◌++◌, map, append_assoc, Option, Some, None, refl, ap, ◌∙◌, inl, inr}
+use Rattle.std.proofs.Common.{◌≡◌, ℕ, ◌+◌, ◌==◌, ◌&&◌, List, [], ◌∷◌, ◌++◌, map, append_assoc, Option, Some, None, refl, ap, ◌∙◌, inl, inr}
 use Rattle.std.specs.Prelude.{nat_le, nat_lt}
 use Rattle.std.specs.List.{flat_map, list_any}
 use Rattle.std.proofs.lemmas.Bool.{cases_Bool}
@@ -22,12 +22,12 @@ use Rattle.view_layout.specs.reading.declared.event.Deed.{Deed}
 use Rattle.view_layout.specs.reading.declared.event.Deed.TheVariants as deed
 use Rattle.view_layout.specs.reading.declared.event.Outcome.{Outcome}
 use Rattle.view_layout.specs.reading.declared.event.Span.{Span}
-use Rattle.view_layout.specs.Drawing.{Sketch, axis_items, back_items, bar_items, differing_items, end_of, flag_items, front_items, gap_between, gaps_from, gaps_items, guide_by, guide_items, hashing_at, hashing_items, is_place, is_write, items_of, lane_items, mark_items, middle_end, middle_items, parting_items, segment, segments_from, shown_in, sketch_of, strip_items, strips_items, write_items}
+use Rattle.view_layout.specs.Drawing.{Sketch, axis_items, back_items, bar_items, differing_items, end_of, flag_items, front_items, gap_between, gaps_from, gaps_items, guide_by, guide_items, hashing_at, hashing_items, is_place, is_write, items_of, lane_items, mark_items, middle_end, middle_items, parting_items, segments_from, shown_in, sketch_of, strip_items, strips_items, write_items}
 use Rattle.view_layout.specs.Flags.{guide_of}
 use Rattle.view_layout.specs.Frame.{column, margin, middle}
 use Rattle.view_layout.specs.Lanes.{seat_of}
 use Rattle.view_layout.specs.Notes.{mark_of}
-use Rattle.view_page.specs.Drawing.{EachEventHasOneMark, detail_pieces, entry_pieces, flag_pieces, fresh_of, item_pieces, items_pieces, room_for, segment_pieces, slant_pieces}
+use Rattle.view_page.specs.Drawing.{EachEventHasOneMark, detail_pieces, flag_pieces, fresh_of, item_pieces, items_pieces, room_for, segment_pieces, slant_pieces}
 use Rattle.view_page.specs.Pieces.{marks_in}
 use Rattle.view_page.specs.declared.inode.View.{View}
 use Rattle.view_page.specs.declared.own.Own.TheVariants as own

@@ -29,7 +29,6 @@ use Rattle.view_layout.specs.Drawing.{Sketch, end_of, highest, items_of, sketch_
 use Rattle.view_layout.specs.Windows.{windows}
 use Rattle.view_page.specs.declared.own.Own.{Own}
 use Rattle.view_page.specs.declared.own.Own.TheVariants as own
-use Rattle.view_page.specs.declared.own.Side.{Side}
 use Rattle.view_page.specs.declared.own.Side.TheVariants as side
 use Rattle.view_page.specs.declared.pieces.Piece.{Piece}
 use Rattle.view_page.specs.declared.pieces.Piece.TheVariants as piece

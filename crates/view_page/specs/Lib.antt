@@ -1,4 +1,5 @@
 pub mod Escape
+pub mod Rules
 pub mod Own
 pub mod Pieces
 pub mod Drawing

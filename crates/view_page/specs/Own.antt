@@ -20,6 +20,7 @@ use Rattle.view_page.specs.declared.own.Own.{Own}
 use Rattle.view_page.specs.declared.own.Own.TheVariants as own
 use Rattle.view_page.specs.declared.own.Side.{Side}
 use Rattle.view_page.specs.declared.own.Side.TheVariants as side
+use Rattle.view_page.specs.Rules.{rules}
 
 -- the shape of a mark, around the point 0,0
 abbrev pub shape : Mark → List ℕ
@@ -177,42 +178,6 @@ kind_word kind.Read = codes " r"
 kind_word kind.Write = codes " w"
 kind_word kind.ReadWrite = codes " rw"
 kind_word kind.Exec = codes " x"
-
--- ---- the rules of the classes
-
-abbrev pub rules_1 : List ℕ
-rules_1 =
-    codes "svg.tl{font:10px sans-serif;display:block}text.lane{text-anchor:end;font-size:12px}"
-    ++ (codes ".strip,.gap,.place{fill:#5f6b7a}.gap,.place{text-anchor:middle}"
-    ++ (codes ".strip{text-anchor:end}.in,.place{font-size:9px}.deed{text-anchor:end;fill:#3c4652}"
-    ++ (codes ".deed.red{fill:#b00020;font-weight:bold}.l0{fill:#f5f7f9}.l1{fill:#eef1f4}"
-    ++ codes ".differs{fill:#ffe58a}.n-r{fill:#9cc9e6}.n-w{fill:#f2b48a}.n-x{fill:#cdb9dc}")))
-
-abbrev pub rules_2 : List ℕ
-rules_2 =
-    codes ".zero{fill:#cfd6dd}.c-n{fill:#eceff2}.c-h{fill:#a9dcc6}.c-w{fill:#f3a6ad}"
-    ++ (codes ".b-r{fill:#cfe4f2;stroke:#0072b2}.b-w{fill:#fbdcc6;stroke:#d55e00}"
-    ++ (codes ".b-rw{fill:#f3dfd6;stroke:#d55e00;stroke-dasharray:5 2}"
-    ++ (codes ".b-x{fill:#e4d9ee;stroke:#8e6aa8}.still{stroke-dasharray:2 2}"
-    ++ codes ".hash{fill:#8fd0b6;stroke:#007a5a}.g-w{stroke:#d55e00;stroke-dasharray:2 3}")))
-
-abbrev pub rules_3 : List ℕ
-rules_3 =
-    codes ".g-v{stroke:#b00020;stroke-width:2}.g-d{stroke:#b00020;stroke-dasharray:6 3}"
-    ++ (codes ".g-a{stroke:#007a5a;stroke-dasharray:1 3}.g-p{stroke:#7a5cff;stroke-width:2}"
-    ++ (codes "rect.gap{fill:#fff;stroke:#9aa5b1;stroke-dasharray:3 4}rect.f-v{fill:#b00020}"
-    ++ (codes "rect.f-d{fill:#fff;stroke:#b00020}rect.f-a{fill:#007a5a}"
-    ++ codes "rect.f-o{fill:#fff;stroke:#007a5a}rect.f-p{fill:#fff;stroke:#9aa5b1}")))
-
-abbrev pub rules_4 : List ℕ
-rules_4 =
-    codes "rect.f-l{fill:#fff3bf;stroke:#c9a400}text.f-v,text.f-a{fill:#fff;font-weight:bold}"
-    ++ (codes "text.f-d{fill:#b00020;font-weight:bold}text.f-o{fill:#007a5a}"
-    ++ (codes "g.e text{fill:#fff;text-anchor:middle;font-weight:bold}"
-    ++ codes "g.e:target *{stroke:#000;stroke-width:2}"))
-
-abbrev pub rules : List ℕ
-rules = rules_1 ++ (rules_2 ++ (rules_3 ++ rules_4))
 
 abbrev pub own_bytes : Own → List ℕ
 own_bytes own.Svg = codes "<svg xmlns=\"http://www.w3.org/2000/svg\" class=\"tl\" width=\""

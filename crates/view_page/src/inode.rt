@@ -41,7 +41,8 @@ pub fn push_inode(
     let sketch = draft(alloc, windows, journal)?;
     let mut pieces = Vec::new(alloc);
     push_parts(alloc, &mut pieces, view, &[], sketch.parts(), differs)?;
-    push_pieces(out, text, &pieces)
+    push_pieces(out, text, &pieces)?;
+    Ok(())
 }
 
 /// One file with the drawing of an inode's journal: of the places of a range, or of its windows.
@@ -151,5 +152,6 @@ fn push_head(out: &mut Vec<Piece>, parts: Parts<'_>) -> Result<(), OutOfMemory>
         Piece::Number(height),
         Piece::Own(Own::SvgOpen),
     ];
-    add(out, &pieces)
+    add(out, &pieces)?;
+    Ok(())
 }

@@ -1,3 +1,13 @@
 pub mod Joined
-pub mod States
+pub mod Firsts
 pub mod Drawings
+pub mod InWindows
+pub mod Ordered
+pub mod Bounded
+pub mod Links
+pub mod Tags
+pub mod Walks
+pub mod TalesSteps
+pub mod HoldersSteps
+pub mod BucketsSteps
+pub mod PairsSteps

@@ -4,11 +4,13 @@ use Rattle.std.specs.List.{list_all}
 use Rattle.view_page.specs.Pieces.{text_at}
 use Rattle.view_page.specs.declared.own.Side.{Side}
 use Rattle.view_page.specs.layout.reading.declared.event.Span.{Span}
-use Rattle.view_pages.specs.Frame.{sum_up_to}
+use Rattle.view_pages.specs.Order.{counted}
+use Rattle.view_pages.specs.Plan.{is_drawn}
 use Rattle.view_pages.specs.Words.{after_word, cut, first_word}
 use Rattle.view_pages.specs.declared.html.Table.TheVariants as table
 use Rattle.view_pages.specs.declared.part.Part.{Part}
 use Rattle.view_pages.specs.declared.part.Part.TheVariants as part
+use Rattle.view_pages.specs.declared.plan.Shown.{Shown}
 use Rattle.view_pages.specs.declared.slots.At.{At}
 
 -- the words of a line, counted from 0
@@ -41,21 +43,31 @@ link side at =
     ∷ part.Number at.inode ∷ part.Table table.LinkPlace ∷ part.Number at.place
     ∷ part.Table table.LinkEnd ∷ []
 
+abbrev pub named : At → List Part
+named at =
+    part.Table table.Inode ∷ part.Number at.inode ∷ part.Table table.LinkPlace
+    ∷ part.Number at.place ∷ []
+
+-- a link to the event if the page draws it, else its inode and place
+abbrev pub event : Side → List Shown → At → List Part
+event side shown at = if is_drawn at shown then link side at else named at
+
 abbrev pub said : Span → List Part
 said span = part.Table table.Said ∷ part.Text span ∷ part.Table table.SpanEnd ∷ []
 
--- the link, and the event's line
-abbrev pub by_event : List ℕ → Side → At → List Part
-by_event text side at =
-    link side at ++ said (cut 80 (after_word text at.line))
+-- the event, and its line
+abbrev pub by_event : List ℕ → Side → List Shown → At → List Part
+by_event text side shown at =
+    event side shown at ++ said (cut 80 (after_word text at.line))
 
 -- who added the entry at this place; the first one is there from the start
-abbrev pub by_added : List ℕ → Side → Option At → List Part
-by_added text side (Some at) = by_event text side at
-by_added text side None = part.Table table.ByNone ∷ []
+abbrev pub by_added : List ℕ → Side → List Shown → Option At → List Part
+by_added text side shown (Some at) = by_event text side shown at
+by_added text side shown None = part.Table table.ByNone ∷ []
 
-abbrev pub by : List ℕ → Side → ℕ → Option At → List Part
-by text side p at = if p == 0 then part.Table table.Boot ∷ [] else by_added text side at
+abbrev pub by : List ℕ → Side → List Shown → ℕ → Option At → List Part
+by text side shown p at =
+    if p == 0 then part.Table table.Boot ∷ [] else by_added text side shown at
 
 -- the digest of the file, or that the entry is a violation
 abbrev pub digest : Bool → Span → List Part
@@ -79,12 +91,12 @@ abbrev pub row_name : List ℕ → Span → List Part
 row_name text line =
     part.Table table.HexCell ∷ part.Text (cut 80 (word_4 text line)) ∷ part.Table table.Cell ∷ []
 
-abbrev pub row : List ℕ → Side → Bool → ℕ → Option At → Span → List Part
-row text side violates p at line =
+abbrev pub row : List ℕ → Side → List Shown → Bool → ℕ → Option At → Span → List Part
+row text side shown violates p at line =
     row_head text side violates p line
     ++ digest violates (word_3 text line)
     ++ row_name text line
-    ++ by text side p at
+    ++ by text side shown p at
     ++ part.Table table.RowEnd ∷ []
 
 -- ---- the rows
@@ -97,9 +109,6 @@ abbrev pub is_shown : ℕ → ℕ → ℕ → Bool → Bool
 is_shown most place marks marked =
     if nat_lt place first_shown then true else (if marked then nat_lt marks most else false)
 
-abbrev pub counted : Bool → ℕ → ℕ
-counted marked marks = if marked then sum_up_to marks 1 else marks
-
 abbrev pub most_violations : ℕ
 most_violations = 150
 
@@ -108,21 +117,22 @@ joined (Some at) = at
 joined None = None
 
 -- the row at a place, after so many violations, if it is shown
-abbrev pub row_by : Bool → List ℕ → Side → Bool → ℕ → Option At → Span → List Part
-row_by true text side violates p at line = row text side violates p at line
-row_by false text side violates p at line = []
+abbrev pub row_by : Bool → List ℕ → Side → List Shown → Bool → ℕ → Option At → Span → List Part
+row_by true text side shown violates p at line = row text side shown violates p at line
+row_by false text side shown violates p at line = []
 
-abbrev pub row_at : List ℕ → Side → List (Option At) → ℕ → ℕ → Span → List Part
-row_at text side added marks p line =
-    row_by (is_shown most_violations p marks (is_violation text line)) text side
+abbrev pub row_at : List ℕ → Side → List Shown → List (Option At) → ℕ → ℕ → Span → List Part
+row_at text side shown added marks p line =
+    row_by (is_shown most_violations p marks (is_violation text line)) text side shown
     (is_violation text line) p (joined (slice_get added p)) line
 
 -- the rows of these entries, the first of which is at this place, after so many violations
-abbrev pub rows_from : List ℕ → Side → List (Option At) → ℕ → ℕ → List Span → List Part
-rows_from text side added marks p [] = []
-rows_from text side added marks p (line ∷ lines) =
-    row_at text side added marks p line
-    ++ rows_from text side added (counted (is_violation text line) marks) (p + 1) lines
+abbrev pub rows_from : List ℕ → Side → List Shown → List (Option At) → ℕ → ℕ → List Span
+    → List Part
+rows_from text side shown added marks p [] = []
+rows_from text side shown added marks p (line ∷ lines) =
+    row_at text side shown added marks p line
+    ++ rows_from text side shown added (counted (is_violation text line) marks) (p + 1) lines
 
 abbrev pub hidden : ℕ → List Part
 hidden n =
@@ -130,9 +140,9 @@ hidden n =
     then part.Table table.Hidden ∷ part.Number n ∷ part.Table table.HiddenEnd ∷ [] else []
 
 -- the list, with the events that added its entries
-abbrev pub entries : List ℕ → Side → List (Option At) → List Span → List Part
-entries text side added lines =
+abbrev pub entries : List ℕ → Side → List Shown → List (Option At) → List Span → List Part
+entries text side shown added lines =
     part.Table table.List ∷ []
-    ++ rows_from text side added 0 0 lines
+    ++ rows_from text side shown added 0 0 lines
     ++ part.Table table.ListEnd ∷ []
     ++ hidden (length lines)

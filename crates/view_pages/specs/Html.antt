@@ -47,11 +47,11 @@ abbrev pub section_bytes : Section → List ℕ
 section_bytes section.Inode = codes "<h2>inode "
 section_bytes section.Path = codes " <code title=\""
 section_bytes section.Shown = codes "\">"
-section_bytes section.Title = codes "\" title=\""
 section_bytes section.Length = codes "</code> <span class=\"soft\">"
 section_bytes section.HeadEnd = codes " events</span>"
-section_bytes section.Violated = codes " <span class=\"bad\">violations</span>"
-section_bytes section.Denied = codes " <span class=\"bad\">denials or labels</span>"
+section_bytes section.Bad = codes " <span class=\"bad\">"
+section_bytes section.Violations = codes " violations</span>"
+section_bytes section.Denials = codes " denials or labels</span>"
 section_bytes section.Same = codes " <span class=\"soft\">the same journal in both</span>"
 section_bytes section.IsFirst = codes " <span class=\"which\">first</span>"
 section_bytes section.IsSecond = codes " <span class=\"which\">second</span>"
@@ -96,6 +96,7 @@ table_bytes table.HiddenEnd =
     codes " entries the first 50 and the first 150 violations are shown.</p>" ++ 10 ∷ []
 table_bytes table.Boot = codes "boot"
 table_bytes table.ByNone = codes "-"
+table_bytes table.Inode = codes "inode "
 table_bytes table.Link = codes "<a href=\"#"
 table_bytes table.I = codes "i"
 table_bytes table.E = codes "-e"
@@ -112,19 +113,21 @@ table_bytes table.Rules =
     codes "<h2>Rules appended during the run</h2>" ++ 10 ∷ []
     ++ codes "<table>" ++ 10 ∷ []
 table_bytes table.RuleRow = codes "<tr><td class=\"h\">"
+table_bytes table.MoreRules = codes "<p class=\"soft\">and "
+table_bytes table.MoreRulesEnd = codes " more rules</p>" ++ 10 ∷ []
 table_bytes table.Replies =
     codes "<h2>Calls and replies</h2>" ++ 10 ∷ []
     ++ codes "<table>" ++ 10 ∷ []
 table_bytes table.TaskRow = codes "<tr><td>task&nbsp;"
 table_bytes table.Chip = codes "<span class=\"chip\">"
 table_bytes table.ChipNo = codes "<span class=\"chip no\">"
-table_bytes table.ChipLink = codes "<a href=\"#"
-table_bytes table.ChipIs = codes "\">"
-table_bytes table.ChipEnd = codes "</a>"
 table_bytes table.NoEvent = codes " <span class=\"soft\">no event</span>"
-table_bytes table.Reply = codes " <b>"
+table_bytes table.Reply = codes " <b title=\""
 table_bytes table.ReplyEnd = codes "</b></span>"
 table_bytes table.Wait = codes "<span class=\"chip wait\">"
 table_bytes table.WaitEnd = codes " stands here at the end</span>"
-table_bytes table.MoreChips = codes "<span class=\"chip\">and "
-table_bytes table.MoreEnd = codes " more</span>"
+table_bytes table.Calls = codes "<span class=\"chip\">of "
+table_bytes table.CallsEnd =
+    codes " calls the first 50 and the first 50 refused are shown</span>"
+table_bytes table.MoreTasks = codes "<p class=\"soft\">and "
+table_bytes table.MoreTasksEnd = codes " more tasks</p>" ++ 10 ∷ []

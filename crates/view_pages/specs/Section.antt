@@ -1,20 +1,26 @@
 -- The section of an inode in a page.
-use Rattle.std.specs.Prelude.{ℕ, ◌+◌, ◌-◌, nat_lt, List, [], ◌∷◌, ◌++◌, length, map, take, Option, Some, None, if◌then◌else◌}
+use Rattle.std.specs.Prelude.{ℕ, ◌-◌, ◌==◌, nat_lt, List, [], ◌∷◌, ◌++◌, length, map, take, None, if◌then◌else◌}
 use Rattle.std.specs.List.{flat_map}
 use Rattle.view_page.specs.Drawing.{inode_pieces}
 use Rattle.view_page.specs.declared.own.Side.{Side}
 use Rattle.view_page.specs.declared.inode.View.{View}
-use Rattle.view_page.specs.layout.Walk.{states_of}
-use Rattle.view_page.specs.layout.Windows.{windows}
 use Rattle.view_page.specs.layout.declared.window.Window.{Window}
 use Rattle.view_page.specs.layout.reading.Report.{InodeValue}
 use Rattle.view_page.specs.layout.reading.declared.event.Event.{Event}
 use Rattle.view_page.specs.layout.reading.declared.event.Span.{Span}
 use Rattle.view_page.specs.layout.reading.declared.report.InodeHead.{InodeHead}
+use Rattle.view_pages.specs.Order.{count}
+use Rattle.view_pages.specs.Overview.{overview_of}
+use Rattle.view_pages.specs.Parts.{more}
+use Rattle.view_pages.specs.Plan.{most_drawn}
+use Rattle.view_pages.specs.Sentences.{sentences}
 use Rattle.view_pages.specs.Words.{after_word, cut, first_word}
 use Rattle.view_pages.specs.declared.html.Section.TheVariants as section
+use Rattle.view_pages.specs.declared.order.Grade.TheVariants as grade
 use Rattle.view_pages.specs.declared.part.Part.{Part}
 use Rattle.view_pages.specs.declared.part.Part.TheVariants as part
+use Rattle.view_pages.specs.declared.section.Detail.{Detail}
+use Rattle.view_pages.specs.declared.section.Detail.TheVariants as detail
 
 -- a text that is shown up to its first `most` bytes, and more of it when one points at it
 abbrev pub titled : ℕ → Span → List Part
@@ -49,12 +55,6 @@ most_attrs = 8
 abbrev pub attrs : List ℕ → List Span → List Part
 attrs text lines = flat_map (attr text) (take most_attrs lines)
 
--- how many there are beyond so many
-abbrev pub more : ℕ → List Part
-more n =
-    if nat_lt 0 n
-    then part.Section section.More ∷ part.Number n ∷ part.Section section.MoreAttrs ∷ [] else []
-
 abbrev pub counts : InodeHead → List Part
 counts head =
     part.Section section.AtEnd ∷ part.Number head.writers ∷ part.Section section.Readers
@@ -67,7 +67,8 @@ at_end text head lines =
     ++ titled 23 (after_word text head.force)
     ++ part.Section section.Code ∷ []
     ++ attrs text lines
-    ++ more (length lines - most_attrs)
+    ++ more (part.Section section.More) (length lines - most_attrs)
+    (part.Section section.MoreAttrs)
     ++ part.Section section.ParaEnd ∷ []
 
 -- ---- the drawing
@@ -76,50 +77,64 @@ at_end text head lines =
 abbrev pub drawing : View → List Event → List Window → List ℕ → List Part
 drawing view journal ws differs =
     part.Section section.Wide ∷ []
-    ++ map part.Drawn (inode_pieces view journal (states_of journal) ws differs)
+    ++ map part.Drawn (inode_pieces view journal ws differs)
     ++ part.Section section.WideEnd ∷ []
 
 abbrev pub not_drawn : ℕ → List Part
 not_drawn number =
     part.Section section.NotDrawn ∷ part.Number number ∷ part.Section section.NotDrawnEnd ∷ []
 
+-- the overview of a journal that isn't drawn whole
+abbrev pub long_overview : List Event → List Window → List Part
+long_overview journal ws =
+    if nat_lt most_drawn (length journal) then overview_of journal ws else []
+
+abbrev pub overview_if : Detail → List Event → List Window → List Part
+overview_if detail.Overview journal ws = long_overview journal ws
+overview_if detail.Windows journal ws = []
+
+-- the drawing of these windows, if there are any
+abbrev pub windows_drawn : View → List Window → List Event → List Part
+windows_drawn view ws journal =
+    if length ws == 0 then not_drawn view.inode else drawing view journal ws []
+
+-- the overview, the drawing and the sentences
+abbrev pub drawn_by : List ℕ → Detail → View → List Window → List Event → List Part
+drawn_by text d view ws journal =
+    overview_if d journal ws ++ windows_drawn view ws journal ++ sentences text view journal ws
+
+-- of a journal with more than its birth
+abbrev pub drawn : List ℕ → Detail → View → List Window → List Event → List Part
+drawn text d view ws journal =
+    if nat_lt (length journal) 2 then part.Section section.Birth ∷ []
+    else if nat_lt (length journal) 4294967296 then drawn_by text d view ws journal
+    else not_drawn view.inode
+
 -- ---- the section
 
--- a journal of at most as many events is drawn whole, and of a longer one windows
-abbrev pub most_drawn : ℕ
-most_drawn = 120
+-- how many events are violations, and how many others are denials or labels
+abbrev pub marked_by : ℕ → ℕ → List Part
+marked_by violations denials =
+    more (part.Section section.Bad) violations (part.Section section.Violations)
+    ++ more (part.Section section.Bad) denials (part.Section section.Denials)
 
-abbrev pub windows_or : Option Window → List Event → List Window
-windows_or None journal = windows most_drawn journal
-windows_or (Some w) journal = w ∷ []
-
--- the drawing of a range of a journal, or of its windows
-abbrev pub drawing_of : View → Option Window → List Event → List Part
-drawing_of view range journal = drawing view journal (windows_or range journal) []
-
--- a journal of fewer than 2^32 events is drawn
-abbrev pub drawn : View → Option Window → List Event → List Part
-drawn view range journal =
-    if nat_lt (length journal) 4294967296 then drawing_of view range journal
-    else not_drawn view.inode
+abbrev pub marked : List Event → List Part
+marked journal =
+    marked_by (count grade.Violated journal)
+    (count grade.Marked journal - count grade.Violated journal)
 
 abbrev pub view_of : Side → ℕ → View
 view_of s number = record { side = s; inode = number; parts = None }
 
-abbrev pub section_by : List ℕ → View → Option Window → InodeHead → List Span → List Event
-    → List Part
-section_by text view range head lines journal =
+abbrev pub section_by : List ℕ → Detail → View → List Window → InodeHead → List Span
+    → List Event → List Part
+section_by text d view ws head lines journal =
     heading text view.inode (length journal) head
+    ++ marked journal
     ++ part.Section section.Close ∷ []
-    ++ drawn view range journal
+    ++ drawn text d view ws journal
     ++ at_end text head lines
 
--- the section of an inode
-abbrev pub section_of : List ℕ → View → Option Window → InodeValue → List Part
-section_of text view range i = section_by text view range i.head i.attrs i.events
-
--- the sections of these inodes, the first of which has this number
-abbrev pub sections_from : List ℕ → Side → ℕ → List InodeValue → List Part
-sections_from text s number [] = []
-sections_from text s number (i ∷ is) =
-    section_of text (view_of s number) None i ++ sections_from text s (number + 1) is
+-- the section of an inode, with these windows of its journal
+abbrev pub section_of : List ℕ → Detail → View → List Window → InodeValue → List Part
+section_of text d view ws i = section_by text d view ws i.head i.attrs i.events

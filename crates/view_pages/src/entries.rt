@@ -5,33 +5,35 @@ ghost use Rattle.view_pages.specs.Entries as spec;
 ghost use Rattle.view_pages.specs.Parts.{Pushed};
 
 use crate::html::Table;
+use crate::order::counted;
 use crate::part::{Part, push_parts};
+use crate::plan::{Shown, is_drawn};
 use crate::slots::At;
 use crate::words::{after_word, cut, first_word, text_at};
 use std::alloc::AllocError as OutOfMemory;
 use view_page::Side;
 use view_page::layout::reading::Span;
 
-// Of long lists the first of these many are shown.
-const FIRST_SHOWN: u64 = 50;
+/// Of long lists the first of these many are shown.
+pub const FIRST_SHOWN: u64 = 50;
 
 // No more violations are shown beyond these.
 const MOST_VIOLATIONS: u64 = 150;
 
-// The words of a line, counted from 0.
-fn word_1(text: &[u8], line: Span) -> Span
+/// The words of a line, counted from 0.
+pub(crate) fn word_1(text: &[u8], line: Span) -> Span
     ensures { result ≡ spec.word_1 text.now line }
 {
     first_word(text, after_word(text, line))
 }
 
-fn word_2(text: &[u8], line: Span) -> Span
+pub(crate) fn word_2(text: &[u8], line: Span) -> Span
     ensures { result ≡ spec.word_2 text.now line }
 {
     word_1(text, after_word(text, line))
 }
 
-fn word_3(text: &[u8], line: Span) -> Span
+pub(crate) fn word_3(text: &[u8], line: Span) -> Span
     ensures { result ≡ spec.word_3 text.now line }
 {
     word_2(text, after_word(text, line))
@@ -82,17 +84,54 @@ pub fn push_link(out: &mut Vec<u8>, text: &[u8], side: Side, at: At) -> Result<(
     push_parts(out, text, &parts)
 }
 
-// The link, and the event's line.
-fn push_by_event(out: &mut Vec<u8>, text: &[u8], side: Side, at: At) -> Result<(), OutOfMemory>
-    ensures { OnOk result
-        (Pushed text.now out.old.items out.new.items (spec.by_event text.now side at)) }
+fn push_named(out: &mut Vec<u8>, text: &[u8], at: At) -> Result<(), OutOfMemory>
+    ensures { OnOk result (Pushed text.now out.old.items out.new.items (spec.named at)) }
 {
-    push_link(out, text, side, at)?;
+    let parts = [
+        Part::Table(Table::Inode),
+        Part::Number(at.inode),
+        Part::Table(Table::LinkPlace),
+        Part::Number(at.place),
+    ];
+    push_parts(out, text, &parts)
+}
+
+// A link to the event if the page draws it, else its inode and place.
+fn push_event(
+    out: &mut Vec<u8>,
+    text: &[u8],
+    side: Side,
+    shown: &[Shown],
+    at: At,
+) -> Result<(), OutOfMemory>
+    ensures { OnOk result
+        (Pushed text.now out.old.items out.new.items (spec.event side shown.now at)) }
+{
+    if is_drawn(shown, at) {
+        push_link(out, text, side, at)
+    } else {
+        push_named(out, text, at)
+    }
+}
+
+// The event, and its line.
+fn push_by_event(
+    out: &mut Vec<u8>,
+    text: &[u8],
+    side: Side,
+    shown: &[Shown],
+    at: At,
+) -> Result<(), OutOfMemory>
+    ensures { OnOk result
+        (Pushed text.now out.old.items out.new.items (spec.by_event text.now side shown.now at)) }
+{
+    push_event(out, text, side, shown, at)?;
     push_said(out, text, cut(80, after_word(text, at.line)))?;
     Ok(())
 }
 
-fn push_said(out: &mut Vec<u8>, text: &[u8], said: Span) -> Result<(), OutOfMemory>
+/// Appends what an event or a call says.
+pub fn push_said(out: &mut Vec<u8>, text: &[u8], said: Span) -> Result<(), OutOfMemory>
     ensures { OnOk result (Pushed text.now out.old.items out.new.items (spec.said said)) }
 {
     let parts = [
@@ -108,25 +147,32 @@ fn push_by(
     out: &mut Vec<u8>,
     text: &[u8],
     side: Side,
+    shown: &[Shown],
     place: u64,
     at: Option<At>,
 ) -> Result<(), OutOfMemory>
     ensures { OnOk result
-        (Pushed text.now out.old.items out.new.items (spec.by text.now side place at)) }
+        (Pushed text.now out.old.items out.new.items (spec.by text.now side shown.now place at)) }
 {
     if place == 0 {
         push_parts(out, text, &[Part::Table(Table::Boot)])
     } else {
-        push_added(out, text, side, at)
+        push_added(out, text, side, shown, at)
     }
 }
 
-fn push_added(out: &mut Vec<u8>, text: &[u8], side: Side, at: Option<At>) -> Result<(), OutOfMemory>
+fn push_added(
+    out: &mut Vec<u8>,
+    text: &[u8],
+    side: Side,
+    shown: &[Shown],
+    at: Option<At>,
+) -> Result<(), OutOfMemory>
     ensures { OnOk result
-        (Pushed text.now out.old.items out.new.items (spec.by_added text.now side at)) }
+        (Pushed text.now out.old.items out.new.items (spec.by_added text.now side shown.now at)) }
 {
     match at {
-        Some(at) => push_by_event(out, text, side, at),
+        Some(at) => push_by_event(out, text, side, shown, at),
         None => push_parts(out, text, &[Part::Table(Table::ByNone)]),
     }
 }
@@ -204,18 +250,19 @@ fn push_row(
     out: &mut Vec<u8>,
     text: &[u8],
     side: Side,
+    shown: &[Shown],
     violates: bool,
     place: u64,
     at: Option<At>,
     line: Span,
 ) -> Result<(), OutOfMemory>
     ensures { OnOk result (Pushed text.now out.old.items out.new.items
-        (spec.row text.now side violates place at line)) }
+        (spec.row text.now side shown.now violates place at line)) }
 {
     push_row_head(out, text, side, violates, place, line)?;
     push_digest(out, text, violates, word_3(text, line))?;
     push_row_name(out, text, line)?;
-    push_by(out, text, side, place, at)?;
+    push_by(out, text, side, shown, place, at)?;
     push_parts(out, text, &[Part::Table(Table::RowEnd)])?;
     Ok(())
 }
@@ -233,7 +280,8 @@ pub fn is_shown(most: u64, place: u64, marks: u64, marked: bool) -> bool
     }
 }
 
-fn added_at(added: &[Option<At>], place: usize) -> Option<At>
+/// What a table has at this place.
+pub fn added_at(added: &[Option<At>], place: usize) -> Option<At>
     ensures { result ≡ spec.joined (slice_get added.now place) }
 {
     match added.get(place) {
@@ -242,33 +290,24 @@ fn added_at(added: &[Option<At>], place: usize) -> Option<At>
     }
 }
 
-fn counted(marked: bool, marks: u64) -> u64
-    ensures { result ≡ spec.counted marked marks }
-{
-    if marked {
-        marks.saturating_add(1)
-    } else {
-        marks
-    }
-}
-
 // The row at a place, after so many violations, if it is shown.
 fn push_row_at(
     out: &mut Vec<u8>,
     text: &[u8],
     side: Side,
+    shown: &[Shown],
     added: &[Option<At>],
     marks: u64,
     place: usize,
     line: Span,
 ) -> Result<(), OutOfMemory>
     ensures { OnOk result (Pushed text.now out.old.items out.new.items
-        (spec.row_at text.now side added.now marks place line)) }
+        (spec.row_at text.now side shown.now added.now marks place line)) }
 {
     let violates = is_violation(text, line);
     if is_shown(MOST_VIOLATIONS, place as u64, marks, violates) {
         let at = added_at(added, place);
-        push_row(out, text, side, violates, place as u64, at, line)
+        push_row(out, text, side, shown, violates, place as u64, at, line)
     } else {
         push_parts(out, text, &[])
     }
@@ -278,15 +317,16 @@ fn push_rows(
     out: &mut Vec<u8>,
     text: &[u8],
     side: Side,
+    shown: &[Shown],
     added: &[Option<At>],
     lines: &[Span],
 ) -> Result<(), OutOfMemory>
     ensures { OnOk result (Pushed text.now out.old.items out.new.items
-        (spec.rows_from text.now side added.now 0 0 lines.now)) }
+        (spec.rows_from text.now side shown.now added.now 0 0 lines.now)) }
 {
     let mut marks = 0;
     for (place, line) in lines.iter().enumerate() {
-        push_row_at(out, text, side, added, marks, place, *line)?;
+        push_row_at(out, text, side, shown, added, marks, place, *line)?;
         marks = counted(is_violation(text, *line), marks);
     }
     Ok(())
@@ -312,14 +352,15 @@ pub fn push_entries(
     out: &mut Vec<u8>,
     text: &[u8],
     side: Side,
+    shown: &[Shown],
     added: &[Option<At>],
     lines: &[Span],
 ) -> Result<(), OutOfMemory>
     ensures { OnOk result (Pushed text.now out.old.items out.new.items
-        (spec.entries text.now side added.now lines.now)) }
+        (spec.entries text.now side shown.now added.now lines.now)) }
 {
     push_parts(out, text, &[Part::Table(Table::List)])?;
-    push_rows(out, text, side, added, lines)?;
+    push_rows(out, text, side, shown, added, lines)?;
     push_parts(out, text, &[Part::Table(Table::ListEnd)])?;
     push_hidden(out, text, lines.len() as u64)?;
     Ok(())

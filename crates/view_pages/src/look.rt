@@ -33,7 +33,7 @@ const STYLE: [&[u8]; 22] = [
 ];
 
 // The legend, a drawing.
-const LEGEND: [&[u8]; 38] = [
+const LEGEND: [&[u8]; 39] = [
     b"<svg width=\"930\" height=\"66\" font-size=\"10\" role=\"img\" aria-label=\"legend\">\n",
     b"<path d=\"M2 5h34v14h-34z\" fill=\"#cfe4f2\" stroke=\"#0072b2\"/>\n",
     b"<text x=\"42\" y=\"16\">open for reading</text>\n",
@@ -43,7 +43,8 @@ const LEGEND: [&[u8]; 38] = [
     b"<text x=\"322\" y=\"16\">executed</text>\n",
     b"<path d=\"M392 7h34v10h-34z\" fill=\"#8fd0b6\" stroke=\"#007a5a\"/>\n",
     b"<text x=\"432\" y=\"16\">being hashed</text>\n",
-    b"<path d=\"M522 5h34v14h-34z\" fill=\"none\" stroke=\"#0072b2\" stroke-dasharray=\"2 2\"/>\n",
+    b"<path d=\"M522 5h34v14h-34z\" fill=\"#cfe4f2\" stroke=\"#0072b2\"\n",
+    b"stroke-dasharray=\"2 2\"/>\n",
     b"<text x=\"562\" y=\"16\">open at the end</text>\n",
     b"<path d=\"M662 6h34v12h-34z\" fill=\"#a9dcc6\"/>\n",
     b"<text x=\"702\" y=\"16\">content as hashed</text>\n",

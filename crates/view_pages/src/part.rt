@@ -5,6 +5,7 @@ ghost use Rattle.view_pages.specs.Parts as spec;
 
 use crate::html::{Frame, Section, Table, frame_bytes, section_bytes, table_bytes};
 use crate::look::{push_legend, push_style};
+use crate::told::{Overview, Told, overview_bytes, told_bytes};
 use std::alloc::AllocError as OutOfMemory;
 use view_page::layout::reading::Span;
 use view_page::{Piece, Side, push_all, push_pieces};
@@ -15,6 +16,8 @@ pub enum Part {
     Frame(Frame),
     Section(Section),
     Table(Table),
+    Told(Told),
+    Overview(Overview),
     /// What the identifiers of a report begin with.
     Side(Side),
     /// The rules of the page's classes, without those of drawings.
@@ -45,12 +48,32 @@ fn push_part(out: &mut Vec<u8>, text: &[u8], part: Part) -> Result<(), OutOfMemo
         Part::Frame(frame) => push_all(out, frame_bytes(frame)),
         Part::Section(section) => push_all(out, section_bytes(section)),
         Part::Table(table) => push_all(out, table_bytes(table)),
+        Part::Told(told) => push_all(out, told_bytes(told)),
+        Part::Overview(overview) => push_all(out, overview_bytes(overview)),
         Part::Side(side) => push_all(out, side_bytes(side)),
         Part::Style => push_style(out),
         Part::Legend => push_legend(out),
         Part::Number(number) => push_pieces(out, text, &[Piece::Number(number)]),
         Part::Text(span) => push_pieces(out, text, &[Piece::Text(span)]),
         Part::Drawn(piece) => push_pieces(out, text, &[piece]),
+    }
+}
+
+/// Appends how many there are beyond what is shown, if there are any.
+pub fn push_more(
+    out: &mut Vec<u8>,
+    text: &[u8],
+    before: Part,
+    n: u64,
+    after: Part,
+) -> Result<(), OutOfMemory>
+    ensures { OnOk result
+        (spec.Pushed text.now out.old.items out.new.items (spec.more before n after)) }
+{
+    if n > 0 {
+        push_parts(out, text, &[before, Part::Number(n), after])
+    } else {
+        push_parts(out, text, &[])
     }
 }
 

@@ -1,22 +1,34 @@
 // The section of an inode in a page.
 
-ghost use Rattle.std.specs.Prelude.{◌≡◌, ◌<◌, length, IfOk, OnOk};
+ghost use Rattle.std.specs.Prelude.{◌≡◌, ◌<◌, length, OnOk};
 ghost use Rattle.view_pages.specs.Parts.{Pushed};
 ghost use Rattle.view_pages.specs.Section as spec;
 
 use crate::html::Section;
-use crate::part::{Part, push_parts};
+use crate::order::{Grade, count};
+use crate::overview::push_overview;
+use crate::part::{Part, push_more, push_parts};
+use crate::sentences::push_sentences;
 use crate::words::{after_word, cut, first_word};
 use std::alloc::{AllocError as OutOfMemory, Global};
+use view_page::layout::Window;
 use view_page::layout::reading::{Event, Inode, InodeHead, Span};
-use view_page::layout::{Window, states, windows};
 use view_page::{Side, View, push_inode};
+
+/// What a section has of a journal that isn't drawn whole.
+#[derive(Clone, Copy, Debug, PartialEq, Eq)]
+pub enum Detail {
+    /// An overview, and windows.
+    Overview,
+    /// Windows.
+    Windows,
+}
+
+// A journal of at most as many events is drawn whole.
+const MOST_WHOLE: usize = 120;
 
 // No more attributes of an inode are shown.
 const MOST_ATTRS: usize = 8;
-
-// A journal of at most as many events is drawn whole, and of a longer one windows.
-const MOST_DRAWN: u32 = 120;
 
 // A text that is shown up to its first `most` bytes, and more of it when one points at it.
 fn push_titled(out: &mut Vec<u8>, text: &[u8], most: u32, span: Span) -> Result<(), OutOfMemory>
@@ -31,8 +43,8 @@ fn push_titled(out: &mut Vec<u8>, text: &[u8], most: u32, span: Span) -> Result<
     push_parts(out, text, &parts)
 }
 
-// The path, the third word of an inode's line.
-fn path(text: &[u8], head: InodeHead) -> Span
+/// The path, the third word of an inode's line.
+pub fn path(text: &[u8], head: InodeHead) -> Span
     ensures { result ≡ spec.path text.now head }
 {
     first_word(text, after_word(text, after_word(text, head.line)))
@@ -92,22 +104,6 @@ fn push_attrs(out: &mut Vec<u8>, text: &[u8], lines: &[Span]) -> Result<(), OutO
     Ok(())
 }
 
-// How many attributes there are beyond so many.
-fn push_more(out: &mut Vec<u8>, text: &[u8], n: u64) -> Result<(), OutOfMemory>
-    ensures { OnOk result (Pushed text.now out.old.items out.new.items (spec.more n)) }
-{
-    if n > 0 {
-        let parts = [
-            Part::Section(Section::More),
-            Part::Number(n),
-            Part::Section(Section::MoreAttrs),
-        ];
-        push_parts(out, text, &parts)
-    } else {
-        push_parts(out, text, &[])
-    }
-}
-
 fn push_counts(out: &mut Vec<u8>, text: &[u8], head: InodeHead) -> Result<(), OutOfMemory>
     ensures { OnOk result (Pushed text.now out.old.items out.new.items (spec.counts head)) }
 {
@@ -138,12 +134,20 @@ pub fn push_at_end(
     push_titled(out, text, 23, after_word(text, head.force))?;
     push_parts(out, text, &[Part::Section(Section::Code)])?;
     push_attrs(out, text, attrs)?;
-    push_more(out, text, more)?;
+    push_more(
+        out,
+        text,
+        Part::Section(Section::More),
+        more,
+        Part::Section(Section::MoreAttrs),
+    )?;
     push_parts(out, text, &[Part::Section(Section::ParaEnd)])?;
     Ok(())
 }
 
-fn push_drawing(
+/// Appends the drawing of these windows of a journal. `differs` are the places whose columns are
+/// marked.
+pub fn push_drawing(
     alloc: Global,
     out: &mut Vec<u8>,
     text: &[u8],
@@ -156,14 +160,14 @@ fn push_drawing(
     ensures { OnOk result (Pushed text.now out.old.items out.new.items
         (spec.drawing view journal.now windows.now differs.now)) }
 {
-    let states = states(alloc, journal)?;
     push_parts(out, text, &[Part::Section(Section::Wide)])?;
-    push_inode(alloc, out, text, view, journal, &states, windows, differs)?;
+    push_inode(alloc, out, text, view, journal, windows, differs)?;
     push_parts(out, text, &[Part::Section(Section::WideEnd)])?;
     Ok(())
 }
 
-fn push_not_drawn(out: &mut Vec<u8>, text: &[u8], number: u64) -> Result<(), OutOfMemory>
+/// Appends that the inode of this number isn't drawn.
+pub fn push_not_drawn(out: &mut Vec<u8>, text: &[u8], number: u64) -> Result<(), OutOfMemory>
     ensures { OnOk result (Pushed text.now out.old.items out.new.items (spec.not_drawn number)) }
 {
     let parts = [
@@ -174,58 +178,140 @@ fn push_not_drawn(out: &mut Vec<u8>, text: &[u8], number: u64) -> Result<(), Out
     push_parts(out, text, &parts)
 }
 
-fn windows_or(
+// The overview of a journal that isn't drawn whole.
+fn push_long_overview(
     alloc: Global,
-    range: Option<Window>,
+    out: &mut Vec<u8>,
+    text: &[u8],
     journal: &[Event],
-) -> Result<Vec<Window>, OutOfMemory>
+    windows: &[Window],
+) -> Result<(), OutOfMemory>
     requires { length journal.now < 4294967296 }
-    ensures { IfOk result (λ v. v.items ≡ spec.windows_or range journal.now) }
+    ensures { OnOk result (Pushed text.now out.old.items out.new.items
+        (spec.long_overview journal.now windows.now)) }
 {
-    match range {
-        None => windows(alloc, MOST_DRAWN, journal),
-        Some(window) => {
-            let mut windows = Vec::new(alloc);
-            windows.push(window)?;
-            Ok(windows)
-        }
+    if journal.len() > MOST_WHOLE {
+        push_overview(alloc, out, text, journal, windows)
+    } else {
+        push_parts(out, text, &[])
     }
 }
 
-// The drawing of a range of a journal, or of its windows.
-fn push_drawing_of(
+fn push_overview_if(
+    alloc: Global,
+    out: &mut Vec<u8>,
+    text: &[u8],
+    detail: Detail,
+    journal: &[Event],
+    windows: &[Window],
+) -> Result<(), OutOfMemory>
+    requires { length journal.now < 4294967296 }
+    ensures { OnOk result (Pushed text.now out.old.items out.new.items
+        (spec.overview_if detail journal.now windows.now)) }
+{
+    match detail {
+        Detail::Overview => push_long_overview(alloc, out, text, journal, windows),
+        Detail::Windows => push_parts(out, text, &[]),
+    }
+}
+
+// The drawing of these windows, or that there is none.
+fn push_windows(
     alloc: Global,
     out: &mut Vec<u8>,
     text: &[u8],
     view: View,
-    range: Option<Window>,
+    windows: &[Window],
     journal: &[Event],
 ) -> Result<(), OutOfMemory>
     requires { length journal.now < 4294967296 }
     ensures { OnOk result (Pushed text.now out.old.items out.new.items
-        (spec.drawing_of view range journal.now)) }
+        (spec.windows_drawn view windows.now journal.now)) }
 {
-    let windows = windows_or(alloc, range, journal)?;
-    push_drawing(alloc, out, text, view, journal, &windows, &[])?;
+    if windows.is_empty() {
+        push_not_drawn(out, text, view.inode)
+    } else {
+        push_drawing(alloc, out, text, view, journal, windows, &[])
+    }
+}
+
+fn push_drawn_by(
+    alloc: Global,
+    out: &mut Vec<u8>,
+    text: &[u8],
+    detail: Detail,
+    view: View,
+    windows: &[Window],
+    journal: &[Event],
+) -> Result<(), OutOfMemory>
+    requires { length journal.now < 4294967296 }
+    ensures { OnOk result (Pushed text.now out.old.items out.new.items
+        (spec.drawn_by text.now detail view windows.now journal.now)) }
+{
+    push_overview_if(alloc, out, text, detail, journal, windows)?;
+    push_windows(alloc, out, text, view, windows, journal)?;
+    push_sentences(alloc, out, text, view, journal, windows)?;
     Ok(())
 }
 
+// The overview, the drawing and the sentences of a journal with more than its birth.
 fn push_drawn(
     alloc: Global,
     out: &mut Vec<u8>,
     text: &[u8],
+    detail: Detail,
     view: View,
-    range: Option<Window>,
+    windows: &[Window],
     journal: &[Event],
 ) -> Result<(), OutOfMemory>
     ensures { OnOk result (Pushed text.now out.old.items out.new.items
-        (spec.drawn view range journal.now)) }
+        (spec.drawn text.now detail view windows.now journal.now)) }
 {
-    if journal.len() < 4_294_967_296 {
-        push_drawing_of(alloc, out, text, view, range, journal)
+    if journal.len() < 2 {
+        push_parts(out, text, &[Part::Section(Section::Birth)])
+    } else if journal.len() < 4_294_967_296 {
+        push_drawn_by(alloc, out, text, detail, view, windows, journal)
     } else {
         push_not_drawn(out, text, view.inode)
     }
+}
+
+/// Appends how many events of a journal are violations, and how many others are denials or labels.
+pub fn push_marked(out: &mut Vec<u8>, text: &[u8], journal: &[Event]) -> Result<(), OutOfMemory>
+    ensures { OnOk result (Pushed text.now out.old.items out.new.items
+        (spec.marked journal.now)) }
+{
+    let violations = count(Grade::Violated, journal);
+    let marked = count(Grade::Marked, journal);
+    let denials = marked.saturating_sub(violations);
+    push_marked_by(out, text, violations, denials)?;
+    Ok(())
+}
+
+fn push_marked_by(
+    out: &mut Vec<u8>,
+    text: &[u8],
+    violations: u64,
+    denials: u64,
+) -> Result<(), OutOfMemory>
+    ensures { OnOk result (Pushed text.now out.old.items out.new.items
+        (spec.marked_by violations denials)) }
+{
+    push_more(
+        out,
+        text,
+        Part::Section(Section::Bad),
+        violations,
+        Part::Section(Section::Violations),
+    )?;
+    push_more(
+        out,
+        text,
+        Part::Section(Section::Bad),
+        denials,
+        Part::Section(Section::Denials),
+    )?;
+    Ok(())
 }
 
 /// The view of an inode whose identifiers begin so.
@@ -243,60 +329,47 @@ fn push_section_by(
     alloc: Global,
     out: &mut Vec<u8>,
     text: &[u8],
+    detail: Detail,
     view: View,
-    range: Option<Window>,
+    windows: &[Window],
     head: InodeHead,
     attrs: &[Span],
     journal: &[Event],
 ) -> Result<(), OutOfMemory>
     ensures { OnOk result (Pushed text.now out.old.items out.new.items
-        (spec.section_by text.now view range head attrs.now journal.now)) }
+        (spec.section_by text.now detail view windows.now head attrs.now journal.now)) }
 {
     push_heading(out, text, view.inode, journal.len() as u64, head)?;
+    push_marked(out, text, journal)?;
     push_parts(out, text, &[Part::Section(Section::Close)])?;
-    push_drawn(alloc, out, text, view, range, journal)?;
+    push_drawn(alloc, out, text, detail, view, windows, journal)?;
     push_at_end(out, text, head, attrs)?;
     Ok(())
 }
 
-/// Appends the section of an inode: its heading, the drawing of a range of its journal, or of its
-/// windows, and its state at the end.
+/// Appends the section of an inode: its heading, the drawing of these windows of its journal, and
+/// its state at the end.
 pub fn push_section(
     alloc: Global,
     out: &mut Vec<u8>,
     text: &[u8],
+    detail: Detail,
     view: View,
-    range: Option<Window>,
+    windows: &[Window],
     inode: &Inode,
 ) -> Result<(), OutOfMemory>
     ensures { OnOk result (Pushed text.now out.old.items out.new.items
-        (spec.section_of text.now view range inode.now)) }
+        (spec.section_of text.now detail view windows.now inode.now)) }
 {
     push_section_by(
         alloc,
         out,
         text,
+        detail,
         view,
-        range,
+        windows,
         inode.head,
         &inode.attrs,
         &inode.events,
     )
-}
-
-/// Appends the sections of the inodes of a report.
-pub fn push_sections(
-    alloc: Global,
-    out: &mut Vec<u8>,
-    text: &[u8],
-    side: Side,
-    inodes: &[Inode],
-) -> Result<(), OutOfMemory>
-    ensures { OnOk result (Pushed text.now out.old.items out.new.items
-        (spec.sections_from text.now side 0 inodes.now)) }
-{
-    for (number, inode) in inodes.iter().enumerate() {
-        push_section(alloc, out, text, view_of(side, number as u64), None, inode)?;
-    }
-    Ok(())
 }

@@ -18,7 +18,7 @@ pub struct At {
 #[derive(Clone, Copy, Debug, PartialEq, Eq)]
 pub enum Asked {
     Entries,
-    Calls(u32),
+    Calls(u64),
 }
 
 fn placed_entry(placed: Option<Placed>) -> Option<u32>
@@ -41,13 +41,13 @@ fn added_entry(outcome: Outcome) -> Option<u32>
     }
 }
 
-fn call_of(task: u32, event: Event) -> Option<u32>
+fn call_of(task: u64, event: Event) -> Option<u32>
     ensures { result ≡ spec.call_of task event event.deed }
 {
     match event.deed {
         Deed::Birth => None,
         _ => {
-            if event.who.task == task {
+            if u64::from(event.who.task) == task {
                 Some(event.who.call)
             } else {
                 None

@@ -1,4 +1,4 @@
-use Rattle.std.proofs.Common.{◌≡◌, ℕ, List, [], ◌++◌, ◌∙◌, ap}
+use Rattle.std.proofs.Common.{◌≡◌, List, [], ◌++◌, ◌∙◌, ap}
 use Rattle.view_layout.specs.Drawing.{Sketch, sketch_of}
 use Rattle.view_layout.specs.SketchView.{parts_in}
 use Rattle.view_page.specs.Drawing.{sketch_pieces}

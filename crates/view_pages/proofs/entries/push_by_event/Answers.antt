@@ -6,6 +6,6 @@ use Rattle.view_pages.proofs.entries.push_by_event.Goals as goal
 
 pub returns : goal.returns
 returns c =
-    c.in_ok-push_link.ensures
+    c.in_ok-push_event.ensures
     ▹ as_parts c.in_ok-push_said.ensures
     (ap said (c.cut.ensures ∙ ap (cut 80) c.after_word.ensures))

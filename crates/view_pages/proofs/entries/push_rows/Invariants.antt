@@ -7,5 +7,6 @@ use Rattle.view_pages.proofs.entries.push_rows.Given as goal
 abbrev pub invariant-loop-place : goal.invariant-loop-place
 invariant-loop-place l =
     l.out.items
-    ++ page_of l.text (rows_from l.text l.side l.added l.marks l.place (drop l.place l.lines))
-    ≡ l.fn.out.items ++ page_of l.text (rows_from l.text l.side l.added 0 0 l.lines)
+    ++ page_of l.text
+    (rows_from l.text l.side l.shown l.added l.marks l.place (drop l.place l.lines))
+    ≡ l.fn.out.items ++ page_of l.text (rows_from l.text l.side l.shown l.added 0 0 l.lines)

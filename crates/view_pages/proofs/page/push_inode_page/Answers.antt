@@ -1,13 +1,15 @@
-use Rattle.std.proofs.Common.{None, ap}
-use Rattle.view_page.specs.declared.inode.View.{View}
-use Rattle.view_pages.specs.Section.{section_of}
-use Rattle.view_pages.proofs.Joined.{as_parts, ◌▹◌}
+use Rattle.std.proofs.Common.{List, ap, ◌∙◌}
+use Rattle.view_page.specs.layout.declared.window.Window.{Window}
+use Rattle.view_page.specs.layout.reading.Report.{InodeValue}
+use Rattle.view_page.specs.layout.reading.declared.event.Event.{Event}
+use Rattle.view_pages.specs.Page.{inode_parts, windows_or}
+use Rattle.view_pages.proofs.Joined.{as_parts}
 use Rattle.view_pages.proofs.page.push_inode_page.Goals as goal
 
 pub returns : goal.returns
 returns c =
-    c.in_ok-push_head.ensures
-    ▹ as_parts c.in_ok-push_section.ensures
-    (ap (λ (v : View). section_of c.args.text.now v c.args.range c.args.inode.now)
-    c.view_of.ensures)
-    ▹ c.in_ok-push_parts.ensures
+    as_parts c.in_ok-push_inode_in.ensures
+    (ap (λ (ws : List Window). inode_parts c.args.text.now c.args.number c.args.inode.now ws)
+    (c.deref-2.ensures.value ∙ (c.in_ok-windows.ensures
+    ∙ ap (λ (es : List Event). windows_or c.args.range es)
+    (c.deref.ensures.value ∙ ap (λ (i : InodeValue). i.events) c.inode.view_is))))

@@ -7,5 +7,6 @@ use Rattle.view_pages.proofs.page.push_list.Goals as goal
 pub returns : goal.returns
 returns c =
     as_parts c.in_ok-push_entries.ensures
-    (ap (λ (t : List (Option At)). entries c.args.text.now c.args.side t c.args.lines.now)
+    (ap (λ (t : List (Option At)).
+    entries c.args.text.now c.args.side c.args.shown.now t c.args.lines.now)
     (c.deref.ensures.value ∙ c.in_ok-added.ensures))

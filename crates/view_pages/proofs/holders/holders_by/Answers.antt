@@ -1,0 +1,23 @@
+use Rattle.std.proofs.Common.{◌≡◌, ℕ, List, Option, length, ap, ◌∙◌, arith}
+use Rattle.std.specs.Prelude.{reverse}
+use Rattle.view_page.specs.layout.Files.{files}
+use Rattle.view_page.specs.layout.Sentences.{held_by}
+use Rattle.view_page.specs.layout.Walk.{Walk, start}
+use Rattle.view_page.specs.layout.reading.declared.event.Kind.{Kind}
+use Rattle.view_pages.specs.Holders.{held_files, holds}
+use Rattle.view_pages.proofs.Walks.{files_by_walk, length-walked_all}
+use Rattle.view_pages.proofs.holders.holders_by.Goals as goal
+
+pub holders_in-requires : goal.holders_in-requires
+holders_in-requires c =
+    omega (arith,
+    ap length (c.held.ensures ∙ ap (λ (w : Walk). w.held) c.in_ok-walk.ensures),
+    length-walked_all start c.args.journal.now,
+    c.requires)
+
+pub returns : goal.returns
+returns c =
+    c.in_ok-holders.ensures
+    ∙ ap (λ (hs : List (ℕ × Kind)). reverse (held_by (holds c.args.holding) c.args.file hs))
+    (ap held_files (c.held.ensures ∙ ap (λ (w : Walk). w.held) c.in_ok-walk.ensures)
+    ∙ files_by_walk c.args.journal.now)

@@ -1,0 +1,7 @@
+use Rattle.view_pages.proofs.Joined.{◌▹◌}
+use Rattle.view_pages.proofs.pair.push_both_tiles.Goals as goal
+
+pub returns : goal.returns
+returns c =
+    c.in_ok-push_parts.ensures ▹ c.in_ok-push_tiles.ensures ▹ c.in_ok-push_parts-2.ensures
+    ▹ c.in_ok-push_tiles-2.ensures

@@ -1,0 +1,13 @@
+use Rattle.std.proofs.Common.{ℕ, ap}
+use Rattle.view_pages.specs.Parts.{more}
+use Rattle.view_pages.specs.declared.part.Part.TheVariants as part
+use Rattle.view_pages.specs.declared.told.Told.TheVariants as told
+use Rattle.view_pages.proofs.Joined.{as_parts, ◌▹◌}
+use Rattle.view_pages.proofs.said.push_holders.Goals as goal
+
+pub returns : goal.returns
+returns c =
+    c.in_ok-push_named.ensures
+    ▹ as_parts c.in_ok-push_more.ensures
+    (ap (λ (n : ℕ). more (part.Told told.And) n (part.Told told.More))
+    c.saturating_sub-more.ensures)

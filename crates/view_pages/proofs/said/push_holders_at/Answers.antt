@@ -1,0 +1,10 @@
+use Rattle.std.proofs.Common.{ℕ, List, ap, ◌∙◌}
+use Rattle.view_pages.specs.Sentences.{named}
+use Rattle.view_pages.proofs.Joined.{as_parts}
+use Rattle.view_pages.proofs.said.push_holders_at.Goals as goal
+
+pub returns : goal.returns
+returns c =
+    as_parts c.in_ok-push_holders.ensures
+    (ap (λ (files : List ℕ). named c.args.journal.now files)
+    (c.deref.ensures.value ∙ c.in_ok-files.ensures))

@@ -1,0 +1,13 @@
+use Rattle.std.proofs.Common.{ℕ, ap}
+use Rattle.view_pages.specs.Parts.{more}
+use Rattle.view_pages.specs.declared.html.Table.TheVariants as table
+use Rattle.view_pages.specs.declared.part.Part.TheVariants as part
+use Rattle.view_pages.proofs.Joined.{as_parts, ◌▹◌}
+use Rattle.view_pages.proofs.tables.push_rules_shown.Goals as goal
+
+pub returns : goal.returns
+returns c =
+    c.in_ok-push_parts.ensures ▹ c.in_ok-push_rule_rows.ensures ▹ c.in_ok-push_parts-2.ensures
+    ▹ as_parts c.in_ok-push_more.ensures
+    (ap (λ (n : ℕ). more (part.Table table.MoreRules) n (part.Table table.MoreRulesEnd))
+    c.saturating_sub-more.ensures)

@@ -1,0 +1,329 @@
+// The page of two reports of one script.
+
+ghost use Rattle.std.specs.Prelude.{◌≡◌, ◌<◌, ◌≤◌, length, take, OnOk};
+ghost use Rattle.view_pages.specs.Alike.{parted};
+ghost use Rattle.view_pages.specs.Pair as spec;
+ghost use Rattle.view_pages.specs.Parts.{Pushed};
+
+use crate::alike::{differing, parted};
+use crate::frame::{push_head, push_tiles};
+use crate::html::{Frame, Section};
+use crate::page::push_tables;
+use crate::part::{Part, push_more, push_parts};
+use crate::plan::windows_of;
+use crate::section::{push_at_end, push_drawing, push_heading, push_marked, push_not_drawn};
+use crate::sentences::push_sentences;
+use std::alloc::{AllocError as OutOfMemory, Global};
+use view_page::layout::reading::{Event, Inode, InodeHead, Report, Span};
+use view_page::layout::Window;
+use view_page::{Side, View};
+
+// At most as many inodes are drawn.
+const MOST_PAIRS: u64 = 12;
+
+// At most as many inodes have a line.
+const MOST_LINES: usize = 200;
+
+fn which(side: Side) -> Part
+    ensures { result ≡ spec.which side }
+{
+    match side {
+        Side::First => Part::Section(Section::IsFirst),
+        _ => Part::Section(Section::IsSecond),
+    }
+}
+
+fn push_compared(
+    alloc: Global,
+    out: &mut Vec<u8>,
+    text: &[u8],
+    view: View,
+    mine: &[Event],
+    other: &[Event],
+    windows: &[Window],
+) -> Result<(), OutOfMemory>
+    requires { length mine.now < 4294967296 }
+    ensures { OnOk result (Pushed text.now out.old.items out.new.items
+        (spec.compared text.now view mine.now other.now windows.now)) }
+{
+    let differs = differing(alloc, text, mine, other, windows)?;
+    push_drawing(alloc, out, text, view, mine, windows, &differs)?;
+    push_sentences(alloc, out, text, view, mine, windows)?;
+    Ok(())
+}
+
+fn push_compared_by(
+    alloc: Global,
+    out: &mut Vec<u8>,
+    text: &[u8],
+    view: View,
+    mine: &[Event],
+    other: &[Event],
+) -> Result<(), OutOfMemory>
+    ensures { OnOk result (Pushed text.now out.old.items out.new.items
+        (spec.compared_by text.now view mine.now other.now)) }
+{
+    if mine.len() < 4_294_967_296 {
+        let windows = windows_of(alloc, mine)?;
+        push_compared(alloc, out, text, view, mine, other, &windows)?;
+        Ok(())
+    } else {
+        push_not_drawn(out, text, view.inode)
+    }
+}
+
+fn push_side_by(
+    alloc: Global,
+    out: &mut Vec<u8>,
+    text: &[u8],
+    view: View,
+    head: InodeHead,
+    attrs: &[Span],
+    mine: &[Event],
+    other: &[Event],
+) -> Result<(), OutOfMemory>
+    ensures { OnOk result (Pushed text.now out.old.items out.new.items
+        (spec.side_by text.now view head attrs.now mine.now other.now)) }
+{
+    push_heading(out, text, view.inode, mine.len() as u64, head)?;
+    push_marked(out, text, mine)?;
+    push_parts(out, text, &[which(view.side), Part::Section(Section::Close)])?;
+    push_compared_by(alloc, out, text, view, mine, other)?;
+    push_at_end(out, text, head, attrs)?;
+    Ok(())
+}
+
+// The section of an inode of one report, next to this journal of the other one.
+fn push_side(
+    alloc: Global,
+    out: &mut Vec<u8>,
+    text: &[u8],
+    view: View,
+    inode: &Inode,
+    other: &[Event],
+) -> Result<(), OutOfMemory>
+    ensures { OnOk result (Pushed text.now out.old.items out.new.items
+        (spec.side_of text.now view inode.now other.now)) }
+{
+    push_side_by(
+        alloc,
+        out,
+        text,
+        view,
+        inode.head,
+        &inode.attrs,
+        &inode.events,
+        other,
+    )
+}
+
+fn view_at(side: Side, number: u64, place: usize) -> View
+    ensures { result ≡ spec.view_at side number place }
+{
+    View {
+        side,
+        inode: number,
+        parts: Some(place.min(4_294_967_295) as u32),
+    }
+}
+
+fn push_both(
+    alloc: Global,
+    out: &mut Vec<u8>,
+    text: &[u8],
+    number: u64,
+    place: usize,
+    first: &Inode,
+    second: &Inode,
+) -> Result<(), OutOfMemory>
+    ensures { OnOk result (Pushed text.now out.old.items out.new.items
+        (spec.both text.now number place first.now second.now)) }
+{
+    let above = view_at(Side::First, number, place);
+    push_side(alloc, out, text, above, first, &second.events)?;
+    let below = view_at(Side::Second, number, place);
+    push_side(alloc, out, text, below, second, &first.events)?;
+    Ok(())
+}
+
+fn push_same(
+    out: &mut Vec<u8>,
+    text: &[u8],
+    number: u64,
+    events: u64,
+    head: InodeHead,
+) -> Result<(), OutOfMemory>
+    ensures { OnOk result (Pushed text.now out.old.items out.new.items
+        (spec.same text.now number events head)) }
+{
+    let same = [Part::Section(Section::Same), Part::Section(Section::Close)];
+    push_heading(out, text, number, events, head)?;
+    push_parts(out, text, &same)?;
+    Ok(())
+}
+
+fn push_without_drawing(
+    out: &mut Vec<u8>,
+    text: &[u8],
+    number: u64,
+    events: u64,
+    head: InodeHead,
+) -> Result<(), OutOfMemory>
+    ensures { OnOk result (Pushed text.now out.old.items out.new.items
+        (spec.without_drawing text.now number events head)) }
+{
+    push_heading(out, text, number, events, head)?;
+    push_parts(out, text, &[Part::Section(Section::Close)])?;
+    push_not_drawn(out, text, number)?;
+    Ok(())
+}
+
+fn push_pair_by(
+    alloc: Global,
+    out: &mut Vec<u8>,
+    text: &[u8],
+    number: u64,
+    room: u64,
+    parted: Option<usize>,
+    first: &Inode,
+    second: &Inode,
+) -> Result<(), OutOfMemory>
+    ensures { OnOk result (Pushed text.now out.old.items out.new.items
+        (spec.pair_by text.now number room parted first.now second.now)) }
+{
+    let events = first.events.len() as u64;
+    match parted {
+        None => push_same(out, text, number, events, first.head),
+        Some(place) => {
+            if room > 0 {
+                push_both(alloc, out, text, number, place, first, second)
+            } else {
+                push_without_drawing(out, text, number, events, first.head)
+            }
+        }
+    }
+}
+
+fn room_after(parted: Option<usize>, room: u64) -> u64
+    ensures { result ≡ spec.room_after parted room }
+{
+    match parted {
+        None => room,
+        Some(_) => room.saturating_sub(1),
+    }
+}
+
+fn parted_of(text: &[u8], first: &Inode, second: &Inode) -> Option<usize>
+    ensures { result ≡ parted text.now first.now.events second.now.events }
+{
+    parted(text, &first.events, &second.events)
+}
+
+// The inodes of two reports, as many of each.
+fn push_pairs_of(
+    alloc: Global,
+    out: &mut Vec<u8>,
+    text: &[u8],
+    first: &[Inode],
+    second: &[Inode],
+) -> Result<(), OutOfMemory>
+    requires { length first.now ≡ length second.now }
+    ensures { OnOk result (Pushed text.now out.old.items out.new.items
+        (spec.pairs_from text.now 0 spec.most_pairs first.now second.now)) }
+{
+    let mut room = MOST_PAIRS;
+    for number in 0..first.len() {
+        let inode = &first[number];
+        let other = &second[number];
+        let parted = parted_of(text, inode, other);
+        push_pair_by(alloc, out, text, number as u64, room, parted, inode, other)?;
+        room = room_after(parted, room);
+    }
+    Ok(())
+}
+
+fn shown(first: &[Inode], second: &[Inode]) -> usize
+    ensures value { result ≡ spec.shown first.now second.now }
+    ensures first { result ≤ length first.now }
+    ensures second { result ≤ length second.now }
+{
+    first.len().min(second.len()).min(MOST_LINES)
+}
+
+fn push_pairs(
+    alloc: Global,
+    out: &mut Vec<u8>,
+    text: &[u8],
+    first: &[Inode],
+    second: &[Inode],
+) -> Result<(), OutOfMemory>
+    ensures { OnOk result (Pushed text.now out.old.items out.new.items
+        (spec.pairs text.now first.now second.now)) }
+{
+    let n = shown(first, second);
+    let more = first.len().max(second.len()) - n;
+    push_pairs_of(alloc, out, text, &first[..n], &second[..n])?;
+    push_more(
+        out,
+        text,
+        Part::Section(Section::MoreInodes),
+        more as u64,
+        Part::Section(Section::MoreInodesEnd),
+    )?;
+    Ok(())
+}
+
+fn push_both_tiles(
+    out: &mut Vec<u8>,
+    text: &[u8],
+    first: &Report,
+    second: &Report,
+) -> Result<(), OutOfMemory>
+    ensures { OnOk result (Pushed text.now out.old.items out.new.items
+        (spec.both_tiles first.now second.now)) }
+{
+    push_parts(out, text, &[Part::Frame(Frame::First)])?;
+    push_tiles(out, text, first)?;
+    push_parts(out, text, &[Part::Frame(Frame::Second)])?;
+    push_tiles(out, text, second)?;
+    Ok(())
+}
+
+// The lists and the calls, side by side.
+fn push_both_lists(
+    alloc: Global,
+    out: &mut Vec<u8>,
+    text: &[u8],
+    first: &Report,
+    second: &Report,
+) -> Result<(), OutOfMemory>
+    ensures { OnOk result (Pushed text.now out.old.items out.new.items
+        (spec.both_lists text.now first.now second.now)) }
+{
+    push_parts(out, text, &[Part::Frame(Frame::Both)])?;
+    push_tables(alloc, out, text, Side::First, &[], first)?;
+    push_parts(out, text, &[Part::Frame(Frame::Beside)])?;
+    push_tables(alloc, out, text, Side::Second, &[], second)?;
+    push_parts(out, text, &[Part::Frame(Frame::BothEnd)])?;
+    Ok(())
+}
+
+/// Appends the page of two reports, which were read from `text`: the inodes whose journals differ,
+/// first above second, and both lists.
+pub fn push_pair(
+    alloc: Global,
+    out: &mut Vec<u8>,
+    text: &[u8],
+    first: &Report,
+    second: &Report,
+) -> Result<(), OutOfMemory>
+    ensures { OnOk result (Pushed text.now out.old.items out.new.items
+        (spec.pair_parts text.now first.now second.now)) }
+{
+    push_head(out, text, Frame::TwoRuns)?;
+    push_both_tiles(out, text, first, second)?;
+    push_pairs(alloc, out, text, &first.inodes, &second.inodes)?;
+    push_both_lists(alloc, out, text, first, second)?;
+    push_parts(out, text, &[Part::Frame(Frame::End)])?;
+    Ok(())
+}
