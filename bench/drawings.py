@@ -9,7 +9,7 @@ import xml.dom.minidom
 BAR = r'<rect rx="3" class="b-[^"]*" x="(\d+)" y="(\d+)" width="(\d+)"'
 FLAG = r'<rect class="f-\w" rx="2" height="14" x="(\d+)" y="-(\d+)" width="(\d+)"'
 LANE = r'<rect class="l[01]" x="96" y="(\d+)" width="\d+" height="(\d+)"'
-MARK = r'id="i\d+-e(\d+)" transform="translate\((\d+),(\d+)\)'
+MARK = r'id="(?:[ab]-)?i\d+-e(\d+)" transform="translate\((\d+),(\d+)\)'
 AXIS = r'class="place" dy="10" x="(\d+)" y="\d+">(\d+)<'
 
 
