@@ -1,5 +1,7 @@
-"""Checks drawings (SVG, one after another, on standard input): that each is well-formed, that each
-event has one mark in its own column and in one lane, and that no two bars or flags overlap."""
+#!/usr/bin/env python3
+"""bench/drawings.py < PAGES: checks the drawings in pages or SVG files, one after another: that each
+is well-formed, that each event has one mark in its own column and in one lane, and that no two bars
+or flags overlap. Status 1: one isn't so, or there is none."""
 import re
 import sys
 import xml.dom.minidom
@@ -7,7 +9,7 @@ import xml.dom.minidom
 BAR = r'<rect rx="3" class="b-[^"]*" x="(\d+)" y="(\d+)" width="(\d+)"'
 FLAG = r'<rect class="f-\w" rx="2" height="14" x="(\d+)" y="-(\d+)" width="(\d+)"'
 LANE = r'<rect class="l[01]" x="96" y="(\d+)" width="\d+" height="(\d+)"'
-MARK = r'id="i\d+-e(\d+)" transform="translate\((\d+),(\d+)\)'
+MARK = r'id="(?:[ab]-)?i\d+-e(\d+)" transform="translate\((\d+),(\d+)\)'
 AXIS = r'class="place" dy="10" x="(\d+)" y="\d+">(\d+)<'
 
 

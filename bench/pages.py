@@ -3,8 +3,9 @@
 
 crates/worked_views sees only its own folder, so its data/ repeats the reports of examples/ and has
 the pages that the gate compares. That the copies are the same is compared here, and that each page
-is what the program writes. After the drawing or an example was changed, `bench/pages.py write`
-writes the copies and the pages; look at the pages (bench/look) before you keep them.
+is what the program writes; likewise the run of crates/imakern_view that the gate makes, and the
+picture of README.md. After the drawing or an example was changed, `bench/pages.py write` writes all
+of these; look at the pages (bench/look) before you keep them.
 
 The program is crates/imakern_view/out/imakern_view, which `rt run imakern_view` builds, or PROGRAM.
 Status 1: something differs.
@@ -15,7 +16,8 @@ TOP = os.path.dirname(os.path.dirname(os.path.abspath(__file__)))
 WORKED = os.path.join(TOP, 'crates', 'worked_views')
 DATA = os.path.join(WORKED, 'data')
 WRITE = sys.argv[1:2] == ['write']
-BUILT = os.path.join(TOP, 'crates', 'imakern_view', 'out', 'imakern_view')
+VIEW = os.path.join(TOP, 'crates', 'imakern_view')
+BUILT = os.path.join(VIEW, 'out', 'imakern_view')
 PROGRAM = (sys.argv[2 if WRITE else 1:] or [BUILT])[0]
 OTHER_CASE = re.compile(r'\("([a-z0-9 ]+)", &\[([a-z_0-9", ]+)\], "([a-z_0-9.]+)"\)')
 differing = []
@@ -67,6 +69,11 @@ for words, names, file in OTHER_CASE.findall(source):
 for words in re.findall(r'\("([^"]*)", (?:USAGE|REFUSED|NO_PLACE),', source):
     lines.append('refused: %s' % words)
 keep(os.path.join(WORKED, 'stdout'), ('\n'.join(lines) + '\n').encode())
+picture = page('svg 0', report('tomtou'))
+keep(os.path.join(TOP, 'examples', 'tomtou.svg'), picture)
+keep(os.path.join(VIEW, 'args'), b'svg\n0\n')
+keep(os.path.join(VIEW, 'stdin'), report('tomtou'))
+keep(os.path.join(VIEW, 'stdout'), picture)
 for path in differing:
     print('DIFFERS: %s' % path)
 print('%d pages, %d differ' % (len(lines), len(differing)))

@@ -1,9 +1,9 @@
 #!/usr/bin/env python3
 """bench/tutorial.py [PROGRAM [PAGE]]: does what the tutorial says, and compares what is printed.
 
-PROGRAM (default crates/imakern/out/imakern) is on the PATH as `imakern`, and
-crates/imakern_orders/out/imakern_orders if it is built, in a temporary folder in which `examples`
-and `bench` are the repository's. PAGE (default docs/TUTORIAL.md) is read from top to bottom:
+PROGRAM (default crates/imakern/out/imakern) is on the PATH as `imakern`, and so are
+crates/NAME/out/NAME of imakern_orders and imakern_view if they are built, in a temporary folder in
+which `examples` and `bench` are the repository's. PAGE (default docs/TUTORIAL.md) is read from top to bottom:
 
 - A fenced block with two words after its fence, as ```script first.script, is written to the file
   that the second word names.
@@ -19,7 +19,7 @@ that isn't here is skipped, and its line says so. Status 1 if one differs, 2 wit
 import os, re, shlex, shutil, subprocess, sys, tempfile
 
 top = os.path.dirname(os.path.dirname(os.path.abspath(__file__)))
-TOOLS = ['evmctl', 'lsattr', 'imakern_orders']
+TOOLS = ['evmctl', 'lsattr', 'imakern_orders', 'imakern_view']
 BASE = 'first.script'
 AFTER = '\x1e'  # printed after each command of a session
 
@@ -168,9 +168,10 @@ def main():
         os.makedirs(os.path.join(made, 'bin'))
         os.makedirs(folder)
         os.symlink(program, os.path.join(made, 'bin', 'imakern'))
-        orders = os.path.join(top, 'crates', 'imakern_orders', 'out', 'imakern_orders')
-        if os.access(orders, os.X_OK):
-            os.symlink(orders, os.path.join(made, 'bin', 'imakern_orders'))
+        for name in ('imakern_orders', 'imakern_view'):
+            built = os.path.join(top, 'crates', name, 'out', name)
+            if os.access(built, os.X_OK):
+                os.symlink(built, os.path.join(made, 'bin', name))
         for name in ('examples', 'bench'):
             os.symlink(os.path.join(top, name), os.path.join(folder, name))
         path = os.path.join(made, 'bin') + os.pathsep + os.environ['PATH']

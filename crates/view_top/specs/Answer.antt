@@ -1,14 +1,16 @@
 -- The answer to an input.
 use Rattle.std.specs.Prelude.{◌≡◌, ℕ, ◌-◌, Bool, true, ◌&&◌, nat_le, nat_lt, List, [], ◌∷◌, ◌++◌, length, codes, slice_get, Vec, Option, Some, None, Result, Ok, Err, if◌then◌else◌, ⊤}
 use Rattle.text_forms.specs.Options.{◌>>=◌}
-use Rattle.view_pages.specs.Page.{inode_page_parts, page_of, pair_parts, report_parts}
-use Rattle.view_pages.specs.view.Drawing.{svg_of}
-use Rattle.view_pages.specs.view.layout.declared.window.Window.{Window}
-use Rattle.view_pages.specs.view.layout.reading.Read.{reports_of}
-use Rattle.view_pages.specs.view.layout.reading.Report.{InodeValue, ReportValue}
-use Rattle.view_pages.specs.view.layout.reading.declared.event.Event.{Event}
-use Rattle.view_pages.specs.view.layout.reading.reports.Numerals.{numeral}
-use Rattle.view_pages.specs.view.Pieces as view
+use Rattle.view_pages.specs.Page.{inode_page_parts, report_parts}
+use Rattle.view_pages.specs.Pair.{pair_parts}
+use Rattle.view_pages.specs.Parts.{page_of}
+use Rattle.view_pages.specs.drawn.Drawing.{svg_of}
+use Rattle.view_pages.specs.drawn.layout.declared.window.Window.{Window}
+use Rattle.view_pages.specs.drawn.layout.reading.Read.{reports_of}
+use Rattle.view_pages.specs.drawn.layout.reading.Report.{InodeValue, ReportValue}
+use Rattle.view_pages.specs.drawn.layout.reading.declared.event.Event.{Event}
+use Rattle.view_pages.specs.drawn.layout.reading.reports.Numerals.{numeral}
+use Rattle.view_pages.specs.drawn.Pieces as pieces
 use Rattle.view_top.specs.declared.command.Asked.{Asked}
 use Rattle.view_top.specs.declared.command.Command.{Command}
 use Rattle.view_top.specs.declared.command.Command.TheVariants as command
@@ -65,7 +67,7 @@ inode_page text asked rs =
 
 abbrev pub drawing : List ℕ → Asked → List ReportValue → Answer
 drawing text asked rs =
-    drawn_by (λ i. view.page_of text (svg_of asked.inode i.events asked.range))
+    drawn_by (λ i. pieces.page_of text (svg_of asked.inode i.events asked.range))
     (inode_asked asked rs)
 
 -- what the command draws of the reports that the text is

@@ -1,5 +1,5 @@
 -- The words of the command line, and what they ask for.
-use Rattle.std.specs.Prelude.{ℕ, List, [], ◌∷◌, codes, Option, Some, None, if◌then◌else◌, unwrap_or}
+use Rattle.std.specs.Prelude.{ℕ, List, [], ◌∷◌, codes, Option, Some, None, if◌then◌else◌, unwrap_or, ⊤}
 use Rattle.std.specs.Str.{bytes_eq}
 use Rattle.text_forms.specs.Numbers.{is_short_numeral, short_number_of}
 use Rattle.text_forms.specs.Options.{◌>>=◌}
@@ -46,3 +46,9 @@ command_of (word ∷ inode ∷ []) = at_inode word inode
 command_of (word ∷ inode ∷ first ∷ []) = None
 command_of (word ∷ inode ∷ first ∷ last ∷ []) = at_places word inode first last
 command_of (word ∷ inode ∷ first ∷ last ∷ more ∷ others) = None
+
+-- the command asks for an inode, which a report may not have
+abbrev pub AsksForInode : Command → Type 0
+AsksForInode (command.Inode asked) = ⊤
+AsksForInode (command.Svg asked) = ⊤
+AsksForInode _ = ⊥

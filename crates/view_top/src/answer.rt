@@ -1,18 +1,21 @@
 // The answer to an input.
 
-ghost use Rattle.std.specs.Prelude.{◌≡◌, ◌≤◌, ◌<◌, ◌^◌, length, option_map, All, IfOk, IfSome};
+ghost use Rattle.std.specs.Prelude.{◌≡◌, ◌≢◌, ◌≤◌, ◌<◌, ◌^◌, ◌+◌, length, option_map, All, IfErr, IfOk, IfSome};
 ghost use Rattle.view_top.specs.Answer as spec;
 ghost use Rattle.view_top.specs.Answer.{Answers};
 ghost use Rattle.view_top.specs.Limits.{most_input};
-ghost use Rattle.view_pages.specs.view.layout.reading.Report.{HasShortJournals};
+ghost use Rattle.view_top.specs.NotDone.{not_done_status};
+ghost use Rattle.view_top.specs.Statuses as exit;
+ghost use Rattle.view_top.specs.Words.{AsksForInode};
+ghost use Rattle.view_pages.specs.drawn.layout.reading.Report.{HasShortJournals};
 
 use crate::command::{Asked, Command};
 use crate::not_done::NotDone;
 use std::alloc::{AllocError as OutOfMemory, Global};
-use view_pages::view::layout::Window;
-use view_pages::view::layout::reading::reports::push_number;
-use view_pages::view::layout::reading::{Event, Inode, ReadErr, Report, read};
-use view_pages::view::svg;
+use view_pages::drawn::layout::Window;
+use view_pages::drawn::layout::reading::reports::push_number;
+use view_pages::drawn::layout::reading::{Event, Inode, ReadErr, Report, read};
+use view_pages::drawn::svg;
 use view_pages::{push_inode_page, push_page, push_pair};
 
 // The most places of a range that is asked for.
@@ -21,7 +24,9 @@ const MOST_PLACES: u32 = 1_000;
 /// The answer to the input: a page, or why there is none.
 pub fn answer(alloc: Global, command: Command, input: &[u8]) -> Result<Vec<u8>, NotDone>
     requires { length input.now ≤ most_input }
-    ensures { Answers result (spec.answer_of command input.now) }
+    ensures answer { Answers result (spec.answer_of command input.now) }
+    ensures placed { IfErr result (λ why. not_done_status why ≡ exit.no_place
+        → AsksForInode command) }
 {
     match read(alloc, input, more(command)) {
         Ok(reports) => drawn(alloc, command, input, &reports),
@@ -57,8 +62,11 @@ fn drawn(
     text: &[u8],
     reports: &[Report],
 ) -> Result<Vec<u8>, NotDone>
-    requires { All HasShortJournals reports.now }
-    ensures { Answers result (spec.drawn command text.now reports.now) }
+    requires count { length reports.now ≡ spec.more command + 1 }
+    requires short { All HasShortJournals reports.now }
+    ensures answer { Answers result (spec.drawn command text.now reports.now) }
+    ensures placed { IfErr result (λ why. not_done_status why ≡ exit.no_place
+        → AsksForInode command) }
 {
     match command {
         Command::Page => page(alloc, text, reports),
@@ -69,29 +77,29 @@ fn drawn(
 }
 
 fn page(alloc: Global, text: &[u8], reports: &[Report]) -> Result<Vec<u8>, NotDone>
-    ensures { Answers result (spec.page text.now reports.now) }
+    requires { length reports.now ≡ 1 }
+    ensures answer { Answers result (spec.page text.now reports.now) }
+    ensures placed { IfErr result (λ why. not_done_status why ≢ exit.no_place) }
 {
-    match reports {
-        [] => Err(NotDone::NoPlace),
-        [report, ..] => {
-            let mut out = Vec::new(alloc);
-            push_page(alloc, &mut out, text, report)?;
-            Ok(out)
-        }
-    }
+    let [report, ..] = reports else {
+        unreachable!();
+    };
+    let mut out = Vec::new(alloc);
+    push_page(alloc, &mut out, text, report)?;
+    Ok(out)
 }
 
 fn pair(alloc: Global, text: &[u8], reports: &[Report]) -> Result<Vec<u8>, NotDone>
-    ensures { Answers result (spec.pair text.now reports.now) }
+    requires { length reports.now ≡ 2 }
+    ensures answer { Answers result (spec.pair text.now reports.now) }
+    ensures placed { IfErr result (λ why. not_done_status why ≢ exit.no_place) }
 {
-    match reports {
-        [] | [_] => Err(NotDone::NoPlace),
-        [first, second, ..] => {
-            let mut out = Vec::new(alloc);
-            push_pair(alloc, &mut out, text, first, second)?;
-            Ok(out)
-        }
-    }
+    let [first, second, ..] = reports else {
+        unreachable!();
+    };
+    let mut out = Vec::new(alloc);
+    push_pair(alloc, &mut out, text, first, second)?;
+    Ok(out)
 }
 
 // The inode that is asked for, if it is there and its journal has the places.

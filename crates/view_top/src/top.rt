@@ -9,7 +9,7 @@ ghost use Rattle.view_top.specs.Limits.{most_input};
 ghost use Rattle.view_top.specs.NotDone.{status_of, told_of};
 ghost use Rattle.view_top.specs.Served.{IsPastReading, IsStatus, Performed, Serves, Told, status_by};
 ghost use Rattle.view_top.specs.Statuses as exit;
-ghost use Rattle.view_top.specs.Words.{command_of};
+ghost use Rattle.view_top.specs.Words.{AsksForInode, command_of};
 
 use crate::answer::answer;
 use crate::command::{Command, command_of};
@@ -44,6 +44,7 @@ fn perform<S: Source, K: Sink>(
     out: &mut K,
 ) -> Result<(), NotDone>
     ensures words { status_of result ≢ exit.usage }
+    ensures placed { status_of result ≡ exit.no_place → AsksForInode command }
     ensures whole_input { IsPastReading (status_of result) → IsAtEnd (S.left report.new) }
     ensures read_fault { status_of result ≡ exit.read_fault
         → Rose (S.faults report.old) (S.faults report.new) }
@@ -72,6 +73,8 @@ fn answer_words<S: Source, K: Sink>(
     ensures usage { (status_of result ≡ exit.usage)
         ↔ IsNone (command_of (map string_bytes words.now)) }
     ensures unread { status_of result ≡ exit.usage → report.new ≡ report.old }
+    ensures placed { status_of result ≡ exit.no_place
+        → IfSome (command_of (map string_bytes words.now)) AsksForInode }
     ensures whole_input { IsPastReading (status_of result) → IsAtEnd (S.left report.new) }
     ensures read_fault { status_of result ≡ exit.read_fault
         → Rose (S.faults report.old) (S.faults report.new) }
@@ -111,10 +114,12 @@ pub fn serve_view<S: Source, K: Sink, N: Sink>(
 ) -> u8
     ensures statuses { IsStatus result }
 
-    // The words: `usage` is returned exactly if they are none of the program's forms. Then nothing
-    // is read.
+    // The words: `usage` is returned exactly if they are none of the program's forms, and then
+    // nothing is read. `no_place` is returned only if they ask for an inode.
     ensures usage { (result ≡ exit.usage) ↔ IsNone (command_of (map string_bytes words.now)) }
     ensures unread { result ≡ exit.usage → report.new ≡ report.old }
+    ensures placed { result ≡ exit.no_place
+        → IfSome (command_of (map string_bytes words.now)) AsksForInode }
 
     // The input: it is read to its end, except with the statuses `usage`, `read_fault`, `too_long`
     // and `out_of_memory`.

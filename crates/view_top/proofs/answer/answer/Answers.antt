@@ -1,6 +1,6 @@
 use Rattle.std.proofs.Common.{◌≡◌, ℕ, List, Some, Vec, Result, Ok, Err, sym, ap, subst}
-use Rattle.view_pages.specs.view.layout.reading.Read.{reports_of}
-use Rattle.view_pages.specs.view.layout.reading.Report.{ReportValue}
+use Rattle.view_pages.specs.drawn.layout.reading.Read.{reports_of}
+use Rattle.view_pages.specs.drawn.layout.reading.Report.{ReportValue}
 use Rattle.view_top.specs.Answer.{Answers, answer_by, answer_of, bad_line, drawn, more, refusal_in}
 use Rattle.view_top.specs.declared.command.Command.{Command}
 use Rattle.view_top.specs.declared.not_done.NotDone.{NotDone}
@@ -28,14 +28,15 @@ module _ (command : Command) (text : List ℕ) (k : ℕ) (asked : k ≡ more com
       subst P (sym (subst (λ (n : ℕ). reports_of n text ≡ Err line) asked bad))
       (ap (λ (l : List ℕ). Some l) (sym shown))
 
-pub returns-in-Ok : goal.returns-in-Ok
-returns-in-Ok c =
+pub returns-in-Ok-clause-answer : goal.returns-in-Ok-clause-answer
+returns-in-Ok-clause-answer c =
     read_answers c.args.command c.args.input.now c.more.result c.more.ensures c.drawn.result
     c.in-Ok.reports.items c.deref.result.now c.in-Ok.ensures.reports c.deref.ensures.value
-    c.drawn.ensures
+    c.drawn.ensures.answer
 
-pub returns-in_ok-bad_line-in-Err-Refused : goal.returns-in_ok-bad_line-in-Err-Refused
-returns-in_ok-bad_line-in-Err-Refused c =
+pub returns-in_ok-bad_line-in-Err-Refused-clause-answer :
+    goal.returns-in_ok-bad_line-in-Err-Refused-clause-answer
+returns-in_ok-bad_line-in-Err-Refused-clause-answer c =
     bad_answers c.args.command c.args.input.now c.more.result c.more.ensures
     c.in-Err-Refused.line c.in_ok-bad_line-in-Err-Refused.field-0.items
     (rw c.in-Err-Refused.field-0-is at c.in-Err-Refused.ensures.reports)
