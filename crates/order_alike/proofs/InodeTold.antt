@@ -50,7 +50,7 @@ told_grown r task n j j2 who d t t2 same h =
 -- ---- places in a list
 
 -- the list shows the bytes at one of the places
-abbrev shown_in : List Entry → List ℕ → List ℕ → Bool
+abbrev pub shown_in : List Entry → List ℕ → List ℕ → Bool
 shown_in list bytes [] = false
 shown_in list bytes (place ∷ places) =
     shown_in list bytes places || shows_at list bytes (Some place)
@@ -63,7 +63,7 @@ shown_with list bytes None places = or_none (shown_in list bytes places)
 shown_with list bytes (Some place) places = refl
 
 -- whether bytes are listed depends on the places alone
-listed_places : (list : List Entry) (bytes : List ℕ) (p : List Event)
+pub listed_places : (list : List Entry) (bytes : List ℕ) (p : List Event)
     → is_listed list bytes p ≡ shown_in list bytes (places_in p)
 listed_places list bytes [] = refl
 listed_places list bytes (e ∷ p) =

@@ -8,8 +8,8 @@ ghost use Rattle.run_model.specs.Scene.{Scene};
 ghost use Rattle.run_model.specs.Turns.{Moment};
 
 use crate::inodes::{same_cell, same_journals};
+use crate::lists::are_in;
 use crate::pairs::{Pair, are_apart, are_within};
-use crate::same::same_all;
 use crate::tasks::{pairs_of, same_tasks};
 use run_model::Ended;
 use std::alloc::{AllocError as OutOfMemory, Global};
@@ -48,6 +48,7 @@ fn same_inode(
     let same = same_journals(
         alloc,
         a.ended.list.as_slice(),
+        b.ended.list.as_slice(),
         pairs,
         i,
         a.ended.inodes.as_slice(),
@@ -70,14 +71,15 @@ fn same_inodes(alloc: Global, pairs: &[Pair], a: &Sight, b: &Sight) -> Result<bo
     Ok(true)
 }
 
-// Whether the measurement lists are the same, with as many inodes and no appended rules.
+// Whether the measurement lists have the same entries, with as many inodes and no appended rules.
 fn same_lists(a: &Sight, b: &Sight) -> bool
     ensures { IsTrue result → AreListsSame a.now b.now }
 {
     a.ended.inodes.len() == b.ended.inodes.len()
         && a.ended.rules.len() == 0
         && b.ended.rules.len() == 0
-        && same_all(a.ended.list.as_slice(), b.ended.list.as_slice())
+        && are_in(b.ended.list.as_slice(), a.ended.list.as_slice())
+        && are_in(a.ended.list.as_slice(), b.ended.list.as_slice())
 }
 
 // Whether the pairs are of files of so many inodes, and none is in two pairs with different files.
