@@ -21,11 +21,15 @@ pub record IsSight (scene : Scene) (m : Moment) (s : Sight) : Type 0 where
   pub finished : IsFinished scene m
   pub even : length m.state.journals ≡ length scene.stations
 
--- the measurement lists have the same entries, with as many inodes and no appended rules
-pub record AreListsSame (a b : Sight) : Type 0 where
+-- there are as many inodes, and no appended rules
+pub record AreCountsSame (a b : Sight) : Type 0 where
   pub inodes : length a.ended.inodes ≡ length b.ended.inodes
   pub none : length a.ended.rules ≡ 0
   pub none2 : length b.ended.rules ≡ 0
+
+-- and the measurement lists have the same entries
+pub record AreListsSame (a b : Sight) : Type 0 where
+  pub counts : AreCountsSame a b
   pub there : AreIn b.ended.list a.ended.list
   pub back : AreIn a.ended.list b.ended.list
 

@@ -3,7 +3,7 @@
 ghost use Rattle.std.specs.Prelude.{◌≡◌, ◌<◌, length, IfOk, IsTrue};
 ghost use Rattle.order_alike.specs.Alike.{IsAlike};
 ghost use Rattle.order_sights.specs.Pairs.{ArePairs};
-ghost use Rattle.order_sights.specs.Sights.{AreInodesSame, AreListsSame, IsInodeSame, IsSight};
+ghost use Rattle.order_sights.specs.Sights.{AreCountsSame, AreInodesSame, AreListsSame, IsInodeSame, IsSight};
 ghost use Rattle.run_model.specs.Scene.{Scene};
 ghost use Rattle.run_model.specs.Turns.{Moment};
 
@@ -71,15 +71,28 @@ fn same_inodes(alloc: Global, pairs: &[Pair], a: &Sight, b: &Sight) -> Result<bo
     Ok(true)
 }
 
-// Whether the measurement lists have the same entries, with as many inodes and no appended rules.
-fn same_lists(a: &Sight, b: &Sight) -> bool
-    ensures { IsTrue result → AreListsSame a.now b.now }
+// Whether there are as many inodes, and no appended rules.
+fn same_counts(a: &Sight, b: &Sight) -> bool
+    ensures { IsTrue result → AreCountsSame a.now b.now }
 {
     a.ended.inodes.len() == b.ended.inodes.len()
         && a.ended.rules.len() == 0
         && b.ended.rules.len() == 0
-        && are_in(b.ended.list.as_slice(), a.ended.list.as_slice())
-        && are_in(a.ended.list.as_slice(), b.ended.list.as_slice())
+}
+
+// Whether that holds and the measurement lists have the same entries.
+fn same_lists(a: &Sight, b: &Sight) -> bool
+    ensures { IsTrue result → AreListsSame a.now b.now }
+{
+    if !same_counts(a, b) {
+        return false;
+    }
+    let list = a.ended.list.as_slice();
+    let other = b.ended.list.as_slice();
+    if !are_in(other, list) {
+        return false;
+    }
+    are_in(list, other)
 }
 
 // Whether the pairs are of files of so many inodes, and none is in two pairs with different files.
