@@ -50,8 +50,8 @@ pub record AreEntriesSame (list list2 : List Entry) (j j2 : List Event) : Type 0
 
 -- the inodes say the same of the call of the event
 pub record IsCallSame (list list2 : List Entry) (a b : List EndedInodeValue) (e : Event) : Type 0
-    where
-  pub verdict : is_grant e.told ≡ true
-      → verdict_of e.who.task e.who.call b ≡ verdict_of e.who.task e.who.call a
-  pub listed : is_read e.deed ≡ true
-      → listed_of list2 e.who.task e.who.call b ≡ listed_of list e.who.task e.who.call a
+  where
+    pub verdict : is_grant e.told ≡ true
+        → verdict_of e.who.task e.who.call b ≡ verdict_of e.who.task e.who.call a
+    pub listed : is_read e.deed ≡ true
+        → listed_of list2 e.who.task e.who.call b ≡ listed_of list e.who.task e.who.call a
