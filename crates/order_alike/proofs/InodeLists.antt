@@ -1,5 +1,5 @@
--- Measurement lists with the same entries in any order: they stay so when the same entry is added to
--- both.
+-- Measurement lists with the same entries in any order: they stay so when the same entry is added
+-- to both.
 use Rattle.std.proofs.Common.{◌≡◌, ℕ, Bool, true, false, cond, List, [], ◌∷◌, ◌++◌, get_or, length, nat_lt, Option, Some, None, slice_get, unwrap_or, refl, ap, sym, ◌∙◌}
 use Rattle.std.specs.Prelude.{option_and_then}
 use Rattle.std.specs.List.{position_or_len}

@@ -136,7 +136,8 @@ module _ (inode : Inode) (list list2 : List Entry) (used : ℕ → Bool) (r : �
   placed2 : IsPlaced (length after_list2) (place_told t2)
   placed2 =
       let says2 : outcome inode list2 (deed_named r d) (past j2) ≡ Some t2
-      = outcome_alike inode list list2 used r j j2 s d u ∙ ap (option_map (told_with reply2)) says in
+      = outcome_alike inode list list2 used r j j2 s d u
+      ∙ ap (option_map (told_with reply2)) says in
       subst (λ (o : Option Entry). IsPlaced (length (list_after list2 o (Some t2))) (place_told t2))
       (asked_alike inode list list2 used r j j2 s d u)
       (outcome_placed inode list2 (deed_named r d) (past j2) t2 says2)
