@@ -6,9 +6,10 @@ use Rattle.std.proofs.lemmas.Bool.{eqb-true, or_cases, true≢false}
 use Rattle.std.proofs.lemmas.Option.{none-some, same_Some}
 use Rattle.order_outcomes.specs.Calls.{listed_in, verdict_in}
 use Rattle.order_outcomes.specs.Examples.{boot, station}
+use Rattle.order_outcomes.specs.declared.lines.Kind.TheVariants.{Violations}
 use Rattle.order_outcomes.specs.reports.model.History.{Thought}
 use Rattle.order_outcomes.specs.reports.model.Scene.{Station, inode_of}
-use Rattle.order_outcomes.specs.reports.model.Turns.{Moment, journal_at}
+use Rattle.order_outcomes.specs.reports.model.Turns.{Moment, journal_at, newborn}
 use Rattle.order_outcomes.specs.reports.model.events.Checks.{last_check}
 use Rattle.order_outcomes.specs.reports.model.events.Files.{held, readers as readers_in}
 use Rattle.order_outcomes.specs.reports.model.events.Past.{past}
@@ -18,11 +19,16 @@ use Rattle.order_outcomes.specs.reports.model.events.declared.deed.Deed.TheVaria
 use Rattle.order_outcomes.specs.reports.model.events.declared.deed.How.TheVariants as how
 use Rattle.order_outcomes.specs.reports.model.events.declared.told.Event.{Event}
 use Rattle.order_outcomes.specs.reports.model.events.declared.told.Told.TheVariants as told
+use Rattle.order_outcomes.specs.reports.model.events.templates.Same.{same}
+use Rattle.order_outcomes.specs.reports.model.events.templates.declared.entry.Entry.{Entry}
 use Rattle.order_outcomes.specs.reports.model.events.labels.declared.verdict.Verdict.{Verdict}
 use Rattle.order_outcomes.specs.reports.model.events.meta.declared.identity.Meta.{Meta}
-use Rattle.order_alike.specs.Alike.{IsAlike, IsAlikeBy, IsInodeAlike, IsSound}
-use Rattle.order_alike.specs.Examples.{AlikeExamples, IsOther, after, readers, with_entry, with_event}
+use Rattle.order_alike.specs.Alike.{AreIn, IsAlike, IsAlikeBy, IsInodeAlike, IsSound, found_in}
+use Rattle.order_alike.specs.Examples.{AlikeExamples, IsOther, after, readers, violation, with_entries, with_event}
 use Rattle.order_alike.specs.Names.{Naming, is_used}
+use Rattle.order_alike.proofs.Entries.{lines_same}
+use Rattle.order_alike.proofs.InodeLists.{lists_itself}
+use Rattle.order_alike.proofs.Reached.{birth_alike, own, start_used}
 
 -- ---- two tasks have opened the file, in either order
 
@@ -141,8 +147,8 @@ apart f g is is2 =
     (each (λ y. (swapped 3 == swapped y) ≡ (3 == y)) refl refl refl g is2) f is
 
 -- the journals are alike under these names
-inode : IsInodeAlike (inode_of readers station) first_0.state.list (is_used first_0.thoughts 0)
-    swapped journal_0 journal_1
+inode : IsInodeAlike (inode_of readers station) first_0.state.list first_1.state.list
+    (is_used first_0.thoughts 0) swapped journal_0 journal_1
 unfolding past
 inode = record {
   sound = sound_0;
@@ -169,7 +175,7 @@ inode = record {
   collection = refl;
   digests = refl;
   verdicts = λ key. refl;
-  places = refl;
+  shown = λ bytes. refl;
   told = λ task n. told_1 task n ∙ sym (told_0 task n);
   listed = λ task n. listed_1 task n ∙ sym (listed_0 task n);
 }
@@ -186,11 +192,12 @@ elsewhere (suc i) e file = refl
 
 -- the file is the only one
 inodes : (i : ℕ) (s : Station) → slice_get readers.stations i ≡ Some s
-    → IsInodeAlike (inode_of readers s) first_0.state.list (is_used first_0.thoughts i) (names i)
+    → IsInodeAlike (inode_of readers s) first_0.state.list first_1.state.list
+    (is_used first_0.thoughts i) (names i)
     (journal_at first_0.state i) (journal_at first_1.state i)
 unfolding past
 inodes zero s e =
-    subst (λ (x : Station). IsInodeAlike (inode_of readers x) first_0.state.list
+    subst (λ (x : Station). IsInodeAlike (inode_of readers x) first_0.state.list first_1.state.list
     (is_used first_0.thoughts 0) swapped journal_0 journal_1) (same_Some station s e) inode
 inodes (suc i) s e = absurd (none-some s e)
 
@@ -202,7 +209,7 @@ either_first = record {
   elsewhere = elsewhere;
   thoughts = refl;
   inodes = inodes;
-  list = refl;
+  lists = lists_itself first_0.state.list;
   added = refl;
   semaphores = λ sem. refl;
 }
@@ -261,12 +268,67 @@ other_mode (inr x) =
     let same = ap (λ (m : Meta). m.mode) (x.1.inodes 0 station refl).metadata_in in
     omega (arith, same)
 
--- the list has another length
-other_list : IsOther (with_entry boot)
+-- an outcome has a line more
+other_list : IsOther (with_entries (violation 10 ∷ []))
 other_list (inl e) =
     let same = ap (λ (m : Moment). length m.state.list) e in
     omega (arith, same)
-other_list (inr x) = let same = ap length x.1.list in omega (arith, same)
+other_list (inr x) = let same = ap length (x.1.lists.lines Violations) in omega (arith, same)
+
+-- ---- lists in another order
+
+abbrev two : List Entry
+two = violation 10 ∷ violation 11 ∷ []
+
+abbrev three : List Entry
+three = violation 11 ∷ violation 10 ∷ violation 11 ∷ []
+
+-- no violation is the same as any entry
+found_two : (e : Entry) → found_in (boot ∷ three) e ≡ found_in (boot ∷ two) e
+unfolding same
+found_two e = refl
+
+-- each list has the entries of the other
+in_three : AreIn (boot ∷ three) (boot ∷ two)
+in_three zero e h = (0, h)
+in_three (suc zero) e h = (2, h)
+in_three (suc (suc zero)) e h = (1, h)
+in_three (suc (suc (suc place))) e h = absurd (none-some e h)
+
+in_two : AreIn (boot ∷ two) (boot ∷ three)
+in_two zero e h = (0, h)
+in_two (suc zero) e h = (2, h)
+in_two (suc (suc zero)) e h = (1, h)
+in_two (suc (suc (suc zero))) e h = (2, h)
+in_two (suc (suc (suc (suc place)))) e h = absurd (none-some e h)
+
+-- so the moments are alike
+other_order : IsAlikeBy readers own (with_entries two) (with_entries three)
+other_order = record {
+  none = λ i. refl;
+  elsewhere = λ i e file. refl;
+  thoughts = refl;
+  inodes = inodes_two;
+  lists = record {
+    lines = λ kind. lines_same kind (boot ∷ two) (boot ∷ three) in_three in_two;
+    found = found_two;
+  };
+  added = refl;
+  semaphores = λ sem. refl;
+}
+  where
+    inodes_two : (i : ℕ) (s : Station) → slice_get readers.stations i ≡ Some s
+        → IsInodeAlike (inode_of readers s) (boot ∷ two) (boot ∷ three)
+        (is_used (with_entries two).thoughts i) (own i)
+        (journal_at (with_entries two).state i) (journal_at (with_entries three).state i)
+    inodes_two zero s e =
+        subst (λ (x : Station). IsInodeAlike (inode_of readers x) (boot ∷ two) (boot ∷ three)
+        (is_used (with_entries two).thoughts 0) (own 0) (newborn station) (newborn station))
+        (same_Some station s e)
+        (birth_alike (inode_of readers station) (boot ∷ two) (boot ∷ three)
+        (is_used (with_entries two).thoughts 0) station
+        (λ file u. start_used 0 file readers.programs u))
+    inodes_two (suc i) s e = absurd (none-some s e)
 
 -- all examples
 pub examples : AlikeExamples
@@ -278,4 +340,5 @@ examples = record {
   other_content = other_content;
   other_mode = other_mode;
   other_list = other_list;
+  other_order = inr (own, other_order);
 }

@@ -34,8 +34,8 @@ grant_with inode check placed verdict labelled = record {
   labelled = labelled;
 }
 
-module _ (inode : Inode) (list : List Entry) (used : ℕ → Bool) (r : ℕ → ℕ) (j j2 : List Event)
-    (s : IsInodeAlike inode list used r j j2) where
+module _ (inode : Inode) (list list2 : List Entry) (used : ℕ → Bool) (r : ℕ → ℕ) (j j2 : List Event)
+    (s : IsInodeAlike inode list list2 used r j j2) where
   -- a digest is judged alike
   judged_same : (need : Need) (algos : Option AlgoSet) (digest : Digest)
       → judged inode need algos digest (past j2) ≡ judged inode need algos digest (past j)

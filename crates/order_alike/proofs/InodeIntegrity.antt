@@ -72,8 +72,8 @@ digests_begun inode d t p h f =
 
 -- ---- the integrity state
 
-module _ (inode : Inode) (list : List Entry) (used : ℕ → Bool) (r : ℕ → ℕ) (j j2 : List Event)
-    (s : IsInodeAlike inode list used r j j2) where
+module _ (inode : Inode) (list list2 : List Entry) (used : ℕ → Bool) (r : ℕ → ℕ) (j j2 : List Event)
+    (s : IsInodeAlike inode list list2 used r j j2) where
   -- the digests in force are equal
   pub chosen_same : option_map (λ (f : Digests). f.digest) (in_force inode (past j2))
       ≡ option_map (λ (f : Digests). f.digest) (in_force inode (past j))

@@ -1,8 +1,8 @@
 -- What holds of the journals of one inode in two moments that are alike: the statements, which
 -- `Inodes` proves, and from which `Following` goes to whole moments.
-use Rattle.std.specs.Prelude.{◌≡◌, ℕ, ◌==◌, ◌⊎◌, Bool, true, List, [], ◌∷◌, ◌++◌, length, Option, Some, None, is_some, if◌then◌else◌}
+use Rattle.std.specs.Prelude.{◌≡◌, ℕ, ◌==◌, ◌⊎◌, Bool, true, List, [], ◌∷◌, ◌++◌, length, Option, Some, None, is_some, option_map, if◌then◌else◌}
 use Rattle.order_outcomes.specs.reports.model.History.{event}
-use Rattle.order_outcomes.specs.reports.model.events.Asked.{asked, list_after, outcome}
+use Rattle.order_outcomes.specs.reports.model.events.Asked.{asked, list_after, outcome, placed_for}
 use Rattle.order_outcomes.specs.reports.model.events.Files.{counted}
 use Rattle.order_outcomes.specs.reports.model.events.Inode.{Inode}
 use Rattle.order_outcomes.specs.reports.model.events.Past.{past}
@@ -12,7 +12,8 @@ use Rattle.order_outcomes.specs.reports.model.events.declared.told.Event.{Event}
 use Rattle.order_outcomes.specs.reports.model.events.declared.told.Told.{Told}
 use Rattle.order_outcomes.specs.reports.model.events.meta.declared.step.Who.{Who}
 use Rattle.order_outcomes.specs.reports.model.events.templates.declared.entry.Entry.{Entry}
-use Rattle.order_alike.specs.Alike.{IsInodeAlike}
+use Rattle.order_alike.proofs.InodeRetold.{told_with}
+use Rattle.order_alike.specs.Alike.{AreListsAlike, IsInodeAlike}
 
 -- the deed on the file's other name
 abbrev pub deed_named : (ℕ → ℕ) → Deed → Deed
@@ -52,34 +53,40 @@ IsUsed used (Some file) = used file ≡ true
 abbrev pub named_after : (ℕ → ℕ) → ℕ → ℕ → ℕ → ℕ
 named_after r place place2 file = if file == place then place2 else r file
 
+-- the step has the same outcome in both, but for the list's reply, and asks for the same entry
 pub record InodeLaws : Type 0 where
-  -- the step has the same outcome, and asks for the same entry
-  pub outcome_same : (inode : Inode) (list : List Entry) (used : ℕ → Bool) (r : ℕ → ℕ)
-      (j j2 : List Event) (d : Deed) → IsInodeAlike inode list used r j j2 → IsUsed used (file_in d)
-      → outcome inode list (deed_named r d) (past j2) ≡ outcome inode list d (past j)
-  pub asked_same : (inode : Inode) (list : List Entry) (used : ℕ → Bool) (r : ℕ → ℕ)
-      (j j2 : List Event) (d : Deed) → IsInodeAlike inode list used r j j2 → IsUsed used (file_in d)
+  pub outcome_same : (inode : Inode) (list list2 : List Entry) (used : ℕ → Bool) (r : ℕ → ℕ)
+      (j j2 : List Event) (d : Deed) → IsInodeAlike inode list list2 used r j j2
+      → IsUsed used (file_in d)
+      → outcome inode list2 (deed_named r d) (past j2)
+      ≡ option_map (told_with (placed_for list2 (asked inode d (past j))))
+      (outcome inode list d (past j))
+  pub asked_same : (inode : Inode) (list list2 : List Entry) (used : ℕ → Bool) (r : ℕ → ℕ)
+      (j j2 : List Event) (d : Deed) → IsInodeAlike inode list list2 used r j j2
+      → IsUsed used (file_in d)
       → asked inode (deed_named r d) (past j2) ≡ asked inode d (past j)
   -- after it the journals are alike; a file that it counts may be used then
-  pub grown : (inode : Inode) (list : List Entry) (used : ℕ → Bool) (r : ℕ → ℕ)
+  pub grown : (inode : Inode) (list list2 : List Entry) (used : ℕ → Bool) (r : ℕ → ℕ)
       (j j2 : List Event) (d : Deed) (t : Told) (who : Who) (used2 : ℕ → Bool)
-      → IsInodeAlike inode list used r j j2 → IsUsed used (file_in d)
-      → outcome inode list d (past j) ≡ Some t
+      → IsInodeAlike inode list list2 used r j j2 → AreListsAlike list list2
+      → IsUsed used (file_in d) → outcome inode list d (past j) ≡ Some t
       → ((file : ℕ) → used2 file ≡ true
       → (used file ≡ true) ⊎ ((file ≡ length j) × (is_some (counted d t) ≡ true)))
-      → IsInodeAlike inode (list_after list (asked inode d (past j)) (Some t)) used2
+      → let asks = asked inode d (past j) in
+      let t2 = told_with (placed_for list2 asks) t in
+      IsInodeAlike inode (list_after list asks (Some t)) (list_after list2 asks (Some t2)) used2
       (named_after r (length j) (length j2)) (j ++ event who d t ∷ [])
-      (j2 ++ event who (deed_named r d) t ∷ [])
-  -- a longer list and fewer files keep them alike, and so do other names of files that aren't used
-  pub listed : (inode : Inode) (list : List Entry) (used : ℕ → Bool) (r : ℕ → ℕ)
-      (j j2 : List Event) (e : Entry) → IsInodeAlike inode list used r j j2
-      → IsInodeAlike inode (list ++ e ∷ []) used r j j2
-  pub fewer : (inode : Inode) (list : List Entry) (used used2 : ℕ → Bool) (r : ℕ → ℕ)
-      (j j2 : List Event) → IsInodeAlike inode list used r j j2
+      (j2 ++ event who (deed_named r d) t2 ∷ [])
+  -- longer lists and fewer files keep them alike, and so do other names of files that aren't used
+  pub listed : (inode : Inode) (list list2 more more2 : List Entry) (used : ℕ → Bool) (r : ℕ → ℕ)
+      (j j2 : List Event) → IsInodeAlike inode list list2 used r j j2
+      → IsInodeAlike inode (list ++ more) (list2 ++ more2) used r j j2
+  pub fewer : (inode : Inode) (list list2 : List Entry) (used used2 : ℕ → Bool) (r : ℕ → ℕ)
+      (j j2 : List Event) → IsInodeAlike inode list list2 used r j j2
       → ((file : ℕ) → used2 file ≡ true → used file ≡ true)
-      → IsInodeAlike inode list used2 r j j2
-  pub along : (inode : Inode) (list : List Entry) (used used2 : ℕ → Bool) (r r2 : ℕ → ℕ)
-      (j j2 j3 : List Event) → IsInodeAlike inode list used r j j2
-      → IsInodeAlike inode list used2 r2 j2 j3
+      → IsInodeAlike inode list list2 used2 r j j2
+  pub along : (inode : Inode) (list list2 list3 : List Entry) (used used2 : ℕ → Bool)
+      (r r2 : ℕ → ℕ) (j j2 j3 : List Event) → IsInodeAlike inode list list2 used r j j2
+      → IsInodeAlike inode list2 list3 used2 r2 j2 j3
       → ((file : ℕ) → used file ≡ true → used2 (r file) ≡ true)
-      → IsInodeAlike inode list used (λ file. r2 (r file)) j j3
+      → IsInodeAlike inode list list3 used (λ file. r2 (r file)) j j3

@@ -22,8 +22,8 @@ use Rattle.order_alike.proofs.InodeLaws.{IsUsed, deed_named, file_in}
 use Rattle.order_alike.proofs.InodeState.{last_drop_same}
 use Rattle.order_alike.specs.Alike.{IsInodeAlike}
 
-module _ (inode : Inode) (list : List Entry) (used : ℕ → Bool) (r : ℕ → ℕ) (j j2 : List Event)
-    (s : IsInodeAlike inode list used r j j2) where
+module _ (inode : Inode) (list list2 : List Entry) (used : ℕ → Bool) (r : ℕ → ℕ) (j j2 : List Event)
+    (s : IsInodeAlike inode list list2 used r j j2) where
   -- the file is open for writing in both
   pub writing_same : (file : ℕ) → used file ≡ true
       → is_writing (r file) (past j2) ≡ is_writing file (past j)
@@ -63,7 +63,7 @@ module _ (inode : Inode) (list : List Entry) (used : ℕ → Bool) (r : ℕ → 
       → voids_verdicts (deed_named r d) t (past j2) (in_force inode (past j2))
       ≡ voids_verdicts d t (past j) (in_force inode (past j))
   voids_verdicts_same (deed.SetMeta change) told.Done = refl
-  voids_verdicts_same d t = voids_same inode list used r j j2 s d t
+  voids_verdicts_same d t = voids_same inode list list2 used r j j2 s d t
 
   -- a grant's verdict is kept under the same key
   kept_verdict : (key : Key) (file : ℕ) (verdict : Option Verdict) → used file ≡ true

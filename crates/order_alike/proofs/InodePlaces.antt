@@ -1,4 +1,5 @@
--- The place that a step's outcome reports is in the list after the step.
+-- The place that a step's outcome reports is in the list after the step, and lists that are alike
+-- show the same there.
 use Rattle.std.proofs.Common.{◌≡◌, ℕ, ◌<◌, Bool, true, false, cond, List, [], ◌∷◌, ◌++◌, length, length-append, append-nil, Option, Some, None, is_some, option_map, Result, Ok, Err, refl, ap, sym, subst, ◌∙◌, arith}
 use Rattle.std.proofs.lemmas.Option.{same_Some}
 use Rattle.journal_laws.proofs.Covering.{first_shows}
@@ -21,7 +22,10 @@ use Rattle.order_outcomes.specs.reports.model.events.meta.declared.appraisal.Evm
 use Rattle.order_outcomes.specs.reports.model.events.templates.Same.{add, add_by, place_of_same, placed, placed_by}
 use Rattle.order_outcomes.specs.reports.model.events.templates.declared.entry.Entry.{Entry}
 use Rattle.order_outcomes.specs.reports.model.events.templates.declared.entry.Placed.{Placed}
-use Rattle.order_outcomes.specs.Calls.{place_told}
+use Rattle.order_outcomes.specs.Calls.{place_told, shows_at}
+use Rattle.order_alike.proofs.InodeLists.{added_shown}
+use Rattle.order_alike.proofs.InodeRetold.{told_with}
+use Rattle.order_alike.specs.Alike.{AreListsAlike}
 
 -- a place, if there is one, is below the length of the list
 abbrev pub IsPlaced : ℕ → Option ℕ → Type 0
@@ -204,5 +208,97 @@ outcome_placed inode list (deed.Finish file) p t h =
     finish_placed inode list file p (collecting inode p) t h
 outcome_placed inode list d p t h =
     none_placed (length (list_after list (asked inode d p) (Some t))) (place_told t)
+    (unplaced_told (outcome inode list d p) t
+    (unplaced_says inode p (placed_for list (asked inode d p)) d tt) h)
+
+-- ---- what the list shows at that place
+
+-- an outcome without a place has none with another reply
+unplaced_with : (q : Placed) (t : Told) → place_told t ≡ None → place_told (told_with q t) ≡ None
+unplaced_with q (told.Grant grant) h = at grant.placed h
+  where
+    at : (o : Option Placed) → option_map place_of o ≡ None
+        → option_map place_of (option_map (λ (old : Placed). q) o) ≡ None
+    at None h = refl
+    at (Some old) h = cc
+unplaced_with q t h = refl
+
+module _ (inode : Inode) (list list2 : List Entry) (alike : AreListsAlike list list2)
+    (file : ℕ) (p : List Event) (bytes : List ℕ) where
+  -- both lists show the same at the place of the outcome, after a step that asks for this entry
+  abbrev IsShown : Option Entry → Told → Type 0
+  IsShown e t =
+      shows_at (list_after list2 e (Some (told_with (placed_for list2 e) t))) bytes
+      (place_told (told_with (placed_for list2 e) t))
+      ≡ shows_at (list_after list e (Some t)) bytes (place_told t)
+
+  -- nothing, if the outcome has no place
+  shown_none : (e : Option Entry) (t : Told) → place_told t ≡ None → IsShown e t
+  shown_none e t h =
+      ap (shows_at (list_after list2 e (Some (told_with (placed_for list2 e) t))) bytes)
+      (unplaced_with (placed_for list2 e) t h)
+      ∙ sym (ap (shows_at (list_after list e (Some t)) bytes) h)
+
+  -- a grant whose check measures
+  grant_shown : (measures : Bool) (f : Digests) (t t2 : Told)
+      → shows_at (list_after list2 (measured_if measures inode file (Some f) p) (Some t2)) bytes
+      (option_map place_of (option_map (λ (old : Placed). placed_for list2
+      (measured_if measures inode file (Some f) p))
+      (cond measures (Some (placed_for list (measured_if measures inode file (Some f) p))) None)))
+      ≡ shows_at (list_after list (measured_if measures inode file (Some f) p) (Some t)) bytes
+      (option_map place_of
+      (cond measures (Some (placed_for list (measured_if measures inode file (Some f) p))) None))
+  grant_shown true f t t2 = added_shown list list2 alike (measured inode file f p) bytes
+  grant_shown false f t t2 = refl
+
+  -- a take
+  take_shown : (c : Option Collection) (o : Option Digests) (t : Told)
+      → unless_collecting c
+      (take_told inode file (placed_for list (taken inode list file p c o)) o p) ≡ Some t
+      → IsShown (taken inode list file p c o) t
+  take_shown (Some c) o t h = cc
+  take_shown None None t h =
+      shown_none (taken inode list file p None None) t
+      (unplaced_told (Some told.Begun) t (record { none = refl }) h)
+  take_shown None (Some f) t h =
+      subst (λ (x : Told). IsShown (taken inode list file p None (Some f)) x)
+      (same_Some (told.Grant (grant_of inode file
+      (placed_for list (taken inode list file p None (Some f))) f.digest p)) t h)
+      (grant_shown (last_check file p).action.measure f
+      (told.Grant (grant_of inode file (placed_for list (taken inode list file p None (Some f)))
+      f.digest p))
+      (told_with (placed_for list2 (taken inode list file p None (Some f)))
+      (told.Grant (grant_of inode file (placed_for list (taken inode list file p None (Some f)))
+      f.digest p))))
+
+  -- a finish
+  finish_shown : (c : Option Collection) (t : Told)
+      → finish_told inode file (placed_for list (finished inode list file p c)) c p ≡ Some t
+      → IsShown (finished inode list file p c) t
+  finish_shown None t h = cc
+  finish_shown (Some c) t h =
+      subst (λ (x : Told). IsShown (finished inode list file p (Some c)) x)
+      (same_Some (told.Grant (grant_of inode file
+      (placed_for list (finished inode list file p (Some c))) (digest_from c) p)) t h)
+      (grant_shown (last_check file p).action.measure (digests_of c)
+      (told.Grant (grant_of inode file (placed_for list (finished inode list file p (Some c)))
+      (digest_from c) p))
+      (told_with (placed_for list2 (finished inode list file p (Some c)))
+      (told.Grant (grant_of inode file (placed_for list (finished inode list file p (Some c)))
+      (digest_from c) p))))
+
+-- lists that are alike show the same at the places that they give an outcome
+pub outcome_shown : (inode : Inode) (list list2 : List Entry) → AreListsAlike list list2
+    → (d : Deed) (p : List Event) (t : Told) (bytes : List ℕ) → outcome inode list d p ≡ Some t
+    → let asks = asked inode d p in
+    let t2 = told_with (placed_for list2 asks) t in
+    shows_at (list_after list2 asks (Some t2)) bytes (place_told t2)
+    ≡ shows_at (list_after list asks (Some t)) bytes (place_told t)
+outcome_shown inode list list2 alike (deed.Take file) p t bytes h =
+    take_shown inode list list2 alike file p bytes (collecting inode p) (in_force inode p) t h
+outcome_shown inode list list2 alike (deed.Finish file) p t bytes h =
+    finish_shown inode list list2 alike file p bytes (collecting inode p) t h
+outcome_shown inode list list2 alike d p t bytes h =
+    shown_none inode list list2 alike 0 p bytes (asked inode d p) t
     (unplaced_told (outcome inode list d p) t
     (unplaced_says inode p (placed_for list (asked inode d p)) d tt) h)

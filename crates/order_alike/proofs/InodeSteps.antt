@@ -28,6 +28,8 @@ use Rattle.order_outcomes.specs.reports.model.events.Grants.{grant_of}
 use Rattle.order_alike.proofs.InodeIntegrity.{chosen_same, taken_same}
 use Rattle.order_alike.proofs.InodeLaws.{IsUsed, deed_named, file_in}
 use Rattle.order_alike.proofs.InodeMarks.{writing_same}
+use Rattle.order_alike.proofs.InodeRetold.{told_with}
+use Rattle.order_alike.proofs.InodeSaid.{said_with}
 use Rattle.order_alike.proofs.InodeSeen.{given_in, given_seen, some_map}
 use Rattle.order_alike.specs.Alike.{CollectionSeen, DigestsSeen, IsInodeAlike, collection_seen, digests_seen}
 
@@ -66,8 +68,8 @@ unless_some : (o : Option Collection) (t : Told)
 unless_some None t = refl
 unless_some (Some c) t = refl
 
-module _ (inode : Inode) (list : List Entry) (used : ℕ → Bool) (r : ℕ → ℕ) (j j2 : List Event)
-    (s : IsInodeAlike inode list used r j j2) where
+module _ (inode : Inode) (list list2 : List Entry) (used : ℕ → Bool) (r : ℕ → ℕ) (j j2 : List Event)
+    (s : IsInodeAlike inode list list2 used r j j2) where
   -- ---- the entry
 
   -- a collection is open in both, or in neither
@@ -108,7 +110,8 @@ module _ (inode : Inode) (list : List Entry) (used : ℕ → Bool) (r : ℕ → 
       (must_measure (past j)) place
   violation_same file u measures place =
       ap₂ (λ (w : Bool) (n : ℕ). check_told w measures n (writers (past j2))
-      (must_measure (past j2)) place) (writing_same inode list used r j j2 s file u) s.readers_in
+      (must_measure (past j2)) place) (writing_same inode list list2 used r j j2 s file u)
+      s.readers_in
       ∙ ap₂ (λ (n : ℕ) (m : Bool). check_told (is_writing file (past j)) measures
       (readers (past j)) n m place) s.writers_in s.must_measure_in
 
@@ -169,7 +172,7 @@ module _ (inode : Inode) (list : List Entry) (used : ℕ → Bool) (r : ℕ → 
     take_same (Some f2) (Some f) h =
         let same : f2.digest ≡ f.digest = cc in
         ap (λ (d : Digest). told.Grant (grant_of inode (r file) placed d (past j2))) same
-        ∙ ap told.Grant (grant_same inode list used r j j2 s file u placed f.digest)
+        ∙ ap told.Grant (grant_same inode list list2 used r j j2 s file u placed f.digest)
 
     -- a finish
     finish_same : (o2 o : Option Collection)
@@ -182,7 +185,7 @@ module _ (inode : Inode) (list : List Entry) (used : ℕ → Bool) (r : ℕ → 
         let same : digest_from c2 ≡ digest_from c = cc in
         ap (λ (d : Digest). Some (told.Grant (grant_of inode (r file) placed d (past j2)))) same
         ∙ ap (λ (g : Grant). Some (told.Grant g))
-        (grant_same inode list used r j j2 s file u placed (digest_from c))
+        (grant_same inode list list2 used r j j2 s file u placed (digest_from c))
 
   -- the outcome for one reply of the list
   says_alike : (placed : Placed) (d : Deed) → IsUsed used (file_in d)
@@ -194,11 +197,11 @@ module _ (inode : Inode) (list : List Entry) (used : ℕ → Bool) (r : ℕ → 
       ap (λ (t : Told). Some t) (violation_same file u action.measure (place_of placed))
   says_alike placed (deed.Take file) u =
       unless_same _ _ (take_same file u placed (in_force inode (past j2))
-      (in_force inode (past j)) (chosen_same inode list used r j j2 s))
+      (in_force inode (past j)) (chosen_same inode list list2 used r j j2 s))
   says_alike placed (deed.Chunk file) u = chunk_same
   says_alike placed (deed.Finish file) u =
       finish_same file u placed (collecting inode (past j2)) (collecting inode (past j))
-      (taken_same inode list used r j j2 s)
+      (taken_same inode list list2 used r j j2 s)
   says_alike placed (deed.Read file from len) u =
       ap (λ (c : List ℕ). Some (read_told (bytes_at c from len))) s.content_in
   says_alike placed (deed.SetAttr name bytes admin) u =
@@ -212,10 +215,14 @@ module _ (inode : Inode) (list : List Entry) (used : ℕ → Bool) (r : ℕ → 
       ap (λ (n : ℕ). Some (close_finish_told n)) s.writers_in
   says_alike placed d u = refl
 
-  -- the step has the same outcome
+  -- the step has the same outcome, but for the list's reply
   pub outcome_alike : (d : Deed) → IsUsed used (file_in d)
-      → outcome inode list (deed_named r d) (past j2) ≡ outcome inode list d (past j)
+      → outcome inode list2 (deed_named r d) (past j2)
+      ≡ option_map (told_with (placed_for list2 (asked inode d (past j))))
+      (outcome inode list d (past j))
   outcome_alike d u =
-      ap (λ (e : Option Entry). says inode (past j2) (placed_for list e) (deed_named r d))
+      let q = placed_for list2 (asked inode d (past j)) in
+      ap (λ (e : Option Entry). says inode (past j2) (placed_for list2 e) (deed_named r d))
       (asked_alike d u)
-      ∙ says_alike (placed_for list (asked inode d (past j))) d u
+      ∙ says_alike q d u
+      ∙ said_with q (placed_for list (asked inode d (past j))) inode (past j) d

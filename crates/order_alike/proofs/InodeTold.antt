@@ -14,7 +14,7 @@ use Rattle.order_outcomes.specs.reports.model.events.declared.told.Told.{Told}
 use Rattle.order_outcomes.specs.reports.model.events.labels.declared.verdict.Verdict.{Verdict}
 use Rattle.order_outcomes.specs.reports.model.events.meta.declared.step.Who.{Who}
 use Rattle.order_outcomes.specs.reports.model.events.templates.declared.entry.Entry.{Entry}
-use Rattle.order_outcomes.specs.Calls.{is_by, is_listed, is_read, listed_in, place_told, shows, shows_at, verdict_by, verdict_in}
+use Rattle.order_outcomes.specs.Calls.{is_by, is_listed, is_read, listed_in, place_told, shows, shows_at, verdict_by, verdict_in, verdict_told}
 use Rattle.order_alike.proofs.InodeLaws.{deed_named}
 use Rattle.order_alike.specs.Alike.{places_in, with_place}
 
@@ -36,21 +36,21 @@ verdict_more task n (x ∷ xs) e =
     ∙ or_assoc (verdict_by task n x) (verdict_in task n xs)
     (option_or (verdict_by task n e) None)
 
--- in both journals
-pub told_grown : (r : ℕ → ℕ) (task n : ℕ) (j j2 : List Event) (who : Who) (d : Deed) (t : Told)
-    → verdict_in task n j2 ≡ verdict_in task n j
-    → verdict_in task n (j2 ++ event who (deed_named r d) t ∷ [])
+-- in both journals, with outcomes that tell the same verdict
+pub told_grown : (r : ℕ → ℕ) (task n : ℕ) (j j2 : List Event) (who : Who) (d : Deed) (t t2 : Told)
+    → verdict_told t2 ≡ verdict_told t → verdict_in task n j2 ≡ verdict_in task n j
+    → verdict_in task n (j2 ++ event who (deed_named r d) t2 ∷ [])
     ≡ verdict_in task n (j ++ event who d t ∷ [])
-told_grown r task n j j2 who d t h =
-    verdict_more task n j2 (event who (deed_named r d) t)
-    ∙ ap (λ (v : Option Verdict). option_or v
-    (option_or (verdict_by task n (event who d t)) None)) h
+told_grown r task n j j2 who d t t2 same h =
+    verdict_more task n j2 (event who (deed_named r d) t2)
+    ∙ ap₂ (λ (v x : Option Verdict). option_or v
+    (option_or (cond (is_by task n (event who d t)) x None) None)) h same
     ∙ sym (verdict_more task n j (event who d t))
 
 -- ---- places in a list
 
 -- the list shows the bytes at one of the places
-abbrev shown_in : List Entry → List ℕ → List ℕ → Bool
+abbrev pub shown_in : List Entry → List ℕ → List ℕ → Bool
 shown_in list bytes [] = false
 shown_in list bytes (place ∷ places) =
     shown_in list bytes places || shows_at list bytes (Some place)
@@ -63,7 +63,7 @@ shown_with list bytes None places = or_none (shown_in list bytes places)
 shown_with list bytes (Some place) places = refl
 
 -- whether bytes are listed depends on the places alone
-listed_places : (list : List Entry) (bytes : List ℕ) (p : List Event)
+pub listed_places : (list : List Entry) (bytes : List ℕ) (p : List Event)
     → is_listed list bytes p ≡ shown_in list bytes (places_in p)
 listed_places list bytes [] = refl
 listed_places list bytes (e ∷ p) =
@@ -100,7 +100,7 @@ earlier_in list (Some place) places h = All-tail (λ (x : ℕ). x < length list)
 -- ---- reads
 
 -- bytes that were listed or not stay so in a longer list
-is_listed_longer : (list more : List Entry) (bytes : List ℕ) (p : List Event)
+pub is_listed_longer : (list more : List Entry) (bytes : List ℕ) (p : List Event)
     → AreIn list (places_in p) → is_listed (list ++ more) bytes p ≡ is_listed list bytes p
 is_listed_longer list more bytes p h =
     listed_places (list ++ more) bytes p
@@ -124,17 +124,16 @@ read_named r deed.Birth = refl
 read_named r d = refl
 
 -- whether the content was listed when a call read it, in both journals
-pub listed_grown : (r : ℕ → ℕ) (list : List Entry) (task n : ℕ) (p q : List Event) (who : Who)
-    (d : Deed) (t : Told) → content q ≡ content p → places_in q ≡ places_in p
-    → listed_in list task n q ≡ listed_in list task n p
-    → listed_in list task n (event who (deed_named r d) t ∷ q)
+pub listed_grown : (r : ℕ → ℕ) (list list2 : List Entry) (task n : ℕ) (p q : List Event)
+    (who : Who) (d : Deed) (t t2 : Told) → content q ≡ content p
+    → ((bytes : List ℕ) → is_listed list2 bytes q ≡ is_listed list bytes p)
+    → listed_in list2 task n q ≡ listed_in list task n p
+    → listed_in list2 task n (event who (deed_named r d) t2 ∷ q)
     ≡ listed_in list task n (event who d t ∷ p)
-listed_grown r list task n p q who d t contents places h =
-    let shown : is_listed list (content q) q ≡ is_listed list (content p) p
-    = listed_places list (content q) q
-    ∙ ap₂ (λ (bytes xs : List ℕ). shown_in list bytes xs) contents places
-    ∙ sym (listed_places list (content p) p) in
-    ap (λ (b : Bool). cond (is_by task n (event who d t) && b) (Some (is_listed list (content q) q))
-    (listed_in list task n q)) (read_named r d)
+listed_grown r list list2 task n p q who d t t2 contents shown h =
+    let same : is_listed list2 (content q) q ≡ is_listed list (content p) p
+    = ap (λ (bytes : List ℕ). is_listed list2 bytes q) contents ∙ shown (content p) in
+    ap (λ (b : Bool). cond (is_by task n (event who d t) && b)
+    (Some (is_listed list2 (content q) q)) (listed_in list2 task n q)) (read_named r d)
     ∙ ap₂ (λ (b : Bool) (o : Option Bool). cond (is_by task n (event who d t) && is_read d)
-    (Some b) o) shown h
+    (Some b) o) same h

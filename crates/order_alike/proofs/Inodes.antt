@@ -1,12 +1,12 @@
 -- An inode is alike in two moments after a step of the same task in both.
-use Rattle.std.proofs.Common.{◌≡◌, ℕ, ◌<◌, ◌≤◌, ◌⊎◌, inl, inr, Bool, true, List, [], ◌∷◌, ◌++◌, length, length-append, Option, Some, is_some, option_map, ap, ap₂, sym, subst, ◌∙◌, arith}
+use Rattle.std.proofs.Common.{◌≡◌, ℕ, ◌<◌, ◌≤◌, ◌⊎◌, inl, inr, Bool, true, ◌||◌, List, [], ◌∷◌, ◌++◌, length, length-append, Option, Some, is_some, option_map, ap, ap₂, sym, subst, ◌∙◌, arith}
 use Rattle.std.specs.Prelude.{◌==◌}
 use Rattle.std.proofs.lemmas.Bool.{cond-false, cond-true, eq-eqb, ne_eqb}
 use Rattle.std.proofs.lemmas.List.{length-reverse}
 use Rattle.order_outcomes.specs.reports.model.History.{event}
-use Rattle.order_outcomes.specs.reports.model.events.Asked.{asked, list_after, outcome}
+use Rattle.order_outcomes.specs.reports.model.events.Asked.{asked, list_after, outcome, placed_for}
 use Rattle.order_outcomes.specs.reports.model.events.Checks.{last_check}
-use Rattle.order_outcomes.specs.reports.model.events.Files.{counted, execs, files, held, is_exec, is_reader, is_writer, readers, tally, writers}
+use Rattle.order_outcomes.specs.reports.model.events.Files.{counted, execs, files, find_file, held, is_exec, is_reader, is_writer, readers, tally, writers}
 use Rattle.order_outcomes.specs.reports.model.events.Inode.{Inode}
 use Rattle.order_outcomes.specs.reports.model.events.Integrity.{attributes, collecting, in_force}
 use Rattle.order_outcomes.specs.reports.model.events.Marks.{must_measure, update}
@@ -20,17 +20,19 @@ use Rattle.order_outcomes.specs.reports.model.events.declared.told.Told.{Told}
 use Rattle.order_outcomes.specs.reports.model.events.meta.declared.identity.Meta.{Meta}
 use Rattle.order_outcomes.specs.reports.model.events.meta.declared.step.Who.{Who}
 use Rattle.order_outcomes.specs.reports.model.events.templates.declared.entry.Entry.{Entry}
-use Rattle.order_outcomes.specs.Calls.{listed_in, place_told}
+use Rattle.order_outcomes.specs.reports.model.events.templates.declared.entry.Placed.{Placed}
+use Rattle.order_outcomes.specs.Calls.{is_listed, listed_in, place_told}
 use Rattle.order_alike.proofs.InodeFiles.{check_grown, counted_named, held_grown, held_new, tally_grown, unchecked_new}
 use Rattle.order_alike.proofs.InodeIntegrity.{attributes_grown, collection_grown, digests_grown}
 use Rattle.order_alike.proofs.InodeLaws.{InodeLaws, IsUsed, deed_named, file_in, named_after}
 use Rattle.order_alike.proofs.InodeMarks.{must_measure_grown, update_grown, verdicts_grown}
-use Rattle.order_alike.proofs.InodePlaces.{IsPlaced, after_longer, outcome_placed}
+use Rattle.order_alike.proofs.InodePlaces.{IsPlaced, after_longer, outcome_placed, outcome_shown}
+use Rattle.order_alike.proofs.InodeRetold.{attributes_again, collection_again, content_again, digests_again, files_again, metadata_again, must_measure_again, new_again, present_again, span_again, told_verdict_with, told_with, update_again, verdicts_again, versions_again}
 use Rattle.order_alike.proofs.InodeSound.{checks_below, checks_below_named, sound_grown, sound_longer}
 use Rattle.order_alike.proofs.InodeState.{content_named, metadata_named, new_grown, present_named, span_grown, versions_named}
 use Rattle.order_alike.proofs.InodeSteps.{asked_alike, outcome_alike}
-use Rattle.order_alike.proofs.InodeTold.{listed_grown, listed_longer, told_grown}
-use Rattle.order_alike.specs.Alike.{IsInodeAlike, IsSound, collection_seen, digests_seen, places_in, with_place}
+use Rattle.order_alike.proofs.InodeTold.{is_listed_longer, listed_grown, listed_longer, told_grown}
+use Rattle.order_alike.specs.Alike.{AreListsAlike, IsInodeAlike, IsSound, collection_seen, digests_seen}
 
 -- ---- names
 
@@ -49,20 +51,28 @@ name_new r n n2 file e = cond-true (file == n) n2 (r file) (eq-eqb file n e)
 
 -- ---- a longer list
 
--- the same reads were listed if the list gets longer
-reads_longer : (inode : Inode) (list more : List Entry) (task n : ℕ) (p q : List Event)
-    → IsSound inode list p → IsSound inode list q
-    → listed_in list task n q ≡ listed_in list task n p
-    → listed_in (list ++ more) task n q ≡ listed_in (list ++ more) task n p
-reads_longer inode list more task n p q s s2 h =
-    listed_longer list more task n q s2.places ∙ h
-    ∙ sym (listed_longer list more task n p s.places)
+module _ (inode : Inode) (list list2 more more2 : List Entry) (used : ℕ → Bool) (r : ℕ → ℕ)
+    (j j2 : List Event) (s : IsInodeAlike inode list list2 used r j j2) where
+  -- the same reads were listed if the lists get longer
+  reads_longer : (task n : ℕ) → listed_in (list2 ++ more2) task n (past j2)
+      ≡ listed_in (list ++ more) task n (past j)
+  reads_longer task n =
+      listed_longer list2 more2 task n (past j2) s.sound2.places ∙ s.listed task n
+      ∙ sym (listed_longer list more task n (past j) s.sound.places)
+
+  -- and the same bytes are shown
+  shown_longer : (bytes : List ℕ) → is_listed (list2 ++ more2) bytes (past j2)
+      ≡ is_listed (list ++ more) bytes (past j)
+  shown_longer bytes =
+      is_listed_longer list2 more2 bytes (past j2) s.sound2.places ∙ s.shown bytes
+      ∙ sym (is_listed_longer list more bytes (past j) s.sound.places)
 
 -- ---- one more event
 
-module _ (inode : Inode) (list : List Entry) (used : ℕ → Bool) (r : ℕ → ℕ) (j j2 : List Event)
-    (d : Deed) (t : Told) (who : Who) (used2 : ℕ → Bool)
-    (s : IsInodeAlike inode list used r j j2) (u : IsUsed used (file_in d))
+module _ (inode : Inode) (list list2 : List Entry) (used : ℕ → Bool) (r : ℕ → ℕ)
+    (j j2 : List Event) (d : Deed) (t : Told) (who : Who) (used2 : ℕ → Bool)
+    (s : IsInodeAlike inode list list2 used r j j2) (lists : AreListsAlike list list2)
+    (u : IsUsed used (file_in d))
     (says : outcome inode list d (past j) ≡ Some t)
     (uses : (file : ℕ) → used2 file ≡ true
     → (used file ≡ true) ⊎ ((file ≡ length j) × (is_some (counted d t) ≡ true))) where
@@ -70,16 +80,31 @@ module _ (inode : Inode) (list : List Entry) (used : ℕ → Bool) (r : ℕ → 
   abbrev e : Event
   e = event who d t
 
+  -- the second list's reply
+  abbrev reply2 : Placed
+  reply2 = placed_for list2 (asked inode d (past j))
+
+  -- the outcome with it
+  abbrev t2 : Told
+  t2 = told_with reply2 t
+
   abbrev e2 : Event
-  e2 = event who (deed_named r d) t
+  e2 = event who (deed_named r d) t2
+
+  -- the event in the second journal, with the outcome of the first
+  abbrev e3 : Event
+  e3 = event who (deed_named r d) t
 
   -- the names after the event
   abbrev name : ℕ → ℕ
   name = named_after r (length j) (length j2)
 
-  -- the list after the step
-  abbrev list2 : List Entry
-  list2 = list_after list (asked inode d (past j)) (Some t)
+  -- the lists after the step
+  abbrev after_list : List Entry
+  after_list = list_after list (asked inode d (past j)) (Some t)
+
+  abbrev after_list2 : List Entry
+  after_list2 = list_after list2 (asked inode d (past j)) (Some t2)
 
   -- the file was used before the event
   abbrev IsOld : ℕ → Type 0
@@ -96,15 +121,26 @@ module _ (inode : Inode) (list : List Entry) (used : ℕ → Bool) (r : ℕ → 
       subst (λ (y : List Event). P (past (j ++ e ∷ [])) y) (sym (past_more j2 e2))
       (subst (λ (x : List Event). P x (e2 ∷ past j2)) (sym (past_more j e)) h)
 
-  -- the list isn't shorter after the step
-  longer : length list ≤ length list2
-  longer =
-      let more = after_longer list (asked inode d (past j)) t in
-      omega (arith, length-append list more.0, ap (λ (l : List Entry). length l) more.1)
+  -- a list isn't shorter after the step
+  not_shorter : (l : List Entry) (x : Told)
+      → length l ≤ length (list_after l (asked inode d (past j)) (Some x))
+  not_shorter l x =
+      let more = after_longer l (asked inode d (past j)) x in
+      omega (arith, length-append l more.0, ap (λ (y : List Entry). length y) more.1)
 
   -- the place of the outcome is in it
-  placed : IsPlaced (length list2) (place_told t)
+  placed : IsPlaced (length after_list) (place_told t)
   placed = outcome_placed inode list d (past j) t says
+
+  -- and in the second list
+  placed2 : IsPlaced (length after_list2) (place_told t2)
+  placed2 =
+      let says2 : outcome inode list2 (deed_named r d) (past j2) ≡ Some t2
+      = outcome_alike inode list list2 used r j j2 s d u
+      ∙ ap (option_map (told_with reply2)) says in
+      subst (λ (o : Option Entry). IsPlaced (length (list_after list2 o (Some t2))) (place_told t2))
+      (asked_alike inode list list2 used r j j2 s d u)
+      (outcome_placed inode list2 (deed_named r d) (past j2) t2 says2)
 
   -- ---- its files
 
@@ -162,21 +198,21 @@ module _ (inode : Inode) (list : List Entry) (used : ℕ → Bool) (r : ℕ → 
 
   -- files are held alike
   how_after : (file : ℕ) → IsOld file ⊎ IsNew file
-      → held (name file) (e2 ∷ past j2) ≡ held file (e ∷ past j)
+      → held (name file) (e3 ∷ past j2) ≡ held file (e ∷ past j)
   how_after file (inl uf) =
-      ap (λ (n : ℕ). held n (e2 ∷ past j2)) (keeps_name file uf)
+      ap (λ (n : ℕ). held n (e3 ∷ past j2)) (keeps_name file uf)
       ∙ held_grown used r (past j) (past j2) s.apart s.how who d t u file uf (old_below file uf)
       (old_below2 file uf)
   how_after file (inr is) =
-      ap (λ (n : ℕ). held n (e2 ∷ past j2)) (new_name file is)
+      ap (λ (n : ℕ). held n (e3 ∷ past j2)) (new_name file is)
       ∙ held_new r (past j) (past j2) who d t is.1
       ∙ ap (λ (n : ℕ). held n (e ∷ past j)) (past_length j ∙ sym is.0)
 
   -- their last checks are alike
   checks_after : (file : ℕ) → IsOld file ⊎ IsNew file
-      → last_check (name file) (e2 ∷ past j2) ≡ last_check file (e ∷ past j)
+      → last_check (name file) (e3 ∷ past j2) ≡ last_check file (e ∷ past j)
   checks_after file (inl uf) =
-      ap (λ (n : ℕ). last_check n (e2 ∷ past j2)) (keeps_name file uf)
+      ap (λ (n : ℕ). last_check n (e3 ∷ past j2)) (keeps_name file uf)
       ∙ check_grown used r (past j) (past j2) s.apart s.how d u file uf
       (last_check (r file) (past j2)) (last_check file (past j)) (s.checks file uf)
   checks_after file (inr is) =
@@ -184,7 +220,7 @@ module _ (inode : Inode) (list : List Entry) (used : ℕ → Bool) (r : ℕ → 
       = ap (λ (c : Option How). is_some c) (counted_named r d t) ∙ is.1 in
       let n = length (past j) in
       let n2 = length (past j2) in
-      ap (λ (x : ℕ). last_check x (e2 ∷ past j2)) (new_name file is)
+      ap (λ (x : ℕ). last_check x (e3 ∷ past j2)) (new_name file is)
       ∙ unchecked_new (deed_named r d) t counts2 n2 (last_check n2 (past j2))
       ∙ s.sound2.files n2 (omega arith)
       ∙ sym (s.sound.files n (omega arith))
@@ -193,15 +229,34 @@ module _ (inode : Inode) (list : List Entry) (used : ℕ → Bool) (r : ℕ → 
 
   -- ---- what calls were told
 
+  -- longer lists show the same bytes
+  shown_before : (bytes : List ℕ)
+      → is_listed after_list2 bytes (past j2) ≡ is_listed after_list bytes (past j)
+  shown_before bytes =
+      let more = after_longer list (asked inode d (past j)) t in
+      let more2 = after_longer list2 (asked inode d (past j)) t2 in
+      sym (ap (λ (l : List Entry). is_listed l bytes (past j2)) more2.1)
+      ∙ shown_longer inode list list2 more.0 more2.0 used r j j2 s bytes
+      ∙ ap (λ (l : List Entry). is_listed l bytes (past j)) more.1
+
+  -- and do so after the event
+  shown_after : (bytes : List ℕ)
+      → is_listed after_list2 bytes (e2 ∷ past j2) ≡ is_listed after_list bytes (e ∷ past j)
+  shown_after bytes =
+      ap₂ (λ (a b : Bool). a || b) (shown_before bytes)
+      (outcome_shown inode list list2 lists d (past j) t bytes says)
+
   -- reads were listed alike
   listed_after : (task n : ℕ)
-      → listed_in list2 task n (e2 ∷ past j2) ≡ listed_in list2 task n (e ∷ past j)
+      → listed_in after_list2 task n (e2 ∷ past j2) ≡ listed_in after_list task n (e ∷ past j)
   listed_after task n =
       let more = after_longer list (asked inode d (past j)) t in
-      listed_grown r list2 task n (past j) (past j2) who d t s.content_in s.places
-      (subst (λ (l : List Entry). listed_in l task n (past j2) ≡ listed_in l task n (past j))
-      more.1 (reads_longer inode list more.0 task n (past j) (past j2) s.sound s.sound2
-      (s.listed task n)))
+      let more2 = after_longer list2 (asked inode d (past j)) t2 in
+      listed_grown r after_list after_list2 task n (past j) (past j2) who d t t2 s.content_in
+      shown_before
+      (sym (ap (λ (l : List Entry). listed_in l task n (past j2)) more2.1)
+      ∙ reads_longer inode list list2 more.0 more2.0 used r j j2 s task n
+      ∙ ap (λ (l : List Entry). listed_in l task n (past j)) more.1)
 
   -- ---- all of it
 
@@ -209,76 +264,98 @@ module _ (inode : Inode) (list : List Entry) (used : ℕ → Bool) (r : ℕ → 
   tallies : (test : How → Bool)
       → tally test (files (past j2)) ≡ tally test (files (past j))
       → tally test (files (e2 ∷ past j2)) ≡ tally test (files (e ∷ past j))
-  tallies test h = tally_grown used r (past j) (past j2) s.apart s.how who d t u test h
+  tallies test h =
+      ap (tally test) (files_again inode who (deed_named r d) t reply2 (past j2))
+      ∙ tally_grown used r (past j) (past j2) s.apart s.how who d t u test h
 
   -- the inode is alike after the step
-  pub grown_alike : IsInodeAlike inode list2 used2 name (j ++ e ∷ []) (j2 ++ e2 ∷ [])
+  pub grown_alike : IsInodeAlike inode after_list after_list2 used2 name (j ++ e ∷ [])
+      (j2 ++ e2 ∷ [])
   grown_alike = record {
-    sound = on (λ x y. IsSound inode list2 x)
-        (sound_grown inode list list2 (past j) who d t longer
+    sound = on (λ x y. IsSound inode after_list x)
+        (sound_grown inode list after_list (past j) who d t (not_shorter list t)
         (checks_below used (length (past j)) d old_below u) placed s.sound);
-    sound2 = on (λ x y. IsSound inode list2 y)
-        (sound_grown inode list list2 (past j2) who (deed_named r d) t longer
-        (checks_below_named used r (length (past j2)) d old_below2 u) placed s.sound2);
+    sound2 = on (λ x y. IsSound inode after_list2 y)
+        (sound_grown inode list2 after_list2 (past j2) who (deed_named r d) t2
+        (not_shorter list2 t2)
+        (checks_below_named used r (length (past j2)) d old_below2 u) placed2 s.sound2);
     below = λ file uf. below_after file (uses file uf);
     below2 = λ file uf. below2_after file (uses file uf);
     apart = λ f g uf ug. apart_after f g (uses f uf) (uses g ug);
     how = λ file uf. on (λ x y. held (name file) y ≡ held file x)
-        (how_after file (uses file uf));
+        (ap (find_file (name file)) (files_again inode who (deed_named r d) t reply2 (past j2))
+        ∙ how_after file (uses file uf));
     checks = λ file uf. on (λ x y. last_check (name file) y ≡ last_check file x)
         (checks_after file (uses file uf));
     present_in = on (λ x y. present y ≡ present x)
-        (present_named r d t (present (past j2))
+        (present_again inode who (deed_named r d) t reply2 (past j2)
+        ∙ present_named r d t (present (past j2))
         ∙ ap (λ (b : Bool). present_after d t b) s.present_in);
     new_in = on (λ x y. new y ≡ new x)
-        (new_grown r (past j) (past j2) s.writers_in d t (new (past j2)) (new (past j)) s.new_in
+        (new_again inode who (deed_named r d) t reply2 (past j2)
+        ∙ new_grown r (past j) (past j2) s.writers_in d t (new (past j2)) (new (past j)) s.new_in
         s.present_in);
     versions_in = on (λ x y. versions y ≡ versions x)
-        (versions_named r d t (versions (past j2))
+        (versions_again inode who (deed_named r d) t reply2 (past j2)
+        ∙ versions_named r d t (versions (past j2))
         ∙ ap (λ (b : Bool). versions_after d t b) s.versions_in);
     content_in = on (λ x y. content y ≡ content x)
-        (content_named r d t (content (past j2))
+        (content_again inode who (deed_named r d) t reply2 (past j2)
+        ∙ content_named r d t (content (past j2))
         ∙ ap (λ (c : List ℕ). content_after d t c) s.content_in);
     metadata_in = on (λ x y. metadata y ≡ metadata x)
-        (metadata_named r d t (metadata (past j2))
+        (metadata_again inode who (deed_named r d) t reply2 (past j2)
+        ∙ metadata_named r d t (metadata (past j2))
         ∙ ap (λ (m : Meta). metadata_after d t m) s.metadata_in);
     attributes_in = on (λ x y. attributes inode y ≡ attributes inode x)
-        (attributes_grown inode list used r j j2 s d t);
+        (attributes_again inode who (deed_named r d) t reply2 (past j2)
+        ∙ attributes_grown inode list list2 used r j j2 s d t);
     writers_in = on (λ x y. writers y ≡ writers x) (tallies is_writer s.writers_in);
     readers_in = on (λ x y. readers y ≡ readers x) (tallies is_reader s.readers_in);
     execs_in = on (λ x y. execs y ≡ execs x) (tallies is_exec s.execs_in);
     must_measure_in = on (λ x y. must_measure y ≡ must_measure x)
-        (must_measure_grown inode list used r j j2 s d t u);
-    update_in = on (λ x y. update y ≡ update x) (update_grown inode list used r j j2 s d t u);
+        (must_measure_again inode who (deed_named r d) t reply2 (past j2)
+        ∙ must_measure_grown inode list list2 used r j j2 s d t u);
+    update_in = on (λ x y. update y ≡ update x)
+        (update_again inode who (deed_named r d) t reply2 (past j2)
+        ∙ update_grown inode list list2 used r j j2 s d t u);
     modified = on (λ x y. modified_in (span y) ≡ modified_in (span x))
-        (span_grown r (past j) (past j2) s.writers_in who d t s.modified);
+        (span_again inode who (deed_named r d) t reply2 (past j2)
+        ∙ span_grown r (past j) (past j2) s.writers_in who d t s.modified);
     collection = on (λ x y. option_map (collection_seen y) (collecting inode y)
         ≡ option_map (collection_seen x) (collecting inode x))
-        (collection_grown inode list used r j j2 s who d t);
+        (collection_again inode who (deed_named r d) t reply2 (past j2)
+        ∙ collection_grown inode list list2 used r j j2 s who d t);
     digests = on (λ x y. option_map (digests_seen y) (in_force inode y)
         ≡ option_map (digests_seen x) (in_force inode x))
-        (digests_grown inode list used r j j2 s who d t);
+        (digests_again inode who (deed_named r d) t reply2 (past j2)
+        ∙ digests_grown inode list list2 used r j j2 s who d t);
     verdicts = λ key. on (λ x y. verdict_in_force inode key y ≡ verdict_in_force inode key x)
-        (verdicts_grown inode list used r j j2 s key d t u);
-    places = on (λ x y. places_in y ≡ places_in x)
-        (ap (λ (places : List ℕ). with_place (place_told t) places) s.places);
-    told = λ task n. told_grown r task n j j2 who d t (s.told task n);
-    listed = λ task n. on (λ x y. listed_in list2 task n y ≡ listed_in list2 task n x)
+        (verdicts_again inode who (deed_named r d) t reply2 (past j2) key
+        ∙ verdicts_grown inode list list2 used r j j2 s key d t u);
+    shown = λ bytes. on (λ x y. is_listed after_list2 bytes y ≡ is_listed after_list bytes x)
+        (shown_after bytes);
+    told = λ task n. told_grown r task n j j2 who d t t2 (told_verdict_with reply2 t)
+        (s.told task n);
+    listed = λ task n. on
+        (λ x y. listed_in after_list2 task n y ≡ listed_in after_list task n x)
         (listed_after task n);
   }
 
 -- ---- other lists, files and moments
 
--- a longer list
-listed_alike : (inode : Inode) (list : List Entry) (used : ℕ → Bool) (r : ℕ → ℕ)
-    (j j2 : List Event) (e : Entry) → IsInodeAlike inode list used r j j2
-    → IsInodeAlike inode (list ++ e ∷ []) used r j j2
-listed_alike inode list used r j j2 e s =
-    let longer : length list ≤ length (list ++ e ∷ [])
-    = omega (arith, length-append list (e ∷ [])) in
+-- longer lists
+listed_alike : (inode : Inode) (list list2 more more2 : List Entry) (used : ℕ → Bool) (r : ℕ → ℕ)
+    (j j2 : List Event) → IsInodeAlike inode list list2 used r j j2
+    → IsInodeAlike inode (list ++ more) (list2 ++ more2) used r j j2
+listed_alike inode list list2 more more2 used r j j2 s =
+    let longer : length list ≤ length (list ++ more)
+    = omega (arith, length-append list more) in
+    let longer2 : length list2 ≤ length (list2 ++ more2)
+    = omega (arith, length-append list2 more2) in
     record {
-      sound = sound_longer inode list (list ++ e ∷ []) (past j) longer s.sound;
-      sound2 = sound_longer inode list (list ++ e ∷ []) (past j2) longer s.sound2;
+      sound = sound_longer inode list (list ++ more) (past j) longer s.sound;
+      sound2 = sound_longer inode list2 (list2 ++ more2) (past j2) longer2 s.sound2;
       below = s.below;
       below2 = s.below2;
       apart = s.apart;
@@ -299,18 +376,17 @@ listed_alike inode list used r j j2 e s =
       collection = s.collection;
       digests = s.digests;
       verdicts = s.verdicts;
-      places = s.places;
+      shown = λ bytes. shown_longer inode list list2 more more2 used r j j2 s bytes;
       told = s.told;
-      listed = λ task n. reads_longer inode list (e ∷ []) task n (past j) (past j2) s.sound
-          s.sound2 (s.listed task n);
+      listed = λ task n. reads_longer inode list list2 more more2 used r j j2 s task n;
     }
 
 -- fewer files
-fewer_alike : (inode : Inode) (list : List Entry) (used used2 : ℕ → Bool) (r : ℕ → ℕ)
-    (j j2 : List Event) → IsInodeAlike inode list used r j j2
+fewer_alike : (inode : Inode) (list list2 : List Entry) (used used2 : ℕ → Bool) (r : ℕ → ℕ)
+    (j j2 : List Event) → IsInodeAlike inode list list2 used r j j2
     → ((file : ℕ) → used2 file ≡ true → used file ≡ true)
-    → IsInodeAlike inode list used2 r j j2
-fewer_alike inode list used used2 r j j2 s was = record {
+    → IsInodeAlike inode list list2 used2 r j j2
+fewer_alike inode list list2 used used2 r j j2 s was = record {
   sound = s.sound;
   sound2 = s.sound2;
   below = λ file uf. s.below file (was file uf);
@@ -333,18 +409,18 @@ fewer_alike inode list used used2 r j j2 s was = record {
   collection = s.collection;
   digests = s.digests;
   verdicts = s.verdicts;
-  places = s.places;
+  shown = s.shown;
   told = s.told;
   listed = s.listed;
 }
 
 -- a third moment
-along_alike : (inode : Inode) (list : List Entry) (used used2 : ℕ → Bool) (r r2 : ℕ → ℕ)
-    (j j2 j3 : List Event) → IsInodeAlike inode list used r j j2
-    → IsInodeAlike inode list used2 r2 j2 j3
+along_alike : (inode : Inode) (list list2 list3 : List Entry) (used used2 : ℕ → Bool)
+    (r r2 : ℕ → ℕ) (j j2 j3 : List Event) → IsInodeAlike inode list list2 used r j j2
+    → IsInodeAlike inode list2 list3 used2 r2 j2 j3
     → ((file : ℕ) → used file ≡ true → used2 (r file) ≡ true)
-    → IsInodeAlike inode list used (λ file. r2 (r file)) j j3
-along_alike inode list used used2 r r2 j j2 j3 s s2 on = record {
+    → IsInodeAlike inode list list3 used (λ file. r2 (r file)) j j3
+along_alike inode list list2 list3 used used2 r r2 j j2 j3 s s2 on = record {
   sound = s.sound;
   sound2 = s2.sound2;
   below = s.below;
@@ -367,7 +443,7 @@ along_alike inode list used used2 r r2 j j2 j3 s s2 on = record {
   collection = s2.collection ∙ s.collection;
   digests = s2.digests ∙ s.digests;
   verdicts = λ key. s2.verdicts key ∙ s.verdicts key;
-  places = s2.places ∙ s.places;
+  shown = λ bytes. s2.shown bytes ∙ s.shown bytes;
   told = λ task n. s2.told task n ∙ s.told task n;
   listed = λ task n. s2.listed task n ∙ s.listed task n;
 }
@@ -377,10 +453,12 @@ along_alike inode list used used2 r r2 j j2 j3 s s2 on = record {
 -- all of them
 pub inode_laws : InodeLaws
 inode_laws = record {
-  outcome_same = λ inode list used r j j2 d s u. outcome_alike inode list used r j j2 s d u;
-  asked_same = λ inode list used r j j2 d s u. asked_alike inode list used r j j2 s d u;
-  grown = λ inode list used r j j2 d t who used2 s u says uses.
-      grown_alike inode list used r j j2 d t who used2 s u says uses;
+  outcome_same = λ inode list list2 used r j j2 d s u.
+      outcome_alike inode list list2 used r j j2 s d u;
+  asked_same = λ inode list list2 used r j j2 d s u.
+      asked_alike inode list list2 used r j j2 s d u;
+  grown = λ inode list list2 used r j j2 d t who used2 s lists u says uses.
+      grown_alike inode list list2 used r j j2 d t who used2 s lists u says uses;
   listed = listed_alike;
   fewer = fewer_alike;
   along = along_alike;

@@ -1,3 +1,4 @@
+pub mod InodeRetold
 pub mod InodeLaws
 pub mod InodeFiles
 pub mod InodeState
@@ -6,7 +7,10 @@ pub mod InodeIntegrity
 pub mod InodeMarks
 pub mod InodeTold
 pub mod InodeGrants
+pub mod InodeSaid
 pub mod InodeSteps
+pub mod InodeLists
+pub mod Entries
 pub mod InodePlaces
 pub mod InodeSound
 pub mod Inodes

@@ -1,6 +1,6 @@
 -- Moments that are alike after the same step in both: on the same inode, on the semaphores or the
 -- rules, or on nothing.
-use Rattle.std.proofs.Common.{◌≡◌, ℕ, zero, suc, ◌+◌, ◌<◌, ◌==◌, nat_lt, ◌⊎◌, Bool, true, false, ◌&&◌, List, [], ◌∷◌, ◌++◌, length, get_or, Option, Some, None, is_some, slice_get, slice_set, if◌then◌else◌, refl, ap, sym, subst, ◌∙◌, inl, inr, ⊎_elim, arith}
+use Rattle.std.proofs.Common.{◌≡◌, ℕ, zero, suc, ◌+◌, ◌<◌, ◌==◌, nat_lt, ◌⊎◌, Bool, true, false, ◌&&◌, List, [], ◌∷◌, ◌++◌, length, get_or, Option, Some, None, is_some, option_map, slice_get, slice_set, if◌then◌else◌, refl, ap, sym, subst, ◌∙◌, inl, inr, ⊎_elim, arith}
 use Rattle.std.specs.List.{list_any}
 use Rattle.std.proofs.lemmas.Bool.{cases_eq, eq-eqb, eqb-true, ne_eqb, or_right}
 use Rattle.std.proofs.lemmas.List.{get_or-set_other, get_or-set_same, map-set}
@@ -8,7 +8,7 @@ use Rattle.std.proofs.lemmas.Option.{none-some, same_Some}
 use Rattle.order_outcomes.specs.reports.model.History.{Thought, event}
 use Rattle.order_outcomes.specs.reports.model.Scene.{Scene, Station, inode_of}
 use Rattle.order_outcomes.specs.reports.model.Turns.{Moment, journal_at, state_on}
-use Rattle.order_outcomes.specs.reports.model.events.Asked.{asked, list_after, outcome}
+use Rattle.order_outcomes.specs.reports.model.events.Asked.{asked, list_after, outcome, placed_for}
 use Rattle.order_outcomes.specs.reports.model.events.Files.{counted}
 use Rattle.order_outcomes.specs.reports.model.events.Inode.{Inode}
 use Rattle.order_outcomes.specs.reports.model.events.Past.{past, past_more}
@@ -19,12 +19,15 @@ use Rattle.order_outcomes.specs.reports.model.events.declared.told.Event.{Event}
 use Rattle.order_outcomes.specs.reports.model.events.declared.told.Told.{Told}
 use Rattle.order_outcomes.specs.reports.model.events.declared.told.Told.TheVariants as told
 use Rattle.order_outcomes.specs.reports.model.events.meta.declared.step.Who.{Who}
-use Rattle.order_outcomes.specs.reports.model.events.templates.Same.{add_by, place_of_same}
 use Rattle.order_outcomes.specs.reports.model.events.templates.declared.entry.Entry.{Entry}
+use Rattle.order_outcomes.specs.reports.model.events.templates.declared.entry.Placed.{Placed}
 use Rattle.order_outcomes.specs.reports.model.rules.declared.cell.RuleEntry.{RuleEntry}
-use Rattle.order_alike.specs.Alike.{IsAlikeBy, IsInodeAlike}
+use Rattle.order_alike.specs.Alike.{AreListsAlike, IsAlikeBy, IsInodeAlike}
 use Rattle.order_alike.specs.Names.{Naming, has_file, is_used, thought_named}
 use Rattle.order_alike.proofs.InodeLaws.{InodeLaws, IsUsed, deed_named, file_in, named_after}
+use Rattle.order_alike.proofs.InodeLists.{lists_after}
+use Rattle.order_alike.proofs.InodePlaces.{after_longer}
+use Rattle.order_alike.proofs.InodeRetold.{told_with}
 use Rattle.order_alike.proofs.MomentNames.{KeepsApart}
 use Rattle.order_alike.proofs.MomentThoughts.{Covers, thoughts_agree, used_after}
 
@@ -152,10 +155,10 @@ module _ (laws : InodeLaws) (scene : Scene) (r : Naming) (a b : Moment)
     elsewhere = alike.elsewhere;
     thoughts = (λ j. slice_set (alike.thoughts j) n (named j))
         ∙ sym (map-set (thought_named r) a.thoughts n ta);
-    inodes = λ i s e. laws.fewer (inode_of scene s) a.state.list (used i)
+    inodes = λ i s e. laws.fewer (inode_of scene s) a.state.list b.state.list (used i)
         (is_used (slice_set a.thoughts n ta) i) (r i) (journal_at a.state i) (journal_at b.state i)
         (alike.inodes i s e) (fewer i);
-    list = alike.list;
+    lists = alike.lists;
     added = added;
     semaphores = counts;
   }
@@ -166,19 +169,22 @@ module _ (laws : InodeLaws) (scene : Scene) (r : Naming) (a b : Moment)
 
   -- ---- an event of an inode
 
-  -- a longer list keeps an inode alike
-  listed_after : (inode : Inode) (o : Option Entry) (t : Told) (u : ℕ → Bool) (q : ℕ → ℕ)
-      (j j2 : List Event) → IsInodeAlike inode a.state.list u q j j2
-      → IsInodeAlike inode (list_after a.state.list o (Some t)) u q j j2
-  listed_after inode None t u q j j2 is = is
-  listed_after inode (Some e) t u q j j2 is = by (place_of_same a.state.list e)
-    where
-      by : (o : Option ℕ) → IsInodeAlike inode (add_by o a.state.list e) u q j j2
-      by (Some place) = is
-      by None = laws.listed inode a.state.list u q j j2 e is
+  -- longer lists keep an inode alike
+  listed_after : (inode : Inode) (o : Option Entry) (t t2 : Told) (u : ℕ → Bool) (q : ℕ → ℕ)
+      (j j2 : List Event) → IsInodeAlike inode a.state.list b.state.list u q j j2
+      → IsInodeAlike inode (list_after a.state.list o (Some t))
+      (list_after b.state.list o (Some t2)) u q j j2
+  listed_after inode o t t2 u q j j2 is =
+      let more = after_longer a.state.list o t in
+      let more2 = after_longer b.state.list o t2 in
+      let longer = laws.listed inode a.state.list b.state.list more.0 more2.0 u q j j2 is in
+      subst (λ (l : List Entry). IsInodeAlike inode l (list_after b.state.list o (Some t2)) u q j
+      j2) more.1
+      (subst (λ (l : List Entry). IsInodeAlike inode (a.state.list ++ more.0) l u q j j2) more2.1
+      longer)
 
   module _ (i : ℕ) (s : Station) (at : slice_get scene.stations i ≡ Some s) where
-    abbrev this : IsInodeAlike (inode_of scene s) a.state.list (used i) (r i)
+    abbrev this : IsInodeAlike (inode_of scene s) a.state.list b.state.list (used i) (r i)
         (journal_at a.state i) (journal_at b.state i)
     this = alike.inodes i s at
 
@@ -192,14 +198,18 @@ module _ (laws : InodeLaws) (scene : Scene) (r : Naming) (a b : Moment)
         sym (naming_old r i (place_in i) (place_in2 i) k file
         (λ e. this.below file (sym (λ j. used (e j) file) ∙ is)))
 
-    -- the outcome and the entry that is asked for are the same
+    -- the reply of the second list to the entry that a deed asks for
+    abbrev pub reply2 : Deed → Placed
+    reply2 d =
+        placed_for b.state.list (asked (inode_of scene s) d (past (journal_at a.state i)))
+
+    -- the outcome is the same, but for that reply
     pub outcome_alike : (d : Deed) → IsUsed (used i) (file_in d)
         → outcome (inode_of scene s) b.state.list (deed_named (r i) d) (past (journal_at b.state i))
-        ≡ outcome (inode_of scene s) a.state.list d (past (journal_at a.state i))
+        ≡ option_map (told_with (reply2 d))
+        (outcome (inode_of scene s) a.state.list d (past (journal_at a.state i)))
     outcome_alike d is =
-        ap (λ (l : List Entry). outcome (inode_of scene s) l (deed_named (r i) d)
-        (past (journal_at b.state i))) alike.list
-        ∙ laws.outcome_same (inode_of scene s) a.state.list (used i) (r i)
+        laws.outcome_same (inode_of scene s) a.state.list b.state.list (used i) (r i)
         (journal_at a.state i) (journal_at b.state i) d this is
 
     -- the moment after an event on the inode
@@ -235,24 +245,32 @@ module _ (laws : InodeLaws) (scene : Scene) (r : Naming) (a b : Moment)
         abbrev used2 : ℕ → ℕ → Bool
         used2 = is_used (slice_set a.thoughts n ta)
 
-        -- the list after the event
-        abbrev list2 : List Entry
-        list2 =
-            list_after a.state.list (asked (inode_of scene s) d (past (journal_at a.state i)))
-            (Some t)
+        -- the entry that it asks for, and the lists after it
+        abbrev asks : Option Entry
+        asks = asked (inode_of scene s) d (past (journal_at a.state i))
+
+        -- the outcome in the second moment
+        abbrev t2 : Told
+        t2 = told_with (reply2 d) t
+
+        abbrev list_a : List Entry
+        list_a = list_after a.state.list asks (Some t)
+
+        abbrev list_b : List Entry
+        list_b = list_after b.state.list asks (Some t2)
 
         -- the two moments after it
         abbrev after_a : Moment
         after_a = with_event a n who d t ta
 
         abbrev after_b : Moment
-        after_b = with_event b n who (deed_named (r i) d) t tb
+        after_b = with_event b n who (deed_named (r i) d) t2 tb
 
         -- the same entry is asked for
         same_asked : asked (inode_of scene s) (deed_named (r i) d) (past (journal_at b.state i))
             ≡ asked (inode_of scene s) d (past (journal_at a.state i))
         same_asked =
-            laws.asked_same (inode_of scene s) a.state.list (used i) (r i)
+            laws.asked_same (inode_of scene s) a.state.list b.state.list (used i) (r i)
             (journal_at a.state i) (journal_at b.state i) d this is
 
         -- an inode that isn't in the scene is another one
@@ -261,7 +279,7 @@ module _ (laws : InodeLaws) (scene : Scene) (r : Naming) (a b : Moment)
 
         -- what is alike of an inode after the event, for these names and journals
         abbrev Inode2 : Station → ℕ → (ℕ → ℕ) → List Event → List Event → Type 0
-        Inode2 station k q x y = IsInodeAlike (inode_of scene station) list2 (used2 k) q x y
+        Inode2 station k q x y = IsInodeAlike (inode_of scene station) list_a list_b (used2 k) q x y
 
         -- at this inode
         files_here : (file : ℕ) → used2 i file ≡ true
@@ -274,11 +292,11 @@ module _ (laws : InodeLaws) (scene : Scene) (r : Naming) (a b : Moment)
         -- the journals with the event are alike
         here : Inode2 s i (after i) (journal_at after_a.state i) (journal_at after_b.state i)
         here =
-            let grown = laws.grown (inode_of scene s) a.state.list (used i) (r i)
-            (journal_at a.state i) (journal_at b.state i) d t who (used2 i) this is out
-            files_here in
+            let grown = laws.grown (inode_of scene s) a.state.list b.state.list (used i) (r i)
+            (journal_at a.state i) (journal_at b.state i) d t who (used2 i) this alike.lists is
+            out files_here in
             let ja = journal_grown a n who d t ta (this.below 0 refl) in
-            let jb = journal_grown b n who (deed_named (r i) d) t tb
+            let jb = journal_grown b n who (deed_named (r i) d) t2 tb
             (subst (λ (f : ℕ). f < place_in2 i) (alike.none i) (this.below2 0 refl)) in
             let names = naming_at r i (place_in i) (place_in2 i) i refl in
             subst (λ (q : ℕ → ℕ). Inode2 s i q (journal_at after_a.state i)
@@ -301,15 +319,14 @@ module _ (laws : InodeLaws) (scene : Scene) (r : Naming) (a b : Moment)
             → (k ≡ i → ⊥)
             → Inode2 station k (after k) (journal_at after_a.state k) (journal_at after_b.state k)
         there k station e ne =
-            let old = listed_after (inode_of scene station)
-            (asked (inode_of scene s) d (past (journal_at a.state i))) t (used k) (r k)
+            let old = listed_after (inode_of scene station) asks t t2 (used k) (r k)
             (journal_at a.state k) (journal_at b.state k) (alike.inodes k station e) in
-            let less = laws.fewer (inode_of scene station) list2 (used k) (used2 k) (r k)
+            let less = laws.fewer (inode_of scene station) list_a list_b (used k) (used2 k) (r k)
             (journal_at a.state k) (journal_at b.state k) old (files_there k ne) in
             let ja = get_or-set_other a.state.journals i k
             (journal_at a.state i ++ event who d t ∷ []) [] ne in
             let jb = get_or-set_other b.state.journals i k
-            (journal_at b.state i ++ event who (deed_named (r i) d) t ∷ []) [] ne in
+            (journal_at b.state i ++ event who (deed_named (r i) d) t2 ∷ []) [] ne in
             let names = naming_other r i (place_in i) (place_in2 i) k ne in
             subst (λ (q : ℕ → ℕ). Inode2 station k q (journal_at after_a.state k)
             (journal_at after_b.state k)) (sym names)
@@ -342,8 +359,14 @@ module _ (laws : InodeLaws) (scene : Scene) (r : Naming) (a b : Moment)
                   ∙ alike.elsewhere k none file;
               thoughts = (λ j. slice_set (thoughts j) n (named j))
                   ∙ sym (map-set (thought_named after) a.thoughts n ta);
-              inodes = λ k station e. each k station e (cases_eq k i);
-              list = λ j. list_after (alike.list j) (same_asked j) (Some t);
+              inodes = λ k station e.
+                  subst (λ (o : Option Entry). IsInodeAlike (inode_of scene station) list_a
+                  (list_after b.state.list o (Some t2)) (used2 k) (after k)
+                  (journal_at after_a.state k) (journal_at after_b.state k)) (sym same_asked)
+                  (each k station e (cases_eq k i));
+              lists = subst (λ (o : Option Entry). AreListsAlike list_a
+                  (list_after b.state.list o (Some t2))) (sym same_asked)
+                  (lists_after a.state.list b.state.list alike.lists asks t t2);
               added = alike.added;
               semaphores = alike.semaphores;
             }

@@ -8,10 +8,10 @@ use Rattle.order_outcomes.specs.reports.model.Scene.{Scene, inode_of}
 use Rattle.order_outcomes.specs.reports.model.Turns.{Moment, journal_at}
 use Rattle.order_outcomes.specs.reports.model.steps.Mind.{Progress}
 use Rattle.order_outcomes.specs.reports.model.steps.declared.held.Handle.{Handle}
-use Rattle.order_outcomes.specs.reports.model.events.templates.declared.entry.Entry.{Entry}
-use Rattle.order_alike.specs.Alike.{IsAlike, IsAlikeBy, IsInodeAlike}
+use Rattle.order_alike.specs.Alike.{IsAlike, IsAlikeBy}
 use Rattle.order_alike.specs.Names.{Naming, handle_named, has_file, in_handles, in_progress, is_used, progress_named, thought_named}
 use Rattle.order_alike.proofs.InodeLaws.{InodeLaws}
+use Rattle.order_alike.proofs.InodeLists.{lists_along}
 
 -- first the names r, and for these the names r2
 abbrev pub composed : Naming → Naming → Naming
@@ -117,14 +117,12 @@ by_both laws scene r r2 a b c x y = record {
   elsewhere = λ i e file. y.elsewhere i e (r i file) ∙ x.elsewhere i e file;
   thoughts = y.thoughts ∙ ap (map (thought_named r2)) x.thoughts
       ∙ thoughts_composed r r2 a.thoughts;
-  inodes = λ i s e. laws.along (inode_of scene s) a.state.list (is_used a.thoughts i)
-      (is_used b.thoughts i) (r i) (r2 i) (journal_at a.state i) (journal_at b.state i)
-      (journal_at c.state i) (x.inodes i s e)
-      (subst (λ (l : List Entry). IsInodeAlike (inode_of scene s) l (is_used b.thoughts i) (r2 i)
-      (journal_at b.state i) (journal_at c.state i)) x.list (y.inodes i s e))
+  inodes = λ i s e. laws.along (inode_of scene s) a.state.list b.state.list c.state.list
+      (is_used a.thoughts i) (is_used b.thoughts i) (r i) (r2 i) (journal_at a.state i)
+      (journal_at b.state i) (journal_at c.state i) (x.inodes i s e) (y.inodes i s e)
       (λ file is. ap (λ (ts : List Thought). is_used ts i (r i file)) x.thoughts
       ∙ used_named r i file (x.none i) a.thoughts is);
-  list = y.list ∙ x.list;
+  lists = lists_along a.state.list b.state.list c.state.list x.lists y.lists;
   added = y.added ∙ x.added;
   semaphores = λ sem. let ab = x.semaphores sem in let bc = y.semaphores sem in
       omega (arith, ab, bc);

@@ -23,55 +23,58 @@ use Rattle.order_alike.specs.Alike.{IsAlike, IsAlikeBy}
 use Rattle.order_alike.specs.Names.{Naming, thought_named}
 
 -- the journals of an inode tell the same of each call
-record TellSame (list : List Entry) (j j2 : List Event) : Type 0 where
+record TellSame (list list2 : List Entry) (j j2 : List Event) : Type 0 where
   some : 0 < length j
   some2 : 0 < length j2
   told : (task n : ℕ) → verdict_in task n j2 ≡ verdict_in task n j
-  listed : (task n : ℕ) → listed_in list task n (past j2) ≡ listed_in list task n (past j)
+  listed : (task n : ℕ) → listed_in list2 task n (past j2) ≡ listed_in list task n (past j)
 
 -- the journals of all these inodes do
-abbrev AllTellSame : List Entry → List Station → List (List Event) → List (List Event) → Type 0
-AllTellSame list ss js js2 =
+abbrev AllTellSame : List Entry → List Entry → List Station → List (List Event)
+    → List (List Event) → Type 0
+AllTellSame list list2 ss js js2 =
     (k : ℕ) (s : Station) → slice_get ss k ≡ Some s
-    → TellSame list (get_or js k []) (get_or js2 k [])
+    → TellSame list list2 (get_or js k []) (get_or js2 k [])
 
 -- then each call has the same verdict
-verdicts_same : (list : List Entry) (scene : Scene) (task n : ℕ) (ss : List Station)
-    (js js2 : List (List Event)) → AllTellSame list ss js js2
+verdicts_same : (list list2 : List Entry) (scene : Scene) (task n : ℕ) (ss : List Station)
+    (js js2 : List (List Event)) → AllTellSame list list2 ss js js2
     → verdict_of task n (inodes_ended scene ss js2) ≡ verdict_of task n (inodes_ended scene ss js)
-verdicts_same list scene task n [] js js2 same = refl
-verdicts_same list scene task n (s ∷ ss) [] js2 same =
+verdicts_same list list2 scene task n [] js js2 same = refl
+verdicts_same list list2 scene task n (s ∷ ss) [] js2 same =
     let some = (same 0 s refl).some in absurd (omega (arith, some))
-verdicts_same list scene task n (s ∷ ss) (j ∷ js) [] same =
+verdicts_same list list2 scene task n (s ∷ ss) (j ∷ js) [] same =
     let some = (same 0 s refl).some2 in absurd (omega (arith, some))
-verdicts_same list scene task n (s ∷ ss) (j ∷ js) (j2 ∷ js2) same =
+verdicts_same list list2 scene task n (s ∷ ss) (j ∷ js) (j2 ∷ js2) same =
     let here = (same 0 s refl).told task n in
-    let rest = verdicts_same list scene task n ss js js2 (λ k station e. same (suc k) station e) in
+    let rest = verdicts_same list list2 scene task n ss js js2
+    (λ k station e. same (suc k) station e) in
     λ i. option_or (here i) (rest i)
 
 -- and the same is said of what it has read
-listed_same : (list : List Entry) (scene : Scene) (task n : ℕ) (ss : List Station)
-    (js js2 : List (List Event)) → AllTellSame list ss js js2
-    → listed_of list task n (inodes_ended scene ss js2)
+listed_same : (list list2 : List Entry) (scene : Scene) (task n : ℕ) (ss : List Station)
+    (js js2 : List (List Event)) → AllTellSame list list2 ss js js2
+    → listed_of list2 task n (inodes_ended scene ss js2)
     ≡ listed_of list task n (inodes_ended scene ss js)
-listed_same list scene task n [] js js2 same = refl
-listed_same list scene task n (s ∷ ss) [] js2 same =
+listed_same list list2 scene task n [] js js2 same = refl
+listed_same list list2 scene task n (s ∷ ss) [] js2 same =
     let some = (same 0 s refl).some in absurd (omega (arith, some))
-listed_same list scene task n (s ∷ ss) (j ∷ js) [] same =
+listed_same list list2 scene task n (s ∷ ss) (j ∷ js) [] same =
     let some = (same 0 s refl).some2 in absurd (omega (arith, some))
-listed_same list scene task n (s ∷ ss) (j ∷ js) (j2 ∷ js2) same =
+listed_same list list2 scene task n (s ∷ ss) (j ∷ js) (j2 ∷ js2) same =
     let here = (same 0 s refl).listed task n in
-    let rest = listed_same list scene task n ss js js2 (λ k station e. same (suc k) station e) in
+    let rest = listed_same list list2 scene task n ss js js2
+    (λ k station e. same (suc k) station e) in
     λ i. option_or (here i) (rest i)
 
 -- ---- the texts
 
-module _ (list : List Entry) (is is2 : List EndedInodeValue)
+module _ (list list2 : List Entry) (is is2 : List EndedInodeValue)
     (verdicts : (task n : ℕ) → verdict_of task n is2 ≡ verdict_of task n is)
-    (listed : (task n : ℕ) → listed_of list task n is2 ≡ listed_of list task n is) where
+    (listed : (task n : ℕ) → listed_of list2 task n is2 ≡ listed_of list task n is) where
   -- the text of a call is the same
   call_same : (task n : ℕ) (rep : Reply)
-      → call_text list is2 task n rep ≡ call_text list is task n rep
+      → call_text list2 is2 task n rep ≡ call_text list is task n rep
   call_same task n rep =
       let verdict = verdicts task n in
       let read = listed task n in
@@ -80,7 +83,7 @@ module _ (list : List Entry) (is is2 : List EndedInodeValue)
 
   -- the texts of all calls of a task are the same
   calls_same : (task n : ℕ) (replies : List Reply)
-      → calls_text list is2 task n replies ≡ calls_text list is task n replies
+      → calls_text list2 is2 task n replies ≡ calls_text list is task n replies
   calls_same task n [] = refl
   calls_same task n (rep ∷ replies) =
       let first = call_same task n rep in
@@ -89,7 +92,7 @@ module _ (list : List Entry) (is is2 : List EndedInodeValue)
 
   -- and so are those of all tasks
   tasks_same : (task : ℕ) (ts : List EndedTaskValue)
-      → tasks_text list is2 task ts ≡ tasks_text list is task ts
+      → tasks_text list2 is2 task ts ≡ tasks_text list is task ts
   tasks_same task [] = refl
   tasks_same task (t ∷ ts) =
       let calls = calls_same task 0 t.replies in
@@ -107,11 +110,12 @@ tasks_named r (p ∷ ps) (t ∷ ts) =
 
 -- ---- the outcome
 
--- the outcome by the list, the inodes and the tasks
-abbrev outcome_by : List Entry → List EndedInodeValue → List EndedTaskValue → List ℕ
-outcome_by list inodes tasks =
-    lines_text Measurements (lines_of Measurements list)
-    ++ lines_text Violations (lines_of Violations list) ++ tasks_text list inodes 0 tasks
+-- the outcome by its lines, the list, the inodes and the tasks
+abbrev outcome_by : List (List ℕ) → List (List ℕ) → List Entry → List EndedInodeValue
+    → List EndedTaskValue → List ℕ
+outcome_by measured violations list inodes tasks =
+    lines_text Measurements measured ++ lines_text Violations violations
+    ++ tasks_text list inodes 0 tasks
 
 -- moments that are alike by names have the same outcome
 outcome_same : (scene : Scene) (r : Naming) (a b : Moment) → IsAlikeBy scene r a b
@@ -121,19 +125,22 @@ outcome_same scene r a b alike =
     let is2 = inodes_ended scene scene.stations b.state.journals in
     let tasks = ap (tasks_ended scene.programs) alike.thoughts
     ∙ tasks_named r scene.programs a.thoughts in
-    let same : outcome_at scene b ≡ outcome_by a.state.list is2
-    (tasks_ended scene.programs a.thoughts)
-    = λ j. outcome_by (alike.list j) is2 (tasks j) in
-    let texts = tasks_same a.state.list is is2
-    (λ task n. verdicts_same a.state.list scene task n scene.stations a.state.journals
-    b.state.journals tell)
-    (λ task n. listed_same a.state.list scene task n scene.stations a.state.journals
-    b.state.journals tell)
+    let measured = alike.lists.lines Measurements in
+    let violations = alike.lists.lines Violations in
+    let same : outcome_at scene b ≡ outcome_by (lines_of Measurements a.state.list)
+    (lines_of Violations a.state.list) b.state.list is2 (tasks_ended scene.programs a.thoughts)
+    = λ j. outcome_by (measured j) (violations j) b.state.list is2 (tasks j) in
+    let texts = tasks_same a.state.list b.state.list is is2
+    (λ task n. verdicts_same a.state.list b.state.list scene task n scene.stations
+    a.state.journals b.state.journals tell)
+    (λ task n. listed_same a.state.list b.state.list scene task n scene.stations
+    a.state.journals b.state.journals tell)
     0 (tasks_ended scene.programs a.thoughts) in
     sym (same ∙ ap (λ (text : List ℕ). lines_text Measurements (lines_of Measurements a.state.list)
     ++ lines_text Violations (lines_of Violations a.state.list) ++ text) texts)
   where
-    tell : AllTellSame a.state.list scene.stations a.state.journals b.state.journals
+    tell : AllTellSame a.state.list b.state.list scene.stations a.state.journals
+        b.state.journals
     tell k s e =
         let inode = alike.inodes k s e in
         record {

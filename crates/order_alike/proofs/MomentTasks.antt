@@ -26,6 +26,7 @@ use Rattle.order_outcomes.specs.reports.model.events.meta.declared.step.Who.{Who
 use Rattle.order_outcomes.specs.reports.model.policy.RuleValue.{RuleValue}
 use Rattle.order_outcomes.specs.reports.model.policy.declared.access.Action.{Action}
 use Rattle.order_outcomes.specs.reports.model.policy.declared.rule.Func.{Func}
+use Rattle.order_outcomes.specs.reports.model.events.templates.declared.entry.Placed.{Placed}
 use Rattle.order_outcomes.specs.reports.model.rules.declared.cell.RuleEntry.{RuleEntry}
 use Rattle.order_outcomes.specs.reports.model.steps.Mind.{Progress, Step, deed_of, file_after, plain_step, progress_of, step_by}
 use Rattle.order_outcomes.specs.reports.model.steps.Mind.{moved as moved_on}
@@ -36,12 +37,14 @@ use Rattle.order_outcomes.specs.reports.model.steps.declared.ask.Ask.TheVariants
 use Rattle.order_outcomes.specs.reports.model.steps.declared.call.Call.{Call}
 use Rattle.order_outcomes.specs.reports.model.steps.declared.call.Call.TheVariants as call
 use Rattle.order_outcomes.specs.reports.model.steps.declared.course.Course.{Course}
+use Rattle.order_outcomes.specs.reports.model.steps.declared.due.Next.{Next}
 use Rattle.order_outcomes.specs.reports.model.steps.declared.reply.Reply.{Reply}
 use Rattle.order_outcomes.specs.reports.model.declared.turn.Turn.TheVariants as turns
 use Rattle.order_alike.specs.Alike.{IsAlike, IsAlikeBy, IsRenamed}
 use Rattle.order_alike.specs.Names.{Naming, has_file, is_used, progress_named, thought_named}
 use Rattle.order_alike.proofs.InodeLaws.{InodeLaws, IsUsed, deed_named, file_in}
-use Rattle.order_alike.proofs.MomentAfter.{SameCount, count_more, event_alike, keeps_apart, keeps_names, naming_after, naming_new, outcome_alike, rest_alike, says_same}
+use Rattle.order_alike.proofs.InodeRetold.{told_with}
+use Rattle.order_alike.proofs.MomentAfter.{SameCount, count_more, event_alike, keeps_apart, keeps_names, naming_after, naming_new, outcome_alike, reply2, rest_alike, says_same}
 use Rattle.order_alike.proofs.MomentNames.{KeepsApart, progress_of-named, progress_of-used}
 use Rattle.order_alike.proofs.MomentSteps.{IsNew, deed_of-used, moved_named, moved_used, step_by-named, step_named}
 use Rattle.order_alike.proofs.MomentThoughts.{Covers, covers_at, handles_agree, handles_used, progress_used}
@@ -75,6 +78,23 @@ file_named : (q : ℕ → ℕ) (k : Ask) (place place2 file old : ℕ) → q pla
     → old ≡ q file → file_after k place2 old ≡ q (file_after k place file)
 file_named q ask.Count place place2 file old new same = sym new
 file_named q _ place place2 file old new same = same
+
+-- what comes next doesn't depend on the reply of a list
+next_with : (q : Placed) (mode : Mode) (course : Course) (k : Ask) (rep : Reply) (t : Told)
+    (action : Action)
+    → next_by mode course k rep (told_with q t) action ≡ next_by mode course k rep t action
+next_with q mode course ask.Count rep told.Held action = refl
+next_with q mode course (ask.Take slot) rep (told.Grant grant) action = refl
+next_with q mode course ask.Chunk rep told.More action = refl
+next_with q mode course ask.Finish rep (told.Grant grant) action = refl
+next_with q mode course (ask.Read from len) rep told.Done action = refl
+next_with q mode course ask.Write rep told.Done action = refl
+next_with q mode course (ask.Trunc len) rep told.Done action = refl
+next_with q mode course ask.SetAttr rep told.Done action = refl
+next_with q mode course ask.SetMeta rep told.Done action = refl
+next_with q mode course ask.CloseTake rep told.Begun action = refl
+next_with q mode course ask.CloseChunk rep told.More action = refl
+next_with q mode course k rep t action = refl
 
 -- ---- the turn
 
@@ -176,6 +196,32 @@ module _ (laws : InodeLaws) (scene : Scene) (r : Naming) (a b : Moment)
         (agree g.inode g.file g_used) file)
         ∙ sym (ap (thought_named r2) (heard place o action rules))
 
+    -- the reply of a list is of no account to the task
+    heard_reply : (q : Placed) (place : ℕ) (o : Told) (action : Action) (rules : ℕ)
+        → hear mode p t2 (record {
+          place = place;
+          told = told_with q o;
+          action = action;
+          rules = rules;
+        })
+        ≡ hear mode p t2 (record { place = place; told = o; action = action; rules = rules })
+    heard_reply q place o action rules =
+        let g2 = progress_of p.cred.admin c t2.mind in
+        ap (λ (x : Option Call). hear_in mode p x t2 (record {
+          place = place;
+          told = told_with q o;
+          action = action;
+          rules = rules;
+        })) at
+        ∙ ap (λ (x : Next). thought_with t2 (moved_on c t2.mind g2 place x))
+        (next_with q mode (course_of c) g2.due.ask g2.due.reply o action)
+        ∙ sym (ap (λ (x : Option Call). hear_in mode p x t2 (record {
+          place = place;
+          told = o;
+          action = action;
+          rules = rules;
+        })) at)
+
     -- its files were used, or the step has counted one
     heard_used : (place : ℕ) (o : Told) (action : Action) (rules i file : ℕ)
         → has_file i file (hear mode p t (record {
@@ -214,22 +260,32 @@ module _ (laws : InodeLaws) (scene : Scene) (r : Naming) (a b : Moment)
         turn = turn_of o;
       }
 
+      -- the reply of the second list
+      abbrev q : Placed
+      q = reply2 laws scene r a b alike g.inode s there d
+
       -- an event with this outcome, or none if the step is blocked
       told_alike : (o : Option Told)
           → outcome (inode_of scene s) a.state.list d (past (journal_at a.state g.inode)) ≡ o
           → MoveAlike scene a b n (event_with a.state t (who_at n p t.mind) d place o)
-          (event_with b.state t2 (who_at n p t.mind) (deed_named (r g.inode) d) place2 o)
+          (event_with b.state t2 (who_at n p t.mind) (deed_named (r g.inode) d) place2
+          (option_map (told_with q) o))
       told_alike None out = inl (refl, refl)
       told_alike (Some o) out =
           let both = event_alike laws scene r a b alike g.inode s there n (who_at n p t.mind) d o
           (hear mode p t (record { place = place; told = o; action = action; rules = rules }))
-          (hear mode p t2 (record { place = place2; told = o; action = action; rules = rules }))
+          (hear mode p t2 (record {
+            place = place2;
+            told = told_with q o;
+            action = action;
+            rules = rules;
+          }))
           is out named files in
           inr (refl, (refl, (r2, both)))
         where
           named : hear mode p t2 (record {
             place = place2;
-            told = o;
+            told = told_with q o;
             action = action;
             rules = rules;
           }) ≡ thought_named r2 (hear mode p t (record {
@@ -240,7 +296,8 @@ module _ (laws : InodeLaws) (scene : Scene) (r : Naming) (a b : Moment)
           }))
           named =
               let agree = keeps_names laws scene r a b alike g.inode s there in
-              heard_named r2 place place2 o action rules agree
+              heard_reply q place2 o action rules
+              ∙ heard_named r2 place place2 o action rules agree
               (file_named (r2 g.inode) g.due.ask place place2 g.file (r g.inode g.file)
               (naming_new r g.inode place place2) (agree g.inode g.file g_used))
 

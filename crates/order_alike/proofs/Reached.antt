@@ -20,16 +20,17 @@ use Rattle.order_alike.specs.Alike.{AreSound, IsAlikeBy, IsInodeAlike, IsRenamed
 use Rattle.order_alike.specs.Laws.{ReachedAreSound}
 use Rattle.order_alike.specs.Names.{Naming, has_file, is_used, thought_named}
 use Rattle.order_alike.proofs.InodeLaws.{InodeLaws}
+use Rattle.order_alike.proofs.InodeLists.{lists_itself}
 use Rattle.order_alike.proofs.MomentTasks.{turn_alike}
 
 -- ---- the first moment
 
 -- each file has its own name
-abbrev own : Naming
+abbrev pub own : Naming
 own i file = file
 
 -- tasks that haven't begun
-abbrev starts : List Program → List Thought
+abbrev pub starts : List Program → List Thought
 starts programs = map (λ (p : Program). start) programs
 
 -- have no files
@@ -44,7 +45,7 @@ starts_unused i file [] = refl
 starts_unused i file (p ∷ ps) = starts_unused i file ps
 
 -- so only the name of files that aren't counted yet is used
-start_used : (i file : ℕ) (programs : List Program) → is_used (starts programs) i file ≡ true
+pub start_used : (i file : ℕ) (programs : List Program) → is_used (starts programs) i file ≡ true
     → file ≡ 0
 start_used i file programs u = at (file == 0) refl u where
   at : (b : Bool) → (file == 0) ≡ b
@@ -64,12 +65,13 @@ birth_sound inode list s = record {
 }
 
 -- and alike to itself
-birth_alike : (inode : Inode) (list : List Entry) (used : ℕ → Bool) (s : Station)
+pub birth_alike : (inode : Inode) (list list2 : List Entry) (used : ℕ → Bool) (s : Station)
     → ((file : ℕ) → used file ≡ true → file ≡ 0)
-    → IsInodeAlike inode list used (λ file. file) (newborn s) (newborn s)
-birth_alike inode list used s zero_used = record {
+    → IsInodeAlike inode list list2 used (λ file. file) (newborn s) (newborn s)
+unfolding past
+birth_alike inode list list2 used s zero_used = record {
   sound = birth_sound inode list s;
-  sound2 = birth_sound inode list s;
+  sound2 = birth_sound inode list2 s;
   below = λ file u. let is = zero_used file u in omega arith;
   below2 = λ file u. let is = zero_used file u in omega arith;
   apart = λ f g uf ug. refl;
@@ -90,7 +92,7 @@ birth_alike inode list used s zero_used = record {
   collection = refl;
   digests = refl;
   verdicts = λ key. refl;
-  places = refl;
+  shown = λ bytes. refl;
   told = λ task n. refl;
   listed = λ task n. refl;
 }
@@ -110,11 +112,12 @@ start_alike scene = record {
   thoughts = starts_named scene.programs;
   inodes = λ i s at.
       subst (λ (j : List Event). IsInodeAlike (inode_of scene s) (scene.boot ∷ [])
-      (is_used (starts scene.programs) i) (λ file. file) j j)
+      (scene.boot ∷ []) (is_used (starts scene.programs) i) (λ file. file) j j)
       (sym (first_journal scene.stations i s at))
-      (birth_alike (inode_of scene s) (scene.boot ∷ []) (is_used (starts scene.programs) i) s
+      (birth_alike (inode_of scene s) (scene.boot ∷ []) (scene.boot ∷ [])
+      (is_used (starts scene.programs) i) s
       (λ file u. start_used i file scene.programs u));
-  list = refl;
+  lists = lists_itself (scene.boot ∷ []);
   added = refl;
   semaphores = λ sem. refl;
 }

@@ -1,8 +1,10 @@
 -- When two moments of a script's run are alike: the same was told so far, and the same can follow.
--- What decides the next steps is what a journal says of its inode, and not the order of its events.
--- A file is named by the place of its count, which depends on that order: the files of the second
--- moment are those of the first under other names.
+-- What decides the next steps is what a journal says of its inode, and not the order of its events,
+-- and which entries the measurement list has, and not their order. A file is named by the place of
+-- its count, which depends on the order of events: the files of the second moment are those of the
+-- first under other names.
 use Rattle.std.specs.Prelude.{◌≡◌, ℕ, ◌+◌, ◌==◌, ◌<◌, ◌≤◌, ◌⊎◌, All, Bool, true, List, [], ◌∷◌, length, map, Option, Some, None, option_map, slice_get}
+use Rattle.std.specs.List.{find}
 use Rattle.order_outcomes.specs.reports.model.Scene.{Scene, Station, inode_of}
 use Rattle.order_outcomes.specs.reports.model.Turns.{Moment, journal_at}
 use Rattle.order_outcomes.specs.reports.model.events.Checks.{Check, last_check, no_action}
@@ -18,9 +20,33 @@ use Rattle.order_outcomes.specs.reports.model.events.declared.told.Event.{Event}
 use Rattle.order_outcomes.specs.reports.model.events.hashes.declared.algo.Algo.{Algo}
 use Rattle.order_outcomes.specs.reports.model.events.hashes.declared.digest.Digest.{Digest}
 use Rattle.order_outcomes.specs.reports.model.events.policy.declared.rule.Func.TheVariants as func
+use Rattle.order_outcomes.specs.reports.model.events.templates.Same.{same}
 use Rattle.order_outcomes.specs.reports.model.events.templates.declared.entry.Entry.{Entry}
-use Rattle.order_outcomes.specs.Calls.{listed_in, place_told, verdict_in}
+use Rattle.order_outcomes.specs.Calls.{is_listed, listed_in, place_told, verdict_in}
+use Rattle.order_outcomes.specs.Outcome.{lines_of}
+use Rattle.order_outcomes.specs.declared.lines.Kind.{Kind}
 use Rattle.order_alike.specs.Names.{Naming, is_used, thought_named}
+
+-- ---- the measurement list
+
+-- the first entry that is the same as e
+abbrev pub found_in : List Entry → Entry → Option Entry
+found_in list e = find (λ earlier. same earlier e) list
+
+-- the list has the entry
+abbrev pub IsIn : List Entry → Entry → Type 0
+IsIn list e = (place : ℕ) × (slice_get list place ≡ Some e)
+
+-- the list has all entries of the other one
+abbrev pub AreIn : List Entry → List Entry → Type 0
+AreIn list other = (place : ℕ) (e : Entry) → slice_get other place ≡ Some e → IsIn list e
+
+-- the lists have the same entries, in any order
+pub record AreListsAlike (list list2 : List Entry) : Type 0 where
+  -- an outcome tells them as sets of lines
+  pub lines : (kind : Kind) → lines_of kind list2 ≡ lines_of kind list
+  -- the same is found of an entry that is to be added
+  pub found : (e : Entry) → found_in list2 e ≡ found_in list e
 
 -- ---- an inode
 
@@ -84,12 +110,12 @@ pub record IsSound (inode : Inode) (list : List Entry) (p : List Event) : Type 0
   pub digests : HaveBegun (length p) (in_force inode p)
   pub places : All (λ place. place < length list) (places_in p)
 
--- The inode by its journals in the two moments, oldest event first. `used` are the files that tasks
--- have in the first moment, and `r` gives their names in the second
-pub record IsInodeAlike (inode : Inode) (list : List Entry) (used : ℕ → Bool) (r : ℕ → ℕ)
+-- The inode by the lists and its journals in the two moments, oldest event first. `used` are the
+-- files that tasks have in the first moment, and `r` gives their names in the second
+pub record IsInodeAlike (inode : Inode) (list list2 : List Entry) (used : ℕ → Bool) (r : ℕ → ℕ)
     (journal journal2 : List Event) : Type 0 where
   pub sound : IsSound inode list (past journal)
-  pub sound2 : IsSound inode list (past journal2)
+  pub sound2 : IsSound inode list2 (past journal2)
   -- its files
   pub below : (file : ℕ) → used file ≡ true → file < length journal
   pub below2 : (file : ℕ) → used file ≡ true → r file < length journal2
@@ -117,10 +143,11 @@ pub record IsInodeAlike (inode : Inode) (list : List Entry) (used : ℕ → Bool
   pub verdicts : (key : Key)
       → verdict_in_force inode key (past journal2) ≡ verdict_in_force inode key (past journal)
   -- what calls were told
-  pub places : places_in (past journal2) ≡ places_in (past journal)
+  pub shown : (bytes : List ℕ)
+      → is_listed list2 bytes (past journal2) ≡ is_listed list bytes (past journal)
   pub told : (task n : ℕ) → verdict_in task n journal2 ≡ verdict_in task n journal
   pub listed : (task n : ℕ)
-      → listed_in list task n (past journal2) ≡ listed_in list task n (past journal)
+      → listed_in list2 task n (past journal2) ≡ listed_in list task n (past journal)
 
 -- ---- a moment
 
@@ -131,16 +158,16 @@ pub record IsAlikeBy (scene : Scene) (r : Naming) (a b : Moment) : Type 0 where
   pub elsewhere : (i : ℕ) → slice_get scene.stations i ≡ None → (file : ℕ) → r i file ≡ file
   pub thoughts : b.thoughts ≡ map (thought_named r) a.thoughts
   pub inodes : (i : ℕ) (s : Station) → slice_get scene.stations i ≡ Some s
-      → IsInodeAlike (inode_of scene s) a.state.list (is_used a.thoughts i) (r i)
+      → IsInodeAlike (inode_of scene s) a.state.list b.state.list (is_used a.thoughts i) (r i)
       (journal_at a.state i) (journal_at b.state i)
-  pub list : b.state.list ≡ a.state.list
+  pub lists : AreListsAlike a.state.list b.state.list
   pub added : b.state.added ≡ a.state.added
   -- each semaphore has as many more posts than waits in one moment as in the other
   pub semaphores : (sem : ℕ)
       → posts sem (past b.state.signals) + waits sem (past a.state.signals)
       ≡ posts sem (past a.state.signals) + waits sem (past b.state.signals)
 
--- the moments differ only in the names of their files
+-- the moments differ only in the names of their files and in the order of their lists
 abbrev pub IsRenamed : Scene → Moment → Moment → Type 0
 IsRenamed scene a b = (r : Naming) × IsAlikeBy scene r a b
 

@@ -1,5 +1,5 @@
 -- Moments that are alike, and moments that aren't.
-use Rattle.std.specs.Prelude.{ℕ, false, List, [], ◌∷◌, ◌++◌}
+use Rattle.std.specs.Prelude.{ℕ, false, true, List, [], ◌∷◌, ◌++◌, codes}
 use Rattle.order_outcomes.specs.Examples.{boot, scene, station, step, task}
 use Rattle.order_outcomes.specs.reports.model.Scene.{Program, Scene}
 use Rattle.order_outcomes.specs.reports.model.Turns.{Moment, newborn, start_of, turns_of}
@@ -9,6 +9,9 @@ use Rattle.order_outcomes.specs.reports.model.events.declared.deed.Deed.TheVaria
 use Rattle.order_outcomes.specs.reports.model.events.declared.deed.How.TheVariants as how
 use Rattle.order_outcomes.specs.reports.model.events.declared.told.Told.{Told}
 use Rattle.order_outcomes.specs.reports.model.events.declared.told.Told.TheVariants as told
+use Rattle.order_outcomes.specs.reports.model.events.hashes.Digest.{zero_digest}
+use Rattle.order_outcomes.specs.reports.model.events.hashes.declared.algo.Algo.TheVariants.{Sha256}
+use Rattle.order_outcomes.specs.reports.model.events.meta.declared.measurement.Template.TheVariants.{ImaNg}
 use Rattle.order_outcomes.specs.reports.model.events.templates.declared.entry.Entry.{Entry}
 use Rattle.order_outcomes.specs.reports.model.steps.declared.call.Call.TheVariants as call
 use Rattle.order_alike.specs.Alike.{IsAlike}
@@ -30,10 +33,21 @@ with_event d t = record (start_of readers) {
   state = record (start_of readers).state { journals = (newborn station ++ step 0 d t ∷ []) ∷ [] };
 }
 
--- the first moment with one more entry in the list
-abbrev pub with_entry : Entry → Moment
-with_entry e = record (start_of readers) {
-  state = record (start_of readers).state { list = boot ∷ e ∷ [] };
+-- the first moment with more entries in the list
+abbrev pub with_entries : List Entry → Moment
+with_entries entries = record (start_of readers) {
+  state = record (start_of readers).state { list = boot ∷ entries };
+}
+
+-- a violation of the file, in this register
+abbrev pub violation : ℕ → Entry
+violation pcr = record {
+  pcr = pcr;
+  template = ImaNg;
+  digest = zero_digest Sha256;
+  name = codes "/a";
+  sig = [];
+  violation = true;
 }
 
 -- the moment isn't alike to the first one
@@ -52,4 +66,7 @@ pub record AlikeExamples : Type 0 where
   pub other_content : IsOther (with_event (deed.Trunc 0 2) told.Done)
   pub other_mode : IsOther (with_event (deed.SetMeta (change.Mode 0)) told.Done)
   -- a list with an entry more
-  pub other_list : IsOther (with_entry boot)
+  pub other_list : IsOther (with_entries (violation 10 ∷ []))
+  -- the same entries in another order, and one of them twice
+  pub other_order : IsAlike readers (with_entries (violation 10 ∷ violation 11 ∷ []))
+      (with_entries (violation 11 ∷ violation 10 ∷ violation 11 ∷ []))

@@ -11,3 +11,6 @@ pub mod Meeting
 pub mod Founding
 pub mod Scenes
 pub mod Playing
+pub mod Taking
+pub mod Listing
+pub mod Pages

@@ -1,6 +1,6 @@
 -- Moments of which the code finds that they can be met as one are alike.
 use Rattle.std.proofs.Common.{◌≡◌, ℕ, zero, suc, ◌+◌, ◌<◌, ◌≤◌, Bool, true, false, ◌==◌, List, [], ◌∷◌, length, map, get_or, Option, Some, None, option_map, refl, ap, sym, subst, ◌∙◌, ◌⊎◌, inl, inr, slice_get, arith}
-use Rattle.std.specs.Prelude.{All}
+use Rattle.std.specs.Prelude.{All, reverse}
 use Rattle.std.proofs.lemmas.Option.{get_or_from_slice_get, none-some, same_Some, slice_get-map, slice_get_within}
 use Rattle.call_steps.specs.declared.call.Call.{Call}
 use Rattle.ending_laws.proofs.Totals.{count_past, counted_when_reached}
@@ -26,7 +26,8 @@ use Rattle.inode_state.specs.declared.state.State.{State as InodeState}
 use Rattle.inode_state.specs.declared.verdicts.Kept.{Kept}
 use Rattle.journal_laws.proofs.Fresh.{Fresh}
 use Rattle.journal_laws.proofs.FreshSteps.{freshness_lem}
-use Rattle.order_alike.specs.Alike.{IsAlike, IsAlikeBy, IsInodeAlike, IsSound, digests_seen, places_in, unchecked}
+use Rattle.order_alike.specs.Alike.{AreIn, AreListsAlike, IsAlike, IsAlikeBy, IsIn, IsInodeAlike, IsSound, digests_seen, places_in, unchecked}
+use Rattle.order_alike.proofs.Entries.{lists_alike}
 use Rattle.order_alike.specs.Names.{is_used, thought_named}
 use Rattle.order_outcomes.specs.Orders.{left_at}
 use Rattle.run_model.specs.Ended.{answered, answered_by, how_many, posted, posts_to, waited, waits_for}
@@ -42,20 +43,23 @@ use Rattle.order_sights.specs.Pairs.{AreThoughtsPaired, are_apart, are_within, h
 use Rattle.order_sights.specs.Sights.{AreInodesSame, IsInodeSame, IsSight}
 use Rattle.order_sights.specs.declared.pairs.Pair.{Pair}
 use Rattle.order_sights.specs.declared.sight.Sight.{Sight}
+use Rattle.order_sights.proofs.Listing.{shown_same}
 use Rattle.order_sights.proofs.Naming.{named_apart, named_elsewhere, named_is, passed_all, thoughts_are, used_in}
 use Rattle.order_sights.proofs.Saying.{listed_same, told_same, unchecked_beyond}
+use Rattle.order_sights.proofs.Taking.{taken_is}
+use Rattle.order_sights.proofs.Telling.{All-reverse}
 use Rattle.order_sights.proofs.Walks.{length_past}
 use Rattle.order_sights.proofs.Seen.{collection_is, force_is, has_begun, have_begun}
 
 -- ---- an inode, by its journals
 
-module _ (inode : Inode) (list : List Entry) (pairs : List Pair) (i : ℕ) (j j2 : List Event)
+module _ (inode : Inode) (list list2 : List Entry) (pairs : List Pair) (i : ℕ) (j j2 : List Event)
     (used : ℕ → Bool) (apart : are_apart pairs ≡ true)
     (used_is : (f : ℕ) → used f ≡ true → (g : ℕ) × (has_pair pairs i f g ≡ true))
     (follows : EachFollows inode (past j)) (follows2 : EachFollows inode (past j2))
     (a b : CellValue) (cells : IsCellSame a b) (is : a.list ≡ j) (is2 : b.list ≡ j2)
     (own : a.inode ≡ inode) (own2 : b.inode ≡ inode)
-    (h : AreJournalsSame list pairs i (ended_inode inode j) (ended_inode inode j2)) where
+    (h : AreJournalsSame list list2 pairs i (ended_inode inode j) (ended_inode inode j2)) where
   state : IsState inode (past j) cells.first
   state = subst (λ (x : Inode). IsState x (past j) cells.first) own
       (subst (λ (x : List Event). IsState a.inode (past x) cells.first) is cells.state)
@@ -74,23 +78,29 @@ module _ (inode : Inode) (list : List Entry) (pairs : List Pair) (i : ℕ) (j j2
   fresh2 : Fresh inode (past j2)
   fresh2 = freshness_lem inode (past j2) follows2
 
+  -- the places of a journal are in the list
+  placed : (l : List Entry) (p : List Event) (places : List ℕ) → reverse places ≡ places_in p
+      → All (λ place. place < length l) places → All (λ place. place < length l) (places_in p)
+  placed l p places told below =
+      subst (λ (ps : List ℕ). All (λ place. place < length l) ps) told
+      (All-reverse (λ place. place < length l) places below)
+
   sound : IsSound inode list (past j)
   sound = record {
     files = λ file le. unchecked_beyond file (length j) j h.files.checks
         (subst (λ n. n ≤ file) (length_past j) le);
     collection = has_begun inode (past j) (collecting inode (past j)) fresh.collection_is;
     digests = have_begun inode (past j) (in_force inode (past j)) fresh.digests_is;
-    places = h.places.below;
+    places = placed list (past j) h.entries.places h.entries.told h.entries.below;
   }
 
-  sound2 : IsSound inode list (past j2)
+  sound2 : IsSound inode list2 (past j2)
   sound2 = record {
     files = λ file le. unchecked_beyond file (length j2) j2 h.files.checks2
         (subst (λ n. n ≤ file) (length_past j2) le);
     collection = has_begun inode (past j2) (collecting inode (past j2)) fresh2.collection_is;
     digests = have_begun inode (past j2) (in_force inode (past j2)) fresh2.digests_is;
-    places = subst (λ (ps : List ℕ). All (λ p. p < length list) ps) (sym h.places.same)
-        h.places.below;
+    places = placed list2 (past j2) h.entries.places2 h.entries.told2 h.entries.below2;
   }
 
   -- what the pair of a used file says
@@ -106,7 +116,7 @@ module _ (inode : Inode) (list : List Entry) (pairs : List Pair) (i : ℕ) (j j2
         ),
       )
 
-  pub inode_alike : IsInodeAlike inode list used (named pairs i) j j2
+  pub inode_alike : IsInodeAlike inode list list2 used (named pairs i) j j2
   inode_alike = record {
     sound = sound;
     sound2 = sound2;
@@ -143,10 +153,10 @@ module _ (inode : Inode) (list : List Entry) (pairs : List Pair) (i : ℕ) (j j2
         ∙ state.marks.update;
     modified = sym state2.writes.in_span ∙ cells.same.in_span ∙ state.writes.in_span;
     collection = collection_is inode (past j) (past j2) cells.first.writes.last
-        cells.second.writes.last state.writes.since state2.writes.since same_content
+        cells.second.writes.last state.writes.since state2.writes.since h.taken
         cells.first.collecting cells.second.collecting (collecting inode (past j))
         (collecting inode (past j2)) state.collecting state2.collecting cells.same.collecting
-        fresh.collection_is fresh2.collection_is;
+        (taken_is inode (past j)) (taken_is inode (past j2));
     digests = ap (option_map (digests_seen (past j2))) (sym state2.in_force)
         ∙ force_is (past j2) cells.second.writes.last state2.writes.since cells.second.in_force
         ∙ cells.same.force
@@ -154,9 +164,9 @@ module _ (inode : Inode) (list : List Entry) (pairs : List Pair) (i : ℕ) (j j2
         ∙ ap (option_map (digests_seen (past j))) state.in_force;
     verdicts = λ key. state2.verdicts key ∙ ap (found key) cells.same.verdicts
         ∙ sym (state.verdicts key);
-    places = h.places.same;
-    told = told_same list (ended_inode inode j) (ended_inode inode j2) h.calls h.calls2;
-    listed = listed_same list (ended_inode inode j) (ended_inode inode j2) h.calls h.calls2;
+    shown = shown_same list list2 j j2 h.entries;
+    told = told_same list list2 (ended_inode inode j) (ended_inode inode j2) h.calls h.calls2;
+    listed = listed_same list list2 (ended_inode inode j) (ended_inode inode j2) h.calls h.calls2;
   }
 
 -- there is nothing from the end of a list on
@@ -235,7 +245,8 @@ module _ (scene : Scene) (m : Moment) (s : Sight) (sight : IsSight scene m s) wh
 
 module _ (scene : Scene) (m n : Moment) (a b : Sight) (one : IsSight scene m a)
     (two : IsSight scene n b) (pairs : List Pair) (apart : are_apart pairs ≡ true)
-    (within : are_within (length a.ended.inodes) pairs ≡ true) (list : b.ended.list ≡ a.ended.list)
+    (within : are_within (length a.ended.inodes) pairs ≡ true)
+    (there : AreIn b.ended.list a.ended.list) (back : AreIn a.ended.list b.ended.list)
     (added : a.ended.rules ≡ []) (added2 : b.ended.rules ≡ [])
     (tasks : AreThoughtsPaired pairs (map thought_of a.tasks.items)
     (map thought_of b.tasks.items))
@@ -253,8 +264,17 @@ module _ (scene : Scene) (m n : Moment) (a b : Sight) (one : IsSight scene m a)
   list_is : a.ended.list ≡ m.state.list
   list_is = ap (λ (e : EndedValue). e.list) one.left
 
-  lists : n.state.list ≡ m.state.list
-  lists = sym (ap (λ (e : EndedValue). e.list) two.left) ∙ list ∙ list_is
+  list_is2 : b.ended.list ≡ n.state.list
+  list_is2 = ap (λ (e : EndedValue). e.list) two.left
+
+  -- the lists have the same entries
+  lists : AreListsAlike m.state.list n.state.list
+  lists =
+      lists_alike m.state.list n.state.list one.finished.merged.distinct
+      (λ place e at. subst (λ (l : List Entry). IsIn l e) list_is2
+      (there place e (ap (λ (l : List Entry). slice_get l place) list_is ∙ at)))
+      (λ place e at. subst (λ (l : List Entry). IsIn l e) list_is
+      (back place e (ap (λ (l : List Entry). slice_get l place) list_is2 ∙ at)))
 
   rules : n.state.added ≡ m.state.added
   rules = sym (ap (λ (e : EndedValue). e.rules) two.left) ∙ added2 ∙ sym added
@@ -286,31 +306,34 @@ module _ (scene : Scene) (m n : Moment) (a b : Sight) (one : IsSight scene m a)
       (slice_get_within scene.stations i st at))
 
   journals : (i : ℕ) (st : Station) (at : slice_get scene.stations i ≡ Some st)
-      → AreJournalsSame m.state.list pairs i
+      → AreJournalsSame m.state.list n.state.list pairs i
       (ended_inode (inode_of scene st) (here i st at).cell.list)
       (ended_inode (inode_of scene st) (here i st at).cell2.list)
   journals i st at =
       let x = here i st at in
-      subst (λ (l : List Entry). AreJournalsSame l pairs i
+      subst (λ (l : List Entry). AreJournalsSame l n.state.list pairs i
       (ended_inode (inode_of scene st) x.cell.list)
       (ended_inode (inode_of scene st) x.cell2.list)) list_is
+      (subst (λ (l : List Entry). AreJournalsSame a.ended.list l pairs i
+      (ended_inode (inode_of scene st) x.cell.list)
+      (ended_inode (inode_of scene st) x.cell2.list)) list_is2
       (x.journals (ended_inode (inode_of scene st) x.cell.list)
       (ended_inode (inode_of scene st) x.cell2.list)
       (ended_is scene m a one i st at x.cell x.at)
-      (ended_is scene n b two i st at x.cell2 x.at2))
+      (ended_is scene n b two i st at x.cell2 x.at2)))
 
   inode_there : (i : ℕ) (st : Station) → slice_get scene.stations i ≡ Some st
-      → IsInodeAlike (inode_of scene st) m.state.list (is_used m.thoughts i) (named pairs i)
-      (journal_at m.state i) (journal_at n.state i)
+      → IsInodeAlike (inode_of scene st) m.state.list n.state.list (is_used m.thoughts i)
+      (named pairs i) (journal_at m.state i) (journal_at n.state i)
   inode_there i st at =
       let x = here i st at in
-      subst (λ (j2 : List Event). IsInodeAlike (inode_of scene st) m.state.list
+      subst (λ (j2 : List Event). IsInodeAlike (inode_of scene st) m.state.list n.state.list
       (is_used m.thoughts i) (named pairs i) (journal_at m.state i) j2)
       (sym (journal_there scene n b two i st at x.cell2 x.at2))
-      (subst (λ (j : List Event). IsInodeAlike (inode_of scene st) m.state.list
+      (subst (λ (j : List Event). IsInodeAlike (inode_of scene st) m.state.list n.state.list
       (is_used m.thoughts i) (named pairs i) j x.cell2.list)
       (sym (journal_there scene m a one i st at x.cell x.at))
-      (inode_alike (inode_of scene st) m.state.list pairs i x.cell.list x.cell2.list
+      (inode_alike (inode_of scene st) m.state.list n.state.list pairs i x.cell.list x.cell2.list
       (is_used m.thoughts i) apart
       (λ f u. used_in pairs apart i f m.thoughts n.thoughts thoughts
       (journals i st at).files.uncounted u)
@@ -333,7 +356,7 @@ module _ (scene : Scene) (m n : Moment) (a b : Sight) (one : IsSight scene m a)
       elsewhere = elsewhere;
       thoughts = named_thoughts;
       inodes = inode_there;
-      list = lists;
+      lists = lists;
       added = rules;
       semaphores = λ sem. (λ k. same_posted sem k + sym (same_waited sem) k);
     },

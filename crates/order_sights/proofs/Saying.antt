@@ -119,11 +119,11 @@ module _ (P : Event → Type 0) (task n : ℕ) where
             ),
           )
 
-module _ (list : List Entry) (x y : EndedInodeValue)
-    (calls : All (IsCallSame list (x ∷ []) (y ∷ [])) x.journal)
-    (calls2 : All (IsCallSame list (x ∷ []) (y ∷ [])) y.journal) where
+module _ (list list2 : List Entry) (x y : EndedInodeValue)
+    (calls : All (IsCallSame list list2 (x ∷ []) (y ∷ [])) x.journal)
+    (calls2 : All (IsCallSame list list2 (x ∷ []) (y ∷ [])) y.journal) where
   -- an event with the call's verdict says that the verdicts are the same
-  verdict_at : (task n : ℕ) (e : Event) → IsCallSame list (x ∷ []) (y ∷ []) e
+  verdict_at : (task n : ℕ) (e : Event) → IsCallSame list list2 (x ∷ []) (y ∷ []) e
       → e.who.task ≡ task → e.who.call ≡ n → is_grant e.told ≡ true
       → verdict_in task n y.journal ≡ verdict_in task n x.journal
   verdict_at task n e same is is2 grant =
@@ -135,48 +135,48 @@ module _ (list : List Entry) (x y : EndedInodeValue)
 
   pub told_same : (task n : ℕ) → verdict_in task n y.journal ≡ verdict_in task n x.journal
   told_same task n =
-      by (verdict_found (IsCallSame list (x ∷ []) (y ∷ [])) task n x.journal calls)
-      (verdict_found (IsCallSame list (x ∷ []) (y ∷ [])) task n y.journal calls2)
+      by (verdict_found (IsCallSame list list2 (x ∷ []) (y ∷ [])) task n x.journal calls)
+      (verdict_found (IsCallSame list list2 (x ∷ []) (y ∷ [])) task n y.journal calls2)
     where
-      by : (verdict_in task n x.journal ≡ None) ⊎ ((e : Event) × (IsCallSame list (x ∷ [])
+      by : (verdict_in task n x.journal ≡ None) ⊎ ((e : Event) × (IsCallSame list list2 (x ∷ [])
           (y ∷ []) e × ((e.who.task ≡ task) × ((e.who.call ≡ n) × (is_grant e.told ≡ true)))))
-          → (verdict_in task n y.journal ≡ None) ⊎ ((e : Event) × (IsCallSame list (x ∷ [])
+          → (verdict_in task n y.journal ≡ None) ⊎ ((e : Event) × (IsCallSame list list2 (x ∷ [])
           (y ∷ []) e × ((e.who.task ≡ task) × ((e.who.call ≡ n) × (is_grant e.told ≡ true)))))
           → verdict_in task n y.journal ≡ verdict_in task n x.journal
       by (inr f) other = verdict_at task n f.0 f.1.0 f.1.1.0 f.1.1.1.0 f.1.1.1.1
       by (inl none) (inr f) = verdict_at task n f.0 f.1.0 f.1.1.0 f.1.1.1.0 f.1.1.1.1
       by (inl none) (inl none2) = none2 ∙ sym none
 
-  listed_at : (task n : ℕ) (e : Event) → IsCallSame list (x ∷ []) (y ∷ []) e
+  listed_at : (task n : ℕ) (e : Event) → IsCallSame list list2 (x ∷ []) (y ∷ []) e
       → e.who.task ≡ task → e.who.call ≡ n → is_read e.deed ≡ true
-      → listed_in list task n (past y.journal) ≡ listed_in list task n (past x.journal)
+      → listed_in list2 task n (past y.journal) ≡ listed_in list task n (past x.journal)
   listed_at task n e same is is2 read =
-      sym (or_none (listed_in list task n (past y.journal)))
-      ∙ (λ k. option_or (listed_in list (sym is k) (sym is2 k) (past y.journal)) None)
+      sym (or_none (listed_in list2 task n (past y.journal)))
+      ∙ (λ k. option_or (listed_in list2 (sym is k) (sym is2 k) (past y.journal)) None)
       ∙ same.listed read
       ∙ (λ k. option_or (listed_in list (is k) (is2 k) (past x.journal)) None)
       ∙ or_none (listed_in list task n (past x.journal))
 
-  past_calls : (j : List Event) → All (IsCallSame list (x ∷ []) (y ∷ [])) j
-      → All (IsCallSame list (x ∷ []) (y ∷ [])) (past j)
+  past_calls : (j : List Event) → All (IsCallSame list list2 (x ∷ []) (y ∷ [])) j
+      → All (IsCallSame list list2 (x ∷ []) (y ∷ [])) (past j)
   unfolding past
-  past_calls j h = All-reverse (IsCallSame list (x ∷ []) (y ∷ [])) j h
+  past_calls j h = All-reverse (IsCallSame list list2 (x ∷ []) (y ∷ [])) j h
 
   pub listed_same : (task n : ℕ)
-      → listed_in list task n (past y.journal) ≡ listed_in list task n (past x.journal)
+      → listed_in list2 task n (past y.journal) ≡ listed_in list task n (past x.journal)
   listed_same task n =
-      by (listed_found (IsCallSame list (x ∷ []) (y ∷ [])) task n list (past x.journal)
+      by (listed_found (IsCallSame list list2 (x ∷ []) (y ∷ [])) task n list (past x.journal)
       (past_calls x.journal calls))
-      (listed_found (IsCallSame list (x ∷ []) (y ∷ [])) task n list (past y.journal)
+      (listed_found (IsCallSame list list2 (x ∷ []) (y ∷ [])) task n list2 (past y.journal)
       (past_calls y.journal calls2))
     where
-      by : (listed_in list task n (past x.journal) ≡ None) ⊎ ((e : Event) × (IsCallSame list
+      by : (listed_in list task n (past x.journal) ≡ None) ⊎ ((e : Event) × (IsCallSame list list2
           (x ∷ []) (y ∷ []) e × ((e.who.task ≡ task) × ((e.who.call ≡ n)
           × (is_read e.deed ≡ true)))))
-          → (listed_in list task n (past y.journal) ≡ None) ⊎ ((e : Event) × (IsCallSame list
+          → (listed_in list2 task n (past y.journal) ≡ None) ⊎ ((e : Event) × (IsCallSame list list2
           (x ∷ []) (y ∷ []) e × ((e.who.task ≡ task) × ((e.who.call ≡ n)
           × (is_read e.deed ≡ true)))))
-          → listed_in list task n (past y.journal) ≡ listed_in list task n (past x.journal)
+          → listed_in list2 task n (past y.journal) ≡ listed_in list task n (past x.journal)
       by (inr f) other = listed_at task n f.0 f.1.0 f.1.1.0 f.1.1.1.0 f.1.1.1.1
       by (inl none) (inr f) = listed_at task n f.0 f.1.0 f.1.1.0 f.1.1.1.0 f.1.1.1.1
       by (inl none) (inl none2) = none2 ∙ sym none

@@ -14,6 +14,9 @@ use Rattle.inode_state.specs.declared.in_force.InForce.{InForce}
 use Rattle.journal_laws.proofs.Fresh.{CollectionIs, DigestsIs}
 use Rattle.order_alike.specs.Alike.{CollectionSeen, DigestsSeen, HasBegun, HaveBegun, collection_seen, digests_seen}
 use Rattle.order_sights.specs.States.{AreCollectionsSame, force_seen}
+use Rattle.order_sights.specs.Taken.{taken}
+use Rattle.order_sights.specs.TakenValue.{TakenValue}
+use Rattle.order_sights.proofs.Taking.{TakenIs}
 
 -- ---- what began
 
@@ -42,43 +45,29 @@ force_is p last since (Some f) =
 module _ (i : Inode) (p q : List Event) (last last2 : Option ℕ)
     (since : (place : ℕ) → modified_since place p ≡ reaches place last)
     (since2 : (place : ℕ) → modified_since place q ≡ reaches place last2)
-    (same : content q ≡ content p) where
-  -- two that took as many pieces of the content have the same bytes
+    (same : taken q ≡ taken p) where
+  -- two that have taken the same are seen alike
   both : (x y : Collecting) (c d : Collection) → short_seen x ≡ short_of c
       → short_seen y ≡ short_of d → AreCollectionsSame last last2 (Some x) (Some y)
-      → CollectionIs i p (Some c) → CollectionIs i q (Some d)
+      → TakenIs (Some c) (taken p) → TakenIs (Some d) (taken q)
       → collection_seen q d ≡ collection_seen p c
   both x y c d is is2 h k l = λ j. record {
     closing = (sym (ap (λ (s : Short). s.closing) is2) ∙ h.closing
         ∙ ap (λ (s : Short). s.closing) is) j;
     algo = (sym (ap (λ (s : Short). s.algo) is2) ∙ h.algo ∙ ap (λ (s : Short). s.algo) is) j;
-    pieces = pieces j;
-    bytes = (bytes2 ∙ (λ n. take (4096 * pieces n) (same n)) ∙ sym bytes) j;
+    pieces = (l.pieces ∙ ap (λ (t : TakenValue). t.pieces) same ∙ sym k.pieces) j;
+    bytes = (l.bytes ∙ ap (λ (t : TakenValue). t.bytes) same ∙ sym k.bytes) j;
     complete = (sym (ap (λ (s : Short). s.complete) is2) ∙ h.complete
         ∙ ap (λ (s : Short). s.complete) is) j;
-    stale = (stale2 ∙ sym stale) j;
+    stale = (since2 d.begin
+        ∙ ap (λ (n : ℕ). reaches n last2) (sym (ap (λ (s : Short). s.begin) is2)) ∙ h.stale
+        ∙ ap (λ (n : ℕ). reaches n last) (ap (λ (s : Short). s.begin) is)
+        ∙ sym (since c.begin)) j;
   }
-    where
-      pieces : d.pieces ≡ c.pieces
-      pieces = sym (ap (λ (s : Short). s.pieces) is2) ∙ h.pieces ∙ ap (λ (s : Short). s.pieces) is
-
-      stale : modified_since c.begin p ≡ false
-      stale = since c.begin
-          ∙ ap (λ (n : ℕ). reaches n last) (sym (ap (λ (s : Short). s.begin) is)) ∙ h.fresh
-
-      stale2 : modified_since d.begin q ≡ false
-      stale2 = since2 d.begin
-          ∙ ap (λ (n : ℕ). reaches n last2) (sym (ap (λ (s : Short). s.begin) is2)) ∙ h.fresh2
-
-      bytes : c.bytes ≡ take (4096 * c.pieces) (content p)
-      bytes = (k.2 stale).0
-
-      bytes2 : d.bytes ≡ take (4096 * d.pieces) (content q)
-      bytes2 = (l.2 stale2).0
 
   pub collection_is : (o u : Option Collecting) (c d : Option Collection)
       → shorts_seen o ≡ shortened c → shorts_seen u ≡ shortened d
-      → AreCollectionsSame last last2 o u → CollectionIs i p c → CollectionIs i q d
+      → AreCollectionsSame last last2 o u → TakenIs c (taken p) → TakenIs d (taken q)
       → option_map (collection_seen q) d ≡ option_map (collection_seen p) c
   collection_is None None None None is is2 h k l = refl
   collection_is None None None (Some d) is is2 h k l = absurd (none-some (short_of d) is2)

@@ -13,7 +13,8 @@ use Rattle.inode_state.specs.State.{IsState}
 use Rattle.inode_state.specs.declared.state.State.{State}
 use Rattle.order_sights.specs.Pairs.{has_pair}
 use Rattle.order_sights.specs.States.{IsStateSame}
-use Rattle.order_sights.specs.Told.{ArePlacesSame, IsCallSame, are_checks_below}
+use Rattle.order_sights.specs.Taken.{taken}
+use Rattle.order_sights.specs.Told.{AreEntriesSame, IsCallSame, are_checks_below}
 use Rattle.order_sights.specs.declared.pairs.Pair.{Pair}
 
 -- both journals have a place of the file's name, and say the same of it
@@ -33,13 +34,15 @@ pub record AreFilesSame (pairs : List Pair) (i : ℕ) (j j2 : List Event) : Type
   pub checks2 : are_checks_below (length j2) j2 ≡ true
   pub fit : All (FitsIfThere i j j2) pairs
 
--- the journals say the same of the files in pairs and of the calls
-pub record AreJournalsSame (list : List Entry) (pairs : List Pair) (i : ℕ) (x y : EndedInodeValue)
-    : Type 0 where
+-- the journals say the same of the files in pairs, of the entries that grants report, of what the
+-- open collection has taken, and of the calls
+pub record AreJournalsSame (list list2 : List Entry) (pairs : List Pair) (i : ℕ)
+    (x y : EndedInodeValue) : Type 0 where
   pub files : AreFilesSame pairs i x.journal y.journal
-  pub places : ArePlacesSame (length list) x.journal y.journal
-  pub calls : All (IsCallSame list (x ∷ []) (y ∷ [])) x.journal
-  pub calls2 : All (IsCallSame list (x ∷ []) (y ∷ [])) y.journal
+  pub entries : AreEntriesSame list list2 x.journal y.journal
+  pub taken : taken (past y.journal) ≡ taken (past x.journal)
+  pub calls : All (IsCallSame list list2 (x ∷ []) (y ∷ [])) x.journal
+  pub calls2 : All (IsCallSame list list2 (x ∷ []) (y ∷ [])) y.journal
 
 -- the states that follow from the journals are the same, but for their collections
 pub record IsCellSame (a b : CellValue) : Type 0 where

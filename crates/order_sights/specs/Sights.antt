@@ -2,6 +2,7 @@
 use Rattle.std.specs.Prelude.{◌≡◌, ℕ, ◌<◌, List, length, Some, slice_get}
 use Rattle.inode_cell.specs.Value.{CellValue}
 use Rattle.inode_events.specs.EndedInode.{EndedInodeValue}
+use Rattle.order_alike.specs.Alike.{AreIn}
 use Rattle.order_outcomes.specs.Orders.{left_at}
 use Rattle.run_model.specs.Scene.{Scene}
 use Rattle.run_model.specs.Turns.{Moment}
@@ -20,12 +21,17 @@ pub record IsSight (scene : Scene) (m : Moment) (s : Sight) : Type 0 where
   pub finished : IsFinished scene m
   pub even : length m.state.journals ≡ length scene.stations
 
--- the measurement lists are the same, with as many inodes and no appended rules
-pub record AreListsSame (a b : Sight) : Type 0 where
+-- there are as many inodes, and no appended rules
+pub record AreCountsSame (a b : Sight) : Type 0 where
   pub inodes : length a.ended.inodes ≡ length b.ended.inodes
   pub none : length a.ended.rules ≡ 0
   pub none2 : length b.ended.rules ≡ 0
-  pub list : a.ended.list ≡ b.ended.list
+
+-- and the measurement lists have the same entries
+pub record AreListsSame (a b : Sight) : Type 0 where
+  pub counts : AreCountsSame a b
+  pub there : AreIn b.ended.list a.ended.list
+  pub back : AreIn a.ended.list b.ended.list
 
 -- the inode of this number is the same as the next steps see it, and its journals say the same of
 -- the calls
@@ -36,7 +42,7 @@ pub record IsInodeSame (pairs : List Pair) (i : ℕ) (a b : Sight) : Type 0 wher
   pub at2 : IsCellAt b.world.frame b.world.state i (Some cell2)
   pub cells : IsCellSame cell cell2
   pub journals : (x y : EndedInodeValue) → slice_get a.ended.inodes i ≡ Some x
-      → slice_get b.ended.inodes i ≡ Some y → AreJournalsSame a.ended.list pairs i x y
+      → slice_get b.ended.inodes i ≡ Some y → AreJournalsSame a.ended.list b.ended.list pairs i x y
 
 abbrev pub AreInodesSame : List Pair → Sight → Sight → ℕ → Type 0
 AreInodesSame pairs a b end = (i : ℕ) → i < end → IsInodeSame pairs i a b

@@ -1,5 +1,5 @@
 -- The state of an inode in two moments, as the next steps see it.
-use Rattle.std.specs.Prelude.{◌≡◌, ℕ, Bool, false, Option, Some, None, is_none}
+use Rattle.std.specs.Prelude.{◌≡◌, ℕ, Bool, Option, Some, None, is_none}
 use Rattle.inode_state.specs.Writes.{reaches}
 use Rattle.inode_state.specs.declared.collecting.Collecting.{Collecting}
 use Rattle.inode_state.specs.declared.in_force.InForce.{InForce}
@@ -16,14 +16,13 @@ force_seen last (Some f) =
       stale = reaches f.begin last;
     })
 
--- the collections took the same number of pieces of what is still the content
+-- the collections took the same number of pieces, and both are stale or neither
 pub record IsCollectionSame (last last2 : Option ℕ) (c d : Collecting) : Type 0 where
   pub closing : is_none d.asked ≡ is_none c.asked
   pub algo : d.algo ≡ c.algo
   pub pieces : d.pieces ≡ c.pieces
   pub complete : d.complete ≡ c.complete
-  pub fresh : reaches c.begin last ≡ false
-  pub fresh2 : reaches d.begin last2 ≡ false
+  pub stale : reaches d.begin last2 ≡ reaches c.begin last
 
 abbrev pub AreCollectionsSame : Option ℕ → Option ℕ → Option Collecting → Option Collecting → Type 0
 AreCollectionsSame last last2 None None = Unit {0}

@@ -1,5 +1,5 @@
 -- What calls were told in two journals of an inode.
-use Rattle.std.specs.Prelude.{◌≡◌, ℕ, ◌<◌, nat_lt, All, Bool, true, false, List, length}
+use Rattle.std.specs.Prelude.{◌≡◌, ℕ, ◌<◌, nat_lt, All, Bool, true, false, List, length, reverse, Some, slice_get}
 use Rattle.std.specs.List.{list_all}
 use Rattle.inode_events.specs.EndedInode.{EndedInodeValue}
 use Rattle.inode_events.specs.Past.{past}
@@ -24,14 +24,34 @@ abbrev pub is_grant : Told → Bool
 is_grant (told.Grant grant) = true
 is_grant _ = false
 
--- the grants of the journals report the same places of a list with this length
-pub record ArePlacesSame (end : ℕ) (j j2 : List Event) : Type 0 where
-  pub same : places_in (past j2) ≡ places_in (past j)
-  pub below : All (λ place. place < end) (places_in (past j))
+-- ---- entries
+
+-- the entry is at one of these places
+abbrev pub IsAt : List Entry → List ℕ → Entry → Type 0
+IsAt list places e =
+    (k : ℕ) × ((place : ℕ) × ((slice_get places k ≡ Some place) × (slice_get list place ≡ Some e)))
+
+-- the entry at the place of the other list is at one of these places
+abbrev pub IsThere : List Entry → List ℕ → List Entry → ℕ → Type 0
+IsThere list places other place = (e : Entry) → slice_get other place ≡ Some e → IsAt list places e
+
+-- the grants of the journals report the same entries of the lists
+pub record AreEntriesSame (list list2 : List Entry) (j j2 : List Event) : Type 0 where
+  pub places : List ℕ
+  pub places2 : List ℕ
+  pub told : reverse places ≡ places_in (past j)
+  pub told2 : reverse places2 ≡ places_in (past j2)
+  pub below : All (λ place. place < length list) places
+  pub below2 : All (λ place. place < length list2) places2
+  pub there : All (IsThere list2 places2 list) places
+  pub back : All (IsThere list places list2) places2
+
+-- ---- calls
 
 -- the inodes say the same of the call of the event
-pub record IsCallSame (list : List Entry) (a b : List EndedInodeValue) (e : Event) : Type 0 where
-  pub verdict : is_grant e.told ≡ true
-      → verdict_of e.who.task e.who.call b ≡ verdict_of e.who.task e.who.call a
-  pub listed : is_read e.deed ≡ true
-      → listed_of list e.who.task e.who.call b ≡ listed_of list e.who.task e.who.call a
+pub record IsCallSame (list list2 : List Entry) (a b : List EndedInodeValue) (e : Event) : Type 0
+  where
+    pub verdict : is_grant e.told ≡ true
+        → verdict_of e.who.task e.who.call b ≡ verdict_of e.who.task e.who.call a
+    pub listed : is_read e.deed ≡ true
+        → listed_of list2 e.who.task e.who.call b ≡ listed_of list e.who.task e.who.call a

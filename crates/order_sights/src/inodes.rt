@@ -8,7 +8,8 @@ use crate::files::file_seen;
 use crate::pairs::{Pair, has_pair};
 use crate::same::{Same, same_all};
 use crate::states::same_state;
-use crate::told::{are_checks_below, same_calls, same_places};
+use crate::taken::same_taken;
+use crate::told::{are_checks_below, same_calls, same_entries};
 use inode_cell::InodeCell;
 use inode_events::pages::Content;
 use inode_events::templates::Entry;
@@ -102,10 +103,12 @@ fn only(inodes: &[EndedInode], i: usize) -> &[EndedInode]
     &inodes[i..i + 1]
 }
 
-/// Whether the journals of the inode of this number say the same of its files and of the calls.
+/// Whether the journals of the inode of this number say the same of its files, of what its open
+/// collection has taken, of the entries that grants report, and of the calls.
 pub fn same_journals(
     alloc: Global,
     list: &[Entry],
+    other: &[Entry],
     pairs: &[Pair],
     i: usize,
     a: &[EndedInode],
@@ -115,23 +118,26 @@ pub fn same_journals(
     requires within2 { i < length b.now }
     ensures { IfOk result (λ same. IsTrue same → (x y : EndedInodeValue)
         → slice_get a.now i ≡ Some x → slice_get b.now i ≡ Some y
-        → AreJournalsSame list.now pairs.now i x y) }
+        → AreJournalsSame list.now other.now pairs.now i x y) }
 {
     let inode = &a[i];
-    let other = &b[i];
+    let inode2 = &b[i];
     let first = inode.journal.as_slice();
-    let second = other.journal.as_slice();
+    let second = inode2.journal.as_slice();
     let here = only(a, i);
     let there = only(b, i);
     if !same_files(pairs, i, first, second) {
         return Ok(false);
     }
-    if !same_places(alloc, list, first, second)? {
+    if !same_entries(alloc, list, other, first, second)? {
         return Ok(false);
     }
-    if !same_calls(alloc, list, here, there, first)? {
+    if !same_taken(alloc, first, second)? {
         return Ok(false);
     }
-    let same = same_calls(alloc, list, here, there, second)?;
+    if !same_calls(alloc, list, other, here, there, first)? {
+        return Ok(false);
+    }
+    let same = same_calls(alloc, list, other, here, there, second)?;
     Ok(same)
 }

@@ -7,12 +7,14 @@
 
 mod files;
 mod inodes;
+mod lists;
 mod mark;
 mod pairs;
 mod play;
 mod same;
 mod sight;
 mod states;
+mod taken;
 mod tasks;
 mod told;
 

@@ -5,17 +5,23 @@ use inode_cell::InodeCell;
 use inode_events::templates::Entry;
 use task_mind::TaskMind;
 
+const FIRST: u64 = 0xcbf2_9ce4_8422_2325;
+
 // The mark with one number more (FNV-1a).
 fn mixed(mark: u64, number: u64) -> u64 {
     (mark ^ number).wrapping_mul(0x100_0000_01b3)
 }
 
-fn with_entry(mark: u64, entry: &Entry) -> u64 {
-    let mut mark = mixed(mark, u64::from(entry.violation));
+// One of 64 bits, by the entry. Such bits together don't depend on the order of the entries.
+fn bit_of(entry: &Entry) -> u64 {
+    let mut mark = mixed(FIRST, u64::from(entry.violation));
     for byte in entry.digest.as_slice() {
         mark = mixed(mark, u64::from(*byte));
     }
-    mark
+    for byte in entry.name.as_slice() {
+        mark = mixed(mark, u64::from(*byte));
+    }
+    1 << (mark >> 32) % 64
 }
 
 fn with_mind(mark: u64, mind: &TaskMind) -> u64 {
@@ -45,10 +51,11 @@ fn with_inode(mark: u64, cell: &InodeCell) -> u64 {
 impl Sight {
     /// A number that is the same for most sights that are alike, and differs for most others.
     pub fn mark(&self) -> u64 {
-        let mut mark = 0xcbf2_9ce4_8422_2325;
+        let mut bits = 0;
         for entry in &self.ended.list {
-            mark = with_entry(mark, entry);
+            bits |= bit_of(entry);
         }
+        let mut mark = mixed(FIRST, bits);
         for task in &self.tasks {
             mark = with_mind(mark, task.mind());
         }

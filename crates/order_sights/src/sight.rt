@@ -3,13 +3,13 @@
 ghost use Rattle.std.specs.Prelude.{◌≡◌, ◌<◌, length, IfOk, IsTrue};
 ghost use Rattle.order_alike.specs.Alike.{IsAlike};
 ghost use Rattle.order_sights.specs.Pairs.{ArePairs};
-ghost use Rattle.order_sights.specs.Sights.{AreInodesSame, AreListsSame, IsInodeSame, IsSight};
+ghost use Rattle.order_sights.specs.Sights.{AreCountsSame, AreInodesSame, AreListsSame, IsInodeSame, IsSight};
 ghost use Rattle.run_model.specs.Scene.{Scene};
 ghost use Rattle.run_model.specs.Turns.{Moment};
 
 use crate::inodes::{same_cell, same_journals};
+use crate::lists::are_in;
 use crate::pairs::{Pair, are_apart, are_within};
-use crate::same::same_all;
 use crate::tasks::{pairs_of, same_tasks};
 use run_model::Ended;
 use std::alloc::{AllocError as OutOfMemory, Global};
@@ -48,6 +48,7 @@ fn same_inode(
     let same = same_journals(
         alloc,
         a.ended.list.as_slice(),
+        b.ended.list.as_slice(),
         pairs,
         i,
         a.ended.inodes.as_slice(),
@@ -70,14 +71,28 @@ fn same_inodes(alloc: Global, pairs: &[Pair], a: &Sight, b: &Sight) -> Result<bo
     Ok(true)
 }
 
-// Whether the measurement lists are the same, with as many inodes and no appended rules.
-fn same_lists(a: &Sight, b: &Sight) -> bool
-    ensures { IsTrue result → AreListsSame a.now b.now }
+// Whether there are as many inodes, and no appended rules.
+fn same_counts(a: &Sight, b: &Sight) -> bool
+    ensures { IsTrue result → AreCountsSame a.now b.now }
 {
     a.ended.inodes.len() == b.ended.inodes.len()
         && a.ended.rules.len() == 0
         && b.ended.rules.len() == 0
-        && same_all(a.ended.list.as_slice(), b.ended.list.as_slice())
+}
+
+// Whether that holds and the measurement lists have the same entries.
+fn same_lists(a: &Sight, b: &Sight) -> bool
+    ensures { IsTrue result → AreListsSame a.now b.now }
+{
+    if !same_counts(a, b) {
+        return false;
+    }
+    let list = a.ended.list.as_slice();
+    let other = b.ended.list.as_slice();
+    if !are_in(other, list) {
+        return false;
+    }
+    are_in(list, other)
 }
 
 // Whether the pairs are of files of so many inodes, and none is in two pairs with different files.

@@ -20,7 +20,8 @@ fn same_force(a: &State, b: &State) -> bool
     }
 }
 
-// Whether no collection is open, or in both moments one that isn't stale has taken as many pieces.
+// Whether no collection is open, or in both moments one that has taken as many pieces, and both are
+// stale or neither.
 fn same_collecting(a: &State, b: &State) -> bool
     ensures { IsTrue result → AreCollectionsSame a.now.writes.last b.now.writes.last
         a.now.collecting b.now.collecting }
@@ -32,15 +33,14 @@ fn same_collecting(a: &State, b: &State) -> bool
                 && c.algo == d.algo
                 && c.pieces == d.pieces
                 && c.complete == d.complete
-                && !a.writes.since(c.begin)
-                && !b.writes.since(d.begin)
+                && a.writes.since(c.begin) == b.writes.since(d.begin)
         }
         _ => false,
     }
 }
 
-/// Whether the states are the same as the next steps see them. An open collection that is stale
-/// isn't the same as any other.
+/// Whether the states are the same as the next steps see them, but for what an open collection has
+/// taken.
 pub fn same_state(a: &State, b: &State) -> bool
     ensures { IsTrue result → IsStateSame a.now b.now }
 {

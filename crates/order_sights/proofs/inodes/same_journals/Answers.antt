@@ -6,13 +6,14 @@ use Rattle.order_sights.proofs.inodes.same_journals.Goals as goal
 
 pub returns : goal.returns
 returns c = λ t x y at at2.
-    journals_same c.args.list.now c.args.pairs.now c.args.i x y _ _ _ _
+    journals_same c.args.list.now c.args.other.now c.args.pairs.now c.args.i x y _ _ _ _
     (c.as_slice-first.ensures.value ∙ ap (λ (e : EndedInodeValue). e.journal) (c.inode.view_is
     ∙ c.index-a-i.is ∙ get_or_from_slice_get c.args.a.now c.args.i x c.index-a-i.result at))
-    (c.as_slice-second.ensures.value ∙ ap (λ (e : EndedInodeValue). e.journal) (c.other.view_is
+    (c.as_slice-second.ensures.value ∙ ap (λ (e : EndedInodeValue). e.journal) (c.inode2.view_is
     ∙ c.index-b-i.is ∙ get_or_from_slice_get c.args.b.now c.args.i y c.index-b-i.result at2))
     (c.only-here.ensures x at) (c.only-there.ensures y at2)
     (c.same_files.ensures c.if-not-same_files.false)
-    (c.in_ok-same_places.ensures c.if-not-branch.false)
-    (c.in_ok-same_calls.ensures c.if-not-branch-2.false)
+    (c.in_ok-same_entries.ensures c.if-not-branch.false)
+    (c.in_ok-same_taken.ensures c.if-not-branch-2.false)
+    (c.in_ok-same_calls.ensures c.if-not-branch-3.false)
     (c.in_ok-same.ensures t)

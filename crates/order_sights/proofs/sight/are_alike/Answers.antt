@@ -18,8 +18,8 @@ returns c = λ t scene m n one two.
     omega (arith, len, view) in
     alike scene m n c.args.a.now c.args.b.now one two pairs ok.apart
     (subst (λ n. are_within n pairs ≡ true) count ok.within)
-    (sym lists.list) (nil_from_length c.args.a.now.ended.rules lists.none)
-    (nil_from_length c.args.b.now.ended.rules lists.none2)
+    lists.there lists.back (nil_from_length c.args.a.now.ended.rules lists.counts.none)
+    (nil_from_length c.args.b.now.ended.rules lists.counts.none2)
     (subst (λ (us : List Tasked). AreThoughtsPaired pairs
     (map thought_of c.args.a.now.tasks.items) (map thought_of us)) c.as_slice-4.ensures.value
     (subst (λ (ts : List Tasked). AreThoughtsPaired pairs (map thought_of ts)

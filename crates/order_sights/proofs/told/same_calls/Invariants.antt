@@ -4,4 +4,4 @@ use Rattle.order_sights.specs.Told.{IsCallSame}
 use Rattle.order_sights.proofs.told.same_calls.Given as goal
 
 abbrev pub invariant-loop-event : goal.invariant-loop-event
-invariant-loop-event l = All (IsCallSame l.list l.a l.b) (take l.event-index l.journal)
+invariant-loop-event l = All (IsCallSame l.list l.other l.a l.b) (take l.event-index l.journal)

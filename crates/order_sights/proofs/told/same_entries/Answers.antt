@@ -1,0 +1,29 @@
+use Rattle.std.proofs.Common.{ℕ, List, ◌<◌, length, subst}
+use Rattle.std.specs.Prelude.{All}
+use Rattle.order_sights.specs.Told.{IsThere}
+use Rattle.order_sights.proofs.told.same_entries.Goals as goal
+
+pub returns : goal.returns
+returns c = λ t.
+    let list = c.args.list.now in
+    let other = c.args.other.now in
+    let places = c.in_ok-places.places.items in
+    let others = c.in_ok-others.others.items in
+    let here = c.as_slice-here.ensures.value in
+    let there = c.as_slice-there.ensures.value in
+    record {
+      places = places;
+      places2 = others;
+      told = c.in_ok-places.ensures;
+      told2 = c.in_ok-others.ensures;
+      below = subst (λ (ps : List ℕ). All (λ p. p < length list) ps) here
+          (c.are_below.ensures c.if-not-are_below.false);
+      below2 = subst (λ (ps : List ℕ). All (λ p. p < length other) ps) there
+          (c.are_below-2.ensures c.if-not-are_below-2.false);
+      there = subst (λ (ps : List ℕ). All (IsThere other others list) ps) here
+          (subst (λ (ps : List ℕ). All (IsThere other ps list) c.as_slice-here.result.now) there
+          (c.are_there.ensures c.if-not-are_there.false));
+      back = subst (λ (ps : List ℕ). All (IsThere list places other) ps) there
+          (subst (λ (ps : List ℕ). All (IsThere list ps other) c.as_slice-there.result.now) here
+          (c.are_there-2.ensures t));
+    }

@@ -1,0 +1,155 @@
+// What the open collection of an inode has taken, found along the inode's journal.
+
+ghost use Rattle.std.specs.Prelude.{◌≡◌, IfOk, IsTrue, OnOk};
+ghost use Rattle.inode_events.specs.Past.{past};
+ghost use Rattle.inode_events.specs.State.{content_after};
+ghost use Rattle.inode_events.specs.pages.Content.{overwritten, piece_at};
+ghost use Rattle.order_sights.specs.Taken.{none_taken, taken, taken_after, taken_more};
+
+use crate::same::same_all;
+use inode_events::pages::{Content, Page, PageErr};
+use inode_events::{Deed, Event, Told};
+use std::alloc::{AllocError as OutOfMemory, Global};
+use std::marker::Model;
+
+/// The pieces that a collection has taken, as pages that it shares with the contents.
+#[derive(Drop)]
+pub struct Taken {
+    pages: Vec<Page>,
+}
+
+impl Model for Taken {
+    ghost use Rattle.std.specs.Prelude.{length};
+    ghost use Rattle.std.specs.List.{concat};
+    ghost use Rattle.order_sights.specs.TakenValue.{TakenValue};
+
+    ghost Value = { TakenValue };
+
+    ghost view = { λ t. record { pieces = length t.pages.items; bytes = concat t.pages.items } };
+}
+
+// The page with the piece of this number, which is empty past the end.
+fn page_at(alloc: Global, content: &Content, piece: usize) -> Result<Page, OutOfMemory>
+    ensures { IfOk result (λ page. page ≡ piece_at content.now piece) }
+{
+    match content.pages().get(piece) {
+        Some(page) => page.share(),
+        None => Page::from_vec(alloc, Vec::new(alloc)),
+    }
+}
+
+impl Taken {
+    // Nothing yet.
+    fn new(alloc: Global) -> Taken
+        ensures { result ≡ none_taken }
+    {
+        Taken {
+            pages: Vec::new(alloc),
+        }
+    }
+
+    // Takes the next piece of the content.
+    fn take_piece(&mut self, alloc: Global, content: &Content) -> Result<(), OutOfMemory>
+        ensures { OnOk result (self.new ≡ taken_more content.now self.old) }
+    {
+        let page = page_at(alloc, content, self.pages.len())?;
+        self.pages.push(page)?;
+        Ok(())
+    }
+
+    // Takes a piece, or begins again, as the event did.
+    fn advance(
+        &mut self,
+        alloc: Global,
+        content: &Content,
+        event: &Event,
+    ) -> Result<(), OutOfMemory>
+        ensures { OnOk result (self.new
+            ≡ taken_after event.now.deed event.now.told content.now self.old) }
+    {
+        match (&event.deed, &event.told) {
+            (Deed::Take { .. } | Deed::CloseTake { .. }, Told::Begun) => {
+                *self = Taken::new(alloc);
+                Ok(())
+            }
+            (Deed::Chunk { .. } | Deed::CloseChunk { .. }, Told::More | Told::Last) => {
+                self.take_piece(alloc, content)
+            }
+            (Deed::Finish { .. }, Told::Grant(_)) => {
+                *self = Taken::new(alloc);
+                Ok(())
+            }
+            (Deed::CloseFinish { .. }, Told::Dropped | Told::LabelledDropped) => {
+                *self = Taken::new(alloc);
+                Ok(())
+            }
+            _ => Ok(()),
+        }
+    }
+
+    // Whether the pieces are the same, one by one.
+    fn is_same(&self, other: &Taken) -> bool
+        ensures { IsTrue result → (self.now ≡ other.now) }
+    {
+        same_all(self.pages.as_slice(), other.pages.as_slice())
+    }
+}
+
+// Overwrites the content, also with no bytes: then it is still as long as the offset.
+fn overwrite(alloc: Global, content: &mut Content, from: u64, bytes: &[u8]) -> Result<(), PageErr>
+    ensures { OnOk result (content.new ≡ overwritten content.old from bytes.now) }
+{
+    if !bytes.is_empty() {
+        content.write(alloc, from, bytes)
+    } else if content.len() < from {
+        content.resize(alloc, from)
+    } else {
+        Ok(())
+    }
+}
+
+// Changes the content as the event did.
+fn follow(alloc: Global, content: &mut Content, event: &Event) -> Result<(), OutOfMemory>
+    ensures { OnOk result (content.new ≡ content_after event.now.deed event.now.told content.old) }
+{
+    match (&event.deed, &event.told) {
+        (Deed::Birth, Told::Image(image)) => {
+            *content = image.get().content.share(alloc)?;
+            Ok(())
+        }
+        // The errors must be memory: what was done isn't too long.
+        (Deed::Write { from, bytes, .. }, Told::Done) => {
+            match overwrite(alloc, content, *from, bytes.as_slice()) {
+                Ok(()) => Ok(()),
+                Err(_) => Err(OutOfMemory),
+            }
+        }
+        (Deed::Trunc { len, .. }, Told::Done) => match content.resize(alloc, *len) {
+            Ok(()) => Ok(()),
+            Err(_) => Err(OutOfMemory),
+        },
+        _ => Ok(()),
+    }
+}
+
+// What the open collection has taken after the journal.
+fn taken_in(alloc: Global, journal: &[Event]) -> Result<Taken, OutOfMemory>
+    ensures { IfOk result (λ t. t ≡ taken (past journal.now)) }
+{
+    let mut content = Content::new(alloc);
+    let mut taken = Taken::new(alloc);
+    for event in journal {
+        taken.advance(alloc, &content, event)?;
+        follow(alloc, &mut content, event)?;
+    }
+    Ok(taken)
+}
+
+/// Whether the open collections of both journals have taken the same, or none is open.
+pub fn same_taken(alloc: Global, a: &[Event], b: &[Event]) -> Result<bool, OutOfMemory>
+    ensures { IfOk result (λ same. IsTrue same → (taken (past b.now) ≡ taken (past a.now))) }
+{
+    let first = taken_in(alloc, a)?;
+    let second = taken_in(alloc, b)?;
+    Ok(second.is_same(&first))
+}
