@@ -182,12 +182,7 @@ fn push_same_by(
 }
 
 // One line, if the journals are the same.
-fn push_same(
-    out: &mut Vec<u8>,
-    text: &[u8],
-    number: u64,
-    inode: &Inode,
-) -> Result<(), OutOfMemory>
+fn push_same(out: &mut Vec<u8>, text: &[u8], number: u64, inode: &Inode) -> Result<(), OutOfMemory>
     ensures { OnOk result (Pushed text.now out.old.items out.new.items
         (spec.same text.now number (length inode.now.events) inode.now.head)) }
 {
