@@ -3,7 +3,7 @@ use Rattle.std.proofs.Common.{◌≡◌, ℕ, ◌+◌, ◌<◌, ◌≤◌, Bool,
 use Rattle.std.specs.Prelude.{nat_lt}
 use Rattle.std.proofs.lemmas.Bool.{ltb-false, ltb-true}
 use Rattle.std.proofs.lemmas.List.{at_drop_all, at_drop_more, length_push, take-append-le, take_all}
-use Rattle.view_page.specs.layout.Walk.{Walk, shown_by, start, state_of, states_of, walked}
+use Rattle.view_page.specs.layout.Walk.{Walk, shown_by, start, state_of, walked}
 use Rattle.view_page.specs.layout.declared.walk.State.{State}
 use Rattle.view_page.specs.layout.reading.declared.event.Event.{Event}
 use Rattle.view_page.proofs.about_layouts.WalkLemmas.{states_by_walk}

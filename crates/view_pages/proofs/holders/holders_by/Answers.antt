@@ -1,6 +1,5 @@
-use Rattle.std.proofs.Common.{◌≡◌, ℕ, List, Option, length, ap, ◌∙◌, arith}
+use Rattle.std.proofs.Common.{ℕ, List, length, ap, ◌∙◌, arith}
 use Rattle.std.specs.Prelude.{reverse}
-use Rattle.view_page.specs.layout.Files.{files}
 use Rattle.view_page.specs.layout.Sentences.{held_by}
 use Rattle.view_page.specs.layout.Walk.{Walk, start}
 use Rattle.view_page.specs.layout.reading.declared.event.Kind.{Kind}
