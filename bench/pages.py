@@ -56,12 +56,14 @@ def report(name):
 for name in sorted(os.listdir(os.path.join(TOP, 'examples'))):
     if name.endswith('.report'):
         keep(os.path.join(DATA, name), read(os.path.join(TOP, 'examples', name)))
-lines = []
+lines, cuts = [], []
 source = open(os.path.join(WORKED, 'src', 'main.rt'), encoding='utf-8').read()
 names = re.search(r'const REPORTS: .*?= \[(.*?)\];', source, re.S).group(1)
 for name in re.findall(r'"([a-z_0-9]+)"', names):
     keep(os.path.join(DATA, name + '.html'), page('page', report(name)))
-    lines += ['page: %s.html' % name, '%s: is refused if it is cut' % name]
+    lines.append('page: %s.html' % name)
+    cuts.append('%s: is refused if it is cut' % name)
+lines += cuts
 for words, names, file in OTHER_CASE.findall(source):
     texts = b''.join(report(name) for name in re.findall(r'"([a-z_0-9]+)"', names))
     keep(os.path.join(DATA, file), page(words, texts))

@@ -83,32 +83,61 @@ const REFUSALS: [(&str, u8, &str); 20] = [
 ];
 
 fn main(rt: HostRuntime) -> Result<()> {
+    let pages = pages_hold(&rt)?;
+    let cut = cut_reports_are_refused(&rt)?;
+    let others = others_hold(&rt)?;
+    let refusals = refusals_hold(&rt)?;
+    ensure!(pages && cut && others && refusals, "not as it should be");
+    Ok(())
+}
+
+// The page of each report.
+fn pages_hold(rt: &HostRuntime) -> Result<bool> {
     let mut all = true;
     for name in REPORTS {
-        let text = report(&rt, name)?;
+        let text = report(rt, name)?;
         let page = format!(in rt.alloc(); "{name}.html")?;
-        all = page_holds(&rt, rt.alloc(), "page", &text, page.as_str())? && all;
-        all = row(
-            &rt,
-            name,
-            "is refused if it is cut",
-            cuts::are_refused(rt.alloc(), &text)?,
-        )? && all;
+        all = page_holds(rt, rt.alloc(), "page", &text, page.as_str())? && all;
     }
+    Ok(all)
+}
+
+fn cut_reports_are_refused(rt: &HostRuntime) -> Result<bool> {
+    let mut all = true;
+    for name in REPORTS {
+        let text = report(rt, name)?;
+        let refused = cuts::are_refused(rt.alloc(), &text)?;
+        all = row(rt, name, "is refused if it is cut", refused)? && all;
+    }
+    Ok(all)
+}
+
+fn others_hold(rt: &HostRuntime) -> Result<bool> {
+    let mut all = true;
     for (words, names, page) in OTHERS {
-        let mut text = Vec::new(rt.alloc());
-        for name in names {
-            text.extend_from_slice(&report(&rt, name)?)?;
-        }
-        all = page_holds(&rt, rt.alloc(), words, &text, page)? && all;
+        let text = reports(rt, names)?;
+        all = page_holds(rt, rt.alloc(), words, &text, page)? && all;
     }
-    let text = report(&rt, "race")?;
+    Ok(all)
+}
+
+fn refusals_hold(rt: &HostRuntime) -> Result<bool> {
+    let mut all = true;
+    let text = report(rt, "race")?;
     for (words, status, note) in REFUSALS {
         let got = answer(rt.alloc(), words, &text)?;
-        all = row(&rt, "refused", words, got.is(status, b"", note))? && all;
+        all = row(rt, "refused", words, got.is(status, b"", note))? && all;
     }
-    ensure!(all, "not as it should be");
-    Ok(())
+    Ok(all)
+}
+
+// The texts of the reports of these names, one after another.
+fn reports(rt: &HostRuntime, names: &[&str]) -> Result<Vec<u8>> {
+    let mut text = Vec::new(rt.alloc());
+    for name in names {
+        text.extend_from_slice(&report(rt, name)?)?;
+    }
+    Ok(text)
 }
 
 // The text of the report of this name.
