@@ -39,11 +39,11 @@ total_more : (n k : ℕ) (i : InodeValue) (is : List InodeValue)
     → total n k (i ∷ is) ≡ one (k == n) + total n (k + 1) is
 total_more n k i is =
     let v =
-        number_more n k (is_graded grade.Violated i.events) (graded grade.Violated (k + 1) is) in
+    number_more n k (is_graded grade.Violated i.events) (graded grade.Violated (k + 1) is) in
     let m = number_more n k (is_graded grade.Marked i.events) (graded grade.Marked (k + 1) is) in
     let p = number_more n k (is_graded grade.Plain i.events) (graded grade.Plain (k + 1) is) in
     let one_of =
-        one_grade (has grade.Violated i.events) (has grade.Marked i.events) (one (k == n)) in
+    one_grade (has grade.Violated i.events) (has grade.Marked i.events) (one (k == n)) in
     omega (arith, v, m, p, one_of)
 
 total_none : (n k : ℕ) (is : List InodeValue) → n < k → total n k is ≡ 0
