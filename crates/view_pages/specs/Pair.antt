@@ -3,6 +3,7 @@ use Rattle.std.specs.Prelude.{ℕ, ◌+◌, ◌-◌, nat_lt, max, min, List, [],
 use Rattle.view_page.specs.declared.inode.View.{View}
 use Rattle.view_page.specs.declared.own.Side.{Side}
 use Rattle.view_page.specs.declared.own.Side.TheVariants as side
+use Rattle.view_page.specs.layout.Windows.{windows}
 use Rattle.view_page.specs.layout.declared.window.Window.{Window}
 use Rattle.view_page.specs.layout.reading.Report.{InodeValue, ReportValue}
 use Rattle.view_page.specs.layout.reading.declared.event.Event.{Event}
@@ -12,7 +13,7 @@ use Rattle.view_pages.specs.Alike.{differing, parted}
 use Rattle.view_pages.specs.Frame.{head, tiles}
 use Rattle.view_pages.specs.Page.{tables}
 use Rattle.view_pages.specs.Parts.{more}
-use Rattle.view_pages.specs.Plan.{windows_of}
+use Rattle.view_pages.specs.Plan.{most_drawn, planned}
 use Rattle.view_pages.specs.Section.{at_end, drawing, heading, marked, not_drawn}
 use Rattle.view_pages.specs.Sentences.{sentences}
 use Rattle.view_pages.specs.declared.html.Frame.TheVariants as frame
@@ -35,7 +36,7 @@ compared text view mine other ws =
 abbrev pub compared_by : List ℕ → View → List Event → List Event → List Part
 compared_by text view mine other =
     if nat_lt (length mine) 4294967296
-    then compared text view mine other (windows_of mine) else not_drawn view.inode
+    then compared text view mine other (windows most_drawn mine) else not_drawn view.inode
 
 abbrev pub side_by : List ℕ → View → InodeHead → List Span → List Event → List Event → List Part
 side_by text view head lines mine other =
@@ -112,26 +113,52 @@ pairs text is js =
     ++ more (part.Section section.MoreInodes) (max (length is) (length js) - shown is js)
     (part.Section section.MoreInodesEnd)
 
+-- ---- the inodes that are drawn
+
+abbrev pub number_by : Option ℕ → ℕ → ℕ → List ℕ
+number_by None room number = []
+number_by (Some place) room number = if nat_lt 0 room then number ∷ [] else []
+
+abbrev pub numbers_from : List ℕ → ℕ → ℕ → List InodeValue → List InodeValue → List ℕ
+numbers_from text number room [] js = []
+numbers_from text number room (i ∷ is) [] = []
+numbers_from text number room (i ∷ is) (j ∷ js) =
+    number_by (parted text i.events j.events) room number
+    ++ numbers_from text (number + 1) (room_after (parted text i.events j.events) room) is js
+
+-- the numbers of the inodes that are drawn
+abbrev pub numbers : List ℕ → List InodeValue → List InodeValue → List ℕ
+numbers text is js =
+    numbers_from text 0 most_pairs (take (shown is js) is) (take (shown is js) js)
+
 -- ---- the page
 
 abbrev pub both_tiles : ReportValue → ReportValue → List Part
 both_tiles r s =
     part.Frame frame.First ∷ [] ++ tiles r ++ part.Frame frame.Second ∷ [] ++ tiles s
 
+-- what stands below the inodes of one report, with links to the events of these inodes
+abbrev pub side_tables : List ℕ → Side → List ℕ → ReportValue → List Part
+side_tables text s ns r = tables text s (planned r.inodes ns) r
+
 -- the lists and the calls, side by side
-abbrev pub both_lists : List ℕ → ReportValue → ReportValue → List Part
-both_lists text r s =
+abbrev pub both_tables : List ℕ → List ℕ → ReportValue → ReportValue → List Part
+both_tables text ns r s =
     part.Frame frame.Both ∷ []
-    ++ tables text side.First [] r
+    ++ side_tables text side.First ns r
     ++ part.Frame frame.Beside ∷ []
-    ++ tables text side.Second [] s
+    ++ side_tables text side.Second ns s
     ++ part.Frame frame.BothEnd ∷ []
+
+abbrev pub pair_of : List ℕ → ReportValue → ReportValue → List InodeValue → List InodeValue
+    → List Part
+pair_of text r s is js =
+    head frame.TwoRuns
+    ++ both_tiles r s
+    ++ pairs text is js
+    ++ both_tables text (numbers text is js) r s
+    ++ part.Frame frame.End ∷ []
 
 -- the page of two reports, which were read from one text
 abbrev pub pair_parts : List ℕ → ReportValue → ReportValue → List Part
-pair_parts text r s =
-    head frame.TwoRuns
-    ++ both_tiles r s
-    ++ pairs text r.inodes s.inodes
-    ++ both_lists text r s
-    ++ part.Frame frame.End ∷ []
+pair_parts text r s = pair_of text r s r.inodes s.inodes

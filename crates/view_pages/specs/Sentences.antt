@@ -117,8 +117,14 @@ holders_at journal place e = reverse (holders e (before place journal))
 
 -- ---- what is said
 
-abbrev pub task_of : Event → List Part
-task_of e = part.Told told.Task ∷ part.Number e.who.task ∷ []
+-- which task opened the file, and what for
+abbrev pub opened : Event → Told → Told → Told → List Part
+opened e before used after =
+    part.Told told.Task ∷ part.Number e.who.task ∷ part.Told before ∷ part.Told used
+    ∷ part.Told after ∷ []
+
+abbrev pub used_in : List Event → Event → Told
+used_in journal e = use_of (opener journal (file_of e.deed))
 
 abbrev pub entry_is : ℕ → Told → List Part
 entry_is p violation =
@@ -126,14 +132,12 @@ entry_is p violation =
 
 abbrev pub tomtou : List Event → ℕ → Event → ℕ → List Part
 tomtou journal place e p =
-    part.Told told.Task ∷ part.Number e.who.task ∷ part.Told told.OpenedFor
-    ∷ part.Told (use_of (opener journal (file_of e.deed))) ∷ part.Told told.Measured ∷ []
+    opened e told.OpenedFor (used_in journal e) told.Measured
     ++ named journal (holders_at journal place e) ++ entry_is p told.ToMToU
 
 abbrev pub open_writers : List Event → ℕ → Event → ℕ → List Part
 open_writers journal place e p =
-    part.Told told.Task ∷ part.Number e.who.task ∷ part.Told told.OpenedToMeasure
-    ∷ part.Told (use_of (opener journal (file_of e.deed))) ∷ part.Told told.HeldBy ∷ []
+    opened e told.OpenedToMeasure (used_in journal e) told.HeldBy
     ++ named journal (holders_at journal place e) ++ entry_is p told.OpenWriters
 
 -- what wasn't admitted, opened or done: the deed and what came of it
@@ -165,10 +169,13 @@ abbrev pub writer : List Event → Option ℕ → List Part
 writer journal None = []
 writer journal (Some place) = writer_at place (slice_get journal place)
 
+abbrev pub not_as_hashed : Event → List Part
+not_as_hashed e =
+    part.Told told.Task ∷ part.Number e.who.task ∷ part.Told told.NotAsHashed ∷ []
+
 abbrev pub stale : List Event → ℕ → Event → List Part
 stale journal place e =
-    part.Told told.Task ∷ part.Number e.who.task ∷ part.Told told.NotAsHashed ∷ []
-    ++ writer journal (last_write (before place journal))
+    not_as_hashed e ++ writer journal (last_write (before place journal))
 
 abbrev pub is_denied : Option Verdict → Bool
 is_denied (Some verdict.Deny) = true

@@ -7,12 +7,14 @@
 mod alike;
 mod buckets;
 mod calls;
+mod chosen;
 mod entries;
 mod frame;
 mod holders;
 mod html;
 pub mod law;
 mod look;
+mod named;
 mod order;
 mod overview;
 mod page;

@@ -1,28 +1,25 @@
 // The page of two reports of one script.
 
 ghost use Rattle.std.specs.Prelude.{◌≡◌, ◌<◌, ◌≤◌, length, take, OnOk};
-ghost use Rattle.view_pages.specs.Alike.{parted};
 ghost use Rattle.view_pages.specs.Pair as spec;
 ghost use Rattle.view_pages.specs.Parts.{Pushed};
 
-use crate::alike::{differing, parted};
+use crate::alike::differing;
+use crate::chosen::{MOST_PAIRS, numbers, parted_of, room_after, shown};
 use crate::frame::{push_head, push_tiles};
 use crate::html::{Frame, Section};
 use crate::page::push_tables;
 use crate::part::{Part, push_more, push_parts};
-use crate::plan::windows_of;
+use crate::plan::planned;
 use crate::section::{push_at_end, push_drawing, push_heading, push_marked, push_not_drawn};
 use crate::sentences::push_sentences;
 use std::alloc::{AllocError as OutOfMemory, Global};
 use view_page::layout::reading::{Event, Inode, InodeHead, Report, Span};
-use view_page::layout::Window;
+use view_page::layout::{Window, windows};
 use view_page::{Side, View};
 
-// At most as many inodes are drawn.
-const MOST_PAIRS: u64 = 12;
-
-// At most as many inodes have a line.
-const MOST_LINES: usize = 200;
+// A journal of at most as many events is drawn whole, and of a longer one windows.
+const MOST_DRAWN: u32 = 120;
 
 fn which(side: Side) -> Part
     ensures { result ≡ spec.which side }
@@ -64,7 +61,7 @@ fn push_compared_by(
         (spec.compared_by text.now view mine.now other.now)) }
 {
     if mine.len() < 4_294_967_296 {
-        let windows = windows_of(alloc, mine)?;
+        let windows = windows(alloc, MOST_DRAWN, mine)?;
         push_compared(alloc, out, text, view, mine, other, &windows)?;
         Ok(())
     } else {
@@ -204,21 +201,6 @@ fn push_pair_by(
     }
 }
 
-fn room_after(parted: Option<usize>, room: u64) -> u64
-    ensures { result ≡ spec.room_after parted room }
-{
-    match parted {
-        None => room,
-        Some(_) => room.saturating_sub(1),
-    }
-}
-
-fn parted_of(text: &[u8], first: &Inode, second: &Inode) -> Option<usize>
-    ensures { result ≡ parted text.now first.now.events second.now.events }
-{
-    parted(text, &first.events, &second.events)
-}
-
 // The inodes of two reports, as many of each.
 fn push_pairs_of(
     alloc: Global,
@@ -240,14 +222,6 @@ fn push_pairs_of(
         room = room_after(parted, room);
     }
     Ok(())
-}
-
-fn shown(first: &[Inode], second: &[Inode]) -> usize
-    ensures value { result ≡ spec.shown first.now second.now }
-    ensures first { result ≤ length first.now }
-    ensures second { result ≤ length second.now }
-{
-    first.len().min(second.len()).min(MOST_LINES)
 }
 
 fn push_pairs(
@@ -289,22 +263,61 @@ fn push_both_tiles(
     Ok(())
 }
 
+// What stands below the inodes of one report, with links to the events of these inodes.
+fn push_side_tables(
+    alloc: Global,
+    out: &mut Vec<u8>,
+    text: &[u8],
+    side: Side,
+    numbers: &[usize],
+    report: &Report,
+) -> Result<(), OutOfMemory>
+    ensures { OnOk result (Pushed text.now out.old.items out.new.items
+        (spec.side_tables text.now side numbers.now report.now)) }
+{
+    let shown = planned(alloc, &report.inodes, numbers)?;
+    push_tables(alloc, out, text, side, &shown, report)?;
+    Ok(())
+}
+
 // The lists and the calls, side by side.
-fn push_both_lists(
+fn push_both_tables(
+    alloc: Global,
+    out: &mut Vec<u8>,
+    text: &[u8],
+    numbers: &[usize],
+    first: &Report,
+    second: &Report,
+) -> Result<(), OutOfMemory>
+    ensures { OnOk result (Pushed text.now out.old.items out.new.items
+        (spec.both_tables text.now numbers.now first.now second.now)) }
+{
+    push_parts(out, text, &[Part::Frame(Frame::Both)])?;
+    push_side_tables(alloc, out, text, Side::First, numbers, first)?;
+    push_parts(out, text, &[Part::Frame(Frame::Beside)])?;
+    push_side_tables(alloc, out, text, Side::Second, numbers, second)?;
+    push_parts(out, text, &[Part::Frame(Frame::BothEnd)])?;
+    Ok(())
+}
+
+fn push_pair_by_inodes(
     alloc: Global,
     out: &mut Vec<u8>,
     text: &[u8],
     first: &Report,
     second: &Report,
+    inodes: &[Inode],
+    others: &[Inode],
 ) -> Result<(), OutOfMemory>
     ensures { OnOk result (Pushed text.now out.old.items out.new.items
-        (spec.both_lists text.now first.now second.now)) }
+        (spec.pair_of text.now first.now second.now inodes.now others.now)) }
 {
-    push_parts(out, text, &[Part::Frame(Frame::Both)])?;
-    push_tables(alloc, out, text, Side::First, &[], first)?;
-    push_parts(out, text, &[Part::Frame(Frame::Beside)])?;
-    push_tables(alloc, out, text, Side::Second, &[], second)?;
-    push_parts(out, text, &[Part::Frame(Frame::BothEnd)])?;
+    let numbers = numbers(alloc, text, inodes, others)?;
+    push_head(out, text, Frame::TwoRuns)?;
+    push_both_tiles(out, text, first, second)?;
+    push_pairs(alloc, out, text, inodes, others)?;
+    push_both_tables(alloc, out, text, &numbers, first, second)?;
+    push_parts(out, text, &[Part::Frame(Frame::End)])?;
     Ok(())
 }
 
@@ -320,10 +333,5 @@ pub fn push_pair(
     ensures { OnOk result (Pushed text.now out.old.items out.new.items
         (spec.pair_parts text.now first.now second.now)) }
 {
-    push_head(out, text, Frame::TwoRuns)?;
-    push_both_tiles(out, text, first, second)?;
-    push_pairs(alloc, out, text, &first.inodes, &second.inodes)?;
-    push_both_lists(alloc, out, text, first, second)?;
-    push_parts(out, text, &[Part::Frame(Frame::End)])?;
-    Ok(())
+    push_pair_by_inodes(alloc, out, text, first, second, &first.inodes, &second.inodes)
 }

@@ -42,13 +42,13 @@ fn push_event_link(
     text: &[u8],
     drawn: bool,
     view: View,
-    place: u64,
+    place: u32,
 ) -> Result<(), OutOfMemory>
     ensures { OnOk result
         (Pushed text.now out.old.items out.new.items (spec.event_link drawn view place)) }
 {
     if !drawn {
-        return push_parts(out, text, &[Part::Told(Told::Event), Part::Number(place)]);
+        return push_parts(out, text, &[Part::Told(Told::Event), Part::Number(u64::from(place))]);
     }
     let parts = [
         Part::Table(Table::Link),
@@ -56,10 +56,10 @@ fn push_event_link(
         Part::Table(Table::I),
         Part::Number(view.inode),
         Part::Table(Table::E),
-        Part::Number(place),
+        Part::Number(u64::from(place)),
         Part::Table(Table::Shown),
         Part::Told(Told::Event),
-        Part::Number(place),
+        Part::Number(u64::from(place)),
         Part::Table(Table::LinkEnd),
     ];
     push_parts(out, text, &parts)
@@ -82,7 +82,7 @@ fn push_sentence_by(
 {
     let drawn = is_drawn(windows, place);
     push_parts(out, text, &[Part::Told(colour_of(event.outcome))])?;
-    push_event_link(out, text, drawn, view, u64::from(place))?;
+    push_event_link(out, text, drawn, view, place)?;
     push_parts(out, text, &[Part::Told(Told::Is)])?;
     push_said(alloc, out, text, journal, place as usize, event)?;
     push_parts(out, text, &[Part::Told(Told::ItemEnd)])?;

@@ -1,5 +1,5 @@
-use Rattle.std.proofs.Common.{List, length, ap, ◌∙◌}
-use Rattle.view_pages.specs.Overview.{buckets_of, overview_by, scale_of}
+use Rattle.std.proofs.Common.{List, ap, ◌∙◌}
+use Rattle.view_pages.specs.Overview.{buckets_of, overview_by}
 use Rattle.view_pages.specs.declared.buckets.Bucket.{Bucket}
 use Rattle.view_pages.specs.declared.buckets.Scale.{Scale}
 use Rattle.view_pages.proofs.Joined.{as_parts}
@@ -11,4 +11,4 @@ returns c =
     (ap (λ (bs : List Bucket). overview_by c.scale_of-scale.result bs c.args.windows.now)
     (c.deref.ensures.value ∙ c.in_ok-buckets.ensures.is)
     ∙ ap (λ (s : Scale). overview_by s (buckets_of s c.args.journal.now) c.args.windows.now)
-    (c.scale_of-scale.ensures.is ∙ ap scale_of c.len.ensures))
+    c.scale_of-scale.ensures.is)

@@ -1,13 +1,15 @@
 use Rattle.std.proofs.Common.{ℕ, ap}
 use Rattle.view_pages.specs.Parts.{more}
+use Rattle.view_pages.specs.Sentences.{named_from}
 use Rattle.view_pages.specs.declared.part.Part.TheVariants as part
 use Rattle.view_pages.specs.declared.told.Told.TheVariants as told
 use Rattle.view_pages.proofs.Joined.{as_parts, ◌▹◌}
-use Rattle.view_pages.proofs.said.push_holders.Goals as goal
+use Rattle.view_pages.proofs.named.push_holders.Goals as goal
 
 pub returns : goal.returns
 returns c =
-    c.in_ok-push_named.ensures
+    as_parts c.in_ok-push_named.ensures
+    (ap (named_from c.args.journal.now 0) c.first_of.ensures)
     ▹ as_parts c.in_ok-push_more.ensures
     (ap (λ (n : ℕ). more (part.Told told.And) n (part.Told told.More))
     c.saturating_sub-more.ensures)

@@ -4,7 +4,7 @@ use Rattle.view_pages.specs.Parts.{page_of}
 use Rattle.view_pages.specs.Sentences.{comma_by, holder, named_from}
 use Rattle.view_pages.specs.declared.part.Part.{Part}
 use Rattle.view_pages.proofs.Joined.{going, gone}
-use Rattle.view_pages.proofs.said.push_named.Goals as goal
+use Rattle.view_pages.proofs.named.push_named.Goals as goal
 
 pub loop-n-preserved : goal.loop-n-preserved
 loop-n-preserved c =

@@ -1,7 +1,7 @@
 use Rattle.std.proofs.Common.{◌≡◌, ◌++◌, drop}
 use Rattle.view_pages.specs.Parts.{page_of}
 use Rattle.view_pages.specs.Sentences.{named_from}
-use Rattle.view_pages.proofs.said.push_named.Given as goal
+use Rattle.view_pages.proofs.named.push_named.Given as goal
 
 -- the holders so far have been appended, and the others are left
 abbrev pub invariant-loop-n : goal.invariant-loop-n

@@ -1,0 +1,7 @@
+use Rattle.view_pages.proofs.Joined.{◌▹◌}
+use Rattle.view_pages.proofs.pair.push_both_tables.Goals as goal
+
+pub returns : goal.returns
+returns c =
+    c.in_ok-push_parts.ensures ▹ c.in_ok-push_side_tables.ensures ▹ c.in_ok-push_parts-2.ensures
+    ▹ c.in_ok-push_side_tables-2.ensures ▹ c.in_ok-push_parts-3.ensures

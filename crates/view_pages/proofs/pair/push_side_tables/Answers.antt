@@ -1,0 +1,15 @@
+use Rattle.std.proofs.Common.{ℕ, List, ap, ◌∙◌}
+use Rattle.view_page.specs.layout.reading.Report.{InodeValue, ReportValue}
+use Rattle.view_pages.specs.Page.{tables}
+use Rattle.view_pages.specs.Plan.{planned}
+use Rattle.view_pages.specs.declared.plan.Shown.{Shown}
+use Rattle.view_pages.proofs.Joined.{as_parts}
+use Rattle.view_pages.proofs.pair.push_side_tables.Goals as goal
+
+pub returns : goal.returns
+returns c =
+    as_parts c.in_ok-push_tables.ensures
+    (ap (λ (ss : List Shown). tables c.args.text.now c.args.side ss c.args.report.now)
+    (c.deref-2.ensures.value ∙ (c.in_ok-shown.ensures
+    ∙ ap (λ (is : List InodeValue). planned is c.args.numbers.now)
+    (c.deref.ensures.value ∙ ap (λ (r : ReportValue). r.inodes) c.report.view_is))))
