@@ -1,5 +1,5 @@
 -- Buckets as a walk over the journal fills them.
-use Rattle.std.proofs.Common.{◌≡◌, ℕ, ◌+◌, ◌<◌, ◌≤◌, List, [], ◌∷◌, drop, get_or, length, sym, ap, ◌∙◌}
+use Rattle.std.proofs.Common.{◌≡◌, ℕ, ◌+◌, ◌<◌, ◌≤◌, List, drop, get_or, length, sym, ap, ◌∙◌}
 use Rattle.std.proofs.lemmas.List.{at_drop_all, at_drop_more}
 use Rattle.view_page.specs.layout.Walk.{Walk, shown_by, start, state_of, states_of, walked}
 use Rattle.view_page.specs.layout.declared.walk.State.{State}

@@ -3,7 +3,7 @@ use Rattle.std.proofs.Common.{◌≡◌, ℕ, ◌+◌, ◌<◌, ◌≤◌, Bool,
 use Rattle.std.specs.Prelude.{nat_lt}
 use Rattle.std.proofs.lemmas.Bool.{ltb-false, ltb-true}
 use Rattle.std.proofs.lemmas.List.{at_drop_all, at_drop_more, length_push, take-append-le, take_all}
-use Rattle.view_page.specs.layout.Walk.{Walk, shown_by, start, state_of, states_of, walked}
+use Rattle.view_page.specs.layout.Walk.{Walk, shown_by, start, state_of, walked}
 use Rattle.view_page.specs.layout.declared.walk.State.{State}
 use Rattle.view_page.specs.layout.reading.declared.event.Event.{Event}
 use Rattle.view_page.proofs.about_layouts.WalkLemmas.{states_by_walk}
@@ -114,7 +114,9 @@ pub all_count : (journal : List Event) (i : ℕ) (w : Walk) (n : ℕ) → length
     ≡ length (told_from 0 journal (shown_by start journal))
     → n ≡ length (told_places journal)
 all_count journal i w n past so_far =
-    omega (arith,
-    ap length (at_drop_all (λ (es : List Event). told_from i es (shown_by w es)) journal i past),
-    so_far,
-    ap (λ (ss : List State). length (told_from 0 journal ss)) (states_by_walk journal))
+    omega (
+      arith,
+      ap length (at_drop_all (λ (es : List Event). told_from i es (shown_by w es)) journal i past),
+      so_far,
+      ap (λ (ss : List State). length (told_from 0 journal ss)) (states_by_walk journal),
+    )

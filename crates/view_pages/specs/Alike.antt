@@ -1,6 +1,6 @@
 -- How the journals of an inode compare in two runs of one script: which events are told alike, where
 -- the journals part, and which events the other run lacks or tells otherwise.
-use Rattle.std.specs.Prelude.{ℕ, ◌+◌, ◌==◌, nat_le, nat_lt, min, not, ◌&&◌, Bool, true, false, List, [], ◌∷◌, length, slice_get, Option, Some, None, if◌then◌else◌}
+use Rattle.std.specs.Prelude.{ℕ, ◌+◌, ◌==◌, nat_le, nat_lt, not, ◌&&◌, Bool, true, false, List, [], ◌∷◌, length, slice_get, Option, Some, None, if◌then◌else◌}
 use Rattle.std.specs.List.{list_any}
 use Rattle.view_page.specs.Pieces.{text_at}
 use Rattle.view_page.specs.layout.declared.window.Window.{Window}
@@ -9,7 +9,6 @@ use Rattle.view_page.specs.layout.reading.declared.event.Deed.TheVariants as dee
 use Rattle.view_page.specs.layout.reading.declared.event.Event.{Event}
 use Rattle.view_page.specs.layout.reading.declared.event.Outcome.{Outcome}
 use Rattle.view_page.specs.layout.reading.declared.event.Outcome.TheVariants as outcome
-use Rattle.view_page.specs.layout.reading.declared.event.Span.{Span}
 
 -- ---- lines without numbers
 

@@ -19,7 +19,7 @@ fn is_digit(byte: u8) -> bool
 fn next_letter(bytes: &[u8], from: usize) -> Option<usize>
     ensures { MatchOption result (spec.letters (drop from bytes.now) ≡ [])
         (λ k. (k < length bytes.now) × (spec.letters (drop from bytes.now)
-            ≡ slice_index bytes.now k ∷ spec.letters (drop (k + 1) bytes.now))) }
+        ≡ slice_index bytes.now k ∷ spec.letters (drop (k + 1) bytes.now))) }
 {
     for k in from..bytes.len() {
         if !is_digit(bytes[k]) {

@@ -94,11 +94,7 @@ fn holders_by(
 
 /// The holders of the file at a violation after these events, in the order in which they opened
 /// it.
-pub fn holders(
-    alloc: Global,
-    journal: &[Event],
-    event: Event,
-) -> Result<Vec<u32>, OutOfMemory>
+pub fn holders(alloc: Global, journal: &[Event], event: Event) -> Result<Vec<u32>, OutOfMemory>
     requires { length journal.now < 4294967296 }
     ensures { IfOk result (λ v. v.items ≡ reverse (holders event (reverse journal.now))) }
 {

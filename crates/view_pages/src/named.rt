@@ -137,7 +137,13 @@ fn push_holders(
 {
     let more = files.len().saturating_sub(MOST_NAMED) as u64;
     push_named(out, text, journal, first_of(files))?;
-    push_more(out, text, Part::Told(Told::And), more, Part::Told(Told::More))?;
+    push_more(
+        out,
+        text,
+        Part::Told(Told::And),
+        more,
+        Part::Told(Told::More),
+    )?;
     Ok(())
 }
 

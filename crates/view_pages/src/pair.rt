@@ -1,8 +1,10 @@
 // The page of two reports of one script.
 
 ghost use Rattle.std.specs.Prelude.{◌≡◌, ◌<◌, ◌≤◌, length, take, OnOk};
+ghost use Rattle.view_page.specs.layout.Windows.{windows};
 ghost use Rattle.view_pages.specs.Pair as spec;
 ghost use Rattle.view_pages.specs.Parts.{Pushed};
+ghost use Rattle.view_pages.specs.Plan.{most_drawn};
 
 use crate::alike::differing;
 use crate::chosen::{MOST_PAIRS, numbers, parted_of, room_after, shown};
@@ -49,6 +51,24 @@ fn push_compared(
     Ok(())
 }
 
+// The same of the windows of a journal.
+fn push_compared_in(
+    alloc: Global,
+    out: &mut Vec<u8>,
+    text: &[u8],
+    view: View,
+    mine: &[Event],
+    other: &[Event],
+) -> Result<(), OutOfMemory>
+    requires { length mine.now < 4294967296 }
+    ensures { OnOk result (Pushed text.now out.old.items out.new.items
+        (spec.compared text.now view mine.now other.now (windows most_drawn mine.now))) }
+{
+    let windows = windows(alloc, MOST_DRAWN, mine)?;
+    push_compared(alloc, out, text, view, mine, other, &windows)?;
+    Ok(())
+}
+
 fn push_compared_by(
     alloc: Global,
     out: &mut Vec<u8>,
@@ -61,9 +81,7 @@ fn push_compared_by(
         (spec.compared_by text.now view mine.now other.now)) }
 {
     if mine.len() < 4_294_967_296 {
-        let windows = windows(alloc, MOST_DRAWN, mine)?;
-        push_compared(alloc, out, text, view, mine, other, &windows)?;
-        Ok(())
+        push_compared_in(alloc, out, text, view, mine, other)
     } else {
         push_not_drawn(out, text, view.inode)
     }
@@ -84,7 +102,11 @@ fn push_side_by(
 {
     push_heading(out, text, view.inode, mine.len() as u64, head)?;
     push_marked(out, text, mine)?;
-    push_parts(out, text, &[which(view.side), Part::Section(Section::Close)])?;
+    push_parts(
+        out,
+        text,
+        &[which(view.side), Part::Section(Section::Close)],
+    )?;
     push_compared_by(alloc, out, text, view, mine, other)?;
     push_at_end(out, text, head, attrs)?;
     Ok(())
@@ -143,36 +165,57 @@ fn push_both(
     Ok(())
 }
 
-fn push_same(
+fn push_same_by(
     out: &mut Vec<u8>,
     text: &[u8],
     number: u64,
-    events: u64,
     head: InodeHead,
+    journal: &[Event],
 ) -> Result<(), OutOfMemory>
     ensures { OnOk result (Pushed text.now out.old.items out.new.items
-        (spec.same text.now number events head)) }
+        (spec.same text.now number (length journal.now) head)) }
 {
     let same = [Part::Section(Section::Same), Part::Section(Section::Close)];
-    push_heading(out, text, number, events, head)?;
+    push_heading(out, text, number, journal.len() as u64, head)?;
     push_parts(out, text, &same)?;
     Ok(())
 }
 
-fn push_without_drawing(
+// One line, if the journals are the same.
+fn push_same(out: &mut Vec<u8>, text: &[u8], number: u64, inode: &Inode) -> Result<(), OutOfMemory>
+    ensures { OnOk result (Pushed text.now out.old.items out.new.items
+        (spec.same text.now number (length inode.now.events) inode.now.head)) }
+{
+    push_same_by(out, text, number, inode.head, &inode.events)
+}
+
+fn push_undrawn_by(
     out: &mut Vec<u8>,
     text: &[u8],
     number: u64,
-    events: u64,
     head: InodeHead,
+    journal: &[Event],
 ) -> Result<(), OutOfMemory>
     ensures { OnOk result (Pushed text.now out.old.items out.new.items
-        (spec.without_drawing text.now number events head)) }
+        (spec.without_drawing text.now number (length journal.now) head)) }
 {
-    push_heading(out, text, number, events, head)?;
+    push_heading(out, text, number, journal.len() as u64, head)?;
     push_parts(out, text, &[Part::Section(Section::Close)])?;
     push_not_drawn(out, text, number)?;
     Ok(())
+}
+
+// Two lines, if no more inodes are drawn.
+fn push_undrawn(
+    out: &mut Vec<u8>,
+    text: &[u8],
+    number: u64,
+    inode: &Inode,
+) -> Result<(), OutOfMemory>
+    ensures { OnOk result (Pushed text.now out.old.items out.new.items
+        (spec.without_drawing text.now number (length inode.now.events) inode.now.head)) }
+{
+    push_undrawn_by(out, text, number, inode.head, &inode.events)
 }
 
 fn push_pair_by(
@@ -188,14 +231,13 @@ fn push_pair_by(
     ensures { OnOk result (Pushed text.now out.old.items out.new.items
         (spec.pair_by text.now number room parted first.now second.now)) }
 {
-    let events = first.events.len() as u64;
     match parted {
-        None => push_same(out, text, number, events, first.head),
+        None => push_same(out, text, number, first),
         Some(place) => {
             if room > 0 {
                 push_both(alloc, out, text, number, place, first, second)
             } else {
-                push_without_drawing(out, text, number, events, first.head)
+                push_undrawn(out, text, number, first)
             }
         }
     }
@@ -333,5 +375,13 @@ pub fn push_pair(
     ensures { OnOk result (Pushed text.now out.old.items out.new.items
         (spec.pair_parts text.now first.now second.now)) }
 {
-    push_pair_by_inodes(alloc, out, text, first, second, &first.inodes, &second.inodes)
+    push_pair_by_inodes(
+        alloc,
+        out,
+        text,
+        first,
+        second,
+        &first.inodes,
+        &second.inodes,
+    )
 }

@@ -176,11 +176,7 @@ fn push_writer(
     }
 }
 
-fn push_not_as_hashed(
-    out: &mut Vec<u8>,
-    text: &[u8],
-    event: Event,
-) -> Result<(), OutOfMemory>
+fn push_not_as_hashed(out: &mut Vec<u8>, text: &[u8], event: Event) -> Result<(), OutOfMemory>
     ensures { OnOk result (Pushed text.now out.old.items out.new.items (spec.not_as_hashed event)) }
 {
     let parts = [

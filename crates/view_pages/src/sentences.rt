@@ -48,7 +48,11 @@ fn push_event_link(
         (Pushed text.now out.old.items out.new.items (spec.event_link drawn view place)) }
 {
     if !drawn {
-        return push_parts(out, text, &[Part::Told(Told::Event), Part::Number(u64::from(place))]);
+        return push_parts(
+            out,
+            text,
+            &[Part::Told(Told::Event), Part::Number(u64::from(place))],
+        );
     }
     let parts = [
         Part::Table(Table::Link),

@@ -1,6 +1,5 @@
-use Rattle.std.proofs.Common.{◌≡◌, ℕ, List, Option, length, ap, ◌∙◌, arith}
+use Rattle.std.proofs.Common.{ℕ, List, length, ap, ◌∙◌, arith}
 use Rattle.std.specs.Prelude.{reverse}
-use Rattle.view_page.specs.layout.Files.{files}
 use Rattle.view_page.specs.layout.Sentences.{held_by}
 use Rattle.view_page.specs.layout.Walk.{Walk, start}
 use Rattle.view_page.specs.layout.reading.declared.event.Kind.{Kind}
@@ -10,10 +9,12 @@ use Rattle.view_pages.proofs.holders.holders_by.Goals as goal
 
 pub holders_in-requires : goal.holders_in-requires
 holders_in-requires c =
-    omega (arith,
-    ap length (c.held.ensures ∙ ap (λ (w : Walk). w.held) c.in_ok-walk.ensures),
-    length-walked_all start c.args.journal.now,
-    c.requires)
+    omega (
+      arith,
+      ap length (c.held.ensures ∙ ap (λ (w : Walk). w.held) c.in_ok-walk.ensures),
+      length-walked_all start c.args.journal.now,
+      c.requires,
+    )
 
 pub returns : goal.returns
 returns c =

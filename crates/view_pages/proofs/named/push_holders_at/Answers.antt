@@ -12,5 +12,9 @@ returns c =
 
 pub holders-requires : goal.holders-requires
 holders-requires c =
-    omega (arith, length-take-le c.args.place c.args.journal.now c.requires.within,
-    c.requires.within, c.requires.few)
+    omega (
+      arith,
+      length-take-le c.args.place c.args.journal.now c.requires.within,
+      c.requires.within,
+      c.requires.few,
+    )

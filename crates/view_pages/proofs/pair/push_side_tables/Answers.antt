@@ -1,4 +1,4 @@
-use Rattle.std.proofs.Common.{ℕ, List, ap, ◌∙◌}
+use Rattle.std.proofs.Common.{List, ap, ◌∙◌}
 use Rattle.view_page.specs.layout.reading.Report.{InodeValue, ReportValue}
 use Rattle.view_pages.specs.Page.{tables}
 use Rattle.view_pages.specs.Plan.{planned}

@@ -12,5 +12,9 @@ returns c =
 
 pub last_write-requires : goal.last_write-requires
 last_write-requires c =
-    omega (arith, length-take-le c.args.place c.args.journal.now c.requires.within,
-    c.requires.within, c.requires.few)
+    omega (
+      arith,
+      length-take-le c.args.place c.args.journal.now c.requires.within,
+      c.requires.within,
+      c.requires.few,
+    )

@@ -1,4 +1,4 @@
-use Rattle.std.proofs.Common.{ℕ, List, length, take, ap, ◌∙◌}
+use Rattle.std.proofs.Common.{ℕ, List, take, ap, ◌∙◌}
 use Rattle.view_pages.specs.Sentences.{list_by, told_places}
 use Rattle.view_pages.proofs.Joined.{as_parts}
 use Rattle.view_pages.proofs.sentences.push_sentences.Goals as goal

@@ -22,8 +22,11 @@ loop-place-preserved c =
           (omega (arith, c.loop-place-test.true, c.requires));
       few = kept_few t c.loop-place.places.items c.keep.new.places.items i c.in_ok-keep.ensures
           c.loop-place.invariant.few;
-      small = omega (arith, c.counted-n.ensures,
-          counted_small t c.loop-place.n i c.loop-place.invariant.small);
+      small = omega (
+        arith,
+        c.counted-n.ensures,
+        counted_small t c.loop-place.n i c.loop-place.invariant.small,
+      );
       places = tales_places c.args.journal.now i no_event w next t c.loop-place.places.items
           c.keep.new.places.items all c.loop-place-test.true c.in_ok-step.ensures tells
           c.in_ok-keep.ensures c.loop-place.invariant.places;

@@ -1,5 +1,5 @@
 use Rattle.view_pages.proofs.Joined.{◌▹◌}
-use Rattle.view_pages.proofs.pair.push_same.Goals as goal
+use Rattle.view_pages.proofs.pair.push_same_by.Goals as goal
 
 pub returns : goal.returns
 returns c = c.in_ok-push_heading.ensures ▹ c.in_ok-push_parts.ensures

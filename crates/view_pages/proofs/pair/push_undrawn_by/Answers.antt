@@ -1,5 +1,5 @@
 use Rattle.view_pages.proofs.Joined.{◌▹◌}
-use Rattle.view_pages.proofs.pair.push_without_drawing.Goals as goal
+use Rattle.view_pages.proofs.pair.push_undrawn_by.Goals as goal
 
 pub returns : goal.returns
 returns c =

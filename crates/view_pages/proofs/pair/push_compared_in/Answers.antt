@@ -2,10 +2,10 @@ use Rattle.std.proofs.Common.{List, ap, ◌∙◌}
 use Rattle.view_page.specs.layout.declared.window.Window.{Window}
 use Rattle.view_pages.specs.Pair.{compared}
 use Rattle.view_pages.proofs.Joined.{as_parts}
-use Rattle.view_pages.proofs.pair.push_compared_by.Goals as goal
+use Rattle.view_pages.proofs.pair.push_compared_in.Goals as goal
 
-pub returns-then-mine-lt4294967296 : goal.returns-then-mine-lt4294967296
-returns-then-mine-lt4294967296 c =
+pub returns : goal.returns
+returns c =
     as_parts c.in_ok-push_compared.ensures
     (ap (λ (ws : List Window).
     compared c.args.text.now c.args.view c.args.mine.now c.args.other.now ws)
