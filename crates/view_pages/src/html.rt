@@ -118,7 +118,7 @@ pub fn section_bytes(section: Section) -> &'static [u8]
         Section::HeadEnd => b" events</span>",
         Section::Bad => b" <span class=\"bad\">",
         Section::Violations => b" violations</span>",
-        Section::Denials => b" denials or labels</span>",
+        Section::Denials => b" denied or labelled</span>",
         Section::Same => b" <span class=\"soft\">the same journal in both</span>",
         Section::IsFirst => b" <span class=\"which\">first</span>",
         Section::IsSecond => b" <span class=\"which\">second</span>",
