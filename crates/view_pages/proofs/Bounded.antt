@@ -55,8 +55,8 @@ from_room room inodes (n ∷ ns) small =
     let ws : List Window = fitting room journal in
     let rest : List Shown = shown_from (room_after room journal) inodes ns in
     let most : places_of ws ≤ room = fits room journal in
-    let sum : sum_by width ws ≤ places_of ws
-    = sum_fits 0 (places_of ws) ws (omega (arith, most, small)) (omega arith) in
+    let from_none = sum_fits 0 (places_of ws) ws (omega (arith, most, small)) (omega arith) in
+    let sum : sum_by width ws ≤ places_of ws = omega (arith, from_none) in
     let after : sum_by places rest ≤ room - places_of ws
     = from_room (room_after room journal) inodes ns (omega (arith, small)) in
     omega (arith, most, sum, after, shown_sum n ws, sum_by-append places (shown_of n ws) rest)

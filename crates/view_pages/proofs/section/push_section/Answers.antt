@@ -1,0 +1,25 @@
+-- The parts of an inode are those of its fields.
+use Rattle.std.proofs.Common.{◌≡◌, List, ap, ◌∙◌, subst}
+use Rattle.std.specs.Prelude.{OnOk}
+use Rattle.view_page.specs.layout.reading.Report.{InodeValue}
+use Rattle.view_page.specs.layout.reading.declared.event.Event.{Event}
+use Rattle.view_page.specs.layout.reading.declared.event.Span.{Span}
+use Rattle.view_page.specs.layout.reading.declared.report.InodeHead.{InodeHead}
+use Rattle.view_pages.specs.Section.{section_by}
+use Rattle.view_pages.specs.Parts.{Pushed}
+use Rattle.view_pages.proofs.section.push_section.Goals as goal
+
+pub returns : goal.returns
+returns c =
+    let i = c.args.inode.now in
+    let head_is : c.inode.inside.head ≡ i.head =
+    ap (λ (v : InodeValue). v.head) c.inode.view_is in
+    let attrs_are : c.deref.result.now ≡ i.attrs =
+    c.deref.ensures.value ∙ ap (λ (v : InodeValue). v.attrs) c.inode.view_is in
+    let events_are : c.deref-2.result.now ≡ i.events =
+    c.deref-2.ensures.value ∙ ap (λ (v : InodeValue). v.events) c.inode.view_is in
+    subst (λ (x : InodeHead × (List Span × List Event)). OnOk c.push_section_by.result
+    (Pushed c.args.text.now c.args.out.now.items c.push_section_by.new.out.items
+    (section_by c.args.text.now c.args.detail c.args.view c.args.windows.now x.0 x.1.0
+    x.1.1)))
+    (λ k. (head_is k, (attrs_are k, events_are k))) c.push_section_by.ensures
