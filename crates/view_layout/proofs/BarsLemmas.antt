@@ -6,7 +6,7 @@ use Rattle.report_read.specs.declared.event.Event.{Event}
 use Rattle.report_read.specs.declared.event.Kind.{Kind}
 use Rattle.view_layout.specs.declared.bars.Bar.{Bar}
 use Rattle.view_layout.specs.declared.window.Window.{Window}
-use Rattle.view_layout.specs.Bars.{bar_by, bars_at, bars_from, drop_from, extents, kept, meets, most_bars, own}
+use Rattle.view_layout.specs.Bars.{bars_at, bars_from, extents, kept, meets, most_bars, own}
 use Rattle.view_layout.specs.Files.{opened}
 use Rattle.view_layout.specs.Frame.{AreInOrder, BeginAfter}
 use Rattle.view_layout.specs.Promises.{LanesAreInOrder}

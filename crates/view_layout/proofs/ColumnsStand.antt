@@ -4,7 +4,6 @@ use Rattle.std.specs.Prelude.{All, slice_get}
 use Rattle.std.proofs.lemmas.List.{length-reverse, reverse-append, reverse-reverse}
 use Rattle.std.proofs.lemmas.List.Elements.{All-append, All-cons, All-nil, All-take}
 use Rattle.report_read.specs.declared.event.Event.{Event}
-use Rattle.view_layout.specs.declared.column.Column.{Column}
 use Rattle.view_layout.specs.declared.window.Window.{Window}
 use Rattle.view_layout.specs.Columns.{column_at, columns_from, hashing_after}
 use Rattle.view_layout.specs.Files.{up_to}

@@ -1,5 +1,5 @@
 -- The walk over a journal that finds its columns.
-use Rattle.std.proofs.Common.{◌≡◌, ℕ, ◌+◌, ◌<◌, ◌≤◌, List, [], ◌∷◌, ◌++◌, length, Option, Some, None, refl, ap, sym, ◌∙◌, subst, append_assoc, drop, get_or}
+use Rattle.std.proofs.Common.{◌≡◌, ℕ, ◌+◌, ◌<◌, ◌≤◌, List, ◌∷◌, ◌++◌, length, Option, None, ap, sym, ◌∙◌, append_assoc, drop, get_or}
 use Rattle.std.proofs.lemmas.List.{append-nil, at_drop_all, at_drop_more, get_or_default}
 use Rattle.report_read.specs.declared.event.Event.{Event}
 use Rattle.view_layout.specs.declared.column.Column.{Column}

@@ -1,5 +1,5 @@
 -- Each event but the birth stands in a lane of its task.
-use Rattle.std.proofs.Common.{◌≡◌, ◌≢◌, ℕ, zero, suc, ◌+◌, ◌*◌, ◌<◌, ◌≤◌, ◌==◌, ◌&&◌, Bool, true, false, max, List, [], ◌∷◌, ◌++◌, length, get_or, Option, Some, None, refl, sym, ◌∙◌, subst, arith, inl, inr, ◌⊎◌}
+use Rattle.std.proofs.Common.{◌≡◌, ◌≢◌, ℕ, zero, suc, ◌+◌, ◌*◌, ◌<◌, ◌≤◌, ◌==◌, ◌&&◌, Bool, true, false, max, List, [], ◌∷◌, ◌++◌, get_or, Option, Some, None, refl, sym, ◌∙◌, subst, arith, inl, inr, ◌⊎◌}
 use Rattle.std.specs.Prelude.{All, Contains, nat_lt}
 use Rattle.std.proofs.lemmas.Bool.{cases_Bool, eqb-false, eqb-true}
 use Rattle.std.proofs.lemmas.List.Elements.{All-cons, All-nil, All-weaker, Contains-append_cases, Contains-append_left, Contains-append_right}
@@ -12,7 +12,7 @@ use Rattle.view_layout.specs.declared.lanes.Seat.{Seat}
 use Rattle.view_layout.specs.Bars.{lane, own}
 use Rattle.view_layout.specs.Frame.{rows}
 use Rattle.view_layout.specs.Lanes.{file_of, lane_at, lane_height, lane_seats, lanes_from, own_seat, own_seat_in, row_by, row_or, rows_from_least, seats_from, seats_of, tasks_from, tasks_of, top_in, with_actor, with_task}
-use Rattle.view_layout.specs.Promises.{EventsStandInTheirLanes, HasRow, IsRowOf}
+use Rattle.view_layout.specs.Promises.{EventsStandInTheirLanes, HasRow}
 
 -- ---- the tasks
 

@@ -1,11 +1,10 @@
 -- A walk over a journal finds what the strips show.
-use Rattle.std.proofs.Common.{◌≡◌, ℕ, zero, suc, ◌+◌, ◌-◌, ◌<◌, ◌≤◌, ◌==◌, Bool, false, List, [], ◌∷◌, ◌++◌, length, Option, Some, None, refl, ap, sym, ◌∙◌, subst, arith, inl, inr}
+use Rattle.std.proofs.Common.{◌≡◌, ℕ, zero, suc, ◌+◌, ◌-◌, ◌≤◌, ◌==◌, Bool, false, List, [], ◌∷◌, ◌++◌, length, Option, Some, None, refl, ap, sym, ◌∙◌, subst, arith, inl, inr}
 use Rattle.std.specs.Prelude.{slice_get, slice_set}
 use Rattle.std.proofs.lemmas.Option.{slice_get_past}
 use Rattle.std.proofs.lemmas.Bool.{cases_Bool, eqb-true}
 use Rattle.report_read.specs.declared.event.Event.{Event}
 use Rattle.report_read.specs.declared.event.Kind.{Kind}
-use Rattle.view_layout.specs.declared.walk.State.{State}
 use Rattle.view_layout.specs.Files.{dropped, execs, files, find_file, is_exec, is_reader, is_writer, less_file, opened, readers, tally, with_file, without_file, writers}
 use Rattle.view_layout.specs.State.{collecting, freshness}
 use Rattle.view_layout.specs.Walk.{Walk, cleared, joined, kind_at, one, passes, recounted, shown_by, start, state_after, state_of, states_from, states_of, walked}

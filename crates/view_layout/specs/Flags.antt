@@ -1,5 +1,5 @@
 -- Flags above the strips: of the notes of drawn events.
-use Rattle.std.specs.Prelude.{ℕ, ◌+◌, ◌*◌, nat_lt, List, [], ◌∷◌, ◌++◌, map, take, Option, Some, None, if◌then◌else◌}
+use Rattle.std.specs.Prelude.{ℕ, ◌+◌, ◌*◌, nat_lt, List, [], ◌∷◌, map, take, Option, Some, None, if◌then◌else◌}
 use Rattle.std.specs.List.{flat_map}
 use Rattle.view_layout.specs.declared.column.Column.{Column}
 use Rattle.view_layout.specs.declared.flags.Flag.{Flag}

@@ -1,5 +1,5 @@
 -- The lanes of tasks: which, and where their bars stand.
-use Rattle.std.specs.Prelude.{ℕ, suc, ◌+◌, ◌*◌, ◌==◌, nat_lt, max, ◌&&◌, List, [], ◌∷◌, ◌++◌, Option, Some, None, take, if◌then◌else◌}
+use Rattle.std.specs.Prelude.{ℕ, suc, ◌+◌, ◌*◌, ◌==◌, nat_lt, max, ◌&&◌, List, [], ◌∷◌, ◌++◌, Option, Some, None, if◌then◌else◌}
 use Rattle.report_read.specs.declared.event.Deed.{Deed}
 use Rattle.report_read.specs.declared.event.Deed.TheVariants as deed
 use Rattle.report_read.specs.declared.event.Event.{Event}

@@ -1,7 +1,6 @@
 // The drawing of a journal, as a list of items.
 
-ghost use Rattle.std.specs.Prelude.{◌≡◌, ◌++◌, ◌+◌, ◌≤◌, ◌<◌, ◌^◌, length, IfOk, OnOk};
-ghost use Rattle.std.specs.List.{flat_map, list_any};
+ghost use Rattle.std.specs.Prelude.{◌≡◌, ◌++◌, ◌+◌, ◌<◌, ◌^◌, length, IfOk, OnOk};
 ghost use Rattle.view_layout.specs.Drawing as spec;
 ghost use Rattle.view_layout.specs.SketchView.{parts_in, sketch_in};
 

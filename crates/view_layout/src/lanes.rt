@@ -1,6 +1,6 @@
 // The lanes of tasks: which, and where their bars stand.
 
-ghost use Rattle.std.specs.Prelude.{◌≡◌, ◌≤◌, ◌<◌, ◌+◌, ◌*◌, ◌++◌, ◌∷◌, [], length, All, IfOk, OnOk};
+ghost use Rattle.std.specs.Prelude.{◌≡◌, ◌≤◌, ◌<◌, ◌+◌, ◌*◌, ◌++◌, length, All, IfOk, OnOk};
 ghost use Rattle.view_layout.specs.Lanes as spec;
 
 use crate::bars::{Bar, extents, own};

@@ -1,4 +1,4 @@
-use Rattle.std.proofs.Common.{◌≡◌, ℕ, List, Option, None, get_or, ap, ◌∙◌, arith}
+use Rattle.std.proofs.Common.{ℕ, List, Option, None, get_or, ap, ◌∙◌, arith}
 use Rattle.view_layout.proofs.BarsSteps.{none_more}
 use Rattle.view_layout.proofs.bars.no_drops.Goals as goal
 

@@ -1,4 +1,4 @@
-use Rattle.std.proofs.Common.{◌≡◌, List, length, arith}
+use Rattle.std.proofs.Common.{arith}
 use Rattle.view_layout.proofs.BarsSteps.{walked_start}
 use Rattle.view_layout.proofs.bars.shown_bars.Goals as goal
 

@@ -1,4 +1,4 @@
-use Rattle.std.proofs.Common.{◌≡◌, List, get_or, take, ap, ◌∙◌, arith}
+use Rattle.std.proofs.Common.{List, get_or, take, ap, ◌∙◌, arith}
 use Rattle.report_read.specs.declared.event.Event.{Event}
 use Rattle.report_read.specs.Draft.{no_span}
 use Rattle.report_read.specs.Lines.{birth_event}
