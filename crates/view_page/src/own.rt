@@ -12,7 +12,7 @@ use view_layout::{Freshness, Guide, Look, Mark, Note, Strip};
 
 /// To which of two reports of a page a drawing belongs: its identifiers begin with nothing, `a-` or
 /// `b-`.
-#[derive(Clone, Copy, Debug, PartialEq, Eq)]
+#[derive(Clone, Copy)]
 pub enum Side {
     Alone,
     First,
@@ -20,7 +20,7 @@ pub enum Side {
 }
 
 /// The program's own bytes of a drawing.
-#[derive(Clone, Copy, Debug, PartialEq, Eq)]
+#[derive(Clone, Copy)]
 pub enum Own {
     /// A drawing begins, up to its width.
     Svg,

@@ -10,7 +10,7 @@ use view_layout::reading::Span;
 use view_layout::reading::reports::push_number;
 
 /// A piece of a page.
-#[derive(Clone, Copy, Debug, PartialEq, Eq)]
+#[derive(Clone, Copy)]
 pub enum Piece {
     Own(Own),
     /// In decimal digits.

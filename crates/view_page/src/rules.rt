@@ -6,7 +6,8 @@ ghost use Rattle.view_page.specs.Rules.{lines_of, rules};
 use crate::escape::push_all;
 use std::alloc::AllocError as OutOfMemory;
 
-const RULES: [&[u8]; 19] = [
+const RULES: [&[u8]; 20] = [
+    b"svg.tl{background:#fff}",
     b"svg.tl{font:10px sans-serif;display:block}text.lane{text-anchor:end;font-size:12px}",
     b".strip,.gap,.place{fill:#5f6b7a}.gap,.place{text-anchor:middle}",
     b".strip{text-anchor:end}.in,.place{font-size:9px}.deed{text-anchor:end;fill:#3c4652}",
