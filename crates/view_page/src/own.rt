@@ -147,7 +147,10 @@ pub fn push_own(out: &mut Vec<u8>, own: Own) -> Result<(), OutOfMemory>
             )
         }
         Own::GapText => push_all(out, b"\"/><text class=\"gap\" x=\"45\" y=\"30\">"),
-        Own::GapEnd => push_all(out, b" events</text></g>"),
+        Own::GapEnd => push_all(
+            out,
+            b"<tspan x=\"45\" dy=\"14\">not drawn</tspan></text></g>",
+        ),
         Own::ContentText => push_all(out, b"<text class=\"in\" dx=\"4\" y=\"55\" x=\""),
         Own::SvgEnd => push_all(out, b"</svg>\n"),
         Own::Shape(mark) => push_shape(out, mark),
