@@ -141,7 +141,7 @@ flag_text note.Passed = codes "<text class=\"f-p\" dx=\"5\" dy=\"11\" x=\""
 abbrev pub flag_words : Note → List ℕ
 flag_words (note.ToMToU p) = codes "ToMToU = entry "
 flag_words (note.OpenWriters p) = codes "open-writers = entry "
-flag_words note.Denied = codes "denied"
+flag_words note.Denied = []
 flag_words note.Labelled = codes "labelled"
 flag_words (note.Added p) = codes "entry "
 flag_words (note.Already p) = codes "already entry "

@@ -312,7 +312,7 @@ fn push_flag_words(out: &mut Vec<u8>, x: Note) -> Result<(), OutOfMemory>
     match x {
         Note::ToMToU(_) => push_all(out, b"ToMToU = entry "),
         Note::OpenWriters(_) => push_all(out, b"open-writers = entry "),
-        Note::Denied => push_all(out, b"denied"),
+        Note::Denied => push_all(out, b""),
         Note::Labelled => push_all(out, b"labelled"),
         Note::Added(_) => push_all(out, b"entry "),
         Note::Already(_) => push_all(out, b"already entry "),
