@@ -141,7 +141,7 @@ flag_text note.Passed = codes "<text class=\"f-p\" dx=\"5\" dy=\"11\" x=\""
 abbrev pub flag_words : Note → List ℕ
 flag_words (note.ToMToU p) = codes "ToMToU = entry "
 flag_words (note.OpenWriters p) = codes "open-writers = entry "
-flag_words note.Denied = codes "denied"
+flag_words note.Denied = []
 flag_words note.Labelled = codes "labelled"
 flag_words (note.Added p) = codes "entry "
 flag_words (note.Already p) = codes "already entry "
@@ -212,7 +212,7 @@ own_bytes own.Plus = codes "+"
 own_bytes own.GapGroup = codes "<g transform=\"translate("
 own_bytes own.GapBlock = codes ")\"><rect class=\"gap\" x=\"8\" y=\"-2\" width=\"74\" height=\""
 own_bytes own.GapText = codes "\"/><text class=\"gap\" x=\"45\" y=\"30\">"
-own_bytes own.GapEnd = codes " events</text></g>"
+own_bytes own.GapEnd = codes "<tspan x=\"45\" dy=\"14\">not drawn</tspan></text></g>"
 own_bytes own.ContentText = codes "<text class=\"in\" dx=\"4\" y=\"55\" x=\""
 own_bytes own.SvgEnd = codes "</svg>" ++ 10 ∷ []
 own_bytes (own.Shape m) = shape m

@@ -148,4 +148,4 @@ calls text side shown inodes ts =
     part.Table table.Replies ∷ []
     ++ tasks_from text side shown inodes 0 (take most_tasks ts)
     ++ part.Table table.TableEnd ∷ []
-    ++ more (part.Table table.MoreTasks) (length ts - most_tasks) (part.Table table.MoreTasksEnd)
+    ++ more (part.Table table.More) (length ts - most_tasks) (part.Table table.MoreEnd)

@@ -11,7 +11,7 @@ use Rattle.view_page.specs.layout.reading.declared.event.Span.{Span}
 use Rattle.view_page.specs.layout.reading.declared.report.InodeHead.{InodeHead}
 use Rattle.view_pages.specs.Order.{count}
 use Rattle.view_pages.specs.Overview.{overview_of}
-use Rattle.view_pages.specs.Parts.{more}
+use Rattle.view_pages.specs.Parts.{by_count, more}
 use Rattle.view_pages.specs.Plan.{most_drawn}
 use Rattle.view_pages.specs.Sentences.{sentences}
 use Rattle.view_pages.specs.Words.{after_word, cut, first_word}
@@ -37,7 +37,8 @@ abbrev pub heading : List ℕ → ℕ → ℕ → InodeHead → List Part
 heading text number events head =
     part.Section section.Inode ∷ part.Number number ∷ part.Section section.Path ∷ []
     ++ titled 80 (path text head)
-    ++ part.Section section.Length ∷ part.Number events ∷ part.Section section.HeadEnd ∷ []
+    ++ part.Section section.Length ∷ part.Number events
+    ∷ by_count events (part.Section section.Event) (part.Section section.Events) ∷ []
 
 -- ---- the state at the end
 
@@ -112,10 +113,13 @@ drawn text d view ws journal =
 
 -- ---- the section
 
+abbrev pub violations_end : ℕ → Part
+violations_end n = by_count n (part.Section section.Violation) (part.Section section.Violations)
+
 -- how many events are violations, and how many others are denials or labels
 abbrev pub marked_by : ℕ → ℕ → List Part
 marked_by violations denials =
-    more (part.Section section.Bad) violations (part.Section section.Violations)
+    more (part.Section section.Bad) violations (violations_end violations)
     ++ more (part.Section section.Bad) denials (part.Section section.Denials)
 
 abbrev pub marked : List Event → List Part

@@ -384,9 +384,9 @@ pub fn push_calls(
     push_more(
         out,
         text,
-        Part::Table(Table::MoreTasks),
+        Part::Table(Table::More),
         more,
-        Part::Table(Table::MoreTasksEnd),
+        Part::Table(Table::MoreEnd),
     )?;
     Ok(())
 }

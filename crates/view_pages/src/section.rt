@@ -7,7 +7,7 @@ ghost use Rattle.view_pages.specs.Section as spec;
 use crate::html::Section;
 use crate::order::{Grade, count};
 use crate::overview::push_overview;
-use crate::part::{Part, push_more, push_parts};
+use crate::part::{Part, by_count, push_more, push_parts};
 use crate::sentences::push_sentences;
 use crate::words::{after_word, cut, first_word};
 use std::alloc::{AllocError as OutOfMemory, Global};
@@ -69,7 +69,11 @@ pub fn push_heading(
     let after = [
         Part::Section(Section::Length),
         Part::Number(events),
-        Part::Section(Section::HeadEnd),
+        by_count(
+            events,
+            Part::Section(Section::Event),
+            Part::Section(Section::Events),
+        ),
     ];
     push_parts(out, text, &before)?;
     push_titled(out, text, 80, path(text, head))?;
@@ -288,6 +292,16 @@ pub fn push_marked(out: &mut Vec<u8>, text: &[u8], journal: &[Event]) -> Result<
     Ok(())
 }
 
+fn violations_end(n: u64) -> Part
+    ensures { result ≡ spec.violations_end n }
+{
+    by_count(
+        n,
+        Part::Section(Section::Violation),
+        Part::Section(Section::Violations),
+    )
+}
+
 fn push_marked_by(
     out: &mut Vec<u8>,
     text: &[u8],
@@ -302,7 +316,7 @@ fn push_marked_by(
         text,
         Part::Section(Section::Bad),
         violations,
-        Part::Section(Section::Violations),
+        violations_end(violations),
     )?;
     push_more(
         out,

@@ -87,9 +87,9 @@ fn push_rules_shown(out: &mut Vec<u8>, text: &[u8], lines: &[Span]) -> Result<()
     push_more(
         out,
         text,
-        Part::Table(Table::MoreRules),
+        Part::Table(Table::More),
         more,
-        Part::Table(Table::MoreRulesEnd),
+        Part::Table(Table::MoreEnd),
     )?;
     Ok(())
 }
