@@ -21,6 +21,7 @@ use Rattle.view_layout.specs.reading.declared.event.Event.{Event}
 use Rattle.view_layout.specs.reading.declared.event.Outcome.{Outcome}
 use Rattle.view_layout.specs.reading.declared.event.Outcome.TheVariants as outcome
 use Rattle.view_layout.specs.reading.declared.event.Placed.{Placed}
+use Rattle.view_layout.specs.reading.declared.event.Placed.TheVariants as placed
 use Rattle.view_layout.specs.reading.declared.event.Span.{Span}
 use Rattle.view_layout.specs.declared.column.Column.{Column}
 use Rattle.view_layout.specs.Columns.{columns_of}
@@ -153,9 +154,9 @@ axis_pieces x y place e m =
 -- ---- flags and gaps
 
 -- the cause follows `deny`, before which a grant may name an entry
-abbrev pub cause_of : Option Placed → ℕ
-cause_of None = 1
-cause_of (Some p) = 3
+abbrev pub cause_of : Placed → ℕ
+cause_of placed.NotMeasured = 1
+cause_of _ = 3
 
 -- after how many words of an outcome the cause of a denial stands
 abbrev pub cause_at : Outcome → ℕ

@@ -303,12 +303,12 @@ fn push_banner(
     add(out, &pieces)
 }
 
-fn cause_of(placed: Option<Placed>) -> u32
+fn cause_of(placed: Placed) -> u32
     ensures { result ≡ spec.cause_of placed }
 {
     match placed {
-        None => 1,
-        Some(_) => 3,
+        Placed::NotMeasured => 1,
+        Placed::Added | Placed::Already => 3,
     }
 }
 
