@@ -60,12 +60,7 @@ fn push_noted(alloc: Global, noted: &mut Vec<Noted>, column: Column) -> Result<(
     push_at(noted, column.x, column.event, &notes)
 }
 
-fn push_at(
-    noted: &mut Vec<Noted>,
-    x: u32,
-    event: Event,
-    notes: &[Note],
-) -> Result<(), OutOfMemory>
+fn push_at(noted: &mut Vec<Noted>, x: u32, event: Event, notes: &[Note]) -> Result<(), OutOfMemory>
     ensures { OnOk result
         (noted.new.items ≡ noted.old.items ++ map (spec.noted x event) notes.now) }
 {
