@@ -33,12 +33,17 @@ path text head = first_word text (after_word text (after_word text head.line))
 
 -- ---- the heading
 
+-- how many events a journal has
+abbrev pub length_of : ℕ → List Part
+length_of n =
+    part.Section section.Length ∷ part.Number n
+    ∷ by_count n (part.Section section.Event) (part.Section section.Events) ∷ []
+
 abbrev pub heading : List ℕ → ℕ → ℕ → InodeHead → List Part
 heading text number events head =
     part.Section section.Inode ∷ part.Number number ∷ part.Section section.Path ∷ []
     ++ titled 80 (path text head)
-    ++ part.Section section.Length ∷ part.Number events
-    ∷ by_count events (part.Section section.Event) (part.Section section.Events) ∷ []
+    ++ length_of events
 
 -- ---- the state at the end
 
@@ -113,14 +118,16 @@ drawn text d view ws journal =
 
 -- ---- the section
 
-abbrev pub violations_end : ℕ → Part
-violations_end n = by_count n (part.Section section.Violation) (part.Section section.Violations)
+-- how many events are violations
+abbrev pub violations : ℕ → List Part
+violations n =
+    more (part.Section section.Bad) n
+    (by_count n (part.Section section.Violation) (part.Section section.Violations))
 
 -- how many events are violations, and how many others are denials or labels
 abbrev pub marked_by : ℕ → ℕ → List Part
-marked_by violations denials =
-    more (part.Section section.Bad) violations (violations_end violations)
-    ++ more (part.Section section.Bad) denials (part.Section section.Denials)
+marked_by n denials =
+    violations n ++ more (part.Section section.Bad) denials (part.Section section.Denials)
 
 abbrev pub marked : List Event → List Part
 marked journal =

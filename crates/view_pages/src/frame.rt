@@ -1,6 +1,6 @@
 // The frame of a page: its head, and the tiles with the numbers of a report.
 
-ghost use Rattle.std.specs.Prelude.{◌≡◌, ◌++◌, OnOk};
+ghost use Rattle.std.specs.Prelude.{◌≡◌, OnOk};
 ghost use Rattle.view_pages.specs.Frame as spec;
 ghost use Rattle.view_pages.specs.Parts.{Pushed};
 

@@ -1,6 +1,6 @@
 // The registers and the appended rules in a page.
 
-ghost use Rattle.std.specs.Prelude.{◌≡◌, OnOk};
+ghost use Rattle.std.specs.Prelude.{OnOk};
 ghost use Rattle.view_pages.specs.Parts.{Pushed};
 ghost use Rattle.view_pages.specs.Tables as spec;
 
