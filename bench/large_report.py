@@ -9,7 +9,7 @@ of a run. The program is crates/imakern_view/out/imakern_view, or PROGRAM. Wante
 events: at most 2 s, a page below 1,000,000 bytes, and at most 64 bytes of memory an event beside the
 input. Status 1: it isn't so.
 """
-import os, resource, subprocess, sys, tempfile, time
+import os, subprocess, sys, tempfile, time
 
 TOP = os.path.dirname(os.path.dirname(os.path.abspath(__file__)))
 BUILT = os.path.join(TOP, 'crates', 'imakern_view', 'out', 'imakern_view')
@@ -102,26 +102,33 @@ def report(events):
     return made.text()
 
 
+def measured(program, file):
+    """Draws the page of the report in the file; gives its status, seconds, bytes and peak."""
+    with tempfile.TemporaryFile() as page:
+        began = time.monotonic()
+        child = subprocess.Popen([program, 'page'], stdin=file, stdout=page)
+        _, status, used = os.wait4(child.pid, 0)
+        seconds = time.monotonic() - began
+        child.returncode = os.waitstatus_to_exitcode(status)
+        return child.returncode, seconds, page.seek(0, os.SEEK_END), used.ru_maxrss * 1024
+
+
 def main():
     if sys.argv[1:2] == ['events']:
         sys.stdout.write(report(int(sys.argv[2])))
         return 0
     program, events = (sys.argv[1:] or [BUILT])[0], 1000000
-    with tempfile.TemporaryFile('w+') as file:
-        text = report(events)
-        size = len(text)
-        file.write(text)
-        del text
+    with tempfile.TemporaryFile() as file:
+        # A child's peak counts what its parent held when it started it. So another process makes
+        # the report, and this one stays small.
+        subprocess.run([sys.executable, __file__, 'events', str(events)], stdout=file, check=True)
+        size = file.seek(0, os.SEEK_END)
         file.seek(0)
-        began = time.monotonic()
-        got = subprocess.run([program, 'page'], stdin=file, stdout=subprocess.PIPE)
-        seconds = time.monotonic() - began
-    # The input lies in a vector that doubles, so it may take twice its size and half again.
-    peak = resource.getrusage(resource.RUSAGE_CHILDREN).ru_maxrss * 1024
+        status, seconds, page, peak = measured(program, file)
     each = (peak - size) / events
     print('%d events, %d bytes: status %d, %.2f s, page %d bytes, peak %d bytes, %.0f an event '
-          'beside the input' % (events, size, got.returncode, seconds, len(got.stdout), peak, each))
-    good = got.returncode == 0 and seconds <= 2 and len(got.stdout) < 1000000 and each <= 64
+          'beside the input' % (events, size, status, seconds, page, peak, each))
+    good = status == 0 and seconds <= 2 and page < 1000000 and each <= 64
     return 0 if good else 1
 
 

@@ -61,8 +61,9 @@ grants : (reads_as 6 (codes "6 0.0.4 finish 1 = added 2 deny invalid-hash refuse
   who = step 0 0 4;
   deed = deed.Finish 1;
   outcome = outcome.Granted (record {
-    placed = Some (placed.Added 2);
-    verdict = Some verdict.Deny;
+    entry = 2;
+    placed = placed.Added;
+    verdict = verdict.Deny;
     admitted = false;
     labelled = false;
   });

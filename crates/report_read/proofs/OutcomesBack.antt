@@ -1,6 +1,6 @@
 -- The words of an outcome that a legal journal has are read back.
 use Rattle.std.proofs.Common.{◌≡◌, ℕ, ◌+◌, ◌==◌, Bool, true, false, not, ◌&&◌, ◌||◌, List, [], ◌∷◌, ◌++◌, cond, codes, length, nat_lt, Option, Some, None, nat_le, refl, sym, ap, ◌∙◌, subst, append_assoc, if◌then◌else◌, inl, inr}
-use Rattle.std.specs.Prelude.{is_none, is_some, option_map}
+use Rattle.std.specs.Prelude.{is_none, is_some}
 use Rattle.std.specs.List.{list_any}
 use Rattle.std.specs.Str.{bytes_eq}
 use Rattle.std.proofs.lemmas.Bool.{cases_Bool, false≢true}
@@ -39,7 +39,7 @@ use Rattle.report_text.specs.model.events.templates.declared.entry.Placed.{Place
 use Rattle.report_text.specs.model.events.templates.declared.entry.Placed.TheVariants as placed
 use Rattle.report_text.specs.model.events.templates.xattrs.Attrs.{Pair, value}
 use Rattle.report_read.specs.ReadBack.{IsSmallPlaced, IsSmallTold}
-use Rattle.report_read.specs.Short.{short_deed, short_grant, short_placed, short_told, short_verdict}
+use Rattle.report_read.specs.Short.{short_deed, short_entry, short_grant, short_placed, short_told, short_verdict}
 use Rattle.report_read.specs.Outcomes.{admitted_in, check_outcome, grant_of, labelled_of, outcome_of, placed_in, verdict_in}
 use Rattle.report_read.proofs.WordsBack.{cause_is, number_back}
 
@@ -58,7 +58,7 @@ labelled_back false = refl
 
 verdict_back : (v : Option Verdict) (a l : Bool)
     → verdict_in (verdict_words v ++ admitted_words a l)
-    ≡ Some (option_map short_verdict v, admitted_words a l)
+    ≡ Some (short_verdict v, admitted_words a l)
 verdict_back None true l = refl
 verdict_back None false l = refl
 verdict_back (Some verdict.Pass) a l = refl
@@ -66,7 +66,7 @@ verdict_back (Some (verdict.Deny c)) a l = rw (cause_is c) refl
 
 placed_back : (p : Option Placed) (v : Option Verdict) (a l : Bool) → IsSmallPlaced p
     → placed_in (placed_words p ++ (verdict_words v ++ admitted_words a l))
-    ≡ Some (option_map short_placed p, verdict_words v ++ admitted_words a l)
+    ≡ Some (short_placed p, short_entry p, verdict_words v ++ admitted_words a l)
 placed_back None None true l h = refl
 placed_back None None false l h = refl
 placed_back None (Some verdict.Pass) a l h = refl

@@ -213,16 +213,16 @@ abbrev pub file_fits : List Event → Option ℕ → Bool
 file_fits before None = true
 file_fits before (Some file) = opens (slice_get before file)
 
-abbrev pub entry_placed : Option Placed → Option ℕ
-entry_placed None = None
-entry_placed (Some (placed.Added p)) = Some p
-entry_placed (Some (placed.Already p)) = Some p
+abbrev pub entry_placed : Placed → ℕ → Option ℕ
+entry_placed placed.NotMeasured entry = None
+entry_placed placed.Added entry = Some entry
+entry_placed placed.Already entry = Some entry
 
 -- the entry that an outcome names
 abbrev pub entry_of : Outcome → Option ℕ
 entry_of (outcome.OpenWriters p) = Some p
 entry_of (outcome.ToMToU p) = Some p
-entry_of (outcome.Granted g) = entry_placed g.placed
+entry_of (outcome.Granted g) = entry_placed g.placed g.entry
 entry_of _ = None
 
 abbrev pub entry_fits : ℕ → Option ℕ → Bool

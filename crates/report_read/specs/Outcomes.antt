@@ -92,34 +92,34 @@ check_outcome ws = or_else (one_of ((codes "quiet", outcome.Quiet) ∷ []) ws) (
 
 -- ---- grants
 
-abbrev pub already_by : Words → Option Words → Option (Option Placed × Words)
-already_by ws None = Some (None, ws)
-already_by ws (Some rest) = number_in rest >>= λ p. Some (Some (placed.Already p.0), p.1)
+abbrev pub already_by : Words → Option Words → Option (Placed × ℕ × Words)
+already_by ws None = Some (placed.NotMeasured, 0, ws)
+already_by ws (Some rest) = number_in rest >>= λ p. Some (placed.Already, p.0, p.1)
 
-abbrev pub already_in : Words → Option (Option Placed × Words)
+abbrev pub already_in : Words → Option (Placed × ℕ × Words)
 already_in ws = already_by ws (after (codes "already") ws)
 
-abbrev pub placed_by : Words → Option Words → Option (Option Placed × Words)
+abbrev pub placed_by : Words → Option Words → Option (Placed × ℕ × Words)
 placed_by ws None = already_in ws
-placed_by ws (Some rest) = number_in rest >>= λ p. Some (Some (placed.Added p.0), p.1)
+placed_by ws (Some rest) = number_in rest >>= λ p. Some (placed.Added, p.0, p.1)
 
--- `added P` or `already P`, if one of them is there
-abbrev pub placed_in : Words → Option (Option Placed × Words)
+-- `added P` or `already P`, if one of them is there, with P, else 0
+abbrev pub placed_in : Words → Option (Placed × ℕ × Words)
 placed_in ws = placed_by ws (after (codes "added") ws)
 
-abbrev pub denied_by : Words → Option Words → Option (Option Verdict × Words)
-denied_by ws None = Some (None, ws)
-denied_by ws (Some rest) = after_by is_cause rest >>= λ r. Some (Some verdict.Deny, r)
+abbrev pub denied_by : Words → Option Words → Option (Verdict × Words)
+denied_by ws None = Some (verdict.NotAppraised, ws)
+denied_by ws (Some rest) = after_by is_cause rest >>= λ r. Some (verdict.Deny, r)
 
-abbrev pub denied_in : Words → Option (Option Verdict × Words)
+abbrev pub denied_in : Words → Option (Verdict × Words)
 denied_in ws = denied_by ws (after (codes "deny") ws)
 
-abbrev pub verdict_by : Words → Option Words → Option (Option Verdict × Words)
+abbrev pub verdict_by : Words → Option Words → Option (Verdict × Words)
 verdict_by ws None = denied_in ws
-verdict_by ws (Some rest) = Some (Some verdict.Pass, rest)
+verdict_by ws (Some rest) = Some (verdict.Pass, rest)
 
 -- `pass` or `deny CAUSE`, if one of them is there
-abbrev pub verdict_in : Words → Option (Option Verdict × Words)
+abbrev pub verdict_in : Words → Option (Verdict × Words)
 verdict_in ws = verdict_by ws (after (codes "pass") ws)
 
 abbrev pub admitted_by : Words → Option Words → Option (Bool × Words)
@@ -136,9 +136,10 @@ labelled_of [] = Some false
 labelled_of (w ∷ []) = if bytes_eq w (codes "labelled") then Some true else None
 labelled_of (w ∷ v ∷ ws) = None
 
-abbrev pub grant_with : Option Placed → Option Verdict → Bool → Bool → Grant
-grant_with place v admitted labelled = record {
-  placed = place;
+abbrev pub grant_with : Placed → ℕ → Verdict → Bool → Bool → Grant
+grant_with p entry v admitted labelled = record {
+  entry = entry;
+  placed = p;
   verdict = v;
   admitted = admitted;
   labelled = labelled;
@@ -146,8 +147,8 @@ grant_with place v admitted labelled = record {
 
 abbrev pub grant_of : Words → Option Grant
 grant_of ws =
-    placed_in ws >>= λ p. verdict_in p.1 >>= λ v. admitted_in v.1 >>= λ a. labelled_of a.1 >>= λ l.
-    Some (grant_with p.0 v.0 a.0 l)
+    placed_in ws >>= λ p. verdict_in p.2 >>= λ v. admitted_in v.1 >>= λ a. labelled_of a.1 >>= λ l.
+    Some (grant_with p.0 p.1 v.0 a.0 l)
 
 abbrev pub finish_outcome : Words → Option Outcome
 finish_outcome ws = grant_of ws >>= λ g. Some (outcome.Granted g)

@@ -1,5 +1,5 @@
 -- An event of a run as a reader of its report keeps it.
-use Rattle.std.specs.Prelude.{ℕ, false, List, length, Option, Some, None, option_map, if◌then◌else◌}
+use Rattle.std.specs.Prelude.{ℕ, false, List, length, Option, Some, None, if◌then◌else◌}
 use Rattle.report_text.specs.model.events.declared.deed.Deed as model_deed
 use Rattle.report_text.specs.model.events.declared.deed.Deed.TheVariants as deed
 use Rattle.report_text.specs.model.events.declared.deed.How.{How}
@@ -55,18 +55,27 @@ short_deed (deed.CloseFinish file) = read_deed.CloseFinish file
 short_deed (deed.Post sem) = read_deed.Birth
 short_deed (deed.Wait sem) = read_deed.Birth
 
-abbrev pub short_placed : model_placed.Placed → Placed
-short_placed (placed.Added p) = read_placed.Added p
-short_placed (placed.Already p) = read_placed.Already p
+abbrev pub short_placed : Option model_placed.Placed → Placed
+short_placed None = read_placed.NotMeasured
+short_placed (Some (placed.Added p)) = read_placed.Added
+short_placed (Some (placed.Already p)) = read_placed.Already
 
-abbrev pub short_verdict : model_verdict.Verdict → Verdict
-short_verdict verdict.Pass = read_verdict.Pass
-short_verdict (verdict.Deny cause) = read_verdict.Deny
+-- the place of the entry that a grant names, or 0
+abbrev pub short_entry : Option model_placed.Placed → ℕ
+short_entry None = 0
+short_entry (Some (placed.Added p)) = p
+short_entry (Some (placed.Already p)) = p
+
+abbrev pub short_verdict : Option model_verdict.Verdict → Verdict
+short_verdict None = read_verdict.NotAppraised
+short_verdict (Some verdict.Pass) = read_verdict.Pass
+short_verdict (Some (verdict.Deny cause)) = read_verdict.Deny
 
 abbrev pub short_grant : model_grant.Grant → Grant
 short_grant g = record {
-  placed = option_map short_placed g.placed;
-  verdict = option_map short_verdict g.verdict;
+  entry = short_entry g.placed;
+  placed = short_placed g.placed;
+  verdict = short_verdict g.verdict;
   admitted = g.admitted;
   labelled = g.labelled;
 }

@@ -44,16 +44,20 @@ pub enum Deed {
     CloseFinish(u32),
 }
 
-/// The place of the entry that a grant names.
+/// What a grant says of the measurement list.
 #[derive(Clone, Copy, Debug, PartialEq, Eq)]
 pub enum Placed {
-    Added(u32),
-    Already(u32),
+    /// Nothing: it names no entry.
+    NotMeasured,
+    Added,
+    Already,
 }
 
 /// The verdict of a grant. The cause of a denial is in the line.
 #[derive(Clone, Copy, Debug, PartialEq, Eq)]
 pub enum Verdict {
+    /// The line has none.
+    NotAppraised,
     Pass,
     Deny,
 }
@@ -61,8 +65,10 @@ pub enum Verdict {
 /// A grant.
 #[derive(Clone, Copy, Debug, PartialEq, Eq)]
 pub struct Grant {
-    pub placed: Option<Placed>,
-    pub verdict: Option<Verdict>,
+    /// The place of the entry that it names, or 0 if it names none.
+    pub entry: u32,
+    pub placed: Placed,
+    pub verdict: Verdict,
     pub admitted: bool,
     pub labelled: bool,
 }
@@ -105,3 +111,6 @@ pub struct Event {
     pub deed: Deed,
     pub outcome: Outcome,
 }
+
+// A report has an event in about 60 bytes of its text, so their size is most of what it takes.
+const _: () = prove!(size_of::<Event>() == 48);

@@ -69,13 +69,13 @@ fn entry_fits(entries: usize, entry: Option<u32>) -> bool
     }
 }
 
-fn entry_placed(placed: Option<Placed>) -> Option<u32>
-    ensures { result ≡ spec.entry_placed placed }
+fn entry_placed(placed: Placed, entry: u32) -> Option<u32>
+    ensures { result ≡ spec.entry_placed placed entry }
 {
     match placed {
-        Some(Placed::Added(place)) => Some(place),
-        Some(Placed::Already(place)) => Some(place),
-        None => None,
+        Placed::Added => Some(entry),
+        Placed::Already => Some(entry),
+        Placed::NotMeasured => None,
     }
 }
 
@@ -86,7 +86,7 @@ fn entry_of(outcome: Outcome) -> Option<u32>
     match outcome {
         Outcome::OpenWriters(place) => Some(place),
         Outcome::ToMToU(place) => Some(place),
-        Outcome::Granted(grant) => entry_placed(grant.placed),
+        Outcome::Granted(grant) => entry_placed(grant.placed, grant.entry),
         _ => None,
     }
 }

@@ -182,54 +182,54 @@ fn check_outcome(words: &[&[u8]]) -> Option<Outcome>
     }
 }
 
-// `added P` or `already P`, if one of them is there.
-fn placed_in<'w>(words: &'w [&'w [u8]]) -> Option<(Option<Placed>, &'w [&'w [u8]])>
-    ensures { option_map (λ p. (p.0, map (λ w. w.now) p.1.now)) result
+// `added P` or `already P`, if one of them is there, with P, else 0.
+fn placed_in<'w>(words: &'w [&'w [u8]]) -> Option<(Placed, u32, &'w [&'w [u8]])>
+    ensures { option_map (λ p. (p.0, p.1, map (λ w. w.now) p.2.now)) result
         ≡ spec.placed_in (map (λ w. w.now) words.now) }
 {
     match after(b"added", words) {
         Some(rest) => {
-            let (place, rest) = number_in(rest)?;
-            Some((Some(Placed::Added(place)), rest))
+            let (entry, rest) = number_in(rest)?;
+            Some((Placed::Added, entry, rest))
         }
         None => already_in(words),
     }
 }
 
-fn already_in<'w>(words: &'w [&'w [u8]]) -> Option<(Option<Placed>, &'w [&'w [u8]])>
-    ensures { option_map (λ p. (p.0, map (λ w. w.now) p.1.now)) result
+fn already_in<'w>(words: &'w [&'w [u8]]) -> Option<(Placed, u32, &'w [&'w [u8]])>
+    ensures { option_map (λ p. (p.0, p.1, map (λ w. w.now) p.2.now)) result
         ≡ spec.already_in (map (λ w. w.now) words.now) }
 {
     match after(b"already", words) {
         Some(rest) => {
-            let (place, rest) = number_in(rest)?;
-            Some((Some(Placed::Already(place)), rest))
+            let (entry, rest) = number_in(rest)?;
+            Some((Placed::Already, entry, rest))
         }
-        None => Some((None, words)),
+        None => Some((Placed::NotMeasured, 0, words)),
     }
 }
 
 // `pass` or `deny CAUSE`, if one of them is there.
-fn verdict_in<'w>(words: &'w [&'w [u8]]) -> Option<(Option<Verdict>, &'w [&'w [u8]])>
+fn verdict_in<'w>(words: &'w [&'w [u8]]) -> Option<(Verdict, &'w [&'w [u8]])>
     ensures { option_map (λ p. (p.0, map (λ w. w.now) p.1.now)) result
         ≡ spec.verdict_in (map (λ w. w.now) words.now) }
 {
     match after(b"pass", words) {
-        Some(rest) => Some((Some(Verdict::Pass), rest)),
+        Some(rest) => Some((Verdict::Pass, rest)),
         None => denied_in(words),
     }
 }
 
-fn denied_in<'w>(words: &'w [&'w [u8]]) -> Option<(Option<Verdict>, &'w [&'w [u8]])>
+fn denied_in<'w>(words: &'w [&'w [u8]]) -> Option<(Verdict, &'w [&'w [u8]])>
     ensures { option_map (λ p. (p.0, map (λ w. w.now) p.1.now)) result
         ≡ spec.denied_in (map (λ w. w.now) words.now) }
 {
     match after(b"deny", words) {
         Some(rest) => {
             let rest = after_cause(rest)?;
-            Some((Some(Verdict::Deny), rest))
+            Some((Verdict::Deny, rest))
         }
-        None => Some((None, words)),
+        None => Some((Verdict::NotAppraised, words)),
     }
 }
 
@@ -275,11 +275,12 @@ fn labelled_of(words: &[&[u8]]) -> Option<bool>
 fn grant_of(words: &[&[u8]]) -> Option<Grant>
     ensures { result ≡ spec.grant_of (map (λ w. w.now) words.now) }
 {
-    let (placed, rest) = placed_in(words)?;
+    let (placed, entry, rest) = placed_in(words)?;
     let (verdict, rest) = verdict_in(rest)?;
     let (admitted, rest) = admitted_in(rest)?;
     let labelled = labelled_of(rest)?;
     Some(Grant {
+        entry,
         placed,
         verdict,
         admitted,

@@ -4,7 +4,7 @@ use Rattle.std.specs.Prelude.{All, count_by, option_map, sum_by}
 use Rattle.std.specs.List.{list_any}
 use Rattle.std.proofs.lemmas.Bool.{ne_eqb}
 use Rattle.std.proofs.lemmas.List.Sums.{sum_by-cons}
-use Rattle.report_read.specs.Short.{short, short_deed, short_placed, short_told}
+use Rattle.report_read.specs.Short.{short, short_deed, short_entry, short_placed, short_told}
 use Rattle.report_read.specs.declared.event.Deed.{Deed as ReadDeed}
 use Rattle.report_read.specs.declared.event.Deed.TheVariants as read_deed
 use Rattle.report_read.specs.declared.event.Event.{Event as ReadEvent}
@@ -41,16 +41,15 @@ use Rattle.view_layout.specs.Sentences.{adds, adds_by}
 -- ---- the entry that an outcome says was added
 
 -- the list's reply says that the entry was added here
-abbrev placed_at : ℕ → Option ReadPlaced → Bool
-placed_at p None = false
-placed_at p (Some (read_placed.Added q)) = q == p
-placed_at p (Some (read_placed.Already q)) = false
+abbrev placed_at : ℕ → ReadPlaced → ℕ → Bool
+placed_at p read_placed.Added q = q == p
+placed_at p _ q = false
 
 -- the outcome says that the entry was added here
 abbrev entry_at : ℕ → Outcome → Bool
 entry_at p (outcome.ToMToU q) = q == p
 entry_at p (outcome.OpenWriters q) = q == p
-entry_at p (outcome.Granted g) = placed_at p g.placed
+entry_at p (outcome.Granted g) = placed_at p g.placed g.entry
 entry_at p _ = false
 
 -- a test or none
@@ -59,34 +58,34 @@ or_false true = refl
 or_false false = refl
 
 -- of a grant's marks only that of the list's reply names an added entry
-grant_adds : (p : ℕ) (a : Option ReadPlaced) (v : Option ReadVerdict) (l : Bool)
-    → list_any (adds_by p) (placed_notes a ++ verdict_notes v ++ flag_notes note.Labelled l)
-    ≡ placed_at p a
-grant_adds p None None true = refl
-grant_adds p None None false = refl
-grant_adds p None (Some read_verdict.Pass) true = refl
-grant_adds p None (Some read_verdict.Pass) false = refl
-grant_adds p None (Some read_verdict.Deny) true = refl
-grant_adds p None (Some read_verdict.Deny) false = refl
-grant_adds p (Some (read_placed.Added q)) None true = or_false (q == p)
-grant_adds p (Some (read_placed.Added q)) None false = or_false (q == p)
-grant_adds p (Some (read_placed.Added q)) (Some read_verdict.Pass) true = or_false (q == p)
-grant_adds p (Some (read_placed.Added q)) (Some read_verdict.Pass) false = or_false (q == p)
-grant_adds p (Some (read_placed.Added q)) (Some read_verdict.Deny) true = or_false (q == p)
-grant_adds p (Some (read_placed.Added q)) (Some read_verdict.Deny) false = or_false (q == p)
-grant_adds p (Some (read_placed.Already q)) None true = refl
-grant_adds p (Some (read_placed.Already q)) None false = refl
-grant_adds p (Some (read_placed.Already q)) (Some read_verdict.Pass) true = refl
-grant_adds p (Some (read_placed.Already q)) (Some read_verdict.Pass) false = refl
-grant_adds p (Some (read_placed.Already q)) (Some read_verdict.Deny) true = refl
-grant_adds p (Some (read_placed.Already q)) (Some read_verdict.Deny) false = refl
+grant_adds : (p : ℕ) (a : ReadPlaced) (q : ℕ) (v : ReadVerdict) (l : Bool)
+    → list_any (adds_by p) (placed_notes a q ++ verdict_notes v ++ flag_notes note.Labelled l)
+    ≡ placed_at p a q
+grant_adds p read_placed.NotMeasured q read_verdict.NotAppraised true = refl
+grant_adds p read_placed.NotMeasured q read_verdict.NotAppraised false = refl
+grant_adds p read_placed.NotMeasured q read_verdict.Pass true = refl
+grant_adds p read_placed.NotMeasured q read_verdict.Pass false = refl
+grant_adds p read_placed.NotMeasured q read_verdict.Deny true = refl
+grant_adds p read_placed.NotMeasured q read_verdict.Deny false = refl
+grant_adds p read_placed.Added q read_verdict.NotAppraised true = or_false (q == p)
+grant_adds p read_placed.Added q read_verdict.NotAppraised false = or_false (q == p)
+grant_adds p read_placed.Added q read_verdict.Pass true = or_false (q == p)
+grant_adds p read_placed.Added q read_verdict.Pass false = or_false (q == p)
+grant_adds p read_placed.Added q read_verdict.Deny true = or_false (q == p)
+grant_adds p read_placed.Added q read_verdict.Deny false = or_false (q == p)
+grant_adds p read_placed.Already q read_verdict.NotAppraised true = refl
+grant_adds p read_placed.Already q read_verdict.NotAppraised false = refl
+grant_adds p read_placed.Already q read_verdict.Pass true = refl
+grant_adds p read_placed.Already q read_verdict.Pass false = refl
+grant_adds p read_placed.Already q read_verdict.Deny true = refl
+grant_adds p read_placed.Already q read_verdict.Deny false = refl
 
 -- an event is marked with the entry that its outcome says was added
 note_adds : (p : ℕ) (d : ReadDeed) (o : Outcome)
     → list_any (adds_by p) (notes_by d o) ≡ entry_at p o
 note_adds p d (outcome.ToMToU q) = or_false (q == p)
 note_adds p d (outcome.OpenWriters q) = or_false (q == p)
-note_adds p d (outcome.Granted g) = grant_adds p g.placed g.verdict g.labelled
+note_adds p d (outcome.Granted g) = grant_adds p g.placed g.entry g.verdict g.labelled
 note_adds p read_deed.Birth o = refl
 note_adds p (read_deed.Count k create) o = refl
 note_adds p (read_deed.Check f) o = refl
@@ -201,7 +200,8 @@ plain_entry p t h = refl
 -- with digests, the reply that an entry was added adds it
 added_same : (p : ℕ) (a : Option Placed) (f : Digests) (inode : Inode) (file : ℕ)
     (before : List Event)
-    → placed_at p (option_map short_placed a) ≡ is_at p (added_at a (Some f) inode file before)
+    → placed_at p (short_placed a) (short_entry a)
+    ≡ is_at p (added_at a (Some f) inode file before)
 added_same p None f inode file before = refl
 added_same p (Some (placed.Added q)) f inode file before = refl
 added_same p (Some (placed.Already q)) f inode file before = refl
@@ -210,7 +210,7 @@ added_same p (Some (placed.Already q)) f inode file before = refl
 take_adds : (p : ℕ) (inode : Inode) (file : ℕ) (before : List Event) (grant : Grant)
     (list : Placed) (o : Option Collection) (f : Option Digests)
     → unless_collecting o (take_told inode file list f before) ≡ Some (told.Grant grant)
-    → placed_at p (option_map short_placed grant.placed)
+    → placed_at p (short_placed grant.placed) (short_entry grant.placed)
     ≡ is_at p (added_at grant.placed f inode file before)
 take_adds p inode file before grant list None None e = cc
 take_adds p inode file before grant list None (Some f) e =
@@ -221,7 +221,7 @@ take_adds p inode file before grant list (Some c) f e = cc
 finish_adds : (p : ℕ) (inode : Inode) (file : ℕ) (before : List Event) (grant : Grant)
     (list : Placed) (o : Option Collection)
     → finish_told inode file list o before ≡ Some (told.Grant grant)
-    → placed_at p (option_map short_placed grant.placed)
+    → placed_at p (short_placed grant.placed) (short_entry grant.placed)
     ≡ is_at p (added_at grant.placed (option_map digests_of o) inode file before)
 finish_adds p inode file before grant list None e = cc
 finish_adds p inode file before grant list (Some c) e =

@@ -8,6 +8,7 @@ use Rattle.report_read.specs.declared.event.Kind.TheVariants as kind
 use Rattle.report_read.specs.declared.event.Outcome.{Outcome}
 use Rattle.report_read.specs.declared.event.Outcome.TheVariants as outcome
 use Rattle.report_read.specs.declared.event.Placed.TheVariants as placed
+use Rattle.report_read.specs.declared.event.Verdict.TheVariants as verdict
 use Rattle.report_read.specs.Draft.{no_span}
 use Rattle.view_layout.specs.declared.frame.Extent.{Extent}
 use Rattle.view_layout.specs.declared.kinds.Freshness.TheVariants as fresh
@@ -29,8 +30,9 @@ event who d o = record { line = no_span; who = who; deed = d; outcome = o }
 
 abbrev added : ℕ → Outcome
 added p = outcome.Granted (record {
-  placed = Some (placed.Added p);
-  verdict = None;
+  entry = p;
+  placed = placed.Added;
+  verdict = verdict.NotAppraised;
   admitted = true;
   labelled = false;
 })

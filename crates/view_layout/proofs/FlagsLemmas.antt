@@ -86,26 +86,26 @@ abbrev Ordered : List Noted → Type 0
 Ordered [] = Unit {0}
 Ordered (f ∷ fs) = After f.x fs × Ordered fs
 
-after_notes : (from x : ℕ) (ns : List Note) (rest : List Noted) → from ≤ x → After from rest
-    → After from (map (noted x) ns ++ rest)
-after_notes from x [] rest h k = k
-after_notes from x (n ∷ ns) rest h k = (h, after_notes from x ns rest h k)
+after_notes : (from x : ℕ) (e : Event) (ns : List Note) (rest : List Noted) → from ≤ x
+    → After from rest → After from (map (noted x e) ns ++ rest)
+after_notes from x e [] rest h k = k
+after_notes from x e (n ∷ ns) rest h k = (h, after_notes from x e ns rest h k)
 
-ordered_notes : (x : ℕ) (ns : List Note) (rest : List Noted) → After x rest → Ordered rest
-    → Ordered (map (noted x) ns ++ rest)
-ordered_notes x [] rest h k = k
-ordered_notes x (n ∷ ns) rest h k =
-    (after_notes x x ns rest (omega arith) h, ordered_notes x ns rest h k)
+ordered_notes : (x : ℕ) (e : Event) (ns : List Note) (rest : List Noted) → After x rest
+    → Ordered rest → Ordered (map (noted x e) ns ++ rest)
+ordered_notes x e [] rest h k = k
+ordered_notes x e (n ∷ ns) rest h k =
+    (after_notes x x e ns rest (omega arith) h, ordered_notes x e ns rest h k)
 
 after_all : (x : ℕ) (cs : List Column) → Beyond x cs → After x (flat_map noted_at cs)
 after_all x [] h = tt
 after_all x (c ∷ cs) h =
-    after_notes x c.x (notes c.event) (flat_map noted_at cs) h.0 (after_all x cs h.1)
+    after_notes x c.x c.event (notes c.event) (flat_map noted_at cs) h.0 (after_all x cs h.1)
 
 ordered_all : (cs : List Column) → Sorted cs → Ordered (flat_map noted_at cs)
 ordered_all [] h = tt
 ordered_all (c ∷ cs) h =
-    ordered_notes c.x (notes c.event) (flat_map noted_at cs) (after_all c.x cs h.0)
+    ordered_notes c.x c.event (notes c.event) (flat_map noted_at cs) (after_all c.x cs h.0)
     (ordered_all cs h.1)
 
 after_take : (n x : ℕ) (fs : List Noted) → After x fs → After x (take n fs)

@@ -1,5 +1,5 @@
 -- Bars: an open file, from its count to its drop.
-use Rattle.std.specs.Prelude.{◌≡◌, ℕ, ◌+◌, ◌<◌, ◌==◌, nat_le, nat_lt, Bool, true, false, ◌&&◌, List, [], ◌∷◌, ◌++◌, length, map, drop, reverse, slice_set, slice_index_or, Option, Some, None, is_some, unwrap_or, if◌then◌else◌}
+use Rattle.std.specs.Prelude.{◌≡◌, ℕ, ◌+◌, ◌<◌, ◌==◌, nat_le, nat_lt, Bool, true, false, ◌&&◌, List, [], ◌∷◌, ◌++◌, length, map, drop, reverse, slice_set, slice_index, Option, Some, None, is_some, unwrap_or, if◌then◌else◌}
 use Rattle.std.specs.List.{list_any}
 use Rattle.report_read.specs.declared.event.Event.{Event}
 use Rattle.report_read.specs.declared.event.Kind.{Kind}
@@ -89,16 +89,20 @@ with_reversed ws place e (Some k) drop last bs =
     if list_any (meets (bar_by place e k drop last)) ws && nat_lt (length bs) most_bars
     then bs ++ bar_by place e k drop last ∷ [] else bs
 
--- the first drop of each file, with one more before them
-abbrev pub with_drop : List (Option ℕ) → Option ℕ → ℕ → List (Option ℕ)
-with_drop drops None place = drops
-with_drop drops (Some file) place = slice_set drops file (Some place)
+-- 0 stands for no drop
+abbrev pub drop_in : ℕ → Option ℕ
+drop_in slot = if slot == 0 then None else Some slot
 
--- what a walk from the end has at a place: the first drop of each file from there on, and the bars
--- from there on, the last first
-pub record IsWalked (ws : List Window) (journal : List Event) (place : ℕ) (drops : List (Option ℕ))
+-- the first drop of each file, with one more before them
+abbrev pub with_drop : List ℕ → Option ℕ → ℕ → List ℕ
+with_drop drops None place = drops
+with_drop drops (Some file) place = slice_set drops file place
+
+-- what a walk from the end has at a place: the first drop of each file from there on, or 0, and the
+-- bars from there on, the last first
+pub record IsWalked (ws : List Window) (journal : List Event) (place : ℕ) (drops : List ℕ)
     (found : List Bar) : Type 0 where
   pub as_many : length drops ≡ length journal
   pub first : (f : ℕ) → f < length journal
-      → slice_index_or drops f None ≡ drop_from place f (drop place journal)
+      → slice_index drops f ≡ unwrap_or (drop_from place f (drop place journal)) 0
   pub bars : found ≡ reverse (kept ws (bars_from place (drop place journal)))

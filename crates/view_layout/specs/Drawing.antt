@@ -190,7 +190,7 @@ abbrev pub axis_items : ℕ → Column → List Item
 axis_items bottom c = axis_at bottom c ∷ []
 
 abbrev pub flag_at : Flag → Item
-flag_at f = item.Flag (middle f.x) f.up (flag_width f.note) f.note
+flag_at f = item.Flag (middle f.x) f.up (flag_width f.note) f.event f.note
 
 abbrev pub flag_items : Flag → List Item
 flag_items f = flag_at f ∷ []

@@ -1,6 +1,7 @@
 -- Flags above the strips: of the notes of drawn events.
 use Rattle.std.specs.Prelude.{ℕ, ◌+◌, ◌*◌, nat_lt, List, [], ◌∷◌, map, take, Option, Some, None, if◌then◌else◌}
 use Rattle.std.specs.List.{flat_map}
+use Rattle.report_read.specs.declared.event.Event.{Event}
 use Rattle.view_layout.specs.declared.column.Column.{Column}
 use Rattle.view_layout.specs.declared.flags.Flag.{Flag}
 use Rattle.view_layout.specs.declared.flags.Noted.{Noted}
@@ -17,11 +18,11 @@ abbrev pub most_flags : ℕ
 most_flags = 3000
 
 -- the notes of an event whose column begins at x
-abbrev pub noted : ℕ → Note → Noted
-noted x n = record { x = x; note = n }
+abbrev pub noted : ℕ → Event → Note → Noted
+noted x e n = record { x = x; event = e; note = n }
 
 abbrev pub noted_at : Column → List Noted
-noted_at c = map (noted c.x) (notes c.event)
+noted_at c = map (noted c.x c.event) (notes c.event)
 
 abbrev pub notes_of : List Column → List Noted
 notes_of columns = take most_flags (flat_map noted_at columns)
@@ -38,11 +39,11 @@ digits n =
     else if nat_lt n 100000 then 5
     else 10
 
--- how many characters a flag has
+-- how many characters a flag has; a denial's has room for any cause
 abbrev pub characters : Note → ℕ
 characters (note.ToMToU p) = 15 + digits p
 characters (note.OpenWriters p) = 21 + digits p
-characters note.Denied = 6
+characters note.Denied = 22
 characters note.Labelled = 8
 characters (note.Added p) = 6 + digits p
 characters (note.Already p) = 14 + digits p
@@ -67,7 +68,8 @@ abbrev pub raised : List Noted → List ℕ → List Flag
 raised [] rs = []
 raised (f ∷ fs) [] = []
 raised (f ∷ fs) (r ∷ rs) =
-    record { x = f.x; note = f.note; up = flag_height * (r + 1) } ∷ raised fs rs
+    record { x = f.x; event = f.event; note = f.note; up = flag_height * (r + 1) }
+    ∷ raised fs rs
 
 abbrev pub raised_all : List Noted → List Flag
 raised_all fs = raised fs (rows (flag_extents fs))

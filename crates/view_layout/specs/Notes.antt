@@ -1,5 +1,5 @@
 -- What an event is marked with.
-use Rattle.std.specs.Prelude.{Bool, true, false, List, [], ◌∷◌, ◌++◌, Option, Some, None, if◌then◌else◌}
+use Rattle.std.specs.Prelude.{ℕ, Bool, true, false, List, [], ◌∷◌, ◌++◌, if◌then◌else◌}
 use Rattle.std.specs.List.{list_any}
 use Rattle.report_read.specs.declared.event.Deed.{Deed}
 use Rattle.report_read.specs.declared.event.Deed.TheVariants as deed
@@ -18,15 +18,15 @@ use Rattle.view_layout.specs.declared.kinds.Note.TheVariants as note
 
 -- ---- notes
 
-abbrev pub placed_notes : Option Placed → List Note
-placed_notes None = []
-placed_notes (Some (placed.Added p)) = note.Added p ∷ []
-placed_notes (Some (placed.Already p)) = note.Already p ∷ []
+abbrev pub placed_notes : Placed → ℕ → List Note
+placed_notes placed.NotMeasured entry = []
+placed_notes placed.Added entry = note.Added entry ∷ []
+placed_notes placed.Already entry = note.Already entry ∷ []
 
-abbrev pub verdict_notes : Option Verdict → List Note
-verdict_notes None = []
-verdict_notes (Some verdict.Pass) = note.Passed ∷ []
-verdict_notes (Some verdict.Deny) = note.Denied ∷ []
+abbrev pub verdict_notes : Verdict → List Note
+verdict_notes verdict.NotAppraised = []
+verdict_notes verdict.Pass = note.Passed ∷ []
+verdict_notes verdict.Deny = note.Denied ∷ []
 
 abbrev pub flag_notes : Note → Bool → List Note
 flag_notes n true = n ∷ []
@@ -34,7 +34,7 @@ flag_notes n false = []
 
 abbrev pub grant_notes : Grant → List Note
 grant_notes g =
-    placed_notes g.placed ++ verdict_notes g.verdict ++ flag_notes note.Labelled g.labelled
+    placed_notes g.placed g.entry ++ verdict_notes g.verdict ++ flag_notes note.Labelled g.labelled
 
 -- a refusal of a change of attributes or metadata
 abbrev pub is_refused_change : Outcome → Bool

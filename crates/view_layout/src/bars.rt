@@ -1,6 +1,6 @@
 // The bars of open files.
 
-ghost use Rattle.std.specs.Prelude.{◌≡◌, ℕ, ◌+◌, ◌≤◌, ◌<◌, ◌^◌, length, slice_index_or, None, IfOk, OnOk};
+ghost use Rattle.std.specs.Prelude.{◌≡◌, ℕ, ◌+◌, ◌≤◌, ◌<◌, ◌^◌, length, slice_index, IfOk, OnOk};
 ghost use Rattle.std.specs.List.{list_any};
 ghost use Rattle.view_layout.specs.Bars as spec;
 ghost use Rattle.view_layout.specs.Files.{dropped, opened};
@@ -49,21 +49,29 @@ pub fn shown_bars(
     Ok(bars)
 }
 
-// The first drops of the files of so many events, none of which is known.
-fn no_drops(alloc: Global, events: usize) -> Result<Vec<Option<u32>>, OutOfMemory>
+// The first drops of the files of so many events, none of which is known. The birth, at place 0,
+// drops no file, so 0 stands for none: a slot takes 4 bytes.
+fn no_drops(alloc: Global, events: usize) -> Result<Vec<u32>, OutOfMemory>
     ensures each { IfOk result (λ v. length v.items ≡ events) }
-    ensures none { IfOk result (λ v. (f : ℕ) → slice_index_or v.items f None ≡ None) }
+    ensures none { IfOk result (λ v. (f : ℕ) → slice_index v.items f ≡ 0) }
 {
     let mut drops = Vec::with_capacity(alloc, events)?;
     while drops.len() < events {
-        drops.push(None)?;
+        drops.push(0)?;
     }
     Ok(drops)
 }
 
+// The drop that a slot has.
+fn drop_in(slot: u32) -> Option<u32>
+    ensures { result ≡ spec.drop_in slot }
+{
+    if slot == 0 { None } else { Some(slot) }
+}
+
 // Goes on from the end to this place.
 fn step(
-    drops: &mut [Option<u32>],
+    drops: &mut [u32],
     bars: &mut Vec<Bar>,
     windows: &[Window],
     journal: &[Event],
@@ -80,7 +88,14 @@ fn step(
 {
     let event = journal[place];
     let last = (journal.len() - 1) as u32;
-    push_bar(bars, windows, place as u32, event, drops[place], last)?;
+    push_bar(
+        bars,
+        windows,
+        place as u32,
+        event,
+        drop_in(drops[place]),
+        last,
+    )?;
     set_drop(drops, event, place as u32);
     Ok(())
 }
@@ -116,14 +131,14 @@ fn push_bar(
 }
 
 // The file that the event drops was dropped here.
-fn set_drop(drops: &mut [Option<u32>], event: Event, place: u32)
+fn set_drop(drops: &mut [u32], event: Event, place: u32)
     ensures { drops.new
         ≡ spec.with_drop drops.old (dropped event.deed event.outcome) place }
 {
     if let Some(file) = dropped(event.deed, event.outcome) {
         let at = file as usize;
         if at < drops.len() {
-            drops[at] = Some(place);
+            drops[at] = place;
         }
     }
 }

@@ -115,6 +115,7 @@ fn flag_at(flag: Flag) -> Item
         x: u64::from(flag.x) + 15,
         up: u64::from(flag.up),
         width: flag_width(flag.note),
+        event: flag.event,
         note: flag.note,
     }
 }

@@ -8,12 +8,14 @@ use crate::frame::{Extent, rows};
 use crate::items::Guide;
 use crate::kinds::Note;
 use crate::notes::push_notes;
+use report_read::Event;
 use std::alloc::{AllocError as OutOfMemory, Global};
 
 /// A note of an event whose column begins at x.
 #[derive(Clone, Copy, Debug, PartialEq, Eq)]
 pub struct Noted {
     pub x: u32,
+    pub event: Event,
     pub note: Note,
 }
 
@@ -21,6 +23,7 @@ pub struct Noted {
 #[derive(Clone, Copy, Debug, PartialEq, Eq)]
 pub struct Flag {
     pub x: u32,
+    pub event: Event,
     pub note: Note,
     pub up: u32,
 }
@@ -54,15 +57,19 @@ fn push_noted(alloc: Global, noted: &mut Vec<Noted>, column: Column) -> Result<(
 {
     let mut notes = Vec::new(alloc);
     push_notes(&mut notes, column.event)?;
-    push_at(noted, column.x, &notes)
+    push_at(noted, column.x, column.event, &notes)
 }
 
-fn push_at(noted: &mut Vec<Noted>, x: u32, notes: &[Note]) -> Result<(), OutOfMemory>
+fn push_at(noted: &mut Vec<Noted>, x: u32, event: Event, notes: &[Note]) -> Result<(), OutOfMemory>
     ensures { OnOk result
-        (noted.new.items ≡ noted.old.items ++ map (spec.noted x) notes.now) }
+        (noted.new.items ≡ noted.old.items ++ map (spec.noted x event) notes.now) }
 {
     for note in notes {
-        noted.push(Noted { x, note: *note })?;
+        noted.push(Noted {
+            x,
+            event,
+            note: *note,
+        })?;
     }
     Ok(())
 }
@@ -101,6 +108,7 @@ fn raised(alloc: Global, noted: &[Noted], rows: &[usize]) -> Result<Vec<Flag>, O
         let row = rows[at] as u32;
         flags.push(Flag {
             x: flag.x,
+            event: flag.event,
             note: flag.note,
             up: FLAG_HEIGHT * (row + 1),
         })?;
@@ -123,7 +131,7 @@ fn characters(note: Note) -> u64
     match note {
         Note::ToMToU(entry) => 15 + digits(entry),
         Note::OpenWriters(entry) => 21 + digits(entry),
-        Note::Denied => 6,
+        Note::Denied => 22,
         Note::Labelled => 8,
         Note::Added(entry) => 6 + digits(entry),
         Note::Already(entry) => 14 + digits(entry),

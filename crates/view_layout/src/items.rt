@@ -85,10 +85,12 @@ pub enum Item {
         event: Event,
         mark: Mark,
     },
+    /// A note of an event.
     Flag {
         x: u64,
         up: u64,
         width: u64,
+        event: Event,
         note: Note,
     },
     /// Events that aren't drawn.

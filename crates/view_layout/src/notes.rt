@@ -123,7 +123,7 @@ fn push_refused(out: &mut Vec<Note>, outcome: Outcome) -> Result<(), OutOfMemory
 fn push_grant(out: &mut Vec<Note>, grant: Grant) -> Result<(), OutOfMemory>
     ensures { OnOk result (out.new.items ≡ out.old.items ++ spec.grant_notes grant) }
 {
-    push_placed(out, grant.placed)?;
+    push_placed(out, grant.placed, grant.entry)?;
     push_verdict(out, grant.verdict)?;
     if grant.labelled {
         push(out, Note::Labelled)
@@ -132,23 +132,23 @@ fn push_grant(out: &mut Vec<Note>, grant: Grant) -> Result<(), OutOfMemory>
     }
 }
 
-fn push_placed(out: &mut Vec<Note>, placed: Option<Placed>) -> Result<(), OutOfMemory>
-    ensures { OnOk result (out.new.items ≡ out.old.items ++ spec.placed_notes placed) }
+fn push_placed(out: &mut Vec<Note>, placed: Placed, entry: u32) -> Result<(), OutOfMemory>
+    ensures { OnOk result (out.new.items ≡ out.old.items ++ spec.placed_notes placed entry) }
 {
     match placed {
-        None => Ok(()),
-        Some(Placed::Added(entry)) => push(out, Note::Added(entry)),
-        Some(Placed::Already(entry)) => push(out, Note::Already(entry)),
+        Placed::NotMeasured => Ok(()),
+        Placed::Added => push(out, Note::Added(entry)),
+        Placed::Already => push(out, Note::Already(entry)),
     }
 }
 
-fn push_verdict(out: &mut Vec<Note>, verdict: Option<Verdict>) -> Result<(), OutOfMemory>
+fn push_verdict(out: &mut Vec<Note>, verdict: Verdict) -> Result<(), OutOfMemory>
     ensures { OnOk result (out.new.items ≡ out.old.items ++ spec.verdict_notes verdict) }
 {
     match verdict {
-        None => Ok(()),
-        Some(Verdict::Pass) => push(out, Note::Passed),
-        Some(Verdict::Deny) => push(out, Note::Denied),
+        Verdict::NotAppraised => Ok(()),
+        Verdict::Pass => push(out, Note::Passed),
+        Verdict::Deny => push(out, Note::Denied),
     }
 }
 

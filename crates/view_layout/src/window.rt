@@ -202,7 +202,7 @@ fn is_marked_grant(grant: Grant) -> bool
     ensures { result ≡ list_any notes.is_grave (notes.grant_notes grant) }
 {
     match (grant.placed, grant.verdict) {
-        (_, Some(Verdict::Deny)) => true,
+        (_, Verdict::Deny) => true,
         (_, _) => grant.labelled,
     }
 }

@@ -20,6 +20,7 @@ use Rattle.view_layout.specs.declared.lanes.Lane.{Lane}
 use Rattle.view_layout.specs.declared.lanes.Seat.{Seat}
 use Rattle.view_layout.specs.reading.declared.event.Deed.{Deed}
 use Rattle.view_layout.specs.reading.declared.event.Deed.TheVariants as deed
+use Rattle.view_layout.specs.reading.declared.event.Event.{Event}
 use Rattle.view_layout.specs.reading.declared.event.Outcome.{Outcome}
 use Rattle.view_layout.specs.reading.declared.event.Span.{Span}
 use Rattle.view_layout.specs.Drawing.{Sketch, axis_items, back_items, bar_items, differing_items, end_of, flag_items, front_items, gap_between, gaps_from, gaps_items, guide_by, guide_items, hashing_at, hashing_items, is_place, is_write, items_of, lane_items, mark_items, middle_end, middle_items, parting_items, segments_from, shown_in, sketch_of, strip_items, strips_items, write_items}
@@ -65,10 +66,10 @@ detail_quiet : (line : Span) (d : Deed) (o : Outcome) (rest : List Piece)
 detail_quiet line (deed.Count k create) o rest = refl
 detail_quiet line _ o rest = refl
 
-flag_quiet : (x up width : ℕ) (n : Note) (rest : List Piece)
-    → marks_in (flag_pieces x up width n ++ rest) ≡ marks_in rest
-flag_quiet x up width (note.ToMToU p) rest = refl
-flag_quiet x up width _ rest = refl
+flag_quiet : (x up width : ℕ) (e : Event) (n : Note) (rest : List Piece)
+    → marks_in (flag_pieces x up width e n ++ rest) ≡ marks_in rest
+flag_quiet x up width e (note.ToMToU p) rest = refl
+flag_quiet x up width e _ rest = refl
 
 of_item : (view : View) (i : Item) (rest : List Piece)
     → marks_in (item_pieces view i ++ rest) ≡ item_marks i ++ marks_in rest
@@ -82,7 +83,7 @@ of_item view (item.Axis x y place e m) rest =
     slant_quiet x y e.deed m
     ((detail_pieces e.line e.deed e.outcome ++ piece.Own own.TextEnd ∷ []) ++ rest)
     ∙ detail_quiet e.line e.deed e.outcome rest
-of_item view (item.Flag x up width n) rest = flag_quiet x up width n rest
+of_item view (item.Flag x up width e n) rest = flag_quiet x up width e n rest
 of_item view (item.Gap x height events) rest = refl
 
 of_items : (view : View) (items : List Item)

@@ -6,7 +6,7 @@ use Rattle.std.proofs.lemmas.Bool.{cases_Bool, ltb-true}
 use Rattle.std.proofs.lemmas.List.Folds.{list_all-append}
 use Rattle.view_layout.specs.reading.reports.Numerals.{numeral, numeral_in}
 use Rattle.view_page.specs.Escape.{is_safe}
-use Rattle.view_page.specs.Pieces.{bytes_of, is_own, text_at, word_at}
+use Rattle.view_page.specs.Pieces.{bytes_of, is_own, outcome_in, text_at, word_at}
 use Rattle.view_page.specs.declared.pieces.Piece.{Piece}
 use Rattle.view_page.specs.declared.pieces.Piece.TheVariants as piece
 use Rattle.view_page.proofs.Safe.{decimal_safe, texts_stay_texts}
@@ -37,3 +37,5 @@ only_own_pieces_make_tags text (piece.Number n) h = numeral_safe n
 only_own_pieces_make_tags text (piece.Text span) h = texts_stay_texts (text_at text span)
 only_own_pieces_make_tags text (piece.Word span spaces) h =
     texts_stay_texts (word_at spaces (text_at text span))
+only_own_pieces_make_tags text (piece.Told span spaces) h =
+    texts_stay_texts (word_at spaces (outcome_in (text_at text span)))

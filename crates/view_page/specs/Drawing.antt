@@ -20,6 +20,8 @@ use Rattle.view_layout.specs.reading.declared.event.Deed.TheVariants as deed
 use Rattle.view_layout.specs.reading.declared.event.Event.{Event}
 use Rattle.view_layout.specs.reading.declared.event.Outcome.{Outcome}
 use Rattle.view_layout.specs.reading.declared.event.Outcome.TheVariants as outcome
+use Rattle.view_layout.specs.reading.declared.event.Placed.{Placed}
+use Rattle.view_layout.specs.reading.declared.event.Placed.TheVariants as placed
 use Rattle.view_layout.specs.reading.declared.event.Span.{Span}
 use Rattle.view_layout.specs.declared.column.Column.{Column}
 use Rattle.view_layout.specs.Columns.{columns_of}
@@ -151,12 +153,25 @@ axis_pieces x y place e m =
 
 -- ---- flags and gaps
 
-abbrev pub entry_pieces : Note → List Piece
-entry_pieces (note.ToMToU p) = piece.Number p ∷ []
-entry_pieces (note.OpenWriters p) = piece.Number p ∷ []
-entry_pieces (note.Added p) = piece.Number p ∷ []
-entry_pieces (note.Already p) = piece.Number p ∷ []
-entry_pieces _ = []
+-- the cause follows `deny`, before which a grant may name an entry
+abbrev pub cause_of : Placed → ℕ
+cause_of placed.NotMeasured = 1
+cause_of _ = 3
+
+-- after how many words of an outcome the cause of a denial stands
+abbrev pub cause_at : Outcome → ℕ
+cause_at (outcome.Granted g) = cause_of g.placed
+cause_at outcome.Status = 1
+cause_at _ = 0
+
+-- an entry, or the cause of a denial
+abbrev pub noted_pieces : Event → Note → List Piece
+noted_pieces e (note.ToMToU p) = piece.Number p ∷ []
+noted_pieces e (note.OpenWriters p) = piece.Number p ∷ []
+noted_pieces e (note.Added p) = piece.Number p ∷ []
+noted_pieces e (note.Already p) = piece.Number p ∷ []
+noted_pieces e note.Denied = piece.Told (cut e.line) (cause_at e.outcome) ∷ []
+noted_pieces e _ = []
 
 abbrev pub banner_pieces : ℕ → ℕ → ℕ → Note → List Piece
 banner_pieces x up width n =
@@ -165,9 +180,9 @@ banner_pieces x up width n =
     ∷ piece.Own (own.FlagText n) ∷ piece.Number x ∷ piece.Own own.MinusY ∷ piece.Number up
     ∷ piece.Own own.Is ∷ piece.Own (own.FlagWords n) ∷ []
 
-abbrev pub flag_pieces : ℕ → ℕ → ℕ → Note → List Piece
-flag_pieces x up width n =
-    banner_pieces x up width n ++ (entry_pieces n ++ piece.Own own.TextEnd ∷ [])
+abbrev pub flag_pieces : ℕ → ℕ → ℕ → Event → Note → List Piece
+flag_pieces x up width e n =
+    banner_pieces x up width n ++ (noted_pieces e n ++ piece.Own own.TextEnd ∷ [])
 
 abbrev pub gap_pieces : ℕ → ℕ → ℕ → List Piece
 gap_pieces x height events =
@@ -184,7 +199,7 @@ item_pieces view (item.Segment s x width n) = segment_pieces s x width n
 item_pieces view (item.LaneName y task) = lane_pieces y task
 item_pieces view (item.Mark place x y line m) = mark_pieces view place x y line m
 item_pieces view (item.Axis x y place e m) = axis_pieces x y place e m
-item_pieces view (item.Flag x up width n) = flag_pieces x up width n
+item_pieces view (item.Flag x up width e n) = flag_pieces x up width e n
 item_pieces view (item.Gap x height events) = gap_pieces x height events
 
 abbrev pub items_pieces : View → List Item → List Piece

@@ -24,17 +24,17 @@ use Rattle.view_page.specs.Rules.{rules}
 
 -- the shape of a mark, around the point 0,0
 abbrev pub shape : Mark → List ℕ
-shape mark.Birth = codes "<circle r=\"4\" fill=\"none\" stroke=\"#3c4652\"/>"
+shape mark.Birth = codes "<circle r=\"3\" fill=\"#8a94a0\"/>"
 shape mark.Opened = codes "<path d=\"M-2 -8H2V8H-2Z\" fill=\"#3c4652\"/>"
-shape mark.NotOpened = codes "<path d=\"M-5 -5L5 5M5 -5L-5 5\" stroke=\"#b00020\"/>"
-shape mark.Checked = codes "<path d=\"M0 -7L7 0L0 7L-7 0Z\" fill=\"none\" stroke=\"#3c4652\"/>"
+shape mark.NotOpened = codes "<path d=\"M-5 -5L5 5M5 -5L-5 5\" stroke=\"#b00020\" stroke-width=\"3\"/>"
+shape mark.Checked = codes "<path d=\"M0 -7L7 0L0 7L-7 0Z\" fill=\"#fff\" stroke=\"#3c4652\"/>"
 shape mark.Violated = codes "<path d=\"M0 -7L7 0L0 7L-7 0Z\" fill=\"#b00020\"/>"
-shape mark.Begun = codes "<path d=\"M4 -7H-3V7H4\" fill=\"none\" stroke=\"#04573f\"/>"
-shape mark.Chunk = codes "<path d=\"M0 -6V6\" stroke=\"#007a5a\"/>"
+shape mark.Begun = codes "<path d=\"M4 -7H-3V7H4\" fill=\"none\" stroke=\"#04573f\" stroke-width=\"2\"/>"
+shape mark.Chunk = codes "<path d=\"M0 -6V6\" stroke=\"#04573f\" stroke-width=\"2\"/>"
 shape mark.Granted = codes "<circle r=\"7\" fill=\"#007a5a\"/>"
 shape mark.Refused =
     codes "<circle r=\"7\" fill=\"#b00020\"/>"
-    ++ codes "<path d=\"M-3 -3L3 3M3 -3L-3 3\" stroke=\"#fff\"/>"
+    ++ codes "<path d=\"M-3 -3L3 3M3 -3L-3 3\" stroke=\"#fff\" stroke-width=\"2\"/>"
 shape mark.Read =
     codes "<path d=\"M-7 -7H7V7H-7Z\" fill=\"#0072b2\"/>"
     ++ codes "<text y=\"4\" fill=\"#fff\" text-anchor=\"middle\">R</text>"
@@ -50,9 +50,11 @@ shape mark.SetAttr =
 shape mark.SetMeta =
     codes "<path d=\"M-7 -7H7V7H-7Z\" fill=\"#6b5b95\"/>"
     ++ codes "<text y=\"4\" fill=\"#fff\" text-anchor=\"middle\">M</text>"
-shape mark.NotDone = codes "<path d=\"M-7 -7H7V7H-7Z\" fill=\"#8a94a0\"/>"
+shape mark.NotDone =
+    codes "<path d=\"M-7 -7H7V7H-7Z\" fill=\"#8a94a0\"/>"
+    ++ codes "<path d=\"M-4 4L4 -4\" stroke=\"#fff\"/>"
 shape mark.Closed = codes "<path d=\"M-2 -8H2V8H-2Z\" fill=\"#3c4652\"/>"
-shape mark.Finished = codes "<path d=\"M-4 -7H3V7H-4\" fill=\"none\" stroke=\"#04573f\"/>"
+shape mark.Finished = codes "<path d=\"M-4 -7H3V7H-4\" fill=\"none\" stroke=\"#04573f\" stroke-width=\"2\"/>"
 
 -- a block begins, up to its x coordinate
 abbrev pub block : Look → List ℕ
@@ -141,7 +143,7 @@ flag_text note.Passed = codes "<text class=\"f-p\" dx=\"5\" dy=\"11\" x=\""
 abbrev pub flag_words : Note → List ℕ
 flag_words (note.ToMToU p) = codes "ToMToU = entry "
 flag_words (note.OpenWriters p) = codes "open-writers = entry "
-flag_words note.Denied = codes "denied"
+flag_words note.Denied = []
 flag_words note.Labelled = codes "labelled"
 flag_words (note.Added p) = codes "entry "
 flag_words (note.Already p) = codes "already entry "
@@ -212,7 +214,7 @@ own_bytes own.Plus = codes "+"
 own_bytes own.GapGroup = codes "<g transform=\"translate("
 own_bytes own.GapBlock = codes ")\"><rect class=\"gap\" x=\"8\" y=\"-2\" width=\"74\" height=\""
 own_bytes own.GapText = codes "\"/><text class=\"gap\" x=\"45\" y=\"30\">"
-own_bytes own.GapEnd = codes " events</text></g>"
+own_bytes own.GapEnd = codes "<tspan x=\"45\" dy=\"14\">not drawn</tspan></text></g>"
 own_bytes own.ContentText = codes "<text class=\"in\" dx=\"4\" y=\"55\" x=\""
 own_bytes own.SvgEnd = codes "</svg>" ++ 10 ∷ []
 own_bytes (own.Shape m) = shape m

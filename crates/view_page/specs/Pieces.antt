@@ -1,5 +1,5 @@
 -- The pieces of which a page is made: the program's own bytes, numbers, and texts of the report.
-use Rattle.std.specs.Prelude.{ℕ, suc, ◌-◌, ◌==◌, Bool, true, false, List, [], ◌∷◌, take, drop, if◌then◌else◌}
+use Rattle.std.specs.Prelude.{ℕ, suc, ◌-◌, ◌==◌, ◌&&◌, Bool, true, false, List, [], ◌∷◌, take, drop, if◌then◌else◌}
 use Rattle.std.specs.List.{flat_map}
 use Rattle.view_layout.specs.declared.kinds.Mark.{Mark}
 use Rattle.view_layout.specs.reading.declared.event.Span.{Span}
@@ -29,11 +29,27 @@ word_at spaces (b ∷ bytes) =
     if spaces == 0 then first_word (b ∷ bytes)
     else word_at (if b == 32 then spaces - 1 else spaces) bytes
 
+-- how many bytes of the sign ` = ` end with this one, if so many ended before it
+abbrev pub seen_after : ℕ → ℕ → ℕ
+seen_after seen b =
+    if b == 32 then (if seen == 2 then 3 else 1) else (if b == 61 && seen == 1 then 2 else 0)
+
+-- what follows the sign, so many bytes of which were seen
+abbrev pub outcome_from : ℕ → List ℕ → List ℕ
+outcome_from seen [] = []
+outcome_from seen (b ∷ bytes) =
+    if seen == 3 then b ∷ bytes else outcome_from (seen_after seen b) bytes
+
+-- the outcome in an event's line
+abbrev pub outcome_in : List ℕ → List ℕ
+outcome_in line = outcome_from 0 line
+
 abbrev pub bytes_of : List ℕ → Piece → List ℕ
 bytes_of text (piece.Own o) = own_bytes o
 bytes_of text (piece.Number n) = numeral n
 bytes_of text (piece.Text span) = escaped (text_at text span)
 bytes_of text (piece.Word span spaces) = escaped (word_at spaces (text_at text span))
+bytes_of text (piece.Told span spaces) = escaped (word_at spaces (outcome_in (text_at text span)))
 
 -- the bytes of these pieces, with the texts of this report
 abbrev pub page_of : List ℕ → List Piece → List ℕ

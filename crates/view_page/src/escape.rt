@@ -1,7 +1,7 @@
 // Texts of a report in a page.
 
 ghost use Rattle.std.specs.Prelude.{◌≡◌, ◌++◌, ◌<◌, OnOk};
-ghost use Rattle.view_page.specs.Escape.{byte_text, escaped, escaped_byte, hex_digit, is_printing};
+ghost use Rattle.view_page.specs.Escape.{escaped, escaped_byte, hex_digit, is_printing};
 
 use std::alloc::AllocError as OutOfMemory;
 

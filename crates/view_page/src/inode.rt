@@ -13,7 +13,7 @@ use view_layout::reading::Event;
 use view_layout::{Item, Parts, Window, draft, end_of, highest, push_items, windows};
 
 /// Which drawing: its report, its inode, and the place before which two journals part.
-#[derive(Clone, Copy, Debug, PartialEq, Eq)]
+#[derive(Clone, Copy)]
 pub struct View {
     pub side: Side,
     pub inode: u64,

@@ -8,7 +8,7 @@ use crate::own::Own;
 use crate::pieces::Piece;
 use crate::segment::push_segment;
 use std::alloc::AllocError as OutOfMemory;
-use view_layout::reading::{Deed, Event, Outcome, Span};
+use view_layout::reading::{Deed, Event, Outcome, Placed, Span};
 use view_layout::{Area, Guide, Item, Look, Mark, Note};
 
 /// Appends the pieces of an item.
@@ -40,7 +40,13 @@ pub fn push_item(out: &mut Vec<Piece>, view: View, item: Item) -> Result<(), Out
             event,
             mark,
         } => push_axis(out, x, y, place, event, mark),
-        Item::Flag { x, up, width, note } => push_flag(out, x, up, width, note),
+        Item::Flag {
+            x,
+            up,
+            width,
+            event,
+            note,
+        } => push_flag(out, x, up, width, event, note),
         Item::Gap { x, height, events } => push_gap(out, x, height, events),
     }
 }
@@ -259,12 +265,14 @@ fn push_flag(
     x: u64,
     up: u64,
     width: u64,
+    event: Event,
     note: Note,
 ) -> Result<(), OutOfMemory>
-    ensures { OnOk result (out.new.items ≡ out.old.items ++ spec.flag_pieces x up width note) }
+    ensures { OnOk result
+        (out.new.items ≡ out.old.items ++ spec.flag_pieces x up width event note) }
 {
     push_banner(out, x, up, width, note)?;
-    push_entry(out, note)?;
+    push_noted(out, event, note)?;
     add(out, &[Piece::Own(Own::TextEnd)])
 }
 
@@ -295,15 +303,45 @@ fn push_banner(
     add(out, &pieces)
 }
 
-fn push_entry(out: &mut Vec<Piece>, note: Note) -> Result<(), OutOfMemory>
-    ensures { OnOk result (out.new.items ≡ out.old.items ++ spec.entry_pieces note) }
+fn cause_of(placed: Placed) -> u32
+    ensures { result ≡ spec.cause_of placed }
+{
+    match placed {
+        Placed::NotMeasured => 1,
+        Placed::Added | Placed::Already => 3,
+    }
+}
+
+// After how many words of an outcome the cause of a denial stands.
+fn cause_at(outcome: Outcome) -> u32
+    ensures { result ≡ spec.cause_at outcome }
+{
+    match outcome {
+        Outcome::Granted(grant) => cause_of(grant.placed),
+        Outcome::Status => 1,
+        _ => 0,
+    }
+}
+
+fn push_cause(out: &mut Vec<Piece>, event: Event) -> Result<(), OutOfMemory>
+    ensures { OnOk result (out.new.items ≡ out.old.items ++ spec.noted_pieces event Note.Denied) }
+{
+    add(
+        out,
+        &[Piece::Told(cut(event.line), cause_at(event.outcome))],
+    )
+}
+
+fn push_noted(out: &mut Vec<Piece>, event: Event, note: Note) -> Result<(), OutOfMemory>
+    ensures { OnOk result (out.new.items ≡ out.old.items ++ spec.noted_pieces event note) }
 {
     match note {
         Note::ToMToU(entry) | Note::OpenWriters(entry) => {
             add(out, &[Piece::Number(u64::from(entry))])
         }
         Note::Added(entry) | Note::Already(entry) => add(out, &[Piece::Number(u64::from(entry))]),
-        Note::Denied | Note::Labelled | Note::Passed => Ok(()),
+        Note::Denied => push_cause(out, event),
+        Note::Labelled | Note::Passed => Ok(()),
     }
 }
 

@@ -12,7 +12,7 @@ use view_layout::{Freshness, Guide, Look, Mark, Note, Strip};
 
 /// To which of two reports of a page a drawing belongs: its identifiers begin with nothing, `a-` or
 /// `b-`.
-#[derive(Clone, Copy, Debug, PartialEq, Eq)]
+#[derive(Clone, Copy)]
 pub enum Side {
     Alone,
     First,
@@ -20,7 +20,7 @@ pub enum Side {
 }
 
 /// The program's own bytes of a drawing.
-#[derive(Clone, Copy, Debug, PartialEq, Eq)]
+#[derive(Clone, Copy)]
 pub enum Own {
     /// A drawing begins, up to its width.
     Svg,
@@ -147,7 +147,10 @@ pub fn push_own(out: &mut Vec<u8>, own: Own) -> Result<(), OutOfMemory>
             )
         }
         Own::GapText => push_all(out, b"\"/><text class=\"gap\" x=\"45\" y=\"30\">"),
-        Own::GapEnd => push_all(out, b" events</text></g>"),
+        Own::GapEnd => push_all(
+            out,
+            b"<tspan x=\"45\" dy=\"14\">not drawn</tspan></text></g>",
+        ),
         Own::ContentText => push_all(out, b"<text class=\"in\" dx=\"4\" y=\"55\" x=\""),
         Own::SvgEnd => push_all(out, b"</svg>\n"),
         Own::Shape(mark) => push_shape(out, mark),
@@ -309,7 +312,7 @@ fn push_flag_words(out: &mut Vec<u8>, x: Note) -> Result<(), OutOfMemory>
     match x {
         Note::ToMToU(_) => push_all(out, b"ToMToU = entry "),
         Note::OpenWriters(_) => push_all(out, b"open-writers = entry "),
-        Note::Denied => push_all(out, b"denied"),
+        Note::Denied => push_all(out, b""),
         Note::Labelled => push_all(out, b"labelled"),
         Note::Added(_) => push_all(out, b"entry "),
         Note::Already(_) => push_all(out, b"already entry "),

@@ -10,7 +10,7 @@ use view_layout::reading::Span;
 use view_layout::reading::reports::push_number;
 
 /// A piece of a page.
-#[derive(Clone, Copy, Debug, PartialEq, Eq)]
+#[derive(Clone, Copy)]
 pub enum Piece {
     Own(Own),
     /// In decimal digits.
@@ -19,6 +19,8 @@ pub enum Piece {
     Text(Span),
     /// The word of a line of the report that stands after so many spaces, escaped.
     Word(Span, u32),
+    /// The word of an event's outcome that stands after so many spaces, escaped.
+    Told(Span, u32),
 }
 
 /// Appends pieces of a page, with the texts of this report.
@@ -39,6 +41,9 @@ fn push_piece(out: &mut Vec<u8>, text: &[u8], piece: Piece) -> Result<(), OutOfM
         Piece::Number(number) => push_number(out, number),
         Piece::Text(span) => push_text(out, text_at(text, span)),
         Piece::Word(span, spaces) => push_text(out, word_at(text_at(text, span), spaces)),
+        Piece::Told(span, spaces) => {
+            push_text(out, word_at(outcome_in(text_at(text, span)), spaces))
+        }
     }
 }
 
@@ -66,6 +71,33 @@ fn word_at(line: &[u8], spaces: u32) -> &[u8]
         }
     }
     &line[line.len()..]
+}
+
+// What follows the sign ` = ` of an event's line.
+fn outcome_in(line: &[u8]) -> &[u8]
+    ensures { result.now ≡ spec.outcome_in line.now }
+{
+    let mut seen = 0;
+    for (at, byte) in line.iter().enumerate() {
+        if seen == 3 {
+            return &line[at..];
+        }
+        seen = seen_after(seen, *byte);
+    }
+    &line[line.len()..]
+}
+
+// How many bytes of the sign end with this one, if so many ended before it.
+fn seen_after(seen: u32, byte: u8) -> u32
+    ensures { result ≡ spec.seen_after seen byte }
+{
+    if byte == b' ' {
+        if seen == 2 { 3 } else { 1 }
+    } else if byte == b'=' && seen == 1 {
+        2
+    } else {
+        0
+    }
 }
 
 fn first_word(line: &[u8]) -> &[u8]

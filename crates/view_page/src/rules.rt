@@ -6,8 +6,9 @@ ghost use Rattle.view_page.specs.Rules.{lines_of, rules};
 use crate::escape::push_all;
 use std::alloc::AllocError as OutOfMemory;
 
-const RULES: [&[u8]; 19] = [
-    b"svg.tl{font:10px sans-serif;display:block}text.lane{text-anchor:end;font-size:12px}",
+const RULES: [&[u8]; 20] = [
+    b"svg.tl{font:10px sans-serif;display:block;background:#fff}",
+    b"text.lane{text-anchor:end;font-size:12px}",
     b".strip,.gap,.place{fill:#5f6b7a}.gap,.place{text-anchor:middle}",
     b".strip{text-anchor:end}.in,.place{font-size:9px}.deed{text-anchor:end;fill:#3c4652}",
     b".deed.red{fill:#b00020;font-weight:bold}.l0{fill:#f5f7f9}.l1{fill:#eef1f4}",

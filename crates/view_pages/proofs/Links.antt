@@ -1,6 +1,6 @@
 -- The event that is named as that which added an entry did so, and that of a call is of this call.
-use Rattle.std.proofs.Common.{◌≡◌, ℕ, zero, suc, ◌+◌, ◌==◌, Bool, true, false, ◌||◌, List, [], ◌∷◌, ◌++◌, Option, Some, None, ◌⊎◌, refl, sym, ap, subst, eq-eqb, arith, inl, inr}
-use Rattle.std.specs.Prelude.{replicate, slice_get, slice_set}
+use Rattle.std.proofs.Common.{◌≡◌, ℕ, zero, suc, ◌+◌, ◌==◌, true, List, [], ◌∷◌, ◌++◌, Option, Some, None, ◌⊎◌, refl, sym, ap, subst, eq-eqb, arith, inl, inr}
+use Rattle.std.specs.Prelude.{replicate, slice_get, slice_set, take}
 use Rattle.std.specs.List.{list_any}
 use Rattle.std.proofs.lemmas.Bool.{eqb-true}
 use Rattle.std.proofs.lemmas.Option.{cond_some, same_Some}
@@ -19,7 +19,7 @@ use Rattle.view_page.specs.layout.reading.declared.event.Placed.TheVariants as p
 use Rattle.view_pages.specs.Calls.{firsts}
 use Rattle.view_pages.specs.Page.{added}
 use Rattle.view_pages.specs.Promises.{IsOfCall, LeadsTo}
-use Rattle.view_pages.specs.Slots.{added_entry, after_events, after_inodes, at, call_of, kept, placed_entry, put, slot}
+use Rattle.view_pages.specs.Slots.{added_entry, after_events, after_inodes, after_journal, at, call_of, filled, kept, most, placed_entry, put, slot}
 use Rattle.view_pages.specs.declared.slots.Asked.{Asked}
 use Rattle.view_pages.specs.declared.slots.Asked.TheVariants as asked
 use Rattle.view_pages.specs.declared.slots.At.{At}
@@ -30,18 +30,18 @@ use Rattle.view_pages.specs.declared.slots.At.{At}
 same_entry : (q k : ℕ) → Some q ≡ Some k → (q == k) ≡ true
 same_entry q k h = eq-eqb q k (same_Some q k h)
 
-grant_adds : (a : Option Placed) (v l : List Note) (k : ℕ) → placed_entry a ≡ Some k
-    → list_any (adds_by k) (placed_notes a ++ v ++ l) ≡ true
-grant_adds None v l k h = cc
-grant_adds (Some (placed.Already q)) v l k h = cc
-grant_adds (Some (placed.Added q)) v l k h = rw (same_entry q k h) refl
+grant_adds : (a : Placed) (q : ℕ) (v l : List Note) (k : ℕ) → placed_entry a q ≡ Some k
+    → list_any (adds_by k) (placed_notes a q ++ v ++ l) ≡ true
+grant_adds placed.NotMeasured q v l k h = cc
+grant_adds placed.Already q v l k h = cc
+grant_adds placed.Added q v l k h = rw (same_entry q k h) refl
 
 note_adds : (d : Deed) (o : Outcome) (k : ℕ) → added_entry o ≡ Some k
     → list_any (adds_by k) (notes_by d o) ≡ true
 note_adds d (outcome.ToMToU q) k h = rw (same_entry q k h) refl
 note_adds d (outcome.OpenWriters q) k h = rw (same_entry q k h) refl
 note_adds d (outcome.Granted g) k h =
-    grant_adds g.placed (verdict_notes g.verdict) (flag_notes note.Labelled g.labelled) k h
+    grant_adds g.placed g.entry (verdict_notes g.verdict) (flag_notes note.Labelled g.labelled) k h
 note_adds d _ k h = cc
 
 -- an event that a task's call has is of that call
@@ -118,10 +118,18 @@ rest_from {A} all n x xs are q y h =
     let same : n + suc q ≡ n + 1 + q = omega arith in
     subst (λ (m : ℕ). slice_get all m ≡ Some y) same (are (suc q) y h)
 
-all_from : {A : Type 0} (all : List A) → AreFrom all 0 all
-all_from {A} all q x h =
+taken : {A : Type 0} (n : ℕ) (xs : List A) (q : ℕ) (x : A)
+    → slice_get (take n xs) q ≡ Some x → slice_get xs q ≡ Some x
+taken {A} zero xs q x h = cc
+taken {A} (suc n) [] q x h = cc
+taken {A} (suc n) (y ∷ xs) zero x h = h
+taken {A} (suc n) (y ∷ xs) (suc q) x h = taken n xs q x h
+
+-- so are the first of them, from place 0 on
+first_ones : {A : Type 0} (n : ℕ) (all : List A) → AreFrom all 0 (take n all)
+first_ones {A} n all q x h =
     let same : q ≡ 0 + q = omega arith in
-    subst (λ (m : ℕ). slice_get all m ≡ Some x) same h
+    subst (λ (m : ℕ). slice_get all m ≡ Some x) same (taken n all q x h)
 
 events_lead : (a : Asked) (inodes : List InodeValue) (i : InodeValue) (number : ℕ)
     → slice_get inodes number ≡ Some i → (table : List (Option At)) (place : ℕ)
@@ -146,10 +154,10 @@ inodes_lead : (a : Asked) (all : List InodeValue) (table : List (Option At)) (nu
     → AllLead a all (after_inodes a table number is)
 inodes_lead a all table number [] are so_far = so_far
 inodes_lead a all table number (i ∷ is) are so_far =
-    inodes_lead a all (after_events a table number 0 i.events) (number + 1) is
+    inodes_lead a all (after_journal a table number i.events) (number + 1) is
     (rest_from all number i is are)
-    (events_lead a all i number (first_from all number i is are) table 0 i.events
-    (all_from i.events) so_far)
+    (events_lead a all i number (first_from all number i is are) table 0 (take most i.events)
+    (first_ones most i.events) so_far)
 
 -- a table without events has none
 no_event : (n p : ℕ) (a : At) → slice_get (replicate n None) p ≡ Some (Some a) → ⊥
@@ -158,9 +166,9 @@ no_event (suc n) zero a h = cc
 no_event (suc n) (suc p) a h = no_event n p a h
 
 all_lead : (a : Asked) (n : ℕ) (inodes : List InodeValue)
-    → AllLead a inodes (after_inodes a (replicate n None) 0 inodes)
+    → AllLead a inodes (filled a (replicate n None) inodes)
 all_lead a n inodes =
-    inodes_lead a inodes (replicate n None) 0 inodes (all_from inodes)
+    inodes_lead a inodes (replicate n None) 0 (take most inodes) (first_ones most inodes)
     (λ k b h. absurd (no_event n k b h))
 
 -- ---- what holds of an event of a slot

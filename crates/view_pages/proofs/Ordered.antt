@@ -1,11 +1,10 @@
 -- Each inode stands once in the order in which a page shows them.
-use Rattle.std.proofs.Common.{◌≡◌, ℕ, suc, ◌+◌, ◌==◌, ◌<◌, ◌≤◌, Bool, true, false, cond, List, [], ◌∷◌, ◌++◌, length, refl, ◌∙◌, ap, arith, inl, inr}
+use Rattle.std.proofs.Common.{◌≡◌, ℕ, ◌+◌, ◌==◌, ◌<◌, ◌≤◌, Bool, true, false, cond, List, [], ◌∷◌, ◌++◌, length, refl, ap, arith, inl, inr}
 use Rattle.std.specs.Prelude.{◌&&◌, count_by, not}
 use Rattle.std.proofs.lemmas.Bool.{cases_Bool, eqb-false, eqb-true}
 use Rattle.std.proofs.lemmas.List.Sums.{sum_by-append, sum_by-cons}
 use Rattle.view_page.specs.layout.reading.Report.{InodeValue}
 use Rattle.view_pages.specs.Order.{graded, has, is_graded, order}
-use Rattle.view_pages.specs.declared.order.Grade.{Grade}
 use Rattle.view_pages.specs.declared.order.Grade.TheVariants as grade
 
 -- how often a number stands in a list

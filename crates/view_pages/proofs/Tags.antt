@@ -1,5 +1,5 @@
 -- Of the parts of a page only the program's own make tags.
-use Rattle.std.proofs.Common.{◌≡◌, ℕ, Bool, true, false, List, refl}
+use Rattle.std.proofs.Common.{◌≡◌, ℕ, true, false, List, refl}
 use Rattle.std.specs.List.{list_all}
 use Rattle.view_page.specs.Escape.{is_safe}
 use Rattle.view_page.specs.declared.pieces.Piece.TheVariants as piece

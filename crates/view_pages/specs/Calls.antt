@@ -10,7 +10,7 @@ use Rattle.view_pages.specs.Order.{counted}
 use Rattle.view_pages.specs.Parts.{more}
 use Rattle.view_pages.specs.Plan.{is_drawn}
 use Rattle.view_pages.specs.Section.{path}
-use Rattle.view_pages.specs.Slots.{after_inodes}
+use Rattle.view_pages.specs.Slots.{filled}
 use Rattle.view_pages.specs.Words.{after_word, cut}
 use Rattle.view_pages.specs.declared.html.Table.TheVariants as table
 use Rattle.view_pages.specs.declared.part.Part.{Part}
@@ -99,7 +99,7 @@ chips_from text side shown inodes firsts marks call (r ∷ rs) =
 
 -- for each of so many calls of the task, its first event
 abbrev pub firsts : ℕ → ℕ → List InodeValue → List (Option At)
-firsts task calls inodes = after_inodes (asked.Calls task) (replicate calls None) 0 inodes
+firsts task calls inodes = filled (asked.Calls task) (replicate calls None) inodes
 
 abbrev pub chips : List ℕ → Side → List Shown → List InodeValue → ℕ → List Reply → List Part
 chips text side shown inodes task rs =
@@ -148,4 +148,4 @@ calls text side shown inodes ts =
     part.Table table.Replies ∷ []
     ++ tasks_from text side shown inodes 0 (take most_tasks ts)
     ++ part.Table table.TableEnd ∷ []
-    ++ more (part.Table table.MoreTasks) (length ts - most_tasks) (part.Table table.MoreTasksEnd)
+    ++ more (part.Table table.More) (length ts - most_tasks) (part.Table table.MoreEnd)

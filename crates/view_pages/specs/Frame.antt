@@ -1,5 +1,5 @@
 -- The frame of a page: its head, and the tiles with the numbers of a report.
-use Rattle.std.specs.Prelude.{ℕ, suc, ◌+◌, nat_lt, not, Bool, true, false, List, [], ◌∷◌, ◌++◌, length, min, if◌then◌else◌}
+use Rattle.std.specs.Prelude.{ℕ, ◌+◌, nat_lt, not, Bool, true, false, List, [], ◌∷◌, ◌++◌, length, min, if◌then◌else◌}
 use Rattle.view_page.specs.declared.own.Own.TheVariants as own
 use Rattle.view_page.specs.declared.pieces.Piece.TheVariants as piece
 use Rattle.view_page.specs.layout.reading.Report.{InodeValue, ReportValue, TaskValue}
@@ -26,7 +26,8 @@ tile_by false = part.Frame frame.Tile
 
 -- a tile with a number, which is red if it has to be looked at
 abbrev pub tile : Bool → ℕ → Frame → List Part
-tile hot n name = tile_by hot ∷ part.Number n ∷ part.Frame name ∷ []
+tile hot n name =
+    tile_by hot ∷ part.Frame name ∷ part.Number n ∷ part.Frame frame.TileEnd ∷ []
 
 abbrev pub is_done : RunEnd → Bool
 is_done run.Done = true
@@ -39,7 +40,8 @@ run_word run.Stuck = frame.Stuck
 
 abbrev pub run_tile : RunEnd → List Part
 run_tile r =
-    tile_by (not (is_done r)) ∷ part.Frame (run_word r) ∷ part.Frame frame.Run ∷ []
+    tile_by (not (is_done r)) ∷ part.Frame frame.Run ∷ part.Frame (run_word r)
+    ∷ part.Frame frame.TileEnd ∷ []
 
 -- a sum of numbers of 64 bits, at most the greatest of them
 abbrev pub sum_up_to : ℕ → ℕ → ℕ

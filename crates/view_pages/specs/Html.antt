@@ -29,15 +29,16 @@ frame_bytes frame.Beside = codes "</div><div><h1>second</h1>" ++ 10 ∷ []
 frame_bytes frame.BothEnd = codes "</div></div>" ++ 10 ∷ []
 frame_bytes frame.Tiles = codes "<div class=\"tiles\">" ++ 10 ∷ []
 frame_bytes frame.TilesEnd = codes "</div>" ++ 10 ∷ []
-frame_bytes frame.Tile = codes "<div class=\"tile\"><b>"
-frame_bytes frame.Hot = codes "<div class=\"tile hot\"><b>"
-frame_bytes frame.Run = codes "</b>run</div>" ++ 10 ∷ []
-frame_bytes frame.Entries = codes "</b>list entries</div>" ++ 10 ∷ []
-frame_bytes frame.Violations = codes "</b>violations</div>" ++ 10 ∷ []
-frame_bytes frame.Refused = codes "</b>refused calls</div>" ++ 10 ∷ []
-frame_bytes frame.Inodes = codes "</b>inodes</div>" ++ 10 ∷ []
-frame_bytes frame.Tasks = codes "</b>tasks</div>" ++ 10 ∷ []
-frame_bytes frame.Events = codes "</b>events</div>" ++ 10 ∷ []
+frame_bytes frame.Tile = codes "<div class=\"tile\">"
+frame_bytes frame.Hot = codes "<div class=\"tile hot\">"
+frame_bytes frame.TileEnd = codes "</b></div>" ++ 10 ∷ []
+frame_bytes frame.Run = codes "run<b>"
+frame_bytes frame.Entries = codes "list entries<b>"
+frame_bytes frame.Violations = codes "violations<b>"
+frame_bytes frame.Refused = codes "refused calls<b>"
+frame_bytes frame.Inodes = codes "inodes<b>"
+frame_bytes frame.Tasks = codes "tasks<b>"
+frame_bytes frame.Events = codes "events<b>"
 frame_bytes frame.Done = codes "done"
 frame_bytes frame.Unfinished = codes "unfinished"
 frame_bytes frame.Stuck = codes "stuck"
@@ -48,8 +49,10 @@ section_bytes section.Inode = codes "<h2>inode "
 section_bytes section.Path = codes " <code title=\""
 section_bytes section.Shown = codes "\">"
 section_bytes section.Length = codes "</code> <span class=\"soft\">"
-section_bytes section.HeadEnd = codes " events</span>"
+section_bytes section.Event = codes " event</span>"
+section_bytes section.Events = codes " events</span>"
 section_bytes section.Bad = codes " <span class=\"bad\">"
+section_bytes section.Violation = codes " violation</span>"
 section_bytes section.Violations = codes " violations</span>"
 section_bytes section.Denials = codes " denied or labelled</span>"
 section_bytes section.Same = codes " <span class=\"soft\">the same journal in both</span>"
@@ -69,10 +72,10 @@ section_bytes section.Attr = codes "; <code title=\""
 section_bytes section.AttrIs = codes "="
 section_bytes section.Code = codes "</code>"
 section_bytes section.More = codes "; and "
-section_bytes section.MoreAttrs = codes " more attributes"
+section_bytes section.MoreAttrs = codes " more"
 section_bytes section.ParaEnd = codes "</p>" ++ 10 ∷ []
 section_bytes section.MoreInodes = codes "<p class=\"soft\">and "
-section_bytes section.MoreInodesEnd = codes " more inodes: use <code>inode I</code></p>" ++ 10 ∷ []
+section_bytes section.MoreInodesEnd = codes " more: use <code>inode I</code></p>" ++ 10 ∷ []
 
 -- the list, the registers, the appended rules and the replies
 abbrev pub table_bytes : Table → List ℕ
@@ -113,8 +116,8 @@ table_bytes table.Rules =
     codes "<h2>Rules appended during the run</h2>" ++ 10 ∷ []
     ++ codes "<table>" ++ 10 ∷ []
 table_bytes table.RuleRow = codes "<tr><td class=\"h\">"
-table_bytes table.MoreRules = codes "<p class=\"soft\">and "
-table_bytes table.MoreRulesEnd = codes " more rules</p>" ++ 10 ∷ []
+table_bytes table.More = codes "<p class=\"soft\">and "
+table_bytes table.MoreEnd = codes " more</p>" ++ 10 ∷ []
 table_bytes table.Replies =
     codes "<h2>Calls and replies</h2>" ++ 10 ∷ []
     ++ codes "<table>" ++ 10 ∷ []
@@ -129,5 +132,3 @@ table_bytes table.WaitEnd = codes " stands here at the end</span>"
 table_bytes table.Calls = codes "<span class=\"chip\">of "
 table_bytes table.CallsEnd =
     codes " calls the first 50 and the first 50 refused are shown</span>"
-table_bytes table.MoreTasks = codes "<p class=\"soft\">and "
-table_bytes table.MoreTasksEnd = codes " more tasks</p>" ++ 10 ∷ []

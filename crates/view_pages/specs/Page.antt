@@ -14,7 +14,7 @@ use Rattle.view_pages.specs.Parts.{more}
 use Rattle.view_pages.specs.Plan.{beyond, most_sections, planned, windows_of}
 use Rattle.view_pages.specs.Section.{section_of, view_of}
 use Rattle.view_pages.specs.Sections.{sections}
-use Rattle.view_pages.specs.Slots.{after_inodes}
+use Rattle.view_pages.specs.Slots.{filled}
 use Rattle.view_pages.specs.Tables.{registers, rules}
 use Rattle.view_pages.specs.declared.html.Frame.TheVariants as frame
 use Rattle.view_pages.specs.declared.html.Section.TheVariants as section
@@ -27,7 +27,7 @@ use Rattle.view_pages.specs.declared.slots.At.{At}
 
 -- for each of so many entries, the event that added it
 abbrev pub added : ℕ → List InodeValue → List (Option At)
-added n inodes = after_inodes asked.Entries (replicate n None) 0 inodes
+added n inodes = filled asked.Entries (replicate n None) inodes
 
 abbrev pub list_parts : List ℕ → Side → List Shown → List InodeValue → List Span → List Part
 list_parts text s ss inodes lines = entries text s ss (added (length lines) inodes) lines

@@ -1,6 +1,6 @@
 -- The parts of which a page is made: the program's own bytes, numbers, texts of the report, and the
 -- pieces of drawings.
-use Rattle.std.specs.Prelude.{◌≡◌, ℕ, nat_lt, List, [], ◌∷◌, ◌++◌, codes, if◌then◌else◌}
+use Rattle.std.specs.Prelude.{◌≡◌, ◌==◌, ℕ, nat_lt, List, [], ◌∷◌, ◌++◌, codes, if◌then◌else◌}
 use Rattle.std.specs.List.{flat_map}
 use Rattle.view_page.specs.Pieces.{bytes_of as piece_bytes}
 use Rattle.view_page.specs.declared.own.Side.{Side}
@@ -34,6 +34,10 @@ bytes_of text (part.Drawn p) = piece_bytes text p
 -- the bytes of these parts, with the texts of this report
 unfoldable pub page_of : List ℕ → List Part → List ℕ
 page_of text parts = flat_map (bytes_of text) parts
+
+-- the part after a number: this one after 1, and else the other
+abbrev pub by_count : ℕ → Part → Part → Part
+by_count n one many = if n == 1 then one else many
 
 -- how many there are beyond what is shown, between these parts
 abbrev pub more : Part → ℕ → Part → List Part

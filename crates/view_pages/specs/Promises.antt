@@ -1,5 +1,5 @@
 -- What has to be true of a page.
-use Rattle.std.specs.Prelude.{◌≡◌, ℕ, ◌==◌, ◌<◌, ◌≤◌, nat_le, ◌&&◌, Bool, true, false, IsTrue, List, count_by, length, sum_by, slice_get, Option, Some}
+use Rattle.std.specs.Prelude.{◌≡◌, ℕ, ◌==◌, ◌<◌, ◌≤◌, nat_le, ◌&&◌, Bool, true, false, IsTrue, List, count_by, length, sum_by, slice_get, Some}
 use Rattle.std.specs.List.{list_all, list_any}
 use Rattle.view_page.specs.Escape.{is_safe}
 use Rattle.view_page.specs.Pieces.{is_own as is_own_piece}

@@ -11,7 +11,7 @@ use Rattle.view_page.specs.layout.reading.declared.event.Span.{Span}
 use Rattle.view_page.specs.layout.reading.declared.report.InodeHead.{InodeHead}
 use Rattle.view_pages.specs.Order.{count}
 use Rattle.view_pages.specs.Overview.{overview_of}
-use Rattle.view_pages.specs.Parts.{more}
+use Rattle.view_pages.specs.Parts.{by_count, more}
 use Rattle.view_pages.specs.Plan.{most_drawn}
 use Rattle.view_pages.specs.Sentences.{sentences}
 use Rattle.view_pages.specs.Words.{after_word, cut, first_word}
@@ -33,11 +33,17 @@ path text head = first_word text (after_word text (after_word text head.line))
 
 -- ---- the heading
 
+-- how many events a journal has
+abbrev pub length_of : ℕ → List Part
+length_of n =
+    part.Section section.Length ∷ part.Number n
+    ∷ by_count n (part.Section section.Event) (part.Section section.Events) ∷ []
+
 abbrev pub heading : List ℕ → ℕ → ℕ → InodeHead → List Part
 heading text number events head =
     part.Section section.Inode ∷ part.Number number ∷ part.Section section.Path ∷ []
     ++ titled 80 (path text head)
-    ++ part.Section section.Length ∷ part.Number events ∷ part.Section section.HeadEnd ∷ []
+    ++ length_of events
 
 -- ---- the state at the end
 
@@ -112,11 +118,16 @@ drawn text d view ws journal =
 
 -- ---- the section
 
+-- how many events are violations
+abbrev pub violations : ℕ → List Part
+violations n =
+    more (part.Section section.Bad) n
+    (by_count n (part.Section section.Violation) (part.Section section.Violations))
+
 -- how many events are violations, and how many others are denials or labels
 abbrev pub marked_by : ℕ → ℕ → List Part
-marked_by violations denials =
-    more (part.Section section.Bad) violations (part.Section section.Violations)
-    ++ more (part.Section section.Bad) denials (part.Section section.Denials)
+marked_by n denials =
+    violations n ++ more (part.Section section.Bad) denials (part.Section section.Denials)
 
 abbrev pub marked : List Event → List Part
 marked journal =

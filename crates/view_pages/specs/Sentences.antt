@@ -177,8 +177,8 @@ abbrev pub stale : List Event → ℕ → Event → List Part
 stale journal place e =
     not_as_hashed e ++ writer journal (last_write (before place journal))
 
-abbrev pub is_denied : Option Verdict → Bool
-is_denied (Some verdict.Deny) = true
+abbrev pub is_denied : Verdict → Bool
+is_denied verdict.Deny = true
 is_denied _ = false
 
 abbrev pub granted : List ℕ → Event → Grant → List Part

@@ -1,6 +1,6 @@
 -- Which event added an entry of the list, and which was the first of a call: tables over the
 -- entries and over the calls of a task, filled by one walk over the journals.
-use Rattle.std.specs.Prelude.{ℕ, ◌+◌, ◌==◌, List, [], ◌∷◌, slice_get, slice_set, Option, Some, None, if◌then◌else◌}
+use Rattle.std.specs.Prelude.{ℕ, ◌+◌, ◌==◌, List, [], ◌∷◌, slice_get, slice_set, take, Option, Some, None, if◌then◌else◌}
 use Rattle.view_page.specs.layout.reading.Report.{InodeValue}
 use Rattle.view_page.specs.layout.reading.declared.event.Deed.{Deed}
 use Rattle.view_page.specs.layout.reading.declared.event.Deed.TheVariants as deed
@@ -13,15 +13,15 @@ use Rattle.view_pages.specs.declared.slots.Asked.{Asked}
 use Rattle.view_pages.specs.declared.slots.Asked.TheVariants as asked
 use Rattle.view_pages.specs.declared.slots.At.{At}
 
-abbrev pub placed_entry : Option Placed → Option ℕ
-placed_entry (Some (placed.Added p)) = Some p
-placed_entry _ = None
+abbrev pub placed_entry : Placed → ℕ → Option ℕ
+placed_entry placed.Added entry = Some entry
+placed_entry _ entry = None
 
 -- the entry that an event added
 abbrev pub added_entry : Outcome → Option ℕ
 added_entry (outcome.ToMToU p) = Some p
 added_entry (outcome.OpenWriters p) = Some p
-added_entry (outcome.Granted g) = placed_entry g.placed
+added_entry (outcome.Granted g) = placed_entry g.placed g.entry
 added_entry _ = None
 
 -- the call of this task that an event belongs to; a birth belongs to none
@@ -52,8 +52,19 @@ after_events a table inode place [] = table
 after_events a table inode place (e ∷ es) =
     after_events a (put table (slot a e) (at inode place e)) inode (place + 1) es
 
+-- a report has fewer inodes, and fewer events of each, since its text is shorter
+abbrev pub most : ℕ
+most = 4294967296
+
+abbrev pub after_journal : Asked → List (Option At) → ℕ → List Event → List (Option At)
+after_journal a table inode journal = after_events a table inode 0 (take most journal)
+
 -- the table after these inodes, the first of which has this number
 abbrev pub after_inodes : Asked → List (Option At) → ℕ → List InodeValue → List (Option At)
 after_inodes a table inode [] = table
 after_inodes a table inode (i ∷ is) =
-    after_inodes a (after_events a table inode 0 i.events) (inode + 1) is
+    after_inodes a (after_journal a table inode i.events) (inode + 1) is
+
+-- the table after the events of these inodes
+abbrev pub filled : Asked → List (Option At) → List InodeValue → List (Option At)
+filled a table inodes = after_inodes a table 0 (take most inodes)

@@ -43,8 +43,8 @@ rule_rows text lines = flat_map (rule text) (take most_rules lines)
 abbrev pub rules_shown : List ℕ → List Span → List Part
 rules_shown text lines =
     part.Table table.Rules ∷ [] ++ rule_rows text lines ++ part.Table table.TableEnd ∷ []
-    ++ more (part.Table table.MoreRules) (length lines - most_rules)
-    (part.Table table.MoreRulesEnd)
+    ++ more (part.Table table.More) (length lines - most_rules)
+    (part.Table table.MoreEnd)
 
 -- nothing if no rule was appended
 abbrev pub rules : List ℕ → List Span → List Part

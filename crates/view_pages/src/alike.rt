@@ -1,7 +1,6 @@
 // How the journals of an inode compare in two runs of one script.
 
-ghost use Rattle.std.specs.Prelude.{◌≡◌, ◌+◌, ◌<◌, ◌^◌, [], ◌∷◌, length, drop, slice_get, slice_index, MatchOption, IfOk};
-ghost use Rattle.std.specs.List.{list_any};
+ghost use Rattle.std.specs.Prelude.{◌≡◌, ◌+◌, ◌<◌, [], ◌∷◌, length, drop, slice_get, slice_index, MatchOption, IfOk};
 ghost use Rattle.view_pages.specs.Alike as spec;
 
 use crate::words::text_at;

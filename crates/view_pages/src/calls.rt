@@ -36,9 +36,9 @@ fn push_call_link(
         Part::Table(Table::Link),
         Part::Side(side),
         Part::Table(Table::I),
-        Part::Number(at.inode),
+        Part::Number(u64::from(at.inode)),
         Part::Table(Table::E),
-        Part::Number(at.place),
+        Part::Number(u64::from(at.place)),
         Part::Table(Table::Shown),
         Part::Number(call),
         Part::Table(Table::LinkEnd),
@@ -384,9 +384,9 @@ pub fn push_calls(
     push_more(
         out,
         text,
-        Part::Table(Table::MoreTasks),
+        Part::Table(Table::More),
         more,
-        Part::Table(Table::MoreTasksEnd),
+        Part::Table(Table::MoreEnd),
     )?;
     Ok(())
 }

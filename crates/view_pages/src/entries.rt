@@ -72,13 +72,13 @@ pub fn push_link(out: &mut Vec<u8>, text: &[u8], side: Side, at: At) -> Result<(
         Part::Table(Table::Link),
         Part::Side(side),
         Part::Table(Table::I),
-        Part::Number(at.inode),
+        Part::Number(u64::from(at.inode)),
         Part::Table(Table::E),
-        Part::Number(at.place),
+        Part::Number(u64::from(at.place)),
         Part::Table(Table::LinkIs),
-        Part::Number(at.inode),
+        Part::Number(u64::from(at.inode)),
         Part::Table(Table::LinkPlace),
-        Part::Number(at.place),
+        Part::Number(u64::from(at.place)),
         Part::Table(Table::LinkEnd),
     ];
     push_parts(out, text, &parts)
@@ -89,9 +89,9 @@ fn push_named(out: &mut Vec<u8>, text: &[u8], at: At) -> Result<(), OutOfMemory>
 {
     let parts = [
         Part::Table(Table::Inode),
-        Part::Number(at.inode),
+        Part::Number(u64::from(at.inode)),
         Part::Table(Table::LinkPlace),
-        Part::Number(at.place),
+        Part::Number(u64::from(at.place)),
     ];
     push_parts(out, text, &parts)
 }

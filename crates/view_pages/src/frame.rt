@@ -1,6 +1,6 @@
 // The frame of a page: its head, and the tiles with the numbers of a report.
 
-ghost use Rattle.std.specs.Prelude.{◌≡◌, ◌++◌, OnOk};
+ghost use Rattle.std.specs.Prelude.{◌≡◌, OnOk};
 ghost use Rattle.view_pages.specs.Frame as spec;
 ghost use Rattle.view_pages.specs.Parts.{Pushed};
 
@@ -44,8 +44,9 @@ fn push_run(out: &mut Vec<u8>, text: &[u8], run: RunEnd) -> Result<(), OutOfMemo
 {
     let parts = [
         tile_by(!is_done(run)),
-        Part::Frame(run_word(run)),
         Part::Frame(Frame::Run),
+        Part::Frame(run_word(run)),
+        Part::Frame(Frame::TileEnd),
     ];
     push_parts(out, text, &parts)
 }
@@ -82,11 +83,13 @@ fn push_tile(
     ensures { OnOk result
         (Pushed text.now out.old.items out.new.items (spec.tile hot number name)) }
 {
-    push_parts(
-        out,
-        text,
-        &[tile_by(hot), Part::Number(number), Part::Frame(name)],
-    )
+    let parts = [
+        tile_by(hot),
+        Part::Frame(name),
+        Part::Number(number),
+        Part::Frame(Frame::TileEnd),
+    ];
+    push_parts(out, text, &parts)
 }
 
 fn tile_by(hot: bool) -> Part

@@ -4,7 +4,7 @@ ghost use Rattle.std.specs.Prelude.{◌≡◌};
 ghost use Rattle.view_pages.specs.Html as spec;
 
 /// The frame of a page, and its headings.
-#[derive(Clone, Copy, Debug, PartialEq, Eq)]
+#[derive(Clone, Copy)]
 pub enum Frame {
     Begin,
     Body,
@@ -20,6 +20,7 @@ pub enum Frame {
     TilesEnd,
     Tile,
     Hot,
+    TileEnd,
     Run,
     Entries,
     Violations,
@@ -57,15 +58,16 @@ pub fn frame_bytes(frame: Frame) -> &'static [u8]
         Frame::BothEnd => b"</div></div>\n",
         Frame::Tiles => b"<div class=\"tiles\">\n",
         Frame::TilesEnd => b"</div>\n",
-        Frame::Tile => b"<div class=\"tile\"><b>",
-        Frame::Hot => b"<div class=\"tile hot\"><b>",
-        Frame::Run => b"</b>run</div>\n",
-        Frame::Entries => b"</b>list entries</div>\n",
-        Frame::Violations => b"</b>violations</div>\n",
-        Frame::Refused => b"</b>refused calls</div>\n",
-        Frame::Inodes => b"</b>inodes</div>\n",
-        Frame::Tasks => b"</b>tasks</div>\n",
-        Frame::Events => b"</b>events</div>\n",
+        Frame::Tile => b"<div class=\"tile\">",
+        Frame::Hot => b"<div class=\"tile hot\">",
+        Frame::TileEnd => b"</b></div>\n",
+        Frame::Run => b"run<b>",
+        Frame::Entries => b"list entries<b>",
+        Frame::Violations => b"violations<b>",
+        Frame::Refused => b"refused calls<b>",
+        Frame::Inodes => b"inodes<b>",
+        Frame::Tasks => b"tasks<b>",
+        Frame::Events => b"events<b>",
         Frame::Done => b"done",
         Frame::Unfinished => b"unfinished",
         Frame::Stuck => b"stuck",
@@ -73,14 +75,16 @@ pub fn frame_bytes(frame: Frame) -> &'static [u8]
 }
 
 /// The section of an inode.
-#[derive(Clone, Copy, Debug, PartialEq, Eq)]
+#[derive(Clone, Copy)]
 pub enum Section {
     Inode,
     Path,
     Shown,
     Length,
-    HeadEnd,
+    Event,
+    Events,
     Bad,
+    Violation,
     Violations,
     Denials,
     Same,
@@ -115,8 +119,10 @@ pub fn section_bytes(section: Section) -> &'static [u8]
         Section::Path => b" <code title=\"",
         Section::Shown => b"\">",
         Section::Length => b"</code> <span class=\"soft\">",
-        Section::HeadEnd => b" events</span>",
+        Section::Event => b" event</span>",
+        Section::Events => b" events</span>",
         Section::Bad => b" <span class=\"bad\">",
+        Section::Violation => b" violation</span>",
         Section::Violations => b" violations</span>",
         Section::Denials => b" denied or labelled</span>",
         Section::Same => b" <span class=\"soft\">the same journal in both</span>",
@@ -136,15 +142,15 @@ pub fn section_bytes(section: Section) -> &'static [u8]
         Section::AttrIs => b"=",
         Section::Code => b"</code>",
         Section::More => b"; and ",
-        Section::MoreAttrs => b" more attributes",
+        Section::MoreAttrs => b" more",
         Section::ParaEnd => b"</p>\n",
         Section::MoreInodes => b"<p class=\"soft\">and ",
-        Section::MoreInodesEnd => b" more inodes: use <code>inode I</code></p>\n",
+        Section::MoreInodesEnd => b" more: use <code>inode I</code></p>\n",
     }
 }
 
 /// The list, the registers, the appended rules and the replies.
-#[derive(Clone, Copy, Debug, PartialEq, Eq)]
+#[derive(Clone, Copy)]
 pub enum Table {
     List,
     Row,
@@ -176,8 +182,8 @@ pub enum Table {
     TableEnd,
     Rules,
     RuleRow,
-    MoreRules,
-    MoreRulesEnd,
+    More,
+    MoreEnd,
     Replies,
     TaskRow,
     Chip,
@@ -189,8 +195,6 @@ pub enum Table {
     WaitEnd,
     Calls,
     CallsEnd,
-    MoreTasks,
-    MoreTasksEnd,
 }
 
 // Its bytes.
@@ -232,8 +236,8 @@ pub fn table_bytes(table: Table) -> &'static [u8]
         Table::TableEnd => b"</table>\n",
         Table::Rules => b"<h2>Rules appended during the run</h2>\n<table>\n",
         Table::RuleRow => b"<tr><td class=\"h\">",
-        Table::MoreRules => b"<p class=\"soft\">and ",
-        Table::MoreRulesEnd => b" more rules</p>\n",
+        Table::More => b"<p class=\"soft\">and ",
+        Table::MoreEnd => b" more</p>\n",
         Table::Replies => b"<h2>Calls and replies</h2>\n<table>\n",
         Table::TaskRow => b"<tr><td>task&nbsp;",
         Table::Chip => b"<span class=\"chip\">",
@@ -245,7 +249,5 @@ pub fn table_bytes(table: Table) -> &'static [u8]
         Table::WaitEnd => b" stands here at the end</span>",
         Table::Calls => b"<span class=\"chip\">of ",
         Table::CallsEnd => b" calls the first 50 and the first 50 refused are shown</span>",
-        Table::MoreTasks => b"<p class=\"soft\">and ",
-        Table::MoreTasksEnd => b" more tasks</p>\n",
     }
 }

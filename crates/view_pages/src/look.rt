@@ -7,7 +7,7 @@ use std::alloc::AllocError as OutOfMemory;
 use view_page::push_all;
 
 // The rules of the classes of a page.
-const STYLE: [&[u8]; 22] = [
+const STYLE: [&[u8]; 23] = [
     b":root{--bad:#b00020;--warn:#b26a00;--ink:#1b1f24;--soft:#5f6b7a}\n",
     b"body{font:14px/1.45 system-ui,sans-serif;color:var(--ink);margin:24px;background:#fff}\n",
     b"h1{font-size:20px;margin:0 0 4px}h2{font-size:15px;margin:26px 0 4px;font-weight:600}\n",
@@ -18,12 +18,13 @@ const STYLE: [&[u8]; 22] = [
     b"td,th{padding:3px 10px 3px 0;text-align:left;vertical-align:top}\n",
     b"td,th{border-bottom:1px solid #e4e7eb}th{color:var(--soft);font-weight:500}\n",
     b"code,td.h{font-family:ui-monospace,monospace;font-size:12px}\n",
+    b"td.h[title]::after{content:\"\\2026\"}\n",
     b"tr.viol td{background:#fdecee}tr:target td{background:#fff3bf}\n",
     b".tiles{display:flex;gap:10px;margin:12px 0;flex-wrap:wrap}\n",
     b".tile{border:1px solid #d9dde3;border-radius:6px;padding:6px 14px;min-width:74px}\n",
     b".tile b{display:block;font-size:18px}\n",
     b".tile.hot{border-color:var(--bad);background:#fdecee}.tile.hot b{color:var(--bad)}\n",
-    b".wide{overflow-x:auto}.two{display:flex;gap:40px;flex-wrap:wrap}\n",
+    b".wide{overflow-x:auto}.two{display:flex;gap:40px;flex-wrap:wrap;margin-top:26px}\n",
     b".which{background:#e9e4ff;color:#3d28a8;border-radius:4px;padding:1px 8px;font-size:12px}\n",
     b".chip{display:inline-block;border:1px solid #c9d0d8;border-radius:4px;padding:0 6px}\n",
     b".chip{margin:2px 4px 2px 0;font-size:12px;white-space:nowrap}\n",
@@ -66,9 +67,9 @@ const LEGEND: [&[u8]; 39] = [
     b"<circle cx=\"628\" cy=\"35\" r=\"6\" fill=\"#007a5a\"/>\n",
     b"<text x=\"640\" y=\"39\">grant</text>\n",
     b"<circle cx=\"692\" cy=\"35\" r=\"6\" fill=\"#b00020\"/>\n",
-    b"<path d=\"M689 32l6 6m0 -6l-6 6\" stroke=\"#fff\"/>\n",
+    b"<path d=\"M689 32l6 6m0 -6l-6 6\" stroke=\"#fff\" stroke-width=\"2\"/>\n",
     b"<text x=\"704\" y=\"39\">not admitted</text>\n",
-    b"<path d=\"M786 30l10 10m0 -10l-10 10\" stroke=\"#b00020\"/>\n",
+    b"<path d=\"M786 30l10 10m0 -10l-10 10\" stroke=\"#b00020\" stroke-width=\"3\"/>\n",
     b"<text x=\"802\" y=\"39\">not opened</text>\n",
     b"<text x=\"2\" y=\"60\">Events stand in the order of the inode's journal.\n",
     b"Between two inodes only the order of the list and each task's own order are known.\n",

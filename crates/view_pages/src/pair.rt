@@ -1,6 +1,6 @@
 // The page of two reports of one script.
 
-ghost use Rattle.std.specs.Prelude.{◌≡◌, ◌<◌, ◌≤◌, length, take, OnOk};
+ghost use Rattle.std.specs.Prelude.{◌≡◌, ◌<◌, length, OnOk};
 ghost use Rattle.view_page.specs.layout.Windows.{windows};
 ghost use Rattle.view_pages.specs.Pair as spec;
 ghost use Rattle.view_pages.specs.Parts.{Pushed};

@@ -11,7 +11,7 @@ use view_page::layout::reading::Span;
 use view_page::{Piece, Side, push_all, push_pieces};
 
 /// A part of a page.
-#[derive(Clone, Copy, Debug, PartialEq, Eq)]
+#[derive(Clone, Copy)]
 pub enum Part {
     Frame(Frame),
     Section(Section),
@@ -57,6 +57,13 @@ fn push_part(out: &mut Vec<u8>, text: &[u8], part: Part) -> Result<(), OutOfMemo
         Part::Text(span) => push_pieces(out, text, &[Piece::Text(span)]),
         Part::Drawn(piece) => push_pieces(out, text, &[piece]),
     }
+}
+
+/// The part after a number: this one after 1, and else the other.
+pub fn by_count(n: u64, one: Part, many: Part) -> Part
+    ensures { result ≡ spec.by_count n one many }
+{
+    if n == 1 { one } else { many }
 }
 
 /// Appends how many there are beyond what is shown, if there are any.

@@ -138,9 +138,9 @@ pub fn windows_in(alloc: Global, shown: &[Shown], inode: u64) -> Result<Vec<Wind
 fn covers(part: Shown, at: At) -> bool
     ensures { result ≡ spec.covers at part }
 {
-    part.inode == at.inode
-        && u64::from(part.window.first) <= at.place
-        && at.place <= u64::from(part.window.last)
+    part.inode == u64::from(at.inode)
+        && part.window.first <= at.place
+        && at.place <= part.window.last
 }
 
 /// Whether the event is drawn.

@@ -205,12 +205,12 @@ fn push_stale(
 }
 
 /// The verdict is a denial.
-pub fn is_denied(verdict: Option<Verdict>) -> bool
+pub fn is_denied(verdict: Verdict) -> bool
     ensures { result ≡ spec.is_denied verdict }
 {
     match verdict {
-        Some(Verdict::Deny) => true,
-        Some(Verdict::Pass) | None => false,
+        Verdict::Deny => true,
+        Verdict::Pass | Verdict::NotAppraised => false,
     }
 }
 

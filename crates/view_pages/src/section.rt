@@ -7,7 +7,7 @@ ghost use Rattle.view_pages.specs.Section as spec;
 use crate::html::Section;
 use crate::order::{Grade, count};
 use crate::overview::push_overview;
-use crate::part::{Part, push_more, push_parts};
+use crate::part::{Part, by_count, push_more, push_parts};
 use crate::sentences::push_sentences;
 use crate::words::{after_word, cut, first_word};
 use std::alloc::{AllocError as OutOfMemory, Global};
@@ -50,6 +50,23 @@ pub fn path(text: &[u8], head: InodeHead) -> Span
     first_word(text, after_word(text, after_word(text, head.line)))
 }
 
+// How many events a journal has.
+fn push_length(out: &mut Vec<u8>, text: &[u8], n: u64) -> Result<(), OutOfMemory>
+    ensures { OnOk result
+        (Pushed text.now out.old.items out.new.items (spec.length_of n)) }
+{
+    let parts = [
+        Part::Section(Section::Length),
+        Part::Number(n),
+        by_count(
+            n,
+            Part::Section(Section::Event),
+            Part::Section(Section::Events),
+        ),
+    ];
+    push_parts(out, text, &parts)
+}
+
 /// Appends the heading of a section, but for its end.
 pub fn push_heading(
     out: &mut Vec<u8>,
@@ -66,14 +83,9 @@ pub fn push_heading(
         Part::Number(number),
         Part::Section(Section::Path),
     ];
-    let after = [
-        Part::Section(Section::Length),
-        Part::Number(events),
-        Part::Section(Section::HeadEnd),
-    ];
     push_parts(out, text, &before)?;
     push_titled(out, text, 80, path(text, head))?;
-    push_parts(out, text, &after)?;
+    push_length(out, text, events)?;
     Ok(())
 }
 
@@ -288,6 +300,18 @@ pub fn push_marked(out: &mut Vec<u8>, text: &[u8], journal: &[Event]) -> Result<
     Ok(())
 }
 
+fn push_violations(out: &mut Vec<u8>, text: &[u8], n: u64) -> Result<(), OutOfMemory>
+    ensures { OnOk result
+        (Pushed text.now out.old.items out.new.items (spec.violations n)) }
+{
+    let after = by_count(
+        n,
+        Part::Section(Section::Violation),
+        Part::Section(Section::Violations),
+    );
+    push_more(out, text, Part::Section(Section::Bad), n, after)
+}
+
 fn push_marked_by(
     out: &mut Vec<u8>,
     text: &[u8],
@@ -297,13 +321,7 @@ fn push_marked_by(
     ensures { OnOk result (Pushed text.now out.old.items out.new.items
         (spec.marked_by violations denials)) }
 {
-    push_more(
-        out,
-        text,
-        Part::Section(Section::Bad),
-        violations,
-        Part::Section(Section::Violations),
-    )?;
+    push_violations(out, text, violations)?;
     push_more(
         out,
         text,

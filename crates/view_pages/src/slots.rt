@@ -1,6 +1,6 @@
 // Which event added an entry of the list, and which was the first of a call.
 
-ghost use Rattle.std.specs.Prelude.{◌≡◌};
+ghost use Rattle.std.specs.Prelude.{◌≡◌, ◌≤◌, length, take};
 ghost use Rattle.view_pages.specs.Slots as spec;
 
 use view_page::layout::reading::{Deed, Event, Inode, Outcome, Placed, Span};
@@ -8,10 +8,16 @@ use view_page::layout::reading::{Deed, Event, Inode, Outcome, Placed, Span};
 /// An event: its inode, its place in the journal, and its line.
 #[derive(Clone, Copy, Debug, PartialEq, Eq)]
 pub struct At {
-    pub inode: u64,
-    pub place: u64,
+    pub inode: u32,
+    pub place: u32,
     pub line: Span,
 }
+
+// A table has a slot for each entry, or for each call of a task.
+const _: () = prove!(size_of::<Option<At>>() == 20);
+
+// A report has fewer inodes, and fewer events of each, since its text is shorter.
+const MOST: usize = 4_294_967_296;
 
 /// What a table says of its slots: which event added the entry, or which was the first of the call
 /// of this task.
@@ -21,12 +27,12 @@ pub enum Asked {
     Calls(u64),
 }
 
-fn placed_entry(placed: Option<Placed>) -> Option<u32>
-    ensures { result ≡ spec.placed_entry placed }
+fn placed_entry(placed: Placed, entry: u32) -> Option<u32>
+    ensures { result ≡ spec.placed_entry placed entry }
 {
     match placed {
-        Some(Placed::Added(entry)) => Some(entry),
-        Some(Placed::Already(_)) | None => None,
+        Placed::Added => Some(entry),
+        Placed::Already | Placed::NotMeasured => None,
     }
 }
 
@@ -36,7 +42,7 @@ fn added_entry(outcome: Outcome) -> Option<u32>
     match outcome {
         Outcome::ToMToU(entry) => Some(entry),
         Outcome::OpenWriters(entry) => Some(entry),
-        Outcome::Granted(grant) => placed_entry(grant.placed),
+        Outcome::Granted(grant) => placed_entry(grant.placed, grant.entry),
         _ => None,
     }
 }
@@ -76,24 +82,46 @@ fn put(table: &mut [Option<At>], slot: Option<u32>, at: At)
     }
 }
 
-fn fill_events(table: &mut [Option<At>], asked: Asked, inode: u64, journal: &[Event])
+fn fill_events(table: &mut [Option<At>], asked: Asked, inode: u32, journal: &[Event])
+    requires { length journal.now ≤ spec.most }
     ensures { table.new ≡ spec.after_events asked table.old inode 0 journal.now }
 {
     for (place, event) in journal.iter().enumerate() {
         let at = At {
             inode,
-            place: place as u64,
+            place: place as u32,
             line: event.line,
         };
         put(table, slot(asked, *event), at);
     }
 }
 
-/// Fills a table by the events of these inodes.
-pub fn fill(table: &mut [Option<At>], asked: Asked, inodes: &[Inode])
+fn first_events(journal: &[Event]) -> &[Event]
+    ensures is { result.now ≡ take spec.most journal.now }
+    ensures few { length result.now ≤ spec.most }
+{
+    &journal[..journal.len().min(MOST)]
+}
+
+fn first_inodes(inodes: &[Inode]) -> &[Inode]
+    ensures is { result.now ≡ take spec.most inodes.now }
+    ensures few { length result.now ≤ spec.most }
+{
+    &inodes[..inodes.len().min(MOST)]
+}
+
+fn fill_inodes(table: &mut [Option<At>], asked: Asked, inodes: &[Inode])
+    requires { length inodes.now ≤ spec.most }
     ensures { table.new ≡ spec.after_inodes asked table.old 0 inodes.now }
 {
     for (number, inode) in inodes.iter().enumerate() {
-        fill_events(table, asked, number as u64, &inode.events);
+        fill_events(table, asked, number as u32, first_events(&inode.events));
     }
+}
+
+/// Fills a table by the events of these inodes.
+pub fn fill(table: &mut [Option<At>], asked: Asked, inodes: &[Inode])
+    ensures { table.new ≡ spec.filled asked table.old inodes.now }
+{
+    fill_inodes(table, asked, first_inodes(inodes));
 }

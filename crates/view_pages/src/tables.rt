@@ -1,6 +1,6 @@
 // The registers and the appended rules in a page.
 
-ghost use Rattle.std.specs.Prelude.{◌≡◌, OnOk};
+ghost use Rattle.std.specs.Prelude.{OnOk};
 ghost use Rattle.view_pages.specs.Parts.{Pushed};
 ghost use Rattle.view_pages.specs.Tables as spec;
 
@@ -87,9 +87,9 @@ fn push_rules_shown(out: &mut Vec<u8>, text: &[u8], lines: &[Span]) -> Result<()
     push_more(
         out,
         text,
-        Part::Table(Table::MoreRules),
+        Part::Table(Table::More),
         more,
-        Part::Table(Table::MoreRulesEnd),
+        Part::Table(Table::MoreEnd),
     )?;
     Ok(())
 }

@@ -4,7 +4,7 @@ ghost use Rattle.std.specs.Prelude.{◌≡◌};
 ghost use Rattle.view_pages.specs.Told as spec;
 
 /// The sentences below a drawing.
-#[derive(Clone, Copy, Debug, PartialEq, Eq)]
+#[derive(Clone, Copy)]
 pub enum Told {
     List,
     Plain,
@@ -91,7 +91,7 @@ pub fn told_bytes(told: Told) -> &'static [u8]
 }
 
 /// The overview of a long journal.
-#[derive(Clone, Copy, Debug, PartialEq, Eq)]
+#[derive(Clone, Copy)]
 pub enum Overview {
     Begin,
     Names,

@@ -1,4 +1,4 @@
-use Rattle.std.proofs.Common.{ℕ, List, Option, None, get_or, ap, ◌∙◌, arith}
+use Rattle.std.proofs.Common.{ℕ, List, get_or, ap, ◌∙◌, arith}
 use Rattle.view_layout.proofs.BarsSteps.{none_more}
 use Rattle.view_layout.proofs.bars.no_drops.Goals as goal
 
@@ -6,6 +6,6 @@ pub loop-drops-preserved : goal.loop-drops-preserved
 loop-drops-preserved c = record {
   few = omega arith;
   none = λ (f : ℕ).
-      ap (λ (x : List (Option ℕ)). get_or x f None) c.in_ok-push.ensures.items
+      ap (λ (x : List ℕ). get_or x f 0) c.in_ok-push.ensures.items
       ∙ none_more c.loop-drops.drops.items c.loop-drops.invariant.none f;
 }

@@ -16,4 +16,5 @@ pub returns-clause-walked : goal.returns-clause-walked
 returns-clause-walked c =
     walked_next c.args.windows.now c.args.journal.now c.args.place c.args.drops.now
     c.set_drop.new.drops c.args.bars.now.items c.push_bar.new.bars.items blank
-    c.requires.within c.requires.walked c.in_ok-push_bar.ensures.is c.set_drop.ensures
+    c.requires.within c.requires.walked (rw c.drop_in.ensures at c.in_ok-push_bar.ensures.is)
+    c.set_drop.ensures

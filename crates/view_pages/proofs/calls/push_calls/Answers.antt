@@ -15,5 +15,5 @@ returns c =
     c.args.inodes.now 0 ts) c.first_of.ensures)
     ▹ c.in_ok-push_parts-2.ensures
     ▹ as_parts c.in_ok-push_more.ensures
-    (ap (λ (n : ℕ). more (part.Table table.MoreTasks) n (part.Table table.MoreTasksEnd))
+    (ap (λ (n : ℕ). more (part.Table table.More) n (part.Table table.MoreEnd))
     c.saturating_sub-more.ensures)

@@ -1,4 +1,4 @@
-use Rattle.std.proofs.Common.{List, [], ◌∷◌, ap}
+use Rattle.std.proofs.Common.{[], ◌∷◌, ap}
 use Rattle.view_pages.specs.declared.part.Part.{Part}
 use Rattle.view_pages.proofs.Joined.{as_parts, ◌▹◌}
 use Rattle.view_pages.proofs.calls.push_chip.Goals as goal

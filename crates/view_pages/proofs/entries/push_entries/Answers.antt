@@ -1,5 +1,4 @@
-use Rattle.std.proofs.Common.{ap}
-use Rattle.view_pages.proofs.Joined.{as_parts, ◌▹◌}
+use Rattle.view_pages.proofs.Joined.{◌▹◌}
 use Rattle.view_pages.proofs.entries.push_entries.Goals as goal
 
 pub returns : goal.returns

@@ -1,5 +1,5 @@
 use Rattle.std.proofs.Common.{ℕ, List, ap, ◌∙◌}
-use Rattle.view_page.specs.layout.reading.Report.{InodeValue, ReportValue}
+use Rattle.view_page.specs.layout.reading.Report.{ReportValue}
 use Rattle.view_pages.specs.Order.{order}
 use Rattle.view_pages.specs.Page.{ordered_parts}
 use Rattle.view_pages.proofs.Joined.{as_parts}

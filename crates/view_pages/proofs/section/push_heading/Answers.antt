@@ -7,4 +7,4 @@ pub returns : goal.returns
 returns c =
     c.in_ok-push_parts.ensures
     ▹ as_parts c.in_ok-push_titled.ensures (ap (titled 80) c.path.ensures)
-    ▹ c.in_ok-push_parts-2.ensures
+    ▹ c.in_ok-push_length.ensures

@@ -2,4 +2,4 @@ use Rattle.view_pages.proofs.Joined.{◌▹◌}
 use Rattle.view_pages.proofs.section.push_marked_by.Goals as goal
 
 pub returns : goal.returns
-returns c = c.in_ok-push_more.ensures ▹ c.in_ok-push_more-2.ensures
+returns c = c.in_ok-push_violations.ensures ▹ c.in_ok-push_more.ensures

@@ -9,5 +9,5 @@ pub returns : goal.returns
 returns c =
     c.in_ok-push_parts.ensures ▹ c.in_ok-push_rule_rows.ensures ▹ c.in_ok-push_parts-2.ensures
     ▹ as_parts c.in_ok-push_more.ensures
-    (ap (λ (n : ℕ). more (part.Table table.MoreRules) n (part.Table table.MoreRulesEnd))
+    (ap (λ (n : ℕ). more (part.Table table.More) n (part.Table table.MoreEnd))
     c.saturating_sub-more.ensures)

@@ -1,6 +1,6 @@
 use Rattle.std.proofs.Common.{◌≡◌, drop}
 use Rattle.view_pages.specs.Slots.{after_inodes}
-use Rattle.view_pages.proofs.slots.fill.Given as goal
+use Rattle.view_pages.proofs.slots.fill_inodes.Given as goal
 
 -- the remaining inodes make of the table what all do
 abbrev pub invariant-loop-number : goal.invariant-loop-number
