@@ -68,17 +68,19 @@ fn is_violation(text: &[u8], line: Span) -> bool
 pub fn push_link(out: &mut Vec<u8>, text: &[u8], side: Side, at: At) -> Result<(), OutOfMemory>
     ensures { OnOk result (Pushed text.now out.old.items out.new.items (spec.link side at)) }
 {
+    let inode = Part::Number(u64::from(at.inode));
+    let place = Part::Number(u64::from(at.place));
     let parts = [
         Part::Table(Table::Link),
         Part::Side(side),
         Part::Table(Table::I),
-        Part::Number(u64::from(at.inode)),
+        inode,
         Part::Table(Table::E),
-        Part::Number(u64::from(at.place)),
+        place,
         Part::Table(Table::LinkIs),
-        Part::Number(u64::from(at.inode)),
+        inode,
         Part::Table(Table::LinkPlace),
-        Part::Number(u64::from(at.place)),
+        place,
         Part::Table(Table::LinkEnd),
     ];
     push_parts(out, text, &parts)
