@@ -14,6 +14,7 @@ mod rows;
 mod ways;
 
 pub use order_outcomes as outcomes;
+pub use order_sights as sights;
 pub use order_sights::Play;
 pub use part::Part;
 pub use points::Point;
