@@ -1,9 +1,9 @@
 -- Orders that begin with some turns.
-use Rattle.std.proofs.Common.{◌≡◌, ◌==◌, ◌||◌, ◌&&◌, ◌<◌, ◌⊎◌, ℕ, zero, suc, Bool, true, false, List, [], ◌∷◌, ◌++◌, map, flat_map, length, Option, Some, None, option_and_then, nat_cmp, is_lt, Ordering, Less, Equal, Greater, if◌then◌else◌, slice_get, refl, ap, sym, subst, ◌∙◌, inl, inr, arith}
+use Rattle.std.proofs.Common.{◌≡◌, ◌==◌, ◌||◌, ◌&&◌, ◌<◌, ◌⊎◌, ℕ, zero, suc, Bool, true, false, List, [], ◌∷◌, ◌++◌, map, flat_map, length, Option, Some, None, option_and_then, nat_cmp, is_lt, Ordering, Less, Equal, Greater, if◌then◌else◌, slice_get, refl, ap, sym, subst, ◌∙◌, inl, inr, arith, eq-eqb}
 use Rattle.std.specs.Cmp.{nat_cmp_total}
 use Rattle.std.specs.Cmp.Lexicographic.{slice_cmp}
 use Rattle.std.specs.Ordering.{ordering_reverse, ordering_then}
-use Rattle.std.proofs.lemmas.Bool.{true≢false}
+use Rattle.std.proofs.lemmas.Bool.{cases_order, true≢false}
 use Rattle.std.proofs.lemmas.List.Folds.{list_any-append}
 use Rattle.std.proofs.lemmas.Option.{none-some, slice_get_within}
 use Rattle.order_outcomes.proofs.about_counts.Spread.{led-append}
@@ -71,18 +71,19 @@ among_numbers : (k n : ℕ) → n < k → is_among n (numbers k) ≡ true
 among_numbers zero n below = absurd (omega (arith, below))
 among_numbers (suc k) n below =
     list_any-append (λ j. j == n) (numbers k) (k ∷ [])
-    ∙ by (k == n) refl (among_numbers k n)
+    ∙ by (cases_order n k) (among_numbers k n)
   where
-    by : (b : Bool) → (k == n) ≡ b → (n < k → is_among n (numbers k) ≡ true)
-        → (is_among n (numbers k) || (b || false)) ≡ true
-    by true is earlier = all (is_among n (numbers k))
-      where
-        all : (b : Bool) → (b || true) ≡ true
-        all true = refl
-        all false = refl
-    by false is earlier =
-        let apart : k ≢ n = grind (arith, is) in
-        ap (λ (b : Bool). b || false) (earlier (omega (arith, below, apart)))
+    or_true : (b : Bool) → (b || true) ≡ true
+    or_true true = refl
+    or_true false = refl
+
+    by : (n ≡ k) ⊎ ((n < k) ⊎ (k < n)) → (n < k → is_among n (numbers k) ≡ true)
+        → (is_among n (numbers k) || ((k == n) || false)) ≡ true
+    by (inl same) earlier =
+        ap (λ (b : Bool). is_among n (numbers k) || (b || false)) (eq-eqb k n (sym same))
+        ∙ or_true (is_among n (numbers k))
+    by (inr (inl less)) earlier = ap (λ (b : Bool). b || ((k == n) || false)) (earlier less)
+    by (inr (inr more)) earlier = absurd (omega (arith, more, below))
 
 module _ (scene : Scene) where
   -- only a task of the scene can move
