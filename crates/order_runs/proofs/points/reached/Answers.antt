@@ -1,7 +1,3 @@
-use Rattle.std.proofs.Common.{◌∙◌, List, ℕ, ◌∷◌, [], ◌++◌, take, ap, sym, subst}
-use Rattle.std.proofs.lemmas.List.{take_all, take_more}
-use Rattle.order_runs.specs.Points.{IsPointOf}
-use Rattle.order_runs.proofs.Pointing.{leads_nowhere}
 use Rattle.order_runs.proofs.points.reached.Goals as goal
 
 pub turned_by-requires-clause-point : goal.turned_by-requires-clause-point
@@ -18,3 +14,6 @@ loop-task-preserved g c = ?
 
 pub returns : goal.returns
 returns g c = ?
+
+pub returns-in-None : goal.returns-in-None
+returns-in-None g c = ?
