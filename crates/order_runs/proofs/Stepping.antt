@@ -170,7 +170,7 @@ module _ (part : Part) where
           (
             k.leads,
             h.meets.alike part.play before_kept.at k.at before_kept.point.sight
-            k.point.sight,
+                k.point.sight,
           ),
         ),
       ),

@@ -94,3 +94,8 @@ nothing_read (Some a) why.OutOfMemory h left old = record {
     tt,
   );
 }
+
+-- what holds of what the words ask for
+pub some_holds : (o : Option AskedValue) (a : AskedValue) (P : AskedValue → Type 0) → o ≡ Some a
+    → P a → IfSome o P
+some_holds o a P is holds = subst (λ (x : Option AskedValue). IfSome x P) (sym is) holds

@@ -36,9 +36,10 @@ stopped_of scene asked (Ok s) is many = (scene, (is, many))
 stopped_of scene asked (Err fault) is many = absurd is
 
 pub passes : (scene : Scene) (asked : AskedValue) (input : List ℕ) (r : Result (List ℕ) NotDone)
-    → IsOkAnd (script_of input) (IsScriptOf scene) → IsMade scene asked (IsTableText scene asked.first) r
-    → Answers asked input r
-passes scene asked input (Ok text) is made = text_of scene asked.first text (script_of input) is made
+    → IsOkAnd (script_of input) (IsScriptOf scene)
+    → IsMade scene asked (IsTableText scene asked.first) r → Answers asked input r
+passes scene asked input (Ok text) is made =
+    text_of scene asked.first text (script_of input) is made
 passes scene asked input (Err Usage) is made = absurd made
 passes scene asked input (Err (Refused line)) is made = absurd made
 passes scene asked input (Err (TooMany line)) is made =

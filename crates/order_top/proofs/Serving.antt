@@ -130,7 +130,8 @@ done_serves asked input old new told within long wrote = record {
 }
 
 -- what the result says about its input, if the rows were written
-abbrev IsDone : Option (List ℕ) → Option (List ℕ) → Option (List ℕ) → Option (List ℕ) → AskedValue → Type 0
+abbrev IsDone : Option (List ℕ) → Option (List ℕ) → Option (List ℕ) → Option (List ℕ)
+    → AskedValue → Type 0
 IsDone before after old new asked = OnInput before after (λ input.
     (length input ≤ most_input + 1)
     × ((exit.done ≡ exit.too_long) ↔ (most_input < length input))
@@ -223,8 +224,8 @@ complete_any (Some asked) before after old new w source sink usage at read write
     (λ left e short kept. complete asked before after old new left source sink e short kept w usage
     at read write i)
 
-pub complete_not_done : (o : Option AskedValue) (before after old new : Option (List ℕ)) (w : NotDone)
-    (source sink : Type 0) (s : ℕ) → s ≡ not_done_status w
+pub complete_not_done : (o : Option AskedValue) (before after old new : Option (List ℕ))
+    (w : NotDone) (source sink : Type 0) (s : ℕ) → s ≡ not_done_status w
     → (not_done_status w ≡ exit.usage → IsNone o)
     → (IsPastReading (not_done_status w) → IsAtEnd after)
     → (not_done_status w ≡ exit.read_fault → source)

@@ -27,12 +27,7 @@ fn push_turns(out: &mut Vec<u8>, turns: &[u32]) -> Result<(), OutOfMemory>
     Ok(())
 }
 
-fn push_row(
-    alloc: Global,
-    out: &mut Vec<u8>,
-    first: &[u32],
-    row: &Row,
-) -> Result<(), OutOfMemory>
+fn push_row(alloc: Global, out: &mut Vec<u8>, first: &[u32], row: &Row) -> Result<(), OutOfMemory>
     ensures { OnOk result (out.new.items ≡ out.old.items ++ row_text first.now row.now) }
 {
     out.extend_from_slice(b"outcome ")?;

@@ -167,7 +167,8 @@ fn tell<N: Sink>(note: &mut N, line: &[u8])
     let _ = write_all(note, line);
 }
 
-/// Reads a script from `script`, writes the rows of its orders to `out`, and returns the exit status.
+/// Reads a script from `script`, writes the rows of its orders to `out`, and returns the exit
+/// status.
 /// What went wrong is reported in one line on `note`; a fault of `note` doesn't change the
 /// status.
 ///

@@ -107,8 +107,8 @@ fn turns_of(alloc: Global, word: &[u8]) -> Result<Option<Vec<u32>>, OutOfMemory>
     Ok(turns)
 }
 
-// What the two words ask for. They are looked at first, so that memory can't run out over words that
-// ask for nothing.
+// What the two words ask for. They are looked at first, so that memory can't run out over words
+// that ask for nothing.
 fn asked_by(alloc: Global, word: &str, first: &[u8]) -> Result<Asked, NotDone>
     ensures { IsAsked (asked_by word.now first.now) result }
 {

@@ -130,11 +130,7 @@ pub fn mark(sight: &sights::Sight) -> u64 {
     sight.mark()
 }
 
-pub fn are_alike(
-    alloc: Global,
-    a: &sights::Sight,
-    b: &sights::Sight,
-) -> Result<bool, OutOfMemory> {
+pub fn are_alike(alloc: Global, a: &sights::Sight, b: &sights::Sight) -> Result<bool, OutOfMemory> {
     sights::are_alike(alloc, a, b)
 }
 

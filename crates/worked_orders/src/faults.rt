@@ -54,9 +54,11 @@ fn lengthened(alloc: Global, input: &[u8], length: usize) -> Result<Vec<u8>, Out
 pub fn limits_hold(alloc: Global, input: &[u8], whole: &[u8]) -> Result<bool, OutOfMemory> {
     let longest = lengthened(alloc, input, MOST_INPUT)?;
     let longer = lengthened(alloc, input, MOST_INPUT + 1)?;
-    Ok(longest.len() == MOST_INPUT
-        && answer(alloc, "", &longest)?.is(DONE, whole, "")
-        && answer(alloc, "", &longer)?.is(TOO_LONG, b"", "input too long\n"))
+    Ok(
+        longest.len() == MOST_INPUT
+            && answer(alloc, "", &longest)?.is(DONE, whole, "")
+            && answer(alloc, "", &longer)?.is(TOO_LONG, b"", "input too long\n"),
+    )
 }
 
 // A word that names so many turns of task 0, and before it the most moments.
@@ -73,6 +75,8 @@ pub fn turns_hold(alloc: Global, input: &[u8]) -> Result<bool, OutOfMemory> {
     let most = words_of(alloc, 65_536)?;
     let more = words_of(alloc, 65_537)?;
     let none = b"imakern orders 1\norders 0 outcomes 0\nend\n";
-    Ok(answer(alloc, most.as_str(), input)?.is(DONE, none, "")
-        && answer(alloc, more.as_str(), input)?.is(USAGE, b"", FORMS))
+    Ok(
+        answer(alloc, most.as_str(), input)?.is(DONE, none, "")
+            && answer(alloc, more.as_str(), input)?.is(USAGE, b"", FORMS),
+    )
 }

@@ -31,7 +31,10 @@ const SCRIPTS: [&str; 8] = [
 const PARTS: [(&str, &[&str]); 6] = [
     ("reader_and_writer", &["0", "1"]),
     ("reader_and_writer", &["0.0", "0.1", "1.0", "1.1"]),
-    ("reader_and_writer", &["0", "1.0", "1.1.0.0", "1.1.0.1", "1.1.1"]),
+    (
+        "reader_and_writer",
+        &["0", "1.0", "1.1.0.0", "1.1.0.1", "1.1.1"],
+    ),
     ("two_files", &["0", "1", "2"]),
     ("rule_beside_a_check", &["0", "1"]),
     ("labels_at_two_closes", &["0.0", "0.1", "1.0", "1.1"]),
@@ -70,7 +73,13 @@ const WORDS: [(&str, &str, u8, &str, &str); 31] = [
     ("1", "no_task", DONE, "no_task", ""),
     ("1", "opens", TOO_MANY, "", "more than 1 moments\n"),
     ("2 0", "opens", TOO_MANY, "", "more than 2 moments\n"),
-    ("5", "reader_and_writer", TOO_MANY, "", "more than 5 moments\n"),
+    (
+        "5",
+        "reader_and_writer",
+        TOO_MANY,
+        "",
+        "more than 5 moments\n",
+    ),
     ("1", "cut", REFUSED, "", "line 4: no-end\n"),
     ("1 0", "cut", REFUSED, "", "line 4: no-end\n"),
     ("10000000", "opens", DONE, "opens", ""),
@@ -134,10 +143,22 @@ fn faults_hold(rt: &HostRuntime) -> Result<bool> {
     let script = script(rt, "opens")?;
     let whole = rows(rt, "opens")?;
     let tried = [
-        ("reading fails", faults::reads_fail(rt.alloc(), &script, &whole)?),
-        ("writing fails", faults::writes_fail(rt.alloc(), &script, &whole)?),
-        ("the longest input", faults::limits_hold(rt.alloc(), &script, &whole)?),
-        ("the most first turns", faults::turns_hold(rt.alloc(), &script)?),
+        (
+            "reading fails",
+            faults::reads_fail(rt.alloc(), &script, &whole)?,
+        ),
+        (
+            "writing fails",
+            faults::writes_fail(rt.alloc(), &script, &whole)?,
+        ),
+        (
+            "the longest input",
+            faults::limits_hold(rt.alloc(), &script, &whole)?,
+        ),
+        (
+            "the most first turns",
+            faults::turns_hold(rt.alloc(), &script)?,
+        ),
     ];
     let mut all = true;
     for (name, holds) in tried {

@@ -30,7 +30,11 @@ impl<'a> Row<'a> {
     fn and(self, other: Row<'a>) -> Option<Row<'a>> {
         Some(Row {
             count: self.count.checked_add(other.count)?,
-            first: if other.first < self.first { other.first } else { self.first },
+            first: if other.first < self.first {
+                other.first
+            } else {
+                self.first
+            },
             outcome: self.outcome,
         })
     }

@@ -13,7 +13,8 @@ abbrev pub invariant-loop-task : goal.invariant-loop-task
 invariant-loop-task g l = record {
   spreads : (m : Moment) → led_on l.part l.way.counted.order ≡ Some m
       → All (IsKept l.part) l.fn.next.items
-      → Spreads (moved l.part.play) (IsAlike l.part.play) (begun l.part) m l.way.counted (numbers l.task)
+      → Spreads (moved l.part.play) (IsAlike l.part.play) (begun l.part) m l.way.counted
+      (numbers l.task)
       (counted_ways l.fn.next.items) (counted_ways l.next.items);
   kept : All (IsKept l.part) l.fn.next.items → All (IsKept l.part) l.next.items;
   none : (m : Moment) → led_on l.part l.way.counted.order ≡ Some m
