@@ -168,8 +168,7 @@ fn tell<N: Sink>(note: &mut N, line: &[u8])
 }
 
 /// Reads a script from `script`, writes the rows of its orders to `out`, and returns the exit
-/// status.
-/// What went wrong is reported in one line on `note`; a fault of `note` doesn't change the
+/// status. What went wrong is reported in one line on `note`; a fault of `note` doesn't change the
 /// status.
 ///
 /// The words don't include the program's name: the first is the most moments that may be met, and
