@@ -1,16 +1,20 @@
-use Rattle.std.proofs.Common.{List, ℕ, subst}
-use Rattle.order_sights.specs.Plays.{moment_by}
-use Rattle.order_sights.specs.Sights.{IsSight}
+use Rattle.std.proofs.Common.{◌∙◌, List, ℕ, length, refl, sym, subst, ◌≤◌}
+use Rattle.order_outcomes.specs.scripts.Limits.{most_turns}
+use Rattle.order_runs.specs.Points.{IsPointOf}
 use Rattle.order_runs.proofs.Stepping.{kept_first}
 use Rattle.order_runs.proofs.ways.root.Goals as goal
 
-pub returns-clause-kept : goal.returns-clause-kept
-returns-clause-kept g c =
-    kept_first c.args.play.now (record {
-      counted = record { order = c.new-order.result; count = 1 };
-      made = c.made_of.result;
-      sight = c.in_ok-sight.sight;
+pub reached-requires : goal.reached-requires
+reached-requires g c =
+    subst (λ (turns : List ℕ). length turns ≤ most_turns) (sym c.as_slice.ensures.value) c.requires
+
+pub returns : goal.returns
+returns g c =
+    kept_first c.args.part.now
+    (record {
+      counted = record { order = c.new.result; count = 1 };
+      point = c.in-Some.point;
     })
-    (λ i. record { order = c.new-order.ensures i; count = 1 })
-    (subst (λ (o : List ℕ). IsSight c.args.play.now (moment_by c.args.play.now o)
-    c.in_ok-sight.sight) c.new-order.ensures c.in_ok-sight.ensures) c.made_of.ensures
+    (λ i. record { order = c.new.ensures i; count = 1 })
+    (subst (λ (turns : List ℕ). IsPointOf c.args.part.now.play turns c.in-Some.point)
+    c.as_slice.ensures.value c.in-Some.ensures)
