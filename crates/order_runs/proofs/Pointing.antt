@@ -2,7 +2,7 @@
 use Rattle.std.proofs.Common.{◌≡◌, ◌+◌, ◌<◌, ◌≤◌, ◌⊎◌, ℕ, zero, suc, Bool, true, false, nat_lt, List, [], ◌∷◌, ◌++◌, drop, get_or, length, take, Option, Some, None, if◌then◌else◌, slice_get, refl, ap, sym, subst, ◌∙◌, inl, inr, arith, length-append}
 use Rattle.std.specs.List.{list_all}
 use Rattle.std.proofs.lemmas.Bool.{and_from, and_parts, cases_Bool, lt-ltb, true≢false}
-use Rattle.std.proofs.lemmas.List.{drop_more}
+use Rattle.std.proofs.lemmas.List.{drop_more, take_more}
 use Rattle.std.proofs.lemmas.Option.{none-some, same_Some, slice_get_within}
 use Rattle.order_outcomes.proofs.Moving.{led_fits, start_fits}
 use Rattle.order_outcomes.proofs.Telling.{tells}
@@ -165,12 +165,18 @@ module _ (scene : Scene) (point : Point) (p : IsPoint scene point) (n : ℕ) (lo
 
 -- ---- turns one after the other
 
--- a turn that leads on gives a point
-pub moved_on : (scene : Scene) (point : Point) (n : ℕ) (o : Option Moment) (longer : Point)
-    → IsMoved scene point n o (Some longer)
-    → (longer.turns ≡ point.turns ++ n ∷ []) × IsPoint scene longer
-moved_on scene point n None longer h = absurd h
-moved_on scene point n (Some m) longer h = (h.0, (m, h.1))
+-- a turn that leads on gives the point of one turn more
+pub point_on : (scene : Scene) (turns : List ℕ) (i n : ℕ) (point longer : Point)
+    (o : Option Moment) → i < length turns → n ≡ get_or turns i 0 → point.turns ≡ take i turns
+    → IsMoved scene point n o (Some longer) → IsPointOf scene (take (i + 1) turns) longer
+point_on scene turns i n point longer None lt is so_far h = absurd h
+point_on scene turns i n point longer (Some m) lt is so_far h = (
+  h.0
+      ∙ ap (λ (l : List ℕ). l ++ n ∷ []) so_far
+      ∙ ap (λ (k : ℕ). take i turns ++ k ∷ []) is
+      ∙ sym (take_more turns i 0 lt),
+  (m, h.1),
+)
 
 stood : (scene : Scene) (point : Point) (n : ℕ) (o : Option Moment)
     → IsMoved scene point n o None → o ≡ None
@@ -186,7 +192,7 @@ parts (n ∷ ns) (suc i) = ap (λ (l : List ℕ). n ∷ l) (parts ns i)
 
 -- if one of the turns leads nowhere, so do all
 pub leads_nowhere : (scene : Scene) (turns : List ℕ) (i n : ℕ) (point : Point)
-    → i < length turns → n ≡ get_or turns i n → (p : IsPoint scene point)
+    → i < length turns → n ≡ get_or turns i 0 → (p : IsPoint scene point)
     → point.turns ≡ take i turns → IsMoved scene point n (moved scene p.0 n) None
     → moment_after scene turns ≡ None
 leads_nowhere scene turns i n point lt is p so_far none =
@@ -199,4 +205,4 @@ leads_nowhere scene turns i n point lt is p so_far none =
     ∙ led-none (moved scene) (drop (i + 1) turns)
   where
     rest : drop i turns ≡ n ∷ drop (i + 1) turns
-    rest = drop_more turns i n lt ∙ ap (λ (k : ℕ). k ∷ drop (i + 1) turns) (sym is)
+    rest = drop_more turns i 0 lt ∙ ap (λ (k : ℕ). k ∷ drop (i + 1) turns) (sym is)

@@ -80,19 +80,19 @@ pub fn turned<G: Gate>(
 fn turned_by<G: Gate>(
     alloc: Global,
     play: &Play,
-    point: &Point,
+    point: Point,
     task: u32,
     gate: &G,
 ) -> Result<Option<Point>, OutOfMemory>
-    requires point { IsPoint play.now point.now }
-    requires turns { length point.now.turns < most_turns }
-    ensures { IfOk result (λ longer. (m : Moment) → moment_after play.now point.now.turns ≡ Some m
-        → IsMoved play.now point.now task (moved play.now m task) longer) }
+    requires point { IsPoint play.now point }
+    requires turns { length point.turns < most_turns }
+    ensures { IfOk result (λ longer. (m : Moment) → moment_after play.now point.turns ≡ Some m
+        → IsMoved play.now point task (moved play.now m task) longer) }
 {
     if task >= play.tasks() {
         return Ok(None);
     }
-    let longer = turned(alloc, play, point, task, gate)?;
+    let longer = turned(alloc, play, &point, task, gate)?;
     Ok(longer)
 }
 
@@ -109,7 +109,7 @@ pub fn reached<G: Gate>(
 {
     let mut point = start(alloc, play, gate)?;
     for task in turns {
-        match turned_by(alloc, play, &point, *task, gate)? {
+        match turned_by(alloc, play, point, *task, gate)? {
             Some(longer) => point = longer,
             None => return Ok(None),
         }

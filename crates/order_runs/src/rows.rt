@@ -173,6 +173,14 @@ fn first_layer(alloc: Global, way: Way) -> Result<Vec<Way>, OutOfMemory>
     Ok(layer)
 }
 
+// How many turns there may be after the first ones.
+fn turns_left(part: &Part) -> u32
+    requires { length part.now.first.items ≤ most_turns }
+    ensures { result + length part.now.first.items ≡ most_turns }
+{
+    MOST_TURNS - part.first.len() as u32
+}
+
 // The rows of the orders that go on from the first turns.
 fn rows_from<G: Gate>(
     alloc: Global,
@@ -190,7 +198,7 @@ fn rows_from<G: Gate>(
     let mut rows = Vec::new(alloc);
     let mut layer = first_layer(alloc, way)?;
     let mut room = most;
-    let more = MOST_TURNS - part.first.len() as u32;
+    let more = turns_left(part);
     for turn in 0..more {
         if room < layer.len() {
             return Err(Stopped::TooMany);

@@ -30,14 +30,14 @@ pub fn root<G: Gate>(alloc: Global, part: &Part, gate: &G) -> Result<Option<Way>
     requires { length part.now.first.items ≤ most_turns }
     ensures { IfOk result (λ o. MatchOption o (opening part.now ≡ None) (IsRoot part.now)) }
 {
-    let Some(point) = reached(alloc, &part.play, part.first.as_slice(), gate)? else {
-        return Ok(None);
-    };
-    let counted = Counted {
-        order: Order::new(alloc),
-        count: 1,
-    };
-    Ok(Some(Way { counted, point }))
+    match reached(alloc, &part.play, part.first.as_slice(), gate)? {
+        Some(point) => {
+            let order = Order::new(alloc);
+            let counted = Counted { order, count: 1 };
+            Ok(Some(Way { counted, point }))
+        }
+        None => Ok(None),
+    }
 }
 
 // The way with one turn of the task more, if the turn moves it.
@@ -54,11 +54,13 @@ fn lengthened<G: Gate>(
     ensures { IfOk result (λ longer. (m : Moment) → led_on part.now way.now.counted.order ≡ Some m
         → IsTurned part.now way.now task (moved part.now.play m task) longer) }
 {
-    let Some(point) = turned(alloc, &part.play, &way.point, task, gate)? else {
-        return Ok(None);
-    };
-    let counted = way.counted.then(alloc, task)?;
-    Ok(Some(Way { counted, point }))
+    match turned(alloc, &part.play, &way.point, task, gate)? {
+        Some(point) => {
+            let counted = way.counted.then(alloc, task)?;
+            Ok(Some(Way { counted, point }))
+        }
+        None => Ok(None),
+    }
 }
 
 /// The places of the ways that were added to a layer, by the marks of their sights.

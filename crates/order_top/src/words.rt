@@ -1,8 +1,8 @@
 // The words of the command line.
 
-ghost use Rattle.std.specs.Prelude.{◌≡◌, is_some, length, map, nat_lt, not, option_map, string_bytes, IfOk};
+ghost use Rattle.std.specs.Prelude.{◌≡◌, ◌==◌, [], ◌∷◌, ◌++◌, None, Some, count_by, if◌then◌else◌, is_some, length, map, nat_lt, not, option_map, string_bytes, IfOk};
 ghost use Rattle.order_top.specs.Limits.{most_first};
-ghost use Rattle.order_top.specs.Words.{IsAsked, asked_by, asked_of, dotted, number_of, task_of, tasks_of, turns_of};
+ghost use Rattle.order_top.specs.Words.{IsAsked, asked_by, asked_of, asking, dotted, number_of, task_of, tasks_of, turns_of};
 
 use crate::not_done::NotDone;
 use order_runs::outcomes::scripts::forms::short_number_of;
@@ -56,14 +56,21 @@ fn are_tasks(word: &[u8]) -> bool
         }
         rest = after;
     }
-    task_of(rest).is_some()
+    let last = task_of(rest);
+    last.is_some()
+}
+
+fn dots(word: &[u8]) -> usize
+    ensures { result ≡ count_by (λ b. b == 46) word.now }
+{
+    word.iter().filter(|b| **b == b'.').count()
 }
 
 // Whether there are not more parts between dots than first turns may be.
 fn are_few(word: &[u8]) -> bool
     ensures { result ≡ not (nat_lt most_first (length (dotted word.now))) }
 {
-    word.iter().filter(|b| **b == b'.').count() < MOST_FIRST
+    dots(word) < MOST_FIRST
 }
 
 // Whether the word names turns.
@@ -73,6 +80,20 @@ fn is_turns(word: &[u8]) -> bool
     word.is_empty() || (are_few(word) && are_tasks(word))
 }
 
+// Adds the task whose number the digits are. Returns whether they are one.
+fn push_task(tasks: &mut Vec<u32>, digits: &[u8]) -> Result<bool, OutOfMemory>
+    ensures { IfOk result (λ pushed. (if pushed then Some tasks.new.items else None)
+        ≡ option_map (λ task. tasks.old.items ++ task ∷ []) (task_of digits.now)) }
+{
+    match task_of(digits) {
+        Some(task) => {
+            tasks.push(task)?;
+            Ok(true)
+        }
+        None => Ok(false),
+    }
+}
+
 // The tasks whose numbers the parts between dots are.
 fn tasks_of(alloc: Global, word: &[u8]) -> Result<Option<Vec<u32>>, OutOfMemory>
     ensures { IfOk result (λ o. option_map (λ tasks. tasks.items) o ≡ tasks_of (dotted word.now)) }
@@ -80,17 +101,14 @@ fn tasks_of(alloc: Global, word: &[u8]) -> Result<Option<Vec<u32>>, OutOfMemory>
     let mut tasks = Vec::new(alloc);
     let mut rest = word;
     while let Some((digits, after)) = cut(rest, b'.') {
-        let Some(task) = task_of(digits) else {
+        let pushed = push_task(&mut tasks, digits)?;
+        if !pushed {
             return Ok(None);
-        };
-        tasks.push(task)?;
+        }
         rest = after;
     }
-    let Some(task) = task_of(rest) else {
-        return Ok(None);
-    };
-    tasks.push(task)?;
-    Ok(Some(tasks))
+    let last = push_task(&mut tasks, rest)?;
+    if last { Ok(Some(tasks)) } else { Ok(None) }
 }
 
 // The turns that the word names, if it names any.
@@ -107,19 +125,26 @@ fn turns_of(alloc: Global, word: &[u8]) -> Result<Option<Vec<u32>>, OutOfMemory>
     Ok(turns)
 }
 
-// What the two words ask for. They are looked at first, so that memory can't run out over words
-// that ask for nothing.
-fn asked_by(alloc: Global, word: &str, first: &[u8]) -> Result<Asked, NotDone>
-    ensures { IsAsked (asked_by word.now first.now) result }
+// What is asked for, if the word names turns. It is looked at first, so that memory can't run out
+// over a word that doesn't.
+fn asked_with(alloc: Global, most: usize, first: &[u8]) -> Result<Asked, NotDone>
+    ensures { IsAsked (option_map (asking most) (turns_of first.now)) result }
 {
-    let Some(most) = number_of(word) else {
-        return Err(NotDone::Usage);
-    };
     if !is_turns(first) {
         return Err(NotDone::Usage);
     }
     match turns_of(alloc, first)? {
         Some(first) => Ok(Asked { most, first }),
+        None => Err(NotDone::Usage),
+    }
+}
+
+// What the two words ask for.
+fn asked_by(alloc: Global, word: &str, first: &[u8]) -> Result<Asked, NotDone>
+    ensures { IsAsked (asked_by word.now first.now) result }
+{
+    match number_of(word) {
+        Some(most) => asked_with(alloc, most, first),
         None => Err(NotDone::Usage),
     }
 }

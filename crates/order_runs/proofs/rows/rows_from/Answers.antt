@@ -16,7 +16,7 @@ advance-requires-clause-turns g c =
     (sym c.as_slice.ensures.value)
     (layer_short c.args.part.now c.loop-turn.turn c.loop-turn.layer.items
     c.loop-turn.rows.items c.loop-turn.invariant.at
-    (omega (arith, c.loop-turn-test.true, c.args.part.now.first.ok.0)))
+    (omega (arith, c.loop-turn-test.true, c.turns_left-more.ensures)))
 
 pub loop-turn-init : goal.loop-turn-init
 loop-turn-init g c =
@@ -74,7 +74,8 @@ returns-in_err-layer-2-clause-too_many g c =
     told _ _ c.in_err-layer-2.field-0.0 c.from_residual-in_err-layer-2.result
     c.in_err-layer-2.ensures.too_many
     (λ x. too_many_is c.args.part.now c.args.most
-    (opens c.args.part.now c.args.way c.requires.root) (crowds c.args.part.now c.args.most c.loop-turn.turn c.loop-turn.layer.items
+    (opens c.args.part.now c.args.way c.requires.root)
+    (crowds c.args.part.now c.args.most c.loop-turn.turn c.loop-turn.layer.items
     c.as_slice.result.now c.loop-turn.rows.items c.loop-turn.room
     (c.loop-turn.room - c.len-room.result) c.loop-turn.invariant x c.as_slice.ensures.value
     (omega (
@@ -95,5 +96,5 @@ returns-clause-too_many g c = λ is.
       arith,
       c.loop-turn-test.false,
       c.loop-turn.auto.turn-end,
-      c.args.part.now.first.ok.0,
+      c.turns_left-more.ensures,
     )))
