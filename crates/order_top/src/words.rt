@@ -1,6 +1,6 @@
 // The words of the command line.
 
-ghost use Rattle.std.specs.Prelude.{◌≡◌, ◌==◌, [], ◌∷◌, ◌++◌, None, Some, count_by, if◌then◌else◌, is_some, length, map, nat_lt, not, option_map, string_bytes, IfOk};
+ghost use Rattle.std.specs.Prelude.{◌≡◌, ◌==◌, [], ◌∷◌, ◌++◌, count_by, is_some, length, map, nat_lt, not, option_map, string_bytes, IfOk};
 ghost use Rattle.order_top.specs.Limits.{most_first};
 ghost use Rattle.order_top.specs.Words.{IsAsked, asked_by, asked_of, asking, dotted, number_of, task_of, tasks_of, turns_of};
 
@@ -77,20 +77,26 @@ fn are_few(word: &[u8]) -> bool
 fn is_turns(word: &[u8]) -> bool
     ensures { result ≡ is_some (turns_of word.now) }
 {
-    word.is_empty() || (are_few(word) && are_tasks(word))
+    if word.is_empty() {
+        return true;
+    }
+    if !are_few(word) {
+        return false;
+    }
+    are_tasks(word)
 }
 
-// Adds the task whose number the digits are. Returns whether they are one.
-fn push_task(tasks: &mut Vec<u32>, digits: &[u8]) -> Result<bool, OutOfMemory>
-    ensures { IfOk result (λ pushed. (if pushed then Some tasks.new.items else None)
-        ≡ option_map (λ task. tasks.old.items ++ task ∷ []) (task_of digits.now)) }
+// The tasks with the one whose number the digits are, if they are one.
+fn with_task(mut tasks: Vec<u32>, digits: &[u8]) -> Result<Option<Vec<u32>>, OutOfMemory>
+    ensures { IfOk result (λ o. option_map (λ longer. longer.items) o
+        ≡ option_map (λ task. tasks.items ++ task ∷ []) (task_of digits.now)) }
 {
     match task_of(digits) {
         Some(task) => {
             tasks.push(task)?;
-            Ok(true)
+            Ok(Some(tasks))
         }
-        None => Ok(false),
+        None => Ok(None),
     }
 }
 
@@ -101,14 +107,14 @@ fn tasks_of(alloc: Global, word: &[u8]) -> Result<Option<Vec<u32>>, OutOfMemory>
     let mut tasks = Vec::new(alloc);
     let mut rest = word;
     while let Some((digits, after)) = cut(rest, b'.') {
-        let pushed = push_task(&mut tasks, digits)?;
-        if !pushed {
-            return Ok(None);
+        match with_task(tasks, digits)? {
+            Some(longer) => tasks = longer,
+            None => return Ok(None),
         }
         rest = after;
     }
-    let last = push_task(&mut tasks, rest)?;
-    if last { Ok(Some(tasks)) } else { Ok(None) }
+    let all = with_task(tasks, rest)?;
+    Ok(all)
 }
 
 // The turns that the word names, if it names any.

@@ -1,6 +1,6 @@
 // Streams that fail, inputs that are too long, and words of many turns.
 
-use crate::outcome::{answer, none, served};
+use crate::outcome::{Outcome, answer, none, served};
 use order_top::outer::{MemSink, MemSource};
 use order_top::{DONE, MOST_INPUT, READ_FAULT, TOO_LONG, USAGE, WRITE_FAULT};
 use std::alloc::{AllocError as OutOfMemory, Global};
@@ -37,28 +37,20 @@ pub fn writes_fail(alloc: Global, input: &[u8], whole: &[u8]) -> Result<bool, Ou
     Ok(true)
 }
 
-// The script with so many bytes of comment before its last line.
-fn lengthened(alloc: Global, input: &[u8], length: usize) -> Result<Vec<u8>, OutOfMemory> {
-    let (front, last) = input.split_at(input.len() - b"rounds\n".len().min(input.len()));
-    let mut text = front.to_vec(alloc)?;
-    text.push(b'#')?;
-    while text.len() + last.len() + 1 < length {
-        text.push(b'x')?;
-    }
-    text.push(b'\n')?;
-    text.extend_from_slice(last)?;
-    Ok(text)
+// The outcome of the script after a comment line of so many bytes.
+fn after_comment(alloc: Global, script: &[u8], bytes: usize) -> Result<Outcome, OutOfMemory> {
+    let mut input = vec![in alloc; b'#'; bytes]?;
+    input.push(b'\n')?;
+    input.extend_from_slice(script)?;
+    answer(alloc, "", &input)
 }
 
 /// Whether an input of 4 MiB is answered, and one with a byte more isn't.
-pub fn limits_hold(alloc: Global, input: &[u8], whole: &[u8]) -> Result<bool, OutOfMemory> {
-    let longest = lengthened(alloc, input, MOST_INPUT)?;
-    let longer = lengthened(alloc, input, MOST_INPUT + 1)?;
-    Ok(
-        longest.len() == MOST_INPUT
-            && answer(alloc, "", &longest)?.is(DONE, whole, "")
-            && answer(alloc, "", &longer)?.is(TOO_LONG, b"", "input too long\n"),
-    )
+pub fn limits_hold(alloc: Global, script: &[u8], whole: &[u8]) -> Result<bool, OutOfMemory> {
+    let comment = MOST_INPUT.saturating_sub(script.len()).saturating_sub(1);
+    let most = after_comment(alloc, script, comment)?;
+    let more = after_comment(alloc, script, comment.saturating_add(1))?;
+    Ok(most.is(DONE, whole, "") && more.is(TOO_LONG, b"", "input too long\n"))
 }
 
 // A word that names so many turns of task 0, and before it the most moments.
