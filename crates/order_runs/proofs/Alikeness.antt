@@ -1,5 +1,5 @@
 -- Alike moments, whatever moment the orders begin from.
-use Rattle.std.proofs.Common.{◌≡◌, inl, refl}
+use Rattle.std.proofs.Common.{inl, refl}
 use Rattle.order_alike.proofs.Following.{following}
 use Rattle.order_alike.proofs.Inodes.{inode_laws}
 use Rattle.order_alike.specs.Alike.{IsAlike}

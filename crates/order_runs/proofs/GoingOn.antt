@@ -1,5 +1,5 @@
 -- Orders that begin with some turns.
-use Rattle.std.proofs.Common.{◌≡◌, ◌==◌, ◌||◌, ◌&&◌, ◌<◌, ◌⊎◌, ℕ, zero, suc, Bool, true, false, List, [], ◌∷◌, ◌++◌, map, flat_map, length, Option, Some, None, option_and_then, nat_cmp, is_lt, Ordering, Less, Equal, Greater, if◌then◌else◌, slice_get, refl, ap, sym, subst, ◌∙◌, inl, inr, arith, eq-eqb}
+use Rattle.std.proofs.Common.{◌≡◌, ◌==◌, ◌||◌, ◌&&◌, ◌<◌, ◌⊎◌, ℕ, zero, suc, Bool, true, false, List, [], ◌∷◌, ◌++◌, map, flat_map, length, Option, Some, None, option_and_then, nat_cmp, is_lt, Ordering, Less, Equal, Greater, if◌then◌else◌, slice_get, refl, ap, sym, ◌∙◌, inl, inr, arith, eq-eqb}
 use Rattle.std.specs.Cmp.{nat_cmp_total}
 use Rattle.std.specs.Cmp.Lexicographic.{slice_cmp}
 use Rattle.std.specs.Ordering.{ordering_reverse, ordering_then}
@@ -8,13 +8,13 @@ use Rattle.std.proofs.lemmas.List.Folds.{list_any-append}
 use Rattle.std.proofs.lemmas.Option.{none-some, slice_get_within}
 use Rattle.order_outcomes.proofs.about_counts.Spread.{led-append}
 use Rattle.order_outcomes.proofs.about_counts.Turns.{led-none}
-use Rattle.order_outcomes.specs.Orders.{moment_after, moved}
-use Rattle.order_outcomes.specs.counts.Orders.{comes_before, is_among, is_order, led, orders, rests}
+use Rattle.order_outcomes.specs.Orders.{moved}
+use Rattle.order_outcomes.specs.counts.Orders.{is_among, is_order, led, orders, rests}
 use Rattle.order_outcomes.specs.reports.model.History.{Thought}
 use Rattle.order_outcomes.specs.reports.model.Rounds.{all_tasks, moves, moves_at, numbers}
 use Rattle.order_outcomes.specs.reports.model.Scene.{Program, Scene}
 use Rattle.order_outcomes.specs.reports.model.Turns.{Moment, start_of, turn}
-use Rattle.order_runs.specs.Laws.{GoOn, OrdersGoOn}
+use Rattle.order_runs.specs.Laws.{OrdersGoOn}
 
 -- ---- whatever moves
 

@@ -18,7 +18,7 @@ use Rattle.order_outcomes.specs.reports.model.Turns.{Moment, start_of, turn, tur
 use Rattle.order_outcomes.specs.scripts.Limits.{most_turns}
 use Rattle.order_sights.specs.Plays.{IsSchedule, moment_by}
 use Rattle.order_sights.specs.Sights.{IsSight}
-use Rattle.order_runs.specs.Points.{IsMoved, IsPoint, IsPointAt, IsPointOf}
+use Rattle.order_runs.specs.Points.{IsMoved, IsPoint, IsPointOf}
 use Rattle.order_runs.specs.declared.points.Point.{Point}
 
 -- ---- turns that move are turns of the scene's tasks

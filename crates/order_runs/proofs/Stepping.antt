@@ -1,5 +1,5 @@
 -- A turn leads a way on, and what is added to the ways of a layer is what a step of counting adds.
-use Rattle.std.proofs.Common.{◌≡◌, ◌+◌, ◌<◌, ℕ, Bool, true, false, not, ◌&&◌, ◌||◌, All, Contains, List, [], ◌∷◌, ◌++◌, Option, Some, None, is_none, is_some, option_map, if◌then◌else◌, refl, ap, sym, subst, ◌∙◌, inl, inr, ◌⊎◌, add-one, append_assoc, slice_get, arith}
+use Rattle.std.proofs.Common.{◌≡◌, ◌+◌, ◌<◌, ℕ, Bool, true, false, not, ◌&&◌, ◌||◌, All, Contains, List, [], ◌∷◌, ◌++◌, Option, Some, None, is_none, is_some, option_map, if◌then◌else◌, refl, ap, sym, subst, ◌∙◌, inl, inr, ◌⊎◌, add-one, append_assoc, arith}
 use Rattle.std.proofs.lemmas.List.{append-nil, map-append, map-set}
 use Rattle.std.proofs.lemmas.List.Elements.{All-contains, All-head, All-push, All-set, All-tail}
 use Rattle.std.proofs.lemmas.Option.{get_or_from_slice_get, same_Some, slice_get-map, slice_get_within}

@@ -15,7 +15,7 @@ use Rattle.order_outcomes.specs.reports.model.Rounds.{all_tasks}
 use Rattle.order_outcomes.specs.reports.model.Scene.{Scene}
 use Rattle.order_outcomes.specs.reports.model.Turns.{Moment}
 use Rattle.order_outcomes.specs.scripts.Limits.{most_turns}
-use Rattle.order_runs.specs.Steps.{HasOutcome, HasOutcomeFrom, IsKept, IsLayer, IsSpread, IsStep, begun, counted_rows, counted_ways, led_on, opening}
+use Rattle.order_runs.specs.Steps.{HasOutcomeFrom, IsKept, IsLayer, IsSpread, IsStep, begun, counted_rows, counted_ways, led_on, opening}
 use Rattle.order_runs.specs.Stops.{BeginsOverrun, HasLongWay, HasManyOrders, HasTooMany, HasTooManyFrom, IsCrowded, IsOverrun, counts_of, orders_from, ways_from}
 use Rattle.order_runs.specs.Tables.{IsTable, IsTableFrom}
 use Rattle.order_runs.specs.declared.part.Part.{Part}

@@ -1,5 +1,5 @@
 -- The orders that begin with some turns are the orders from the moment to which those lead.
-use Rattle.std.specs.Prelude.{◌≡◌, ℕ, suc, Bool, false, List, [], ◌∷◌, ◌++◌, map, Some}
+use Rattle.std.specs.Prelude.{◌≡◌, ℕ, suc, false, List, [], ◌∷◌, ◌++◌, map, Some}
 use Rattle.std.specs.List.{flat_map}
 use Rattle.order_outcomes.specs.Orders.{is_order_of, moment_after, moved}
 use Rattle.order_outcomes.specs.counts.Orders.{comes_before, is_order, led, rests}

@@ -1,6 +1,6 @@
 -- Words that ask for nothing, or whose turns find no memory: nothing was read or written.
 use Rattle.std.proofs.Common.{◌≡◌, ◌<◌, ◌≤◌, ◌+◌, ◌↔◌, ◌⊎◌, inl, inr, ℕ, List, [], Option, Some, None, Err, is_some, length, refl, ap, sym, subst, ◌∙◌, arith}
-use Rattle.std.specs.Prelude.{IfSome, IsNone, IsSome}
+use Rattle.std.specs.Prelude.{IfSome, IsNone}
 use Rattle.std.specs.Io.KnownBytes.{Consumes}
 use Rattle.std.proofs.lemmas.Bool.{true≢false}
 use Rattle.std.proofs.lemmas.Option.{none-some}
@@ -63,14 +63,14 @@ module _ (o : Option AskedValue) (w : NotDone) (h : IsAsked o (Err w)) where
 -- the status is that of usage exactly if the words ask for nothing
 pub usage_is : (o : Option AskedValue) (w : NotDone) → IsAsked o (Err w)
     → (not_done_status w ≡ exit.usage) ↔ IsNone o
-usage_is o why.Usage h = (λ e. h, λ none. refl)
+usage_is o why.Usage h = (λ e. ap (λ (x : Option AskedValue). is_some x) h, λ none. refl)
 usage_is o (why.Refused line) h = absurd h
 usage_is o (why.TooMany line) h = absurd h
 usage_is o why.ReadFault h = absurd h
 usage_is o why.WriteFault h = absurd h
 usage_is o why.TooLong h = absurd h
 usage_is o why.OutOfMemory h =
-    (λ e. absurd (omega (arith, e)), λ none. absurd (true≢false (sym h ∙ ap is_some none)))
+    (λ e. absurd (omega (arith, e)), λ none. absurd (true≢false (sym h ∙ none)))
 
 -- if they ask for something, memory ran out before anything was read
 pub nothing_read : (o : Option AskedValue) (w : NotDone) → IsAsked o (Err w)

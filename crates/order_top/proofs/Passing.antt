@@ -1,6 +1,6 @@
 -- Answers and refusals that a call passes on.
 use Rattle.std.proofs.Common.{◌≡◌, ℕ, List, ap, ◌∙◌}
-use Rattle.std.specs.Prelude.{Result, Ok, Err, IsErrAnd, IsOkAnd}
+use Rattle.std.specs.Prelude.{Result, Ok, Err, IsOkAnd}
 use Rattle.order_runs.specs.Plays.{IsScriptOf}
 use Rattle.order_runs.specs.Stops.{HasTooMany}
 use Rattle.order_runs.specs.declared.rows.Row.{Row}

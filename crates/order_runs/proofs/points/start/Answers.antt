@@ -1,4 +1,4 @@
-use Rattle.std.proofs.Common.{◌≡◌, ◌∙◌, List, ℕ, [], sym, ap, subst}
+use Rattle.std.proofs.Common.{◌∙◌, List, ℕ, sym, subst}
 use Rattle.order_sights.specs.Plays.{IsSchedule, moment_by}
 use Rattle.order_sights.specs.Sights.{IsSight}
 use Rattle.order_runs.proofs.Pointing.{none_fits, start_point}

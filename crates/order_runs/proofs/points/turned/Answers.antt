@@ -5,8 +5,8 @@ use Rattle.order_sights.specs.Sights.{IsSight}
 use Rattle.order_runs.proofs.Pointing.{more_fits, moved_none, moved_some}
 use Rattle.order_runs.proofs.points.turned.Goals as goal
 
-pub stopped-longer-requires : goal.stopped-longer-requires
-stopped-longer-requires g c =
+pub stopped-requires : goal.stopped-requires
+stopped-requires g c =
     subst (IsSchedule c.args.play.now) (sym c.in_ok-turns.ensures)
     (more_fits c.args.play.now c.args.point.now c.requires.point c.args.task c.requires.task
     c.requires.turns)

@@ -1,6 +1,6 @@
-use Rattle.std.proofs.Common.{map, string_bytes, sym, ◌∙◌}
-use Rattle.std.proofs.lemmas.Option.{none-some}
-use Rattle.order_top.specs.Words.{asked_of, asked_value}
+use Rattle.std.proofs.Common.{◌∙◌, Option, ap, is_some, map, string_bytes, sym}
+use Rattle.std.proofs.lemmas.Bool.{true≢false}
+use Rattle.order_top.specs.Words.{AskedValue, asked_of, asked_value}
 use Rattle.order_top.proofs.Asking.{no_read_fault, no_reading, no_write_fault, nothing_read, some_holds, usage_is}
 use Rattle.order_top.proofs.Wording.{asked_few}
 use Rattle.order_top.proofs.top.answer_words.Goals as goal
@@ -12,7 +12,8 @@ perform-requires g c =
 pub returns-in-Ok-clause-usage : goal.returns-in-Ok-clause-usage
 returns-in-Ok-clause-usage g c = (
   λ e. absurd (c.perform.ensures.words e),
-  λ none. absurd (none-some (asked_value c.in-Ok.asked) (sym none ∙ c.in-Ok.ensures)),
+  λ none. absurd (true≢false
+      (sym (ap (λ (o : Option AskedValue). is_some o) c.in-Ok.ensures) ∙ none)),
 )
 
 pub returns-in-Ok-clause-input : goal.returns-in-Ok-clause-input

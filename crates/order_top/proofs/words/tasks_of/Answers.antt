@@ -1,4 +1,4 @@
-use Rattle.std.proofs.Common.{◌≡◌, ◌∙◌, ℕ, List, ap, option_map, subst}
+use Rattle.std.proofs.Common.{◌≡◌, ◌∙◌, ℕ, List, ap, subst}
 use Rattle.order_top.specs.Words.{dotted, tasks_of}
 use Rattle.order_top.proofs.Wording.{ends, goes_on, onto, onto_none, stops}
 use Rattle.order_top.proofs.words.tasks_of.Goals as goal
