@@ -1,7 +1,10 @@
 #!/usr/bin/env python3
 """Every order of a script's steps, one after the other, and their outcomes: what imakern_orders
 must print. orders.py IMAKERN ORDERS [SCRIPT..] compares the two programs on each script, or on the
-scripts below if none is named. Each read of a script must read its whole file from 0."""
+scripts below if none is named, also for the orders that begin with some turns.
+orders.py IMAKERN store writes the scripts below and their rows into crates/worked_orders/data. Each
+read of a script must read its whole file from 0."""
+import os
 import subprocess
 import sys
 
@@ -55,13 +58,22 @@ class Runs:
             self.made[turns] = run.stdout.decode().split("\n")
         return self.made[turns]
 
-    def orders(self, turns=()):
+    def moves(self, turns, task):
         """A turn changes the report exactly if it moves its task."""
-        on = [t for t in range(self.tasks) if self.report(turns + (t,)) != self.report(turns)]
+        return task < self.tasks and self.report(turns + (task,)) != self.report(turns)
+
+    def orders(self, turns=()):
+        """The orders that begin with these turns, each of which moves its task."""
+        on = [t for t in range(self.tasks) if self.moves(turns, t)]
         if not on:
             yield turns
         for t in on:
             yield from self.orders(turns + (t,))
+
+    def orders_after(self, first):
+        """The orders that begin with these turns: none if one of them doesn't move its task."""
+        if all(self.moves(first[:i], task) for i, task in enumerate(first)):
+            yield from self.orders(first)
 
 
 def outcome(report):
@@ -104,9 +116,9 @@ def outcome(report):
     return tuple(lines)
 
 
-def rows(imakern, text):
-    runs, met = Runs(imakern, text), {}
-    for turns in runs.orders():
+def rows(runs, first=()):
+    met = {}
+    for turns in runs.orders_after(first):
         row = met.setdefault(outcome(runs.report(turns)), [0, turns])
         row[0] += 1
     total = sum(row[0] for row in met.values())
@@ -116,17 +128,39 @@ def rows(imakern, text):
     return "\n".join(out + ["end"]) + "\n"
 
 
+# The first turns that are tried beside none.
+FIRSTS = [(0,), (1,), (0, 1), (1, 0, 0), (0, 0, 0, 0, 1), (2,), (5,)]
+
+
+def is_same(program, text, first, want):
+    words = ["1000000", ".".join(map(str, first))] if first else []
+    run = subprocess.run([program, *words], input=text.encode(), stdout=subprocess.PIPE)
+    return run.returncode == 0 and run.stdout.decode() == want
+
+
+def store(imakern):
+    top = os.path.dirname(os.path.dirname(os.path.abspath(__file__)))
+    for name, text in SCRIPTS.items():
+        path = os.path.join(top, "crates", "worked_orders", "data", name.replace(" ", "_"))
+        for end, content in ("script", text), ("orders", rows(Runs(imakern, text))):
+            with open(path + "." + end, "w") as out:
+                out.write(content)
+
+
 def main():
     imakern, program, names = sys.argv[1], sys.argv[2], sys.argv[3:]
+    if program == "store":
+        return store(imakern)
     scripts = {name: open(name).read() for name in names} or SCRIPTS
     bad = 0
     for name, text in scripts.items():
-        want = rows(imakern, text)
-        run = subprocess.run([program], input=text.encode(), stdout=subprocess.PIPE)
-        same = run.returncode == 0 and run.stdout.decode() == want
-        word = "same" if same else "DIFFERENT"
-        print("%s: %s, %s" % (word, name, want.split("\n")[1]), flush=True)
-        bad += not same
+        runs = Runs(imakern, text)
+        want = rows(runs)
+        others = [first for first in [(), *FIRSTS]
+                  if not is_same(program, text, first, rows(runs, first) if first else want)]
+        word = "DIFFERENT" if others else "same"
+        print("%s: %s, %s" % (word, name, want.split("\n")[1]), *others, flush=True)
+        bad += bool(others)
     sys.exit(1 if bad else 0)
 
 

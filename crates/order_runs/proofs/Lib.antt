@@ -1,5 +1,8 @@
+pub mod GoingOn
 pub mod Joining
+pub mod Pointing
 pub mod Stepping
+pub mod Alikeness
 pub mod Rowing
 pub mod Layering
 pub mod Within

@@ -5,13 +5,12 @@ use Rattle.std.proofs.lemmas.List.{map-append, map-set}
 use Rattle.std.proofs.lemmas.List.Elements.{All-contains, All-push, All-set}
 use Rattle.std.proofs.lemmas.Option.{get_or_from_slice_get, none-some, same_Some, slice_get-get_or, slice_get-map, slice_get_within}
 use Rattle.order_outcomes.proofs.about_counts.Adding.{joined_is, met, pushed}
-use Rattle.order_outcomes.specs.Orders.{moment_after, moved, outcome_at}
+use Rattle.order_outcomes.specs.Orders.{moved, outcome_at}
 use Rattle.order_outcomes.specs.counts.Layers.{HaveOneOutcome, IsAdded, IsJoined, joined}
 use Rattle.order_outcomes.specs.counts.Laws.{AreDistinct}
 use Rattle.order_outcomes.specs.counts.Rows.{Counted, outcome_after}
-use Rattle.order_outcomes.specs.reports.model.Scene.{Scene}
-use Rattle.order_outcomes.specs.reports.model.Turns.{start_of}
-use Rattle.order_runs.specs.Steps.{AreApart, HasNone, HasOutcome, IsJoinedTo, IsRowAdded, counted_rows}
+use Rattle.order_runs.specs.Steps.{AreApart, HasNone, HasOutcome, IsJoinedTo, IsRowAdded, begun, counted_rows, led_on}
+use Rattle.order_runs.specs.declared.part.Part.{Part}
 use Rattle.order_runs.specs.declared.rows.Row.{Row}
 
 -- ---- places in a list with one item more, and in one with an item replaced
@@ -97,30 +96,30 @@ joined_at old k row seen held both there at_seen at_held is = inr (record {
         ∙ ap (λ (r : Row). joined r.counted row.counted)
         (at_seen ∙ get_or_from_slice_get old k found.0 seen found.1.0)
 
-module _ (scene : Scene) where
+module _ (part : Part) where
   abbrev pub SameOutcome : List ℕ → List ℕ → Type 0
-  SameOutcome a b = HaveOneOutcome (moved scene) (outcome_at scene) (start_of scene) a b
+  SameOutcome a b = HaveOneOutcome (moved part.play) (outcome_at part.play) (begun part) a b
 
   -- the outcome after the order of a row is that of the row
-  pub told : (row : Row) → HasOutcome scene row
-      → outcome_after (moved scene) (outcome_at scene) (start_of scene) row.counted.order
+  pub told : (row : Row) → HasOutcome part row
+      → outcome_after (moved part.play) (outcome_at part.play) (begun part) row.counted.order
       ≡ Some row.outcome
-  told row h = ap (option_map (outcome_at scene)) h.1.0 ∙ ap Some (sym h.1.1)
+  told row h = ap (option_map (outcome_at part.play)) h.1.0 ∙ ap Some (sym h.1.1)
 
   -- rows apart have no outcome in common
-  pub distinct : (rows : List Row) → All (HasOutcome scene) rows → AreApart rows
-      → AreDistinct (moved scene) (start_of scene) (outcome_at scene) (counted_rows rows)
+  pub distinct : (rows : List Row) → All (HasOutcome part) rows → AreApart rows
+      → AreDistinct (moved part.play) (begun part) (outcome_at part.play) (counted_rows rows)
   distinct rows outcomes apart a b x y below at_x at_y same =
       let r = row_at a x at_x in
       let s = row_at b y at_y in
       apart a b r.0 s.0 below r.1.0 s.1.0
       (same_Some r.0.outcome s.0.outcome
-      (sym (told r.0 (All-contains (HasOutcome scene) rows r.0 outcomes (got_in rows a r.0 r.1.0)))
-      ∙ ap (outcome_after (moved scene) (outcome_at scene) (start_of scene))
+      (sym (told r.0 (All-contains (HasOutcome part) rows r.0 outcomes (got_in rows a r.0 r.1.0)))
+      ∙ ap (outcome_after (moved part.play) (outcome_at part.play) (begun part))
       (ap (λ (c : Counted). c.order) r.1.1) ∙ same
-      ∙ ap (outcome_after (moved scene) (outcome_at scene) (start_of scene))
+      ∙ ap (outcome_after (moved part.play) (outcome_at part.play) (begun part))
       (sym (ap (λ (c : Counted). c.order) s.1.1))
-      ∙ told s.0 (All-contains (HasOutcome scene) rows s.0 outcomes (got_in rows b s.0 s.1.0))))
+      ∙ told s.0 (All-contains (HasOutcome part) rows s.0 outcomes (got_in rows b s.0 s.1.0))))
     where
       row_by : (k : ℕ) (x : Counted) (o : Option Row) → slice_get rows k ≡ o
           → option_map (λ (r : Row). r.counted) o ≡ Some x
@@ -133,8 +132,8 @@ module _ (scene : Scene) where
       row_at k x at = row_by k x (slice_get rows k) refl
           (sym (slice_get-map (λ (r : Row). r.counted) rows k) ∙ at)
 
-  module _ (old : List Row) (row : Row) (outcomes : All (HasOutcome scene) old)
-      (has : HasOutcome scene row) where
+  module _ (old : List Row) (row : Row) (outcomes : All (HasOutcome part) old)
+      (has : HasOutcome part row) where
     -- ---- a row of its own
 
     pushed_added : IsAdded SameOutcome (counted_rows old) row.counted
@@ -166,8 +165,8 @@ module _ (scene : Scene) where
     -- ---- the row of its outcome
 
     module _ (new : List Row) (j : IsJoinedTo old row new) where
-      before_has : HasOutcome scene j.before
-      before_has = All-contains (HasOutcome scene) old j.before outcomes
+      before_has : HasOutcome part j.before
+      before_has = All-contains (HasOutcome part) old j.before outcomes
           (got_in old j.place j.before j.at)
 
       -- the two orders have one outcome
@@ -180,8 +179,8 @@ module _ (scene : Scene) where
           by : (j.after.counted.order ≡ j.before.counted.order)
               ⊎ (j.after.counted.order ≡ row.counted.order)
               → SameOutcome j.after.counted.order j.before.counted.order
-          by (inl e) = ap (outcome_after (moved scene) (outcome_at scene) (start_of scene)) e
-          by (inr e) = ap (outcome_after (moved scene) (outcome_at scene) (start_of scene)) e
+          by (inl e) = ap (outcome_after (moved part.play) (outcome_at part.play) (begun part)) e
+          by (inr e) = ap (outcome_after (moved part.play) (outcome_at part.play) (begun part)) e
               ∙ sym one
 
       joined_added : IsAdded SameOutcome (counted_rows old) row.counted (counted_rows new)
@@ -194,23 +193,23 @@ module _ (scene : Scene) where
           ∙ ap (option_map (λ (r : Row). r.counted)) j.at) (λ e inside. refl) as_before
           (as_before ∙ one) j.joined)
 
-      after_has : HasOutcome scene j.after
+      after_has : HasOutcome part j.after
       after_has = by j.joined.is
         where
           by : (j.after.counted.order ≡ j.before.counted.order)
-              ⊎ (j.after.counted.order ≡ row.counted.order) → HasOutcome scene j.after
+              ⊎ (j.after.counted.order ≡ row.counted.order) → HasOutcome part j.after
           by (inl e) = (
             before_has.0,
-            (ap (moment_after scene) e ∙ before_has.1.0, j.kept ∙ before_has.1.1),
+            (ap (led_on part) e ∙ before_has.1.0, j.kept ∙ before_has.1.1),
           )
           by (inr e) = (
             has.0,
-            (ap (moment_after scene) e ∙ has.1.0, j.kept ∙ j.same ∙ has.1.1),
+            (ap (led_on part) e ∙ has.1.0, j.kept ∙ j.same ∙ has.1.1),
           )
 
-      joined_outcomes : All (HasOutcome scene) new
-      joined_outcomes = subst (λ (rs : List Row). All (HasOutcome scene) rs) (sym j.set)
-          (All-set (HasOutcome scene) old j.place j.after after_has outcomes)
+      joined_outcomes : All (HasOutcome part) new
+      joined_outcomes = subst (λ (rs : List Row). All (HasOutcome part) rs) (sym j.set)
+          (All-set (HasOutcome part) old j.place j.after after_has outcomes)
 
       joined_apart : AreApart old → AreApart new
       joined_apart apart a b x y below at_x at_y same =
@@ -229,10 +228,10 @@ module _ (scene : Scene) where
         (counted_rows rs)) (sym p.0) pushed_added
     row_added new (inr j) = joined_added new j
 
-    pub row_outcomes : (new : List Row) → IsRowAdded old row new → All (HasOutcome scene) new
+    pub row_outcomes : (new : List Row) → IsRowAdded old row new → All (HasOutcome part) new
     row_outcomes new (inl p) =
-        subst (λ (rs : List Row). All (HasOutcome scene) rs) (sym p.0)
-        (All-push (HasOutcome scene) old row outcomes has)
+        subst (λ (rs : List Row). All (HasOutcome part) rs) (sym p.0)
+        (All-push (HasOutcome part) old row outcomes has)
     row_outcomes new (inr j) = joined_outcomes new j
 
     pub row_apart : (new : List Row) → IsRowAdded old row new → AreApart old → AreApart new

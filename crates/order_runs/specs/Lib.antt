@@ -1,5 +1,7 @@
+pub mod Points
 pub mod Steps
-pub mod Stops
 pub mod Tables
+pub mod Stops
+pub mod Laws
 pub use Rattle.order_outcomes.specs as outcomes
 pub use Rattle.order_sights.specs.Plays

@@ -1,19 +1,19 @@
-//! The rows of a play.
+//! The rows of a part.
 
 ghost use Rattle.std.specs.Prelude.{◌≡◌, ℕ, suc, ◌+◌, ◌<◌, ◌≤◌, ◌^◌, [], ◌∷◌, ◌++◌, All, length, slice_get, IfErr, IfOk, IsSomeAnd, MatchOption, OnOk};
-ghost use Rattle.order_outcomes.specs.counts.Layers.{joined, root};
-ghost use Rattle.order_outcomes.specs.reports.model.Scene.{Scene};
+ghost use Rattle.order_outcomes.specs.counts.Layers.{joined};
 ghost use Rattle.order_outcomes.specs.scripts.Limits.{most_turns};
-ghost use Rattle.order_runs.specs.Steps.{AreApart, HasNone, HasOutcome, IsAdvanced, IsKept, IsLayer, IsRowAdded, IsStep, counted_rows, counted_ways};
+ghost use Rattle.order_runs.specs.Steps.{HasNone, HasOutcome, IsAdvanced, IsKept, IsRoot, IsRowAdded, IsStep, counted_rows};
 ghost use Rattle.order_runs.specs.Stops.{HasTooMany, IsCrowded, IsOverrun, counts_of};
 ghost use Rattle.order_runs.specs.Tables.{IsTable};
+ghost use Rattle.order_runs.specs.declared.part.Part.{Part};
 
+use crate::part::Part;
 use crate::ways::{Index, Way, root, spread};
 use order_outcomes::counts::Counted;
 use order_outcomes::outcome_of;
 use order_outcomes::reports::model::events::templates::xattrs::Bytes;
 use order_outcomes::reports::outer::Gate;
-use order_sights::Play;
 use std::alloc::{AllocError as OutOfMemory, Global};
 
 /// The most turns of an order, which are those of a schedule.
@@ -102,10 +102,10 @@ fn add_row(alloc: Global, rows: &mut Vec<Row>, row: Row) -> Result<(), Stopped>
 // The row of an order alone.
 fn row_of(alloc: Global, way: &Way) -> Result<Row, OutOfMemory>
     ensures counted { IfOk result (λ row. row.counted ≡ way.now.counted) }
-    ensures outcome { IfOk result (λ row. (scene : Scene) → IsKept scene way.now
-        → HasOutcome scene row) }
+    ensures outcome { IfOk result (λ row. (part : Part) → IsKept part way.now
+        → HasOutcome part row) }
 {
-    let outcome = outcome_of(alloc, &way.sight.ended)?;
+    let outcome = outcome_of(alloc, &way.point.sight.ended)?;
     let counted = way.counted.copy(alloc)?;
     Ok(Row { counted, outcome })
 }
@@ -114,21 +114,21 @@ fn row_of(alloc: Global, way: &Way) -> Result<Row, OutOfMemory>
 // in the rows.
 fn advance_one<G: Gate>(
     alloc: Global,
-    play: &Play,
+    part: &Part,
     way: &Way,
     next: &mut Vec<Way>,
     index: &mut Index,
     rows: &mut Vec<Row>,
     gate: &G,
 ) -> Result<(), Stopped>
-    requires kept { IsKept play.now way.now }
-    requires turns { length way.now.counted.order < most_turns }
-    ensures advanced { OnOk result (IsAdvanced play.now way.now next.old.items rows.old.items
+    requires kept { IsKept part.now way.now }
+    requires turns { length way.now.point.turns < most_turns }
+    ensures advanced { OnOk result (IsAdvanced part.now way.now next.old.items rows.old.items
         next.new.items rows.new.items) }
     ensures too_many { IfErr result (λ why. why ≡ Stopped.TooMany
-        → IsOverrun play.now way.now rows.old.items) }
+        → IsOverrun part.now way.now rows.old.items) }
 {
-    let any = spread(alloc, play, way, next, index, gate)?;
+    let any = spread(alloc, part, way, next, index, gate)?;
     if !any {
         let row = row_of(alloc, way)?;
         add_row(alloc, rows, row)?;
@@ -140,23 +140,23 @@ fn advance_one<G: Gate>(
 // the rows.
 fn advance<G: Gate>(
     alloc: Global,
-    play: &Play,
+    part: &Part,
     layer: &[Way],
     rows: &mut Vec<Row>,
     room: usize,
     gate: &G,
 ) -> Result<Vec<Way>, Stopped>
-    requires kept { All (IsKept play.now) layer.now }
-    requires turns { All (λ way. length way.counted.order < most_turns) layer.now }
-    ensures step { IfOk result (λ next. IsStep play.now layer.now rows.old.items next.items
+    requires kept { All (IsKept part.now) layer.now }
+    requires turns { All (λ way. length way.point.turns < most_turns) layer.now }
+    ensures step { IfOk result (λ next. IsStep part.now layer.now rows.old.items next.items
         rows.new.items) }
     ensures too_many { IfErr result (λ why. why ≡ Stopped.TooMany
-        → IsCrowded play.now layer.now rows.old.items room) }
+        → IsCrowded part.now layer.now rows.old.items room) }
 {
     let mut next = Vec::new(alloc);
     let mut index = Index::new(alloc);
     for way in layer {
-        advance_one(alloc, play, way, &mut next, &mut index, rows, gate)?;
+        advance_one(alloc, part, way, &mut next, &mut index, rows, gate)?;
         if next.len() > room {
             return Err(Stopped::TooMany);
         }
@@ -164,40 +164,71 @@ fn advance<G: Gate>(
     Ok(next)
 }
 
-// The way without turns.
-fn first_layer<G: Gate>(alloc: Global, play: &Play, gate: &G) -> Result<Vec<Way>, OutOfMemory>
-    ensures layer { IfOk result (λ layer. IsLayer play.now 0 layer.items []) }
-    ensures first { IfOk result (λ layer. counted_ways layer.items ≡ root ∷ []) }
+// The way that ends with the first turns.
+fn first_layer(alloc: Global, way: Way) -> Result<Vec<Way>, OutOfMemory>
+    ensures { IfOk result (λ layer. layer.items ≡ way ∷ []) }
 {
     let mut layer = Vec::new(alloc);
-    layer.push(root(alloc, play, gate)?)?;
+    layer.push(way)?;
     Ok(layer)
 }
 
-/// The rows of the play. At most `most` moments are met: `TooMany` is returned only if there are
-/// more ways to begin an order, if one of them has as many turns as a schedule may have, or if there
-/// are more orders than 128 bits can count.
-pub fn rows_of<G: Gate>(
+// How many turns there may be after the first ones.
+fn turns_left(part: &Part) -> u32
+    requires { length part.now.first.items ≤ most_turns }
+    ensures { result + length part.now.first.items ≡ most_turns }
+{
+    MOST_TURNS - part.first.len() as u32
+}
+
+// The rows of the orders that go on from the first turns.
+fn rows_from<G: Gate>(
     alloc: Global,
-    play: &Play,
+    part: &Part,
+    way: Way,
     most: usize,
     gate: &G,
 ) -> Result<Vec<Row>, Stopped>
-    ensures rows { IfOk result (λ rows. IsTable play.now rows.items) }
-    ensures too_many { IfErr result (λ why. why ≡ Stopped.TooMany → HasTooMany play.now most) }
+    requires few { length part.now.first.items ≤ most_turns }
+    requires root { IsRoot part.now way }
+    ensures rows { IfOk result (λ rows. IsTable part.now.play part.now.first.items rows.items) }
+    ensures too_many { IfErr result (λ why. why ≡ Stopped.TooMany
+        → HasTooMany part.now.play part.now.first.items most) }
 {
     let mut rows = Vec::new(alloc);
-    let mut layer = first_layer(alloc, play, gate)?;
+    let mut layer = first_layer(alloc, way)?;
     let mut room = most;
-    for turn in 0..MOST_TURNS {
+    let more = turns_left(part);
+    for turn in 0..more {
         if room < layer.len() {
             return Err(Stopped::TooMany);
         }
         room -= layer.len();
-        layer = advance(alloc, play, layer.as_slice(), &mut rows, room, gate)?;
+        layer = advance(alloc, part, layer.as_slice(), &mut rows, room, gate)?;
         if layer.is_empty() {
             return Ok(rows);
         }
     }
     Err(Stopped::TooMany)
+}
+
+/// The rows of the part, each with its order after the first turns: none if one of those doesn't
+/// move its task. At most `most` moments are met: `TooMany` is returned only if there are more ways
+/// to go on from the first turns, if one of them has with those as many turns as a schedule may
+/// have, or if there are more orders than 128 bits can count.
+pub fn rows_of<G: Gate>(
+    alloc: Global,
+    part: &Part,
+    most: usize,
+    gate: &G,
+) -> Result<Vec<Row>, Stopped>
+    requires { length part.now.first.items ≤ most_turns }
+    ensures rows { IfOk result (λ rows. IsTable part.now.play part.now.first.items rows.items) }
+    ensures too_many { IfErr result (λ why. why ≡ Stopped.TooMany
+        → HasTooMany part.now.play part.now.first.items most) }
+{
+    match root(alloc, part, gate)? {
+        Some(way) => rows_from(alloc, part, way, most, gate),
+        None => Ok(Vec::new(alloc)),
+    }
 }

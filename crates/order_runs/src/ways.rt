@@ -1,71 +1,66 @@
-//! The first turns of orders, and those that are one turn longer. Of those that lead to moments at
-//! which the same can follow, the first is kept, with the counts of all.
+//! Ways to go on from the first turns of a part, and those that are one turn longer. Of those that
+//! lead to moments at which the same can follow, the first is kept, with the counts of all.
 
-ghost use Rattle.std.specs.Prelude.{◌≡◌, [], ◌∷◌, ◌++◌, ◌<◌, ◌||◌, is_some, length, IfOk, IfSome, IsSomeAnd, IsTrue, OnOk, slice_get};
-ghost use Rattle.order_outcomes.specs.Orders.{moment_after, moved};
+ghost use Rattle.std.specs.Prelude.{◌≡◌, [], ◌∷◌, ◌++◌, ◌<◌, ◌≤◌, ◌||◌, None, Some, is_some, length, IfOk, IfSome, IsSomeAnd, IsTrue, MatchOption, OnOk, slice_get};
+ghost use Rattle.order_outcomes.specs.Orders.{moved};
 ghost use Rattle.order_outcomes.specs.counts.Layers.{root};
 ghost use Rattle.order_outcomes.specs.reports.model.Turns.{Moment};
 ghost use Rattle.order_outcomes.specs.scripts.Limits.{most_turns};
-ghost use Rattle.order_runs.specs.Steps.{AreAdded, CanMeet, IsKept, IsSpread, IsTurned, IsWayAdded};
+ghost use Rattle.order_runs.specs.Steps.{AreAdded, CanMeet, IsKept, IsRoot, IsSpread, IsTurned, IsWayAdded, led_on, opening};
 
+use crate::part::Part;
+use crate::points::{Point, reached, turned};
 use order_outcomes::counts::{Counted, Order};
 use order_outcomes::reports::outer::Gate;
-use order_outcomes::{Made, made_of};
-use order_sights::{Play, Sight, are_alike};
+use order_sights::are_alike;
 use std::alloc::{AllocError as OutOfMemory, Global};
 use std::collections::HashMap;
 
-/// The first turns of orders, each of which moves its task.
+/// Turns that go on from the first ones, each of which moves its task.
 #[derive(Drop)]
 pub struct Way {
-    /// The turns, with the number of ways for which they stand.
+    /// The turns after the first ones, with the number of ways for which they stand.
     pub counted: Counted,
-    /// How much is made after these turns.
-    pub made: Made,
-    /// What is seen then.
-    pub sight: Sight,
+    /// The point after all of them.
+    pub point: Point,
 }
 
-/// The way without turns.
-pub fn root<G: Gate>(alloc: Global, play: &Play, gate: &G) -> Result<Way, OutOfMemory>
-    ensures counted { IfOk result (λ way. way.counted ≡ root) }
-    ensures kept { IfOk result (IsKept play.now) }
+/// The way that ends with the first turns, if each of those moves its task.
+pub fn root<G: Gate>(alloc: Global, part: &Part, gate: &G) -> Result<Option<Way>, OutOfMemory>
+    requires { length part.now.first.items ≤ most_turns }
+    ensures { IfOk result (λ o. MatchOption o (opening part.now ≡ None) (IsRoot part.now)) }
 {
-    let order = Order::new(alloc);
-    let sight = play.sight(alloc, &order, gate)?;
-    Ok(Way {
-        counted: Counted { order, count: 1 },
-        made: made_of(&sight.ended),
-        sight,
-    })
+    match reached(alloc, &part.play, part.first.as_slice(), gate)? {
+        Some(point) => {
+            let order = Order::new(alloc);
+            let counted = Counted { order, count: 1 };
+            Ok(Some(Way { counted, point }))
+        }
+        None => Ok(None),
+    }
 }
 
 // The way with one turn of the task more, if the turn moves it.
-fn turned<G: Gate>(
+fn lengthened<G: Gate>(
     alloc: Global,
-    play: &Play,
+    part: &Part,
     way: &Way,
     task: u32,
     gate: &G,
 ) -> Result<Option<Way>, OutOfMemory>
-    requires task { task < length play.now.programs }
-    requires kept { IsKept play.now way.now }
-    requires turns { length way.now.counted.order < most_turns }
-    ensures { IfOk result (λ longer. (m : Moment)
-        → moment_after play.now way.now.counted.order ≡ Some m
-        → IsTurned play.now way.now task (moved play.now m task) longer) }
+    requires task { task < length part.now.play.programs }
+    requires kept { IsKept part.now way.now }
+    requires turns { length way.now.point.turns < most_turns }
+    ensures { IfOk result (λ longer. (m : Moment) → led_on part.now way.now.counted.order ≡ Some m
+        → IsTurned part.now way.now task (moved part.now.play m task) longer) }
 {
-    let counted = way.counted.then(alloc, task)?;
-    let sight = play.sight(alloc, &counted.order, gate)?;
-    let made = made_of(&sight.ended);
-    if made.is_same(way.made) {
-        return Ok(None);
+    match turned(alloc, &part.play, &way.point, task, gate)? {
+        Some(point) => {
+            let counted = way.counted.then(alloc, task)?;
+            Ok(Some(Way { counted, point }))
+        }
+        None => Ok(None),
     }
-    Ok(Some(Way {
-        counted,
-        made,
-        sight,
-    }))
 }
 
 /// The places of the ways that were added to a layer, by the marks of their sights.
@@ -110,7 +105,7 @@ fn can_meet(alloc: Global, way: &Way, longer: &Way) -> Result<bool, OutOfMemory>
     if longer.counted.order.comes_before(&way.counted.order) {
         return Ok(false);
     }
-    let alike = are_alike(alloc, &way.sight, &longer.sight)?;
+    let alike = are_alike(alloc, &way.point.sight, &longer.point.sight)?;
     Ok(alike)
 }
 
@@ -149,7 +144,7 @@ fn add_way(
 ) -> Result<(), OutOfMemory>
     ensures { OnOk result (IsWayAdded next.old.items way next.new.items) }
 {
-    let mark = way.sight.mark();
+    let mark = way.point.sight.mark();
     if let Some(place) = meeting(alloc, next.as_slice(), index.get(mark), &way)? {
         if let Some(joined) = next[place].counted.join(alloc, &way.counted)? {
             next[place].counted = joined;
@@ -184,21 +179,21 @@ fn add_longer(
 /// Adds the ways that are one turn longer. Returns whether there are any.
 pub fn spread<G: Gate>(
     alloc: Global,
-    play: &Play,
+    part: &Part,
     way: &Way,
     next: &mut Vec<Way>,
     index: &mut Index,
     gate: &G,
 ) -> Result<bool, OutOfMemory>
-    requires kept { IsKept play.now way.now }
-    requires turns { length way.now.counted.order < most_turns }
+    requires kept { IsKept part.now way.now }
+    requires turns { length way.now.point.turns < most_turns }
     ensures { IfOk result (λ any. (m : Moment)
-        → moment_after play.now way.now.counted.order ≡ Some m
-        → IsSpread play.now way.now m next.old.items next.new.items any) }
+        → led_on part.now way.now.counted.order ≡ Some m
+        → IsSpread part.now way.now m next.old.items next.new.items any) }
 {
     let mut any = false;
-    for task in 0..play.tasks() {
-        let longer = turned(alloc, play, way, task, gate)?;
+    for task in 0..part.play.tasks() {
+        let longer = lengthened(alloc, part, way, task, gate)?;
         any = add_longer(alloc, next, index, longer, any)?;
     }
     Ok(any)

@@ -1,4 +1,6 @@
 pub mod Inserting
 pub mod Totals
+pub mod Wording
+pub mod Asking
 pub mod Passing
 pub mod Serving

@@ -5,3 +5,4 @@ pub mod Text
 pub mod Statuses
 pub mod NotDone
 pub mod Served
+pub use Rattle.order_runs.specs as runs

@@ -12,3 +12,7 @@ most_moments = 1000000
 -- the greatest number that a word may name
 abbrev pub most_named : ℕ
 most_named = 10000000
+
+-- the most first turns that a word may name
+abbrev pub most_first : ℕ
+most_first = 65536

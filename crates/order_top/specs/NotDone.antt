@@ -57,7 +57,7 @@ not_done_of_read read.OutOfMemory = not_done.OutOfMemory
 -- the line for a status, except for those whose line depends on the input or on the words
 abbrev pub told_of : ℕ → List ℕ
 told_of status =
-    if status == exit.usage then with_newline (codes "usage: imakern_orders [N]")
+    if status == exit.usage then with_newline (codes "usage: imakern_orders [N [FIRST]]")
     else if status == exit.read_fault then with_newline (codes "read fault")
     else if status == exit.write_fault then with_newline (codes "write fault")
     else if status == exit.too_long then with_newline (codes "input too long")

@@ -5,7 +5,7 @@ use Rattle.std.specs.Prelude.{ℕ}
 abbrev pub done : ℕ
 done = 0
 
--- the words are neither none nor one number
+-- the words are neither none, nor a number, nor a number and first turns
 abbrev pub usage : ℕ
 usage = 1
 

@@ -1,9 +1,9 @@
 //! The call that the program `imakern_orders` makes: from the words of the command line and the
-//! bytes of a script to the rows of all its orders and the exit status.
+//! bytes of a script to the rows of its orders and the exit status.
 //!
 //! [`serve`] is generic over the outside world, so its contract is about the bytes that a source
 //! gives and that sinks take. `specs/Served.antt` says what each status says of them. The rows are
-//! those of a play of `order_runs`, sorted (`sorting.rt`) and printed (`text.rt`).
+//! those of a part of `order_runs`, sorted (`sorting.rt`) and printed (`text.rt`).
 #![tactic(auto)]
 
 mod not_done;

@@ -10,7 +10,7 @@ use std::alloc::AllocError as OutOfMemory;
 /// Why no rows were written: one variant for each status but `DONE`.
 #[derive(Debug, Drop)]
 pub enum NotDone {
-    /// The words are neither none nor one number.
+    /// The words are neither none, nor a number, nor a number and first turns.
     Usage,
     /// The input isn't a script. The line names the first fault.
     Refused(Vec<u8>),
@@ -76,7 +76,7 @@ impl NotDone {
         ensures { result.now ≡ not_done_line self.now }
     {
         match self {
-            NotDone::Usage => b"usage: imakern_orders [N]\n",
+            NotDone::Usage => b"usage: imakern_orders [N [FIRST]]\n",
             NotDone::Refused(line) | NotDone::TooMany(line) => line.as_slice(),
             NotDone::ReadFault => b"read fault\n",
             NotDone::WriteFault => b"write fault\n",

@@ -3,7 +3,7 @@
 /// The input was read to its end and the rows were written whole.
 pub const DONE: u8 = 0;
 
-/// The words are neither none nor one number. Nothing was read.
+/// The words are neither none, nor a number, nor a number and first turns. Nothing was read.
 pub const USAGE: u8 = 1;
 
 /// The input isn't a script. Nothing was written.

@@ -27,23 +27,30 @@ fn push_turns(out: &mut Vec<u8>, turns: &[u32]) -> Result<(), OutOfMemory>
     Ok(())
 }
 
-fn push_row(alloc: Global, out: &mut Vec<u8>, row: &Row) -> Result<(), OutOfMemory>
-    ensures { OnOk result (out.new.items ≡ out.old.items ++ row_text row.now) }
+fn push_row(alloc: Global, out: &mut Vec<u8>, first: &[u32], row: &Row) -> Result<(), OutOfMemory>
+    ensures { OnOk result (out.new.items ≡ out.old.items ++ row_text first.now row.now) }
 {
     out.extend_from_slice(b"outcome ")?;
     push_count(alloc, out, row.counted.count)?;
     out.extend_from_slice(b"\nschedule")?;
+    push_turns(out, first)?;
     push_turns(out, row.counted.order.as_slice())?;
     out.extend_from_slice(b"\n")?;
     out.extend_from_slice(row.outcome.as_slice())?;
     Ok(())
 }
 
-fn push_rows(alloc: Global, out: &mut Vec<u8>, rows: &[Row]) -> Result<(), OutOfMemory>
-    ensures { OnOk result (out.new.items ≡ out.old.items ++ flat_map row_text rows.now) }
+fn push_rows(
+    alloc: Global,
+    out: &mut Vec<u8>,
+    first: &[u32],
+    rows: &[Row],
+) -> Result<(), OutOfMemory>
+    ensures { OnOk result
+        (out.new.items ≡ out.old.items ++ flat_map (row_text first.now) rows.now) }
 {
     for row in rows {
-        push_row(alloc, out, row)?;
+        push_row(alloc, out, first, row)?;
     }
     Ok(())
 }
@@ -72,14 +79,19 @@ fn push_head(alloc: Global, out: &mut Vec<u8>, total: u128, rows: &[Row]) -> Res
     Ok(())
 }
 
-/// The text of the rows, which have `total` orders together.
-pub fn table_text(alloc: Global, total: u128, rows: &[Row]) -> Result<Vec<u8>, OutOfMemory>
+/// The text of the rows, which have `total` orders together, all with the same first turns.
+pub fn table_text(
+    alloc: Global,
+    total: u128,
+    first: &[u32],
+    rows: &[Row],
+) -> Result<Vec<u8>, OutOfMemory>
     requires { total ≡ total_count rows.now }
-    ensures { IfOk result (λ text. text.items ≡ table_text rows.now) }
+    ensures { IfOk result (λ text. text.items ≡ table_text first.now rows.now) }
 {
     let mut out = Vec::new(alloc);
     push_head(alloc, &mut out, total, rows)?;
-    push_rows(alloc, &mut out, rows)?;
+    push_rows(alloc, &mut out, first, rows)?;
     out.extend_from_slice(b"end\n")?;
     Ok(out)
 }

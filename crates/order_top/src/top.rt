@@ -2,21 +2,22 @@
 ghost use Rattle.std.specs.Prelude.{◌≡◌, ◌≢◌, ◌+◌, ◌<◌, ◌≤◌, ◌↔◌, ◌⊎◌, None, length, map, string_bytes, IfOk, IfErr, IfSome, OnOk, IsNone};
 ghost use Rattle.std.specs.Io.KnownBytes.{IsAtEnd};
 ghost use Rattle.ima_io.specs.Counts.{Rose};
-ghost use Rattle.order_top.specs.Limits.{most_input};
+ghost use Rattle.order_runs.specs.outcomes.scripts.Limits.{most_turns};
+ghost use Rattle.order_top.specs.Limits.{most_first, most_input};
 ghost use Rattle.order_top.specs.NotDone.{bad_line, refusal, status_of, told_of, too_many_line};
 ghost use Rattle.order_top.specs.Served.{Answers, AreSortedRows, IsMade, IsPastReading, IsStatus, IsTableText, OnInput, Performed, Serves, Told};
 ghost use Rattle.order_top.specs.Statuses as exit;
-ghost use Rattle.order_top.specs.Words.{most_of};
+ghost use Rattle.order_top.specs.Words.{asked_of, asked_value, asking};
 
 use crate::not_done::NotDone;
 use crate::sorting::sorted;
 use crate::status::DONE;
 use crate::text::{table_text, total_of};
-use crate::words::most_of;
+use crate::words::{Asked, asked_of};
 use ima_io::{Gate, Sink, Source, read_all, write_all};
 use order_runs::outcomes::reports::model::events::templates::xattrs::Bytes;
 use order_runs::outcomes::scripts::{Fault, ScriptErr};
-use order_runs::{Play, Row, Stopped, rows_of};
+use order_runs::{Part, Play, Row, Stopped, rows_of};
 use std::alloc::{AllocError as OutOfMemory, Global};
 
 /// The most bytes that a script may have: 4 MiB.
@@ -38,41 +39,47 @@ fn too_many_line(alloc: Global, most: usize) -> Result<Vec<u8>, OutOfMemory>
     Ok(line.into_bytes())
 }
 
-// The rows of the play, in the order in which they are printed.
+// The rows of the part, in the order in which they are printed.
 fn sorted_rows<G: Gate>(
     alloc: Global,
-    play: &Play,
+    part: &Part,
     most: usize,
     gate: &G,
 ) -> Result<Vec<Row>, NotDone>
-    ensures { IsMade play.now most (λ rows. AreSortedRows play.now rows.items) result }
+    requires { length part.now.first.items ≤ most_turns }
+    ensures { IsMade part.now.play (asking most part.now.first.items)
+        (λ rows. AreSortedRows part.now.play part.now.first.items rows.items) result }
 {
-    match rows_of(alloc, play, most, gate) {
+    match rows_of(alloc, part, most, gate) {
         Ok(rows) => Ok(sorted(alloc, rows)?),
         Err(Stopped::TooMany) => Err(NotDone::TooMany(too_many_line(alloc, most)?)),
         Err(Stopped::OutOfMemory) => Err(NotDone::OutOfMemory),
     }
 }
 
-// The text of the rows of the play.
-fn table<G: Gate>(alloc: Global, play: &Play, most: usize, gate: &G) -> Result<Bytes, NotDone>
-    ensures { IsMade play.now most (IsTableText play.now) result }
+// The text of the rows of the part.
+fn table<G: Gate>(alloc: Global, part: &Part, most: usize, gate: &G) -> Result<Bytes, NotDone>
+    requires { length part.now.first.items ≤ most_turns }
+    ensures { IsMade part.now.play (asking most part.now.first.items)
+        (IsTableText part.now.play part.now.first.items) result }
 {
-    let rows = sorted_rows(alloc, play, most, gate)?;
+    let rows = sorted_rows(alloc, part, most, gate)?;
     let Some(total) = total_of(rows.as_slice()) else {
         return Err(NotDone::TooMany(too_many_line(alloc, most)?));
     };
-    let text = table_text(alloc, total, rows.as_slice())?;
+    let text = table_text(alloc, total, part.first.as_slice(), rows.as_slice())?;
     Ok(Bytes::from_vec(text))
 }
 
 // The text of the rows of the script that the input is.
-fn answer<G: Gate>(alloc: Global, input: Bytes, most: usize, gate: &G) -> Result<Bytes, NotDone>
-    requires { length input ≤ most_input }
-    ensures { Answers most input result }
+fn answer<G: Gate>(alloc: Global, input: Bytes, asked: Asked, gate: &G) -> Result<Bytes, NotDone>
+    requires input { length input ≤ most_input }
+    requires first { length asked.first.items ≤ most_first }
+    ensures { Answers (asked_value asked) input result }
 {
+    let Asked { most, first } = asked;
     match Play::read(alloc, input) {
-        Ok(play) => table(alloc, &play, most, gate),
+        Ok(play) => table(alloc, &Part { play, first }, most, gate),
         Err(ScriptErr::Refused(fault)) => Err(NotDone::Refused(bad_line(alloc, fault)?)),
         Err(ScriptErr::OutOfMemory) => Err(NotDone::OutOfMemory),
     }
@@ -97,11 +104,12 @@ fn read_input<S: Source>(alloc: Global, script: &mut S) -> Result<Bytes, NotDone
 // Reads the whole script, makes its rows, and writes all of them.
 fn perform<S: Source, K: Sink, G: Gate>(
     alloc: Global,
-    most: usize,
+    asked: Asked,
     script: &mut S,
     out: &mut K,
     gate: &G,
 ) -> Result<(), NotDone>
+    requires { length asked.first.items ≤ most_first }
     ensures words { status_of result ≢ exit.usage }
     ensures whole_input { IsPastReading (status_of result) → IsAtEnd (S.left script.new) }
     ensures read_fault { status_of result ≡ exit.read_fault
@@ -109,19 +117,19 @@ fn perform<S: Source, K: Sink, G: Gate>(
     ensures input { OnInput (S.left script.old) (S.left script.new) (λ input.
         (length input ≤ most_input + 1)
         × ((status_of result ≡ exit.too_long) ↔ (most_input < length input))
-        × Performed most input (K.taken out.old) (K.taken out.new) result) }
+        × Performed (asked_value asked) input (K.taken out.old) (K.taken out.new) result) }
     ensures unwritten { status_of result ≢ exit.done → status_of result ≢ exit.write_fault
         → out.new ≡ out.old }
     ensures write_fault { status_of result ≡ exit.write_fault
         → Rose (K.faults out.old) (K.faults out.new) }
 {
     let input = read_input(alloc, script)?;
-    let output = answer(alloc, input, most, gate)?;
+    let output = answer(alloc, input, asked, gate)?;
     write_all(out, output.as_slice())?;
     Ok(())
 }
 
-// Finds the most moments that may be met and performs what the words ask for.
+// Finds what the words ask for and performs it.
 fn answer_words<S: Source, K: Sink, G: Gate>(
     alloc: Global,
     words: &[String],
@@ -130,24 +138,24 @@ fn answer_words<S: Source, K: Sink, G: Gate>(
     gate: &G,
 ) -> Result<(), NotDone>
     ensures usage { (status_of result ≡ exit.usage)
-        ↔ IsNone (most_of (map string_bytes words.now)) }
+        ↔ IsNone (asked_of (map string_bytes words.now)) }
     ensures unread { status_of result ≡ exit.usage → script.new ≡ script.old }
     ensures whole_input { IsPastReading (status_of result) → IsAtEnd (S.left script.new) }
     ensures read_fault { status_of result ≡ exit.read_fault
         → Rose (S.faults script.old) (S.faults script.new) }
-    ensures input { IfSome (most_of (map string_bytes words.now)) (λ most.
+    ensures input { IfSome (asked_of (map string_bytes words.now)) (λ asked.
         OnInput (S.left script.old) (S.left script.new) (λ input.
         (length input ≤ most_input + 1)
         × ((status_of result ≡ exit.too_long) ↔ (most_input < length input))
-        × Performed most input (K.taken out.old) (K.taken out.new) result)) }
+        × Performed asked input (K.taken out.old) (K.taken out.new) result)) }
     ensures unwritten { status_of result ≢ exit.done → status_of result ≢ exit.write_fault
         → out.new ≡ out.old }
     ensures write_fault { status_of result ≡ exit.write_fault
         → Rose (K.faults out.old) (K.faults out.new) }
 {
-    match most_of(words) {
-        Some(most) => perform(alloc, most, script, out, gate),
-        None => Err(NotDone::Usage),
+    match asked_of(alloc, words) {
+        Ok(asked) => perform(alloc, asked, script, out, gate),
+        Err(why) => Err(why),
     }
 }
 
@@ -159,12 +167,12 @@ fn tell<N: Sink>(note: &mut N, line: &[u8])
     let _ = write_all(note, line);
 }
 
-/// Reads a script from `script`, writes the rows of all its orders to `out`, and returns the exit
+/// Reads a script from `script`, writes the rows of its orders to `out`, and returns the exit
 /// status. What went wrong is reported in one line on `note`; a fault of `note` doesn't change the
 /// status.
 ///
-/// The words don't include the program's name; one word is the most moments that may be met. Each
-/// step of a task passes `gate` first.
+/// The words don't include the program's name: the first is the most moments that may be met, and
+/// the second names the turns with which the orders begin. Each step of a task passes `gate` first.
 pub fn serve<S: Source, K: Sink, N: Sink, G: Gate>(
     alloc: Global,
     words: &[String],
@@ -175,9 +183,9 @@ pub fn serve<S: Source, K: Sink, N: Sink, G: Gate>(
 ) -> u8
     ensures statuses { IsStatus result }
 
-    // The words: `usage` is returned exactly if they are neither none nor one number. Then nothing
-    // is read.
-    ensures usage { (result ≡ exit.usage) ↔ IsNone (most_of (map string_bytes words.now)) }
+    // The words: `usage` is returned exactly if they aren't none, a number, or a number and first
+    // turns. Then nothing is read.
+    ensures usage { (result ≡ exit.usage) ↔ IsNone (asked_of (map string_bytes words.now)) }
     ensures unread { result ≡ exit.usage → script.new ≡ script.old }
 
     // The input is read to its end, except with the statuses `usage`, `read_fault`, `too_long` and
@@ -187,9 +195,9 @@ pub fn serve<S: Source, K: Sink, N: Sink, G: Gate>(
         → Rose (S.faults script.old) (S.faults script.new) }
 
     // What the status says about the input, the output that was written, and the line on the note.
-    ensures served { IfSome (most_of (map string_bytes words.now)) (λ most.
+    ensures served { IfSome (asked_of (map string_bytes words.now)) (λ asked.
         OnInput (S.left script.old) (S.left script.new) (λ input.
-        Serves most input result (K.taken out.old) (K.taken out.new)
+        Serves asked input result (K.taken out.old) (K.taken out.new)
         (Told (N.faults note.old) (N.faults note.new) (N.taken note.old) (N.taken note.new)))) }
 
     // The output: nothing is written before all rows are known.
@@ -203,7 +211,7 @@ pub fn serve<S: Source, K: Sink, N: Sink, G: Gate>(
         (N.taken note.old) (N.taken note.new) (told_of result) }
 
     // If no stream fails, a script is answered, unless it has too much or memory runs out.
-    ensures complete { IfSome (most_of (map string_bytes words.now)) (λ most.
+    ensures complete { IfSome (asked_of (map string_bytes words.now)) (λ asked.
         IfSome (S.left script.old) (λ input.
         length input ≤ most_input → refusal input ≡ None →
         (result ≡ exit.done) ⊎ (result ≡ exit.too_many) ⊎ (result ≡ exit.out_of_memory)

@@ -19,6 +19,7 @@ pub mod events;
 pub mod inode;
 pub mod labels;
 pub mod lists;
+pub mod orders;
 pub mod outside;
 pub mod policies;
 pub mod scripts;

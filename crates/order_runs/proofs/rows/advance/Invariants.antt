@@ -5,4 +5,4 @@ use Rattle.order_runs.proofs.rows.advance.Given as goal
 
 abbrev pub invariant-loop-way : goal.invariant-loop-way
 invariant-loop-way g l =
-    IsStep l.play (take l.way-index l.layer) l.fn.rows.items l.next.items l.rows.items
+    IsStep l.part (take l.way-index l.layer) l.fn.rows.items l.next.items l.rows.items

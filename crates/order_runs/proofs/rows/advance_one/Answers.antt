@@ -4,14 +4,14 @@ use Rattle.order_runs.proofs.rows.advance_one.Goals as goal
 
 pub returns-in_ok-add_row-clause-advanced : goal.returns-in_ok-add_row-clause-advanced
 returns-in_ok-add_row-clause-advanced g c =
-    ending c.args.play.now c.args.way.now c.requires.kept c.args.next.now.items
+    ending c.args.part.now c.args.way.now c.requires.kept c.args.next.now.items
     c.spread.new.next.items c.in_ok-any.any c.in_ok-any.ensures c.if-not-any.true
     c.args.rows.now.items c.add_row.new.rows.items c.in_ok-row.row c.in_ok-row.ensures.counted
-    (c.in_ok-row.ensures.outcome c.args.play.now c.requires.kept) c.in_ok-add_row.ensures.added
+    (c.in_ok-row.ensures.outcome c.args.part.now c.requires.kept) c.in_ok-add_row.ensures.added
 
 pub returns-else-not-any-clause-advanced : goal.returns-else-not-any-clause-advanced
 returns-else-not-any-clause-advanced g c =
-    going c.args.play.now c.args.way.now c.requires.kept c.args.next.now.items
+    going c.args.part.now c.args.way.now c.requires.kept c.args.next.now.items
     c.spread.new.next.items c.in_ok-any.any c.in_ok-any.ensures c.if-not-any.false
     c.args.rows.now.items
 
@@ -19,7 +19,7 @@ pub returns-in_err-add_row-clause-too_many : goal.returns-in_err-add_row-clause-
 returns-in_err-add_row-clause-too_many g c =
     told _ _ c.in_err-add_row.field-0.0 c.from_residual-in_err-add_row.result
     c.in_err-add_row.ensures.too_many
-    (overruns c.args.play.now c.args.way.now c.requires.kept c.args.next.now.items
+    (overruns c.args.part.now c.args.way.now c.requires.kept c.args.next.now.items
     c.spread.new.next.items c.in_ok-any.any c.in_ok-any.ensures c.if-not-any.true
     c.args.rows.now.items c.in_ok-row.row c.in_ok-row.ensures.counted)
     c.from_residual-in_err-add_row.ensures.1

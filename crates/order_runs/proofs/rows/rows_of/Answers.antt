@@ -1,81 +1,21 @@
-use Rattle.std.proofs.Common.{◌≡◌, ◌+◌, ◌-◌, ◌<◌, ◌∙◌, All, List, [], length, arith, sym, subst, eqb-true}
-use Rattle.std.proofs.lemmas.List.{nil_from_length}
-use Rattle.order_outcomes.specs.scripts.Limits.{most_turns}
-use Rattle.order_runs.specs.Steps.{IsLayer, IsStep}
+use Rattle.std.proofs.Common.{◌≡◌, List, Option, None, sym, subst}
+use Rattle.std.specs.Prelude.{MatchOption}
+use Rattle.order_runs.specs.Steps.{IsRoot, opening}
+use Rattle.order_runs.specs.Tables.{IsTable}
 use Rattle.order_runs.specs.declared.rows.Row.{Row}
 use Rattle.order_runs.specs.declared.ways.Way.{Way}
-use Rattle.order_runs.proofs.Layering.{layer_next, layer_short, table}
-use Rattle.order_runs.proofs.Stopping.{IsCounting, counting_first, counting_next, crowds, nonzero, told, too_long, too_wide}
+use Rattle.order_runs.proofs.Stopping.{no_rows}
 use Rattle.order_runs.proofs.rows.rows_of.Goals as goal
 
-pub advance-requires-clause-turns : goal.advance-requires-clause-turns
-advance-requires-clause-turns g c =
-    subst (λ (ways : List Way). All (λ (w : Way). length w.counted.order < most_turns) ways)
-    (sym c.as_slice.ensures.value)
-    (layer_short c.args.play.now c.loop-turn.turn c.loop-turn.layer.items
-    c.loop-turn.rows.items c.loop-turn.invariant.at c.loop-turn-test.true)
+pub rows_from-requires-clause-root : goal.rows_from-requires-clause-root
+rows_from-requires-clause-root g c =
+    subst (λ (o : Option Way). MatchOption o (opening c.args.part.now ≡ None)
+    (IsRoot c.args.part.now)) c.in-Some.is c.in_ok-way.ensures
 
-pub loop-turn-init : goal.loop-turn-init
-loop-turn-init g c =
-    subst (λ (rows : List Row). IsCounting c.args.play.now c.args.most 0
-    c.in_ok-layer.layer.items rows c.args.most) (sym c.new-rows.ensures.items)
-    (counting_first c.args.play.now c.args.most c.in_ok-layer.layer.items
-    c.in_ok-layer.ensures.layer c.in_ok-layer.ensures.first)
-
-pub loop-turn-preserved : goal.loop-turn-preserved
-loop-turn-preserved g c =
-    counting_next c.args.play.now c.args.most c.loop-turn.turn c.loop-turn.layer.items
-    c.loop-turn.rows.items c.loop-turn.room c.loop-turn.invariant
-    (c.loop-turn.room - c.len-room.result)
-    (omega (arith, c.if-room-len.false, c.len.ensures, c.len-room.ensures, c.loop-turn.layer.ok.0))
-    c.in_ok-layer-2.layer.items c.advance.new.rows.items
-    (subst (λ (ways : List Way). IsStep c.args.play.now ways c.loop-turn.rows.items
-    c.in_ok-layer-2.layer.items c.advance.new.rows.items) c.as_slice.ensures.value
-    c.in_ok-layer-2.ensures.step)
-    (omega (
-      arith,
-      nonzero c.in_ok-layer-2.layer.len (sym c.is_empty.ensures ∙ c.if-is_empty.false),
-      c.in_ok-layer-2.layer.ok.0,
-    ))
-
-pub returns-then-is_empty-clause-rows : goal.returns-then-is_empty-clause-rows
-returns-then-is_empty-clause-rows g c =
-    let empty : c.in_ok-layer-2.layer.items ≡ [] =
-    nil_from_length c.in_ok-layer-2.layer.items (sym c.in_ok-layer-2.layer.ok.0
-    ∙ eqb-true c.in_ok-layer-2.layer.len 0 (sym c.is_empty.ensures ∙ c.if-is_empty.true)) in
-    table c.args.play.now (c.loop-turn.turn + 1) c.advance.new.rows.items
-    (subst (λ (ways : List Way). IsLayer c.args.play.now (c.loop-turn.turn + 1) ways
-    c.advance.new.rows.items) empty
-    (layer_next c.args.play.now c.loop-turn.turn c.loop-turn.layer.items c.loop-turn.rows.items
-    c.in_ok-layer-2.layer.items c.advance.new.rows.items c.loop-turn.invariant.at
-    (subst (λ (ways : List Way). IsStep c.args.play.now ways c.loop-turn.rows.items
-    c.in_ok-layer-2.layer.items c.advance.new.rows.items) c.as_slice.ensures.value
-    c.in_ok-layer-2.ensures.step)))
-
-pub returns-then-room-len-clause-too_many : goal.returns-then-room-len-clause-too_many
-returns-then-room-len-clause-too_many g c = λ is.
-    too_wide c.args.play.now c.args.most c.loop-turn.turn c.loop-turn.layer.items
-    c.loop-turn.rows.items c.loop-turn.room c.loop-turn.invariant
-    (omega (arith, c.if-room-len.true, c.len.ensures, c.loop-turn.layer.ok.0))
-
-pub returns-in_err-layer-2-clause-too_many : goal.returns-in_err-layer-2-clause-too_many
-returns-in_err-layer-2-clause-too_many g c =
-    told _ _ c.in_err-layer-2.field-0.0 c.from_residual-in_err-layer-2.result
-    c.in_err-layer-2.ensures.too_many
-    (λ x. crowds c.args.play.now c.args.most c.loop-turn.turn c.loop-turn.layer.items
-    c.as_slice.result.now c.loop-turn.rows.items c.loop-turn.room
-    (c.loop-turn.room - c.len-room.result) c.loop-turn.invariant x c.as_slice.ensures.value
-    (omega (
-      arith,
-      c.if-room-len.false,
-      c.len.ensures,
-      c.len-room.ensures,
-      c.loop-turn.layer.ok.0,
-    )))
-    c.from_residual-in_err-layer-2.ensures.1
-
-pub returns-clause-too_many : goal.returns-clause-too_many
-returns-clause-too_many g c = λ is.
-    too_long c.args.play.now c.args.most c.loop-turn.turn c.loop-turn.layer.items
-    c.loop-turn.rows.items c.loop-turn.room c.loop-turn.invariant
-    (omega (arith, c.loop-turn-test.false, c.loop-turn.auto.turn-end))
+pub returns-in-None-clause-rows : goal.returns-in-None-clause-rows
+returns-in-None-clause-rows g c =
+    subst (λ (rows : List Row). IsTable c.args.part.now.play c.args.part.now.first.items rows)
+    (sym c.new.ensures.items)
+    (no_rows c.args.part.now.play c.args.part.now.first.items
+    (subst (λ (o : Option Way). MatchOption o (opening c.args.part.now ≡ None)
+    (IsRoot c.args.part.now)) c.in-None.is c.in_ok-way.ensures))

@@ -6,5 +6,5 @@ use Rattle.order_top.proofs.text.push_rows.Given as goal
 
 abbrev pub invariant-loop-row : goal.invariant-loop-row
 invariant-loop-row l =
-    l.out.items ++ flat_map row_text (drop l.row-index l.rows)
-    ≡ l.fn.out.items ++ flat_map row_text l.rows
+    l.out.items ++ flat_map (row_text l.first) (drop l.row-index l.rows)
+    ≡ l.fn.out.items ++ flat_map (row_text l.first) l.rows

@@ -1,20 +1,20 @@
 use Rattle.std.proofs.Common.{map, string_bytes}
-use Rattle.order_top.specs.Words.{most_of}
+use Rattle.order_top.specs.Words.{asked_of}
 use Rattle.order_top.proofs.Serving.{complete_not_done, served_done, served_not_done}
 use Rattle.order_top.proofs.top.serve.Goals as goal
 
 pub returns-in-Ok-clause-served : goal.returns-in-Ok-clause-served
 returns-in-Ok-clause-served g c =
-    served_done (most_of (map string_bytes c.args.words.now)) _ _ _ _ _ c.in-Ok.ensures.input
+    served_done (asked_of (map string_bytes c.args.words.now)) _ _ _ _ _ c.in-Ok.ensures.input
 
 pub returns-in-Err-clause-served : goal.returns-in-Err-clause-served
 returns-in-Err-clause-served g c =
-    served_not_done (most_of (map string_bytes c.args.words.now)) _ _ _ _ c.in-Err.why _
+    served_not_done (asked_of (map string_bytes c.args.words.now)) _ _ _ _ c.in-Err.why _
     c.status.result c.line.result.now c.status.ensures c.line.ensures c.in-Err.ensures.input
     c.tell.ensures
 
 pub returns-in-Err-clause-complete : goal.returns-in-Err-clause-complete
 returns-in-Err-clause-complete g c =
-    complete_not_done (most_of (map string_bytes c.args.words.now)) _ _ _ _ c.in-Err.why _ _
+    complete_not_done (asked_of (map string_bytes c.args.words.now)) _ _ _ _ c.in-Err.why _ _
     c.status.result c.status.ensures c.in-Err.ensures.usage.0 c.in-Err.ensures.whole_input
     c.in-Err.ensures.read_fault c.in-Err.ensures.write_fault c.in-Err.ensures.input
