@@ -1,0 +1,90 @@
+//! The bytes of a buffer.
+
+ghost use Rattle.std.specs.Prelude.{◌≡◌, Some, IfOk};
+ghost use Rattle.script_text.specs.Limits.{most_value};
+ghost use Rattle.script_text.specs.script_lines.Value.{value_of};
+
+use script_text::script_lines::value_of;
+use script_text::xattrs::Bytes;
+use std::alloc::{AllocError as OutOfMemory, Global};
+use std::marker::Model;
+
+/// The most bytes of a buffer.
+pub const VALUE: usize = 4_096;
+
+// How many times as long as its word the bytes are at least if the word is kept.
+const FAR_LONGER: usize = 64;
+
+// The bytes themselves, or the word of a text that gives them.
+#[derive(Drop)]
+enum Held {
+    Bytes(Bytes),
+    Word(Bytes),
+}
+
+/// The bytes of a buffer, which needn't be laid out yet. Contracts see the list of bytes.
+#[derive(Drop)]
+pub struct BufferBytes {
+    held: Held,
+}
+
+impl Model for BufferBytes {
+    ghost use Rattle.std.specs.Prelude.{ℕ, List};
+    ghost use Rattle.buffer_measure.specs.Bytes.{bytes_held};
+
+    ghost Value = { List ℕ };
+
+    ghost view = { λ b. bytes_held b.held };
+}
+
+impl BufferBytes {
+    /// These bytes.
+    pub fn new(bytes: Bytes) -> BufferBytes
+        ensures { result ≡ bytes }
+    {
+        BufferBytes {
+            held: Held::Bytes(bytes),
+        }
+    }
+
+    /// The bytes that the word of a text gives. If they are far longer than the word, as those of
+    /// `fill:` can be, the word is kept in their place.
+    pub fn of_word(alloc: Global, word: &[u8], bytes: Bytes) -> Result<BufferBytes, OutOfMemory>
+        requires { value_of 0 most_value word.now ≡ Some bytes }
+        ensures { IfOk result (λ b. b ≡ bytes) }
+    {
+        if word.len() <= bytes.as_slice().len() / FAR_LONGER {
+            let word = Bytes::from_slice(alloc, word)?;
+            Ok(BufferBytes {
+                held: Held::Word(word),
+            })
+        } else {
+            Ok(BufferBytes::new(bytes))
+        }
+    }
+
+    /// The bytes, laid out one after another.
+    pub fn laid(self, alloc: Global) -> Result<Bytes, OutOfMemory>
+        ensures { IfOk result (λ bytes. bytes ≡ self) }
+    {
+        match self.held {
+            Held::Bytes(bytes) => Ok(bytes),
+            // The word was read before, so only memory can be the cause.
+            Held::Word(word) => match value_of(alloc, word.as_slice(), 0, VALUE) {
+                Ok(bytes) => Ok(bytes),
+                Err(_) => Err(OutOfMemory),
+            },
+        }
+    }
+
+    /// A copy with equal bytes, in its own memory.
+    pub fn copy(&self, alloc: Global) -> Result<BufferBytes, OutOfMemory>
+        ensures { IfOk result (λ copy. copy ≡ self.now) }
+    {
+        let held = match &self.held {
+            Held::Bytes(bytes) => Held::Bytes(Bytes::from_slice(alloc, bytes.as_slice())?),
+            Held::Word(word) => Held::Word(Bytes::from_slice(alloc, word.as_slice())?),
+        };
+        Ok(BufferBytes { held })
+    }
+}
