@@ -4,7 +4,7 @@ ghost use Rattle.std.specs.Prelude.{◌≡◌, Some, IfOk};
 ghost use Rattle.script_text.specs.Limits.{most_value};
 ghost use Rattle.script_text.specs.script_lines.Value.{value_of};
 
-use script_text::script_lines::value_of;
+use script_text::script_lines::{LineErr, value_of};
 use script_text::xattrs::Bytes;
 use std::alloc::{AllocError as OutOfMemory, Global};
 use std::marker::Model;
@@ -29,12 +29,14 @@ pub struct BufferBytes {
 }
 
 impl Model for BufferBytes {
-    ghost use Rattle.std.specs.Prelude.{ℕ, List};
-    ghost use Rattle.buffer_measure.specs.Bytes.{bytes_held};
+    ghost use Rattle.std.specs.Prelude.{◌≡◌, ℕ, List, true};
+    ghost use Rattle.buffer_measure.specs.Bytes.{bytes_held, gives_bytes};
 
     ghost Value = { List ℕ };
 
     ghost view = { λ b. bytes_held b.held };
+
+    ghost invariant = { λ b. gives_bytes b.held ≡ true };
 }
 
 impl BufferBytes {
@@ -69,10 +71,11 @@ impl BufferBytes {
     {
         match self.held {
             Held::Bytes(bytes) => Ok(bytes),
-            // The word was read before, so only memory can be the cause.
             Held::Word(word) => match value_of(alloc, word.as_slice(), 0, VALUE) {
                 Ok(bytes) => Ok(bytes),
-                Err(_) => Err(OutOfMemory),
+                Err(LineErr::OutOfMemory) => Err(OutOfMemory),
+                // The word was read before.
+                Err(LineErr::Refused(_)) => unreachable!(),
             },
         }
     }
