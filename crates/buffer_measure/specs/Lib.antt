@@ -1,4 +1,5 @@
 pub mod Text
+pub mod Bytes
 pub mod Limits
 pub mod Draft
 pub mod Heads

@@ -4,6 +4,7 @@ ghost use Rattle.std.specs.Prelude.{◌≡◌, ◌<◌, true, IfOk};
 ghost use Rattle.buffer_measure.specs.Entries.{boot_entry, entry_for};
 ghost use Rattle.buffer_measure.specs.Forms.{is_buffer};
 
+use crate::bytes::BufferBytes;
 use script_text::hashes::{Algo, Digest, digest_of};
 use script_text::meta::{DEFAULT_PCR, Template};
 use script_text::templates::{Entry, build, restore};
@@ -28,13 +29,19 @@ pub fn boot_entry(alloc: Global, hash: Algo) -> Result<Entry, OutOfMemory>
 }
 
 /// The entry of a buffer in this register, with its digest by this algorithm. The buffer's name and
-/// bytes become those of the entry, without a copy.
-pub fn entry_for(hash: Algo, pcr: u8, line: (Bytes, Bytes)) -> Result<Entry, OutOfMemory>
+/// bytes become those of the entry, without a copy. If they aren't laid out yet, they are here.
+pub fn entry_for(
+    alloc: Global,
+    hash: Algo,
+    pcr: u8,
+    line: (Bytes, BufferBytes),
+) -> Result<Entry, OutOfMemory>
     requires pcr { pcr < 24 }
     requires line { is_buffer line ≡ true }
     ensures { IfOk result (λ e. e ≡ entry_for hash pcr line) }
 {
     let (name, value) = line;
+    let value = value.laid(alloc)?;
     let digest = digest_of(hash, value.as_slice());
     prove!(digest.as_slice().len() == digest.algo().size());
     restore(pcr, Template::ImaBuf, digest, name, value, false)

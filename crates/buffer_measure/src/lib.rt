@@ -6,6 +6,7 @@
 mod answer;
 mod answers;
 mod book;
+mod bytes;
 mod draft;
 mod entries;
 mod head;
@@ -22,6 +23,7 @@ mod workers;
 
 pub use answer::Answer;
 pub use answers::Answers;
+pub use bytes::BufferBytes;
 pub use laws::{print_determines, runs_alone};
 pub use measuring::{measure_all, measure_owned};
 pub use output::{print, print_in_pieces};

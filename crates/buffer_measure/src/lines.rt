@@ -1,12 +1,13 @@
 //! The lines of a text of buffers.
 
-ghost use Rattle.std.specs.Prelude.{◌≡◌, OnOk, map};
+ghost use Rattle.std.specs.Prelude.{◌≡◌, OnOk, length, map};
 ghost use Rattle.std.specs.Option.{option_copied};
 ghost use Rattle.script_text.specs.script_lines.Gives.{LineMakes};
 ghost use Rattle.script_text.specs.Draft.{change_last};
 ghost use Rattle.buffer_measure.specs.Grammar.{caller_of, with_caller, with_cred, with_critical, with_hash, with_line, with_rule, with_threads, with_version};
 ghost use Rattle.buffer_measure.specs.Text.{caller_with};
 
+use crate::bytes::{BufferBytes, VALUE};
 use crate::draft::Draft;
 use crate::text::BufferCaller;
 use script_text::forms::is_word;
@@ -18,12 +19,10 @@ use script_text::xattrs::Bytes;
 use script_text::{cred_in, pop_last, sum_of, threads_of, two};
 use std::alloc::{AllocError as OutOfMemory, Global};
 
-// The most callers, the most buffers of all callers, and the most bytes of a buffer.
+// The most callers, and the most buffers of all callers.
 const CALLERS: usize = 64;
 
 const LINES: usize = 32_768;
-
-const VALUE: usize = 4_096;
 
 impl Draft {
     /// Reads the line `imabuffers 1`, the version of texts of buffers.
@@ -96,19 +95,22 @@ impl Draft {
         if !is_word(name, 255) {
             return Err(LineErr::Refused(LineCause::BadField));
         }
-        let value = value_of(alloc, value, 0, VALUE)?;
+        let bytes = value_of(alloc, value, 0, VALUE)?;
+        let len = bytes.as_slice().len();
+        let bytes = BufferBytes::of_word(alloc, value, bytes)?;
         let name = Bytes::from_slice(alloc, name)?;
-        self.with_line((name, value))
+        self.with_line((name, bytes), len)
     }
 
     #[tactic(auto, unfolding(crate::specs::Grammar::with_line))]
-    fn with_line(&mut self, line: (Bytes, Bytes)) -> Result<(), LineErr>
+    fn with_line(&mut self, line: (Bytes, BufferBytes), len: usize) -> Result<(), LineErr>
+        requires { len ≡ length line.1 }
         ensures { LineMakes result (with_line line self.old) self.new }
     {
         if self.lines >= LINES {
             return Err(LineErr::Refused(LineCause::TooMany));
         }
-        let sum = sum_of(self.sum, line.1.as_slice().len()).ok_or(LineCause::TooLarge)?;
+        let sum = sum_of(self.sum, len).ok_or(LineCause::TooLarge)?;
         line_on_last(&mut self.callers, line)?;
         self.lines += 1;
         self.sum = sum;
@@ -141,7 +143,10 @@ fn caller_of(fields: &[&[u8]]) -> Option<Cred>
 
 // Appends a buffer to those of the last caller.
 #[tactic(auto, unfolding(script_text::specs::Draft::change_last))]
-fn line_on_last(callers: &mut Vec<BufferCaller>, line: (Bytes, Bytes)) -> Result<(), OutOfMemory>
+fn line_on_last(
+    callers: &mut Vec<BufferCaller>,
+    line: (Bytes, BufferBytes),
+) -> Result<(), OutOfMemory>
     ensures ok { OnOk result (callers.new.items
         ≡ change_last (caller_with line) callers.old.items) }
 {

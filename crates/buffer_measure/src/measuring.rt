@@ -24,7 +24,8 @@ use std::thread::Threads;
 /// Before each buffer its caller passes the gate, outside the lock of the list: the task is the
 /// caller's number, the call the buffer's number, both counted from 0, and the step is 0.
 ///
-/// The text is consumed: the entries of the list take over its buffers, without a copy.
+/// The text is consumed: the entries of the list take over its buffers, without a copy. Bytes that
+/// aren't laid out yet are laid out by the thread that measures them.
 pub fn measure_owned<G: Gate + Sync, R: Threads + Wait + Sync>(
     rt: &R,
     alloc: Global,

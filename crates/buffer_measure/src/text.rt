@@ -4,6 +4,7 @@ ghost use Rattle.std.specs.Prelude.{◌≡◌, [], IfOk};
 ghost use Rattle.buffer_measure.specs.Forms.{IsBufferText};
 ghost use Rattle.buffer_measure.specs.Text.{caller_with};
 
+use crate::bytes::BufferBytes;
 use script_text::hashes::Algo;
 use script_text::meta::Cred;
 use script_text::policy::Policy;
@@ -18,7 +19,7 @@ pub struct BufferCaller {
     /// The credentials that the rules are matched against.
     pub cred: Cred,
     /// The buffers, each with its name and its bytes.
-    pub lines: Vec<(Bytes, Bytes)>,
+    pub lines: Vec<(Bytes, BufferBytes)>,
 }
 
 impl Model for BufferCaller {
@@ -41,7 +42,7 @@ impl BufferCaller {
     }
 
     /// The caller with one more buffer at the end.
-    pub fn with(self, line: (Bytes, Bytes)) -> Result<BufferCaller, OutOfMemory>
+    pub fn with(self, line: (Bytes, BufferBytes)) -> Result<BufferCaller, OutOfMemory>
         ensures { IfOk result (λ caller. caller ≡ caller_with line self) }
     {
         let mut caller = self;
@@ -57,7 +58,7 @@ impl BufferCaller {
     }
 
     /// The buffers in order, each with its name and its bytes.
-    pub fn lines(&self) -> &[(Bytes, Bytes)]
+    pub fn lines(&self) -> &[(Bytes, BufferBytes)]
         ensures { result.now ≡ self.now.lines }
     {
         self.lines.as_slice()
@@ -79,11 +80,11 @@ impl BufferCaller {
 }
 
 // A copy of a buffer, in its own memory.
-fn copy_of(alloc: Global, line: &(Bytes, Bytes)) -> Result<(Bytes, Bytes), OutOfMemory>
+fn copy_of(alloc: Global, line: &(Bytes, BufferBytes)) -> Result<(Bytes, BufferBytes), OutOfMemory>
     ensures { IfOk result (λ copy. copy ≡ line.now) }
 {
     let name = Bytes::from_slice(alloc, line.0.as_slice())?;
-    let value = Bytes::from_slice(alloc, line.1.as_slice())?;
+    let value = line.1.copy(alloc)?;
     Ok((name, value))
 }
 

@@ -9,6 +9,7 @@ ghost use Rattle.buffer_measure.specs.Answered.{HaveAnswers, IsAnswered, IsSameP
 use crate::answer::Answer;
 use crate::answers::Answers;
 use crate::book::{KeptBook, Name};
+use crate::bytes::{BufferBytes, VALUE};
 use crate::entries::entry_for;
 use crate::rules::wanted;
 use crate::text::BufferCaller;
@@ -29,7 +30,7 @@ use std::{mem, thread};
 #[derive(Drop)]
 pub struct Worker {
     pub cred: Cred,
-    pub lines: Vec<(Bytes, Bytes)>,
+    pub lines: Vec<(Bytes, BufferBytes)>,
     pub pass: Pass<Entry>,
     pub answers: Option<Answers>,
 }
@@ -60,9 +61,10 @@ pub fn workers_of(
 // Measures one buffer: makes it an entry, and adds that to the list under the lock.
 fn answer_line<N: Name, R: Wait>(
     rt: &R,
+    alloc: Global,
     hash: Algo,
     register: Option<u8>,
-    line: (Bytes, Bytes),
+    line: (Bytes, BufferBytes),
     book: &Mutex<KeptBook<N>>,
     pass: &mut Pass<Entry>,
 ) -> Result<Answer, OutOfMemory>
@@ -75,7 +77,7 @@ fn answer_line<N: Name, R: Wait>(
     match register {
         None => Ok(Answer::Skipped),
         Some(pcr) => {
-            let entry = entry_for(hash, pcr, line)?;
+            let entry = entry_for(alloc, hash, pcr, line)?;
             book.lock(rt).add(pass, entry)
         }
     }
@@ -87,7 +89,7 @@ fn answer_lines<N: Name, G: Gate, R: Wait>(
     alloc: Global,
     hash: Algo,
     register: Option<u8>,
-    lines: Vec<(Bytes, Bytes)>,
+    lines: Vec<(Bytes, BufferBytes)>,
     task: u32,
     book: &Mutex<KeptBook<N>>,
     gate: &G,
@@ -108,10 +110,17 @@ fn answer_lines<N: Name, G: Gate, R: Wait>(
             call: k as u32,
             step: 0,
         });
-        let answer = answer_line(rt, hash, register, line, book, pass)?;
+        let answer = answer_line(rt, alloc, hash, register, line, book, pass)?;
         answers.push(answer)?;
     }
     Ok(answers)
+}
+
+// Asks for the room of the bytes of so many buffers, and gives it back. The memory of a thread then
+// grows once, and not by a page or two for each buffer that is laid out, which would hold up the
+// other threads each time. Only the speed depends on it.
+fn make_room(alloc: Global, buffers: usize) {
+    let _ = Vec::<u8>::with_capacity(alloc, buffers.saturating_mul(VALUE));
 }
 
 // Runs the caller of this number. If memory runs out, it has no answers.
@@ -131,6 +140,7 @@ fn run_caller<N: Name, G: Gate, R: Wait>(
 {
     let register = wanted(rules, &worker.cred);
     let lines = mem::replace(&mut worker.lines, Vec::new(alloc));
+    make_room(alloc, lines.len());
     let answers = answer_lines(
         rt,
         alloc,

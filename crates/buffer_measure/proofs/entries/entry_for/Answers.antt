@@ -4,5 +4,6 @@ use Rattle.buffer_measure.proofs.entries.entry_for.Goals as goal
 
 pub restore-requires : goal.restore-requires
 restore-requires c =
-    buffer_entry c.args.pcr c.digest_of-digest.result c.args.line c.requires.pcr
-    c.as_slice-2.ensures.size c.requires.line
+    rw c.in_ok-value.ensures
+    (buffer_entry c.args.pcr c.digest_of-digest.result c.args.line c.requires.pcr
+    c.as_slice-2.ensures.size c.requires.line)
