@@ -5,7 +5,7 @@ use order_top::DONE;
 use std::alloc::{AllocError as OutOfMemory, Global};
 
 // A row of an answer.
-#[derive(Clone, Copy, Drop, PartialEq, Eq)]
+#[derive(Clone, Copy, Drop)]
 struct Row<'a> {
     count: u128,
     // The line `schedule`. The tasks' numbers have one digit, so the first of two lines is the one
@@ -24,6 +24,13 @@ impl<'a> Row<'a> {
             first,
             outcome: outcome.strip_suffix("\nend\n").unwrap_or(outcome),
         })
+    }
+
+    // Whether the other row is the same.
+    fn is(&self, other: &Row<'_>) -> bool {
+        self.count == other.count
+            && self.first.as_bytes() == other.first.as_bytes()
+            && self.outcome.as_bytes() == other.outcome.as_bytes()
     }
 
     // The two rows of one outcome, added.
@@ -71,10 +78,20 @@ fn add_all<'a>(rows: &mut Vec<Row<'a>>, answer: &'a [u8]) -> Result<bool, OutOfM
     Ok(true)
 }
 
+// Whether the row is one of the rows.
+fn is_among(row: &Row<'_>, rows: &[Row<'_>]) -> bool {
+    for other in rows {
+        if row.is(other) {
+            return true;
+        }
+    }
+    false
+}
+
 // Whether both have the same rows.
 fn are_same(a: &[Row<'_>], b: &[Row<'_>]) -> bool {
     for row in a {
-        if !b.contains(row) {
+        if !is_among(row, b) {
             return false;
         }
     }
