@@ -12,17 +12,18 @@ use std::marker::Model;
 /// The most bytes of a buffer.
 pub const VALUE: usize = 4_096;
 
-// How many times as long as its word the bytes are at least if the word is kept.
+// A word is kept in place of its bytes if they are at least so many times as long.
 const FAR_LONGER: usize = 64;
 
-// The bytes themselves, or the word of a text that gives them.
+// The bytes themselves, or the word of a text that stands for them.
 #[derive(Drop)]
 enum Held {
     Bytes(Bytes),
     Word(Bytes),
 }
 
-/// The bytes of a buffer, which needn't be laid out yet. Contracts see the list of bytes.
+/// The bytes of a buffer, which needn't be laid out yet. Contracts see the list of bytes. The
+/// invariant: a word that stands for bytes gives some.
 #[derive(Drop)]
 pub struct BufferBytes {
     held: Held,
