@@ -88,23 +88,42 @@ const WORDS: [(&str, &str, u8, &str, &str); 31] = [
 ];
 
 fn main(rt: HostRuntime) -> Result<()> {
+    let rows = rows_hold(&rt)?;
+    let words = all_words_hold(&rt)?;
+    let parts = parts_hold(&rt)?;
+    let faults = faults_hold(&rt)?;
+    ensure!(rows && words && parts && faults, "not as it should be");
+    Ok(())
+}
+
+// Whether each script has its stored answer.
+fn rows_hold(rt: &HostRuntime) -> Result<bool> {
     let mut all = true;
     for name in SCRIPTS {
-        let script = script(&rt, name)?;
-        let got = answer(rt.alloc(), "", &script)?;
-        all = row(&rt, "rows", name, got.is(DONE, &rows(&rt, name)?, ""))? && all;
+        let got = answer(rt.alloc(), "", &script(rt, name)?)?;
+        all = row(rt, "rows", name, got.is(DONE, &rows(rt, name)?, ""))? && all;
     }
+    Ok(all)
+}
+
+// Whether all words have their outcomes.
+fn all_words_hold(rt: &HostRuntime) -> Result<bool> {
+    let mut all = true;
     for (words, name, status, out, note) in WORDS {
-        let holds = words_hold(&rt, words, name, status, out, note)?;
-        all = row(&rt, name, words, holds)? && all;
+        let holds = words_hold(rt, words, name, status, out, note)?;
+        all = row(rt, name, words, holds)? && all;
     }
+    Ok(all)
+}
+
+// Whether the answers for parts add up.
+fn parts_hold(rt: &HostRuntime) -> Result<bool> {
+    let mut all = true;
     for (name, firsts) in PARTS {
-        let holds = parts::add_up(rt.alloc(), &script(&rt, name)?, &rows(&rt, name)?, firsts)?;
-        all = row(&rt, name, "parts add up", holds)? && all;
+        let holds = parts::add_up(rt.alloc(), &script(rt, name)?, &rows(rt, name)?, firsts)?;
+        all = row(rt, name, "parts add up", holds)? && all;
     }
-    all = faults_hold(&rt)? && all;
-    ensure!(all, "not as it should be");
-    Ok(())
+    Ok(all)
 }
 
 // The text of the script of this name.
@@ -142,29 +161,15 @@ fn words_hold(
 fn faults_hold(rt: &HostRuntime) -> Result<bool> {
     let script = script(rt, "opens")?;
     let whole = rows(rt, "opens")?;
-    let tried = [
-        (
-            "reading fails",
-            faults::reads_fail(rt.alloc(), &script, &whole)?,
-        ),
-        (
-            "writing fails",
-            faults::writes_fail(rt.alloc(), &script, &whole)?,
-        ),
-        (
-            "the longest input",
-            faults::limits_hold(rt.alloc(), &script, &whole)?,
-        ),
-        (
-            "the most first turns",
-            faults::turns_hold(rt.alloc(), &script)?,
-        ),
-    ];
-    let mut all = true;
-    for (name, holds) in tried {
-        all = row(rt, "faults", name, holds)? && all;
-    }
-    Ok(all)
+    let reads = faults::reads_fail(rt.alloc(), &script, &whole)?;
+    let reads = row(rt, "faults", "reading fails", reads)?;
+    let writes = faults::writes_fail(rt.alloc(), &script, &whole)?;
+    let writes = row(rt, "faults", "writing fails", writes)?;
+    let limits = faults::limits_hold(rt.alloc(), &script, &whole)?;
+    let limits = row(rt, "faults", "the longest input", limits)?;
+    let turns = faults::turns_hold(rt.alloc(), &script)?;
+    let turns = row(rt, "faults", "the most first turns", turns)?;
+    Ok(reads && writes && limits && turns)
 }
 
 // Prints a line, and returns whether the case holds.
