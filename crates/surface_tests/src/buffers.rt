@@ -14,7 +14,8 @@ pub fn text_fields(text: &buffers::BufferText, caller: &buffers::BufferCaller) {
     let _callers: &Vec<buffers::BufferCaller> = &text.callers;
     let _threads: u32 = text.threads;
     let _cred: &meta::Cred = &caller.cred;
-    let _lines: &Vec<(xattrs::Bytes, xattrs::Bytes)> = &caller.lines;
+    // "A text of buffers keeps the word of a value that is far shorter than its bytes"
+    let _lines: &Vec<(xattrs::Bytes, buffers::BufferBytes)> = &caller.lines;
 }
 
 pub fn run_fields(run: &buffers::BufferRun, answer: buffers::Answer) {
