@@ -52,7 +52,8 @@ pub fn counted_copy(
     alloc: Global,
     counted: &counts::Counted,
 ) -> Result<counts::Counted, OutOfMemory> {
-    let _count: (&counts::Order, u128) = (&counted.order, counted.count);
+    let _order: &counts::Order = &counted.order;
+    let _count: u128 = counted.count;
     counted.copy(alloc)
 }
 
@@ -144,12 +145,14 @@ pub fn rows_of<G: outer::Gate>(
 ) -> Result<Vec<runs::Row>, runs::Stopped>
     requires { length part.now.first.items ≤ most_turns }
 {
-    let _part: (&runs::Play, &Vec<u32>) = (&part.play, &part.first);
+    let _play: &runs::Play = &part.play;
+    let _first: &Vec<u32> = &part.first;
     runs::rows_of(alloc, part, most, gate)
 }
 
 pub fn rows(row: &runs::Row, stopped: runs::Stopped) {
-    let _row: (&counts::Counted, &templates::xattrs::Bytes) = (&row.counted, &row.outcome);
+    let _counted: &counts::Counted = &row.counted;
+    let _outcome: &templates::xattrs::Bytes = &row.outcome;
     let _most: u32 = runs::MOST_TURNS;
     match stopped {
         runs::Stopped::TooMany | runs::Stopped::OutOfMemory => {}
