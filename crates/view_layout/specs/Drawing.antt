@@ -1,5 +1,5 @@
 -- The drawing of a journal, as a list of items.
-use Rattle.std.specs.Prelude.{ℕ, ◌+◌, ◌-◌, ◌%◌, ◌==◌, nat_le, nat_lt, max, Bool, true, false, not, ◌&&◌, List, [], ◌∷◌, ◌++◌, length, Option, Some, None, if◌then◌else◌}
+use Rattle.std.specs.Prelude.{ℕ, ◌+◌, ◌-◌, ◌%◌, ◌==◌, nat_le, nat_lt, max, min, Bool, true, false, not, ◌&&◌, List, [], ◌∷◌, ◌++◌, length, Option, Some, None, if◌then◌else◌}
 use Rattle.std.specs.List.{flat_map, list_any}
 use Rattle.report_read.specs.declared.event.Deed.{Deed}
 use Rattle.report_read.specs.declared.event.Deed.TheVariants as deed
@@ -103,10 +103,17 @@ strip_items kind (c ∷ cs) =
     item.StripName kind
     ∷ segments_from kind (middle c.x) (middle_end c.x) (shown_in kind c.state) cs
 
+abbrev pub is_executed : Column → Bool
+is_executed c = nat_lt 0 c.state.execs
+
+-- the strip of those that execute the file, if there ever is one
+abbrev pub execs_items : List Column → List Item
+execs_items columns = if list_any is_executed columns then strip_items strip.Execs columns else []
+
 abbrev pub strips_items : List Column → List Item
 strips_items columns =
     strip_items strip.Readers columns ++ (strip_items strip.Writers columns
-    ++ (strip_items strip.Execs columns ++ strip_items strip.Content columns))
+    ++ (execs_items columns ++ strip_items strip.Content columns))
 
 -- ---- the guides
 
@@ -161,15 +168,20 @@ bar_items columns s =
       height = 16;
     }) ∷ []
 
--- the collection that goes on after an event, in the row of its file
-abbrev pub hashing_at : Option ℕ → Column → List Item
-hashing_at None c = []
-hashing_at (Some y) c =
-    item.Block look.Hashing
-    (record { x = middle c.x; y = y + 6; width = column; height = 10 }) ∷ []
+-- the collection that goes on after an event, in the row of its file: up to the middle of the next
+-- column, or to the edge of the last one
+abbrev pub hashing_at : ℕ → Option ℕ → Column → List Item
+hashing_at end None c = []
+hashing_at end (Some y) c =
+    item.Block look.Hashing (record {
+      x = middle c.x;
+      y = y + 6;
+      width = min (end - middle c.x) column;
+      height = 10;
+    }) ∷ []
 
-abbrev pub hashing_items : List Seat → Column → List Item
-hashing_items seats c = hashing_at (seat_of c.hashing seats) c
+abbrev pub hashing_items : ℕ → List Seat → Column → List Item
+hashing_items end seats c = hashing_at end (seat_of c.hashing seats) c
 
 -- ---- the events
 
@@ -234,7 +246,7 @@ middle_items s =
     strips_items s.columns
     ++ (flat_map (write_items s.bottom) s.columns
     ++ (flat_map (guide_items s.bottom) s.flags
-    ++ (flat_map (bar_items s.columns) s.seats ++ flat_map (hashing_items s.seats) s.columns)))
+    ++ (flat_map (bar_items s.columns) s.seats ++ flat_map (hashing_items (end_of s.columns) s.seats) s.columns)))
 
 abbrev pub front_items : Sketch → List Item
 front_items s =

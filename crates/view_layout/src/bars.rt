@@ -12,7 +12,7 @@ use report_read::{Event, Kind};
 use std::alloc::{AllocError as OutOfMemory, Global};
 
 /// An open file, from its count to its drop.
-#[derive(Clone, Copy, Debug, PartialEq, Eq)]
+#[derive(Clone, Copy)]
 pub struct Bar {
     /// The place of the count.
     pub file: u32,

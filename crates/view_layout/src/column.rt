@@ -11,7 +11,7 @@ use report_read::{Deed, Event, Outcome};
 use std::alloc::{AllocError as OutOfMemory, Global};
 
 /// The column of an event.
-#[derive(Clone, Copy, Debug, PartialEq, Eq)]
+#[derive(Clone, Copy)]
 pub struct Column {
     pub place: u32,
     /// The left edge.

@@ -9,6 +9,7 @@ use crate::flags::{Flag, flag_width};
 use crate::items::{Area, Item, Look};
 use crate::lanes::{Lane, Seat, row_top, seat_of};
 use crate::notes::mark_of;
+use crate::scenery::end_of;
 use crate::strips::{middle, right_edge};
 use std::alloc::AllocError as OutOfMemory;
 
@@ -19,25 +20,44 @@ pub fn push_hashing(
     columns: &[Column],
 ) -> Result<(), OutOfMemory>
     ensures { OnOk result (items.new.items
-        ≡ items.old.items ++ flat_map (spec.hashing_items seats.now) columns.now) }
+        ≡ items.old.items
+        ++ flat_map (spec.hashing_items (spec.end_of columns.now) seats.now) columns.now) }
+{
+    push_hashing_to(items, end_of(columns), seats, columns)
+}
+
+fn push_hashing_to(
+    items: &mut Vec<Item>,
+    end: u64,
+    seats: &[Seat],
+    columns: &[Column],
+) -> Result<(), OutOfMemory>
+    ensures { OnOk result (items.new.items
+        ≡ items.old.items ++ flat_map (spec.hashing_items end seats.now) columns.now) }
 {
     for column in columns {
-        push_hashing_at(items, seats, *column)?;
+        push_hashing_at(items, end, seats, *column)?;
     }
     Ok(())
 }
 
-fn push_hashing_at(items: &mut Vec<Item>, seats: &[Seat], column: Column) -> Result<(), OutOfMemory>
+fn push_hashing_at(
+    items: &mut Vec<Item>,
+    end: u64,
+    seats: &[Seat],
+    column: Column,
+) -> Result<(), OutOfMemory>
     ensures { OnOk result
-        (items.new.items ≡ items.old.items ++ spec.hashing_items seats.now column) }
+        (items.new.items ≡ items.old.items ++ spec.hashing_items end seats.now column) }
 {
     match seat_of(column.hashing, seats) {
         None => Ok(()),
         Some(y) => {
+            let x = middle(column);
             let area = Area {
-                x: middle(column),
+                x,
                 y: u64::from(y) + 6,
-                width: 30,
+                width: end.saturating_sub(x).min(30),
                 height: 10,
             };
             items.push(Item::Block(Look::Hashing, area))?;

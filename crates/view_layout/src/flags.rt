@@ -12,7 +12,7 @@ use report_read::Event;
 use std::alloc::{AllocError as OutOfMemory, Global};
 
 /// A note of an event whose column begins at x.
-#[derive(Clone, Copy, Debug, PartialEq, Eq)]
+#[derive(Clone, Copy)]
 pub struct Noted {
     pub x: u32,
     pub event: Event,
@@ -20,7 +20,7 @@ pub struct Noted {
 }
 
 /// A flag, so many pixels above the strips.
-#[derive(Clone, Copy, Debug, PartialEq, Eq)]
+#[derive(Clone, Copy)]
 pub struct Flag {
     pub x: u32,
     pub event: Event,

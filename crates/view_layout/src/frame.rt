@@ -58,7 +58,7 @@ fn within(x: u64) -> Option<u32>
 }
 
 /// A bar or a flag, by its first and its last place or pixel.
-#[derive(Clone, Copy, Debug, PartialEq, Eq)]
+#[derive(Clone, Copy)]
 pub struct Extent {
     pub from: u64,
     pub to: u64,

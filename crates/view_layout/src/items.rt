@@ -4,7 +4,7 @@ use crate::kinds::{Mark, Note};
 use report_read::{Event, Kind, Span};
 
 /// The strips above the lanes.
-#[derive(Clone, Copy, Debug, PartialEq, Eq)]
+#[derive(Clone, Copy)]
 pub enum Strip {
     Readers,
     Writers,
@@ -13,7 +13,7 @@ pub enum Strip {
 }
 
 /// What a block stands for, which gives its colours.
-#[derive(Clone, Copy, Debug, PartialEq, Eq)]
+#[derive(Clone, Copy)]
 pub enum Look {
     Lane,
     /// Of a task with an odd number.
@@ -28,7 +28,7 @@ pub enum Look {
 }
 
 /// A vertical line.
-#[derive(Clone, Copy, Debug, PartialEq, Eq)]
+#[derive(Clone, Copy)]
 pub enum Guide {
     Write,
     Violation,
@@ -39,7 +39,7 @@ pub enum Guide {
 }
 
 /// A place in a drawing, in pixels from the left edge and below the top of the strips.
-#[derive(Clone, Copy, Debug, PartialEq, Eq)]
+#[derive(Clone, Copy)]
 pub struct Area {
     pub x: u64,
     pub y: u64,
@@ -48,7 +48,7 @@ pub struct Area {
 }
 
 /// A part of a drawing. `up` counts the pixels above the top of the strips.
-#[derive(Clone, Copy, Debug, PartialEq, Eq)]
+#[derive(Clone, Copy)]
 pub enum Item {
     Block(Look, Area),
     Guide {

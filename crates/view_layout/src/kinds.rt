@@ -1,7 +1,7 @@
 // The kinds of what a picture shows.
 
 /// What a journal says of the content.
-#[derive(Clone, Copy, Debug, PartialEq, Eq)]
+#[derive(Clone, Copy)]
 pub enum Freshness {
     /// No digest has been finished yet.
     NotHashed,
@@ -12,7 +12,7 @@ pub enum Freshness {
 }
 
 /// A collection in progress.
-#[derive(Clone, Copy, Debug, PartialEq, Eq)]
+#[derive(Clone, Copy)]
 pub struct Collection {
     /// How many pieces of 4,096 bytes it took.
     pub pieces: u64,
@@ -23,7 +23,7 @@ pub struct Collection {
 }
 
 /// What an event is marked with, beside its mark.
-#[derive(Clone, Copy, Debug, PartialEq, Eq)]
+#[derive(Clone, Copy)]
 pub enum Note {
     /// Time of measure, time of use: the entry of the violation.
     ToMToU(u32),
@@ -37,7 +37,7 @@ pub enum Note {
 }
 
 /// The mark of an event.
-#[derive(Clone, Copy, Debug, PartialEq, Eq)]
+#[derive(Clone, Copy)]
 pub enum Mark {
     Birth,
     Opened,

@@ -10,7 +10,7 @@ use report_read::{Deed, Event};
 use std::alloc::{AllocError as OutOfMemory, Global};
 
 /// The lane of a task.
-#[derive(Clone, Copy, Debug, PartialEq, Eq)]
+#[derive(Clone, Copy)]
 pub struct Lane {
     pub task: u32,
     pub top: u32,
@@ -20,7 +20,7 @@ pub struct Lane {
 }
 
 /// A bar, and the top of its row.
-#[derive(Clone, Copy, Debug, PartialEq, Eq)]
+#[derive(Clone, Copy)]
 pub struct Seat {
     pub bar: Bar,
     pub y: u32,

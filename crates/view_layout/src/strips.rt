@@ -1,6 +1,7 @@
 // The strips of a drawing: the counts, and what is known of the content.
 
 ghost use Rattle.std.specs.Prelude.{◌≡◌, ◌+◌, ◌++◌, ◌<◌, ◌^◌, OnOk};
+ghost use Rattle.std.specs.List.{list_any};
 ghost use Rattle.view_layout.specs.Drawing as spec;
 ghost use Rattle.view_layout.specs.Frame.{middle};
 
@@ -16,8 +17,29 @@ pub fn push_strips(items: &mut Vec<Item>, columns: &[Column]) -> Result<(), OutO
 {
     push_strip(items, Strip::Readers, columns)?;
     push_strip(items, Strip::Writers, columns)?;
-    push_strip(items, Strip::Execs, columns)?;
+    push_execs(items, columns)?;
     push_strip(items, Strip::Content, columns)
+}
+
+// The strip of those that execute the file, if there ever is one.
+fn push_execs(items: &mut Vec<Item>, columns: &[Column]) -> Result<(), OutOfMemory>
+    ensures { OnOk result (items.new.items ≡ items.old.items ++ spec.execs_items columns.now) }
+{
+    if is_executed(columns) {
+        push_strip(items, Strip::Execs, columns)?;
+    }
+    Ok(())
+}
+
+fn is_executed(columns: &[Column]) -> bool
+    ensures { result ≡ list_any spec.is_executed columns.now }
+{
+    for column in columns {
+        if column.state.execs > 0 {
+            return true;
+        }
+    }
+    false
 }
 
 fn push_strip(items: &mut Vec<Item>, strip: Strip, columns: &[Column]) -> Result<(), OutOfMemory>

@@ -11,7 +11,7 @@ use report_read::{Deed, Event, Kind, Outcome};
 use std::alloc::{AllocError as OutOfMemory, Global};
 
 /// What the strips show after an event.
-#[derive(Clone, Copy, Debug, PartialEq, Eq)]
+#[derive(Clone, Copy)]
 pub struct State {
     pub readers: u64,
     pub writers: u64,

@@ -9,7 +9,7 @@ use report_read::{Deed, Event, Grant, Outcome, Verdict};
 use std::alloc::{AllocError as OutOfMemory, Global};
 
 /// The places from the first to the last.
-#[derive(Clone, Copy, Debug, PartialEq, Eq)]
+#[derive(Clone, Copy)]
 pub struct Window {
     pub first: u32,
     pub last: u32,
@@ -48,7 +48,7 @@ fn whole(alloc: Global, events: usize) -> Result<Vec<Window>, OutOfMemory>
 }
 
 // The last window so far, and how many places are used.
-#[derive(Clone, Copy, Debug, PartialEq, Eq)]
+#[derive(Clone, Copy)]
 struct Growth {
     window: Window,
     used: u64,

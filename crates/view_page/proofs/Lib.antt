@@ -1,3 +1,4 @@
+pub mod Outcomes
 pub mod Safe
 pub mod PiecesSafe
 pub mod Marks

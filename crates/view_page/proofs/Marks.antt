@@ -8,6 +8,7 @@ use Rattle.std.proofs.lemmas.List.{append-nil}
 use Rattle.view_layout.specs.declared.column.Column.{Column}
 use Rattle.view_layout.specs.declared.flags.Flag.{Flag}
 use Rattle.view_layout.specs.declared.items.Guide.{Guide}
+use Rattle.view_layout.specs.declared.items.Guide.TheVariants as guide
 use Rattle.view_layout.specs.declared.items.Item.{Item}
 use Rattle.view_layout.specs.declared.items.Item.TheVariants as item
 use Rattle.view_layout.specs.declared.items.Strip.{Strip}
@@ -23,12 +24,12 @@ use Rattle.view_layout.specs.reading.declared.event.Deed.TheVariants as deed
 use Rattle.view_layout.specs.reading.declared.event.Event.{Event}
 use Rattle.view_layout.specs.reading.declared.event.Outcome.{Outcome}
 use Rattle.view_layout.specs.reading.declared.event.Span.{Span}
-use Rattle.view_layout.specs.Drawing.{Sketch, axis_items, back_items, bar_items, differing_items, end_of, flag_items, front_items, gap_between, gaps_from, gaps_items, guide_by, guide_items, hashing_at, hashing_items, is_place, is_write, items_of, lane_items, mark_items, middle_end, middle_items, parting_items, segments_from, shown_in, sketch_of, strip_items, strips_items, write_items}
+use Rattle.view_layout.specs.Drawing.{Sketch, axis_items, back_items, bar_items, differing_items, end_of, execs_items, flag_items, front_items, gap_between, gaps_from, gaps_items, guide_by, guide_items, hashing_at, hashing_items, is_executed, is_place, is_write, items_of, lane_items, mark_items, middle_end, middle_items, parting_items, segments_from, shown_in, sketch_of, strip_items, strips_items, write_items}
 use Rattle.view_layout.specs.Flags.{guide_of}
 use Rattle.view_layout.specs.Frame.{column, margin, middle}
 use Rattle.view_layout.specs.Lanes.{seat_of}
 use Rattle.view_layout.specs.Notes.{mark_of}
-use Rattle.view_page.specs.Drawing.{EachEventHasOneMark, detail_pieces, flag_pieces, fresh_of, item_pieces, items_pieces, room_for, segment_pieces, slant_pieces}
+use Rattle.view_page.specs.Drawing.{EachEventHasOneMark, detail_pieces, flag_pieces, fresh_of, item_pieces, items_pieces, room_for, segment_pieces, slant_pieces, words_pieces}
 use Rattle.view_page.specs.Pieces.{marks_in}
 use Rattle.view_page.specs.declared.inode.View.{View}
 use Rattle.view_page.specs.declared.own.Own.TheVariants as own
@@ -56,6 +57,11 @@ segment_quiet strip.Writers x width n rest =
 segment_quiet strip.Execs x width n rest =
     elim (cases_Bool (n == 0)) [ inl t ↦ rw t refl | inr f ↦ rw f refl ]
 
+words_quiet : (g : Guide) (x down : ℕ) (rest : List Piece)
+    → marks_in (words_pieces g x down ++ rest) ≡ marks_in rest
+words_quiet guide.Parting x down rest = refl
+words_quiet _ x down rest = refl
+
 slant_quiet : (x y : ℕ) (d : Deed) (m : Mark) (rest : List Piece)
     → marks_in (slant_pieces x y d m ++ rest) ≡ marks_in rest
 slant_quiet x y d mark.Violated rest = refl
@@ -74,7 +80,7 @@ flag_quiet x up width e _ rest = refl
 of_item : (view : View) (i : Item) (rest : List Piece)
     → marks_in (item_pieces view i ++ rest) ≡ item_marks i ++ marks_in rest
 of_item view (item.Block l a) rest = refl
-of_item view (item.Guide g x up down) rest = refl
+of_item view (item.Guide g x up down) rest = words_quiet g x down rest
 of_item view (item.StripName s) rest = refl
 of_item view (item.Segment s x width n) rest = segment_quiet s x width n rest
 of_item view (item.LaneName y task) rest = refl
@@ -141,9 +147,9 @@ guide_quiet : (o : Option Guide) (bottom : ℕ) (f : Flag) → Quiet (guide_by o
 guide_quiet None bottom f = refl
 guide_quiet (Some g) bottom f = refl
 
-hashing_quiet : (o : Option ℕ) (c : Column) → Quiet (hashing_at o c)
-hashing_quiet None c = refl
-hashing_quiet (Some y) c = refl
+hashing_quiet : (end : ℕ) (o : Option ℕ) (c : Column) → Quiet (hashing_at end o c)
+hashing_quiet end None c = refl
+hashing_quiet end (Some y) c = refl
 
 segments_quiet : (s : Strip) (from to shown : ℕ) (cs : List Column)
     → Quiet (segments_from s from to shown cs)
@@ -160,15 +166,22 @@ strip_quiet s [] = refl
 strip_quiet s (c ∷ cs) =
     segments_quiet s (middle c.x) (middle_end c.x) (shown_in s c.state) cs
 
+execs_quiet : (cs : List Column) → Quiet (execs_items cs)
+execs_quiet cs =
+    elim (cases_Bool (list_any is_executed cs)) [
+      | inl t ↦ rw t (strip_quiet strip.Execs cs)
+      | inr f ↦ rw f refl
+    ]
+
 strips_quiet : (cs : List Column) → Quiet (strips_items cs)
 strips_quiet cs =
     both_quiet (strip_items strip.Readers cs) (strip_items strip.Writers cs
-    ++ (strip_items strip.Execs cs ++ strip_items strip.Content cs))
+    ++ (execs_items cs ++ strip_items strip.Content cs))
     (strip_quiet strip.Readers cs)
-    (both_quiet (strip_items strip.Writers cs)
-    (strip_items strip.Execs cs ++ strip_items strip.Content cs) (strip_quiet strip.Writers cs)
-    (both_quiet (strip_items strip.Execs cs) (strip_items strip.Content cs)
-    (strip_quiet strip.Execs cs) (strip_quiet strip.Content cs)))
+    (both_quiet (strip_items strip.Writers cs) (execs_items cs ++ strip_items strip.Content cs)
+    (strip_quiet strip.Writers cs)
+    (both_quiet (execs_items cs) (strip_items strip.Content cs) (execs_quiet cs)
+    (strip_quiet strip.Content cs)))
 
 between_quiet : (bottom next x place : ℕ) → Quiet (gap_between bottom next x place)
 between_quiet bottom next x place =
@@ -200,21 +213,21 @@ middle_quiet s =
     both_quiet (strips_items s.columns)
     (flat_map (write_items s.bottom) s.columns
     ++ (flat_map (guide_items s.bottom) s.flags
-    ++ (flat_map (bar_items s.columns) s.seats ++ flat_map (hashing_items s.seats) s.columns)))
+    ++ (flat_map (bar_items s.columns) s.seats ++ flat_map (hashing_items (end_of s.columns) s.seats) s.columns)))
     (strips_quiet s.columns)
     (both_quiet (flat_map (write_items s.bottom) s.columns)
     (flat_map (guide_items s.bottom) s.flags
-    ++ (flat_map (bar_items s.columns) s.seats ++ flat_map (hashing_items s.seats) s.columns))
+    ++ (flat_map (bar_items s.columns) s.seats ++ flat_map (hashing_items (end_of s.columns) s.seats) s.columns))
     (each_quiet (write_items s.bottom) (write_quiet s.bottom) s.columns)
     (both_quiet (flat_map (guide_items s.bottom) s.flags)
-    (flat_map (bar_items s.columns) s.seats ++ flat_map (hashing_items s.seats) s.columns)
+    (flat_map (bar_items s.columns) s.seats ++ flat_map (hashing_items (end_of s.columns) s.seats) s.columns)
     (each_quiet (guide_items s.bottom)
     (λ (f : Flag). guide_quiet (guide_of f.note) s.bottom f) s.flags)
     (both_quiet (flat_map (bar_items s.columns) s.seats)
-    (flat_map (hashing_items s.seats) s.columns)
+    (flat_map (hashing_items (end_of s.columns) s.seats) s.columns)
     (each_quiet (bar_items s.columns) (λ (x : Seat). refl) s.seats)
-    (each_quiet (hashing_items s.seats)
-    (λ (c : Column). hashing_quiet (seat_of c.hashing s.seats) c) s.columns))))
+    (each_quiet (hashing_items (end_of s.columns) s.seats)
+    (λ (c : Column). hashing_quiet (end_of s.columns) (seat_of c.hashing s.seats) c) s.columns))))
 
 marks_of : (lanes : List Lane) (seats : List Seat) (cs : List Column)
     → flat_map item_marks (flat_map (mark_items lanes seats) cs)

@@ -3,6 +3,7 @@ use Rattle.std.specs.Prelude.{◌≡◌, ℕ, ◌+◌, ◌==◌, nat_le, min, Li
 use Rattle.std.specs.List.{flat_map}
 use Rattle.view_layout.specs.declared.items.Area.{Area}
 use Rattle.view_layout.specs.declared.items.Guide.{Guide}
+use Rattle.view_layout.specs.declared.items.Guide.TheVariants as guide
 use Rattle.view_layout.specs.declared.items.Item.{Item}
 use Rattle.view_layout.specs.declared.items.Item.TheVariants as item
 use Rattle.view_layout.specs.declared.items.Look.{Look}
@@ -44,10 +45,20 @@ block_pieces l a =
     ∷ piece.Own own.Width ∷ piece.Number a.width ∷ piece.Own own.Height ∷ piece.Number a.height
     ∷ piece.Own own.Close ∷ []
 
-abbrev pub guide_pieces : Guide → ℕ → ℕ → ℕ → List Piece
-guide_pieces g x up down =
+abbrev pub line_pieces : Guide → ℕ → ℕ → ℕ → List Piece
+line_pieces g x up down =
     piece.Own (own.Line g) ∷ piece.Number x ∷ piece.Own own.UpFrom ∷ piece.Number up
     ∷ piece.Own own.DownTo ∷ piece.Number down ∷ piece.Own own.Close ∷ []
+
+-- the words at the line where two journals part, near the lower edge of the drawing
+abbrev pub words_pieces : Guide → ℕ → ℕ → List Piece
+words_pieces guide.Parting x down =
+    piece.Own own.PartingText ∷ piece.Number x ∷ piece.Own own.Y ∷ piece.Number down
+    ∷ piece.Own own.PartingWords ∷ []
+words_pieces _ x down = []
+
+abbrev pub guide_pieces : Guide → ℕ → ℕ → ℕ → List Piece
+guide_pieces g x up down = line_pieces g x up down ++ words_pieces g x down
 
 -- ---- strips
 

@@ -216,6 +216,8 @@ own_bytes own.GapBlock = codes ")\"><rect class=\"gap\" x=\"8\" y=\"-2\" width=\
 own_bytes own.GapText = codes "\"/><text class=\"gap\" x=\"45\" y=\"30\">"
 own_bytes own.GapEnd = codes "<tspan x=\"45\" dy=\"14\">not drawn</tspan></text></g>"
 own_bytes own.ContentText = codes "<text class=\"in\" dx=\"4\" y=\"55\" x=\""
+own_bytes own.PartingText = codes "<text class=\"parts\" dx=\"4\" dy=\"112\" x=\""
+own_bytes own.PartingWords = codes "\">the journals part here</text>"
 own_bytes own.SvgEnd = codes "</svg>" ++ 10 ∷ []
 own_bytes (own.Shape m) = shape m
 own_bytes (own.Block x) = block x

@@ -1,5 +1,6 @@
 -- The pieces of which a page is made: the program's own bytes, numbers, and texts of the report.
-use Rattle.std.specs.Prelude.{ℕ, suc, ◌-◌, ◌==◌, ◌&&◌, Bool, true, false, List, [], ◌∷◌, take, drop, if◌then◌else◌}
+use Rattle.std.specs.Prelude.{ℕ, suc, ◌-◌, ◌==◌, nat_eq, Bool, true, false, List, [], ◌∷◌, take, drop, codes, if◌then◌else◌}
+use Rattle.std.specs.Cmp.Lexicographic.{pointwise}
 use Rattle.std.specs.List.{flat_map}
 use Rattle.view_layout.specs.declared.kinds.Mark.{Mark}
 use Rattle.view_layout.specs.reading.declared.event.Span.{Span}
@@ -29,20 +30,12 @@ word_at spaces (b ∷ bytes) =
     if spaces == 0 then first_word (b ∷ bytes)
     else word_at (if b == 32 then spaces - 1 else spaces) bytes
 
--- how many bytes of the sign ` = ` end with this one, if so many ended before it
-abbrev pub seen_after : ℕ → ℕ → ℕ
-seen_after seen b =
-    if b == 32 then (if seen == 2 then 3 else 1) else (if b == 61 && seen == 1 then 2 else 0)
-
--- what follows the sign, so many bytes of which were seen
-abbrev pub outcome_from : ℕ → List ℕ → List ℕ
-outcome_from seen [] = []
-outcome_from seen (b ∷ bytes) =
-    if seen == 3 then b ∷ bytes else outcome_from (seen_after seen b) bytes
-
--- the outcome in an event's line
+-- the outcome in an event's line, which follows the first sign ` = `
 abbrev pub outcome_in : List ℕ → List ℕ
-outcome_in line = outcome_from 0 line
+outcome_in [] = []
+outcome_in (b ∷ bytes) =
+    if pointwise nat_eq (take 3 (b ∷ bytes)) (codes " = ") then drop 3 (b ∷ bytes)
+    else outcome_in bytes
 
 abbrev pub bytes_of : List ℕ → Piece → List ℕ
 bytes_of text (piece.Own o) = own_bytes o

@@ -87,6 +87,19 @@ fn push_guide(
 ) -> Result<(), OutOfMemory>
     ensures { OnOk result (out.new.items ≡ out.old.items ++ spec.guide_pieces guide x up down) }
 {
+    push_line(out, guide, x, up, down)?;
+    push_parting_words(out, guide, x, down)
+}
+
+fn push_line(
+    out: &mut Vec<Piece>,
+    guide: Guide,
+    x: u64,
+    up: u64,
+    down: u64,
+) -> Result<(), OutOfMemory>
+    ensures { OnOk result (out.new.items ≡ out.old.items ++ spec.line_pieces guide x up down) }
+{
     let pieces = [
         Piece::Own(Own::Line(guide)),
         Piece::Number(x),
@@ -97,6 +110,29 @@ fn push_guide(
         Piece::Own(Own::Close),
     ];
     add(out, &pieces)
+}
+
+fn push_parting_words(
+    out: &mut Vec<Piece>,
+    guide: Guide,
+    x: u64,
+    down: u64,
+) -> Result<(), OutOfMemory>
+    ensures { OnOk result (out.new.items ≡ out.old.items ++ spec.words_pieces guide x down) }
+{
+    match guide {
+        Guide::Parting => {
+            let pieces = [
+                Piece::Own(Own::PartingText),
+                Piece::Number(x),
+                Piece::Own(Own::Y),
+                Piece::Number(down),
+                Piece::Own(Own::PartingWords),
+            ];
+            add(out, &pieces)
+        }
+        _ => Ok(()),
+    }
 }
 
 fn push_lane(out: &mut Vec<Piece>, y: u64, task: u32) -> Result<(), OutOfMemory>

@@ -65,6 +65,9 @@ pub enum Own {
     GapText,
     GapEnd,
     ContentText,
+    /// The words at the line where two journals part begin.
+    PartingText,
+    PartingWords,
     SvgEnd,
     /// The shape of a mark, around the point 0,0.
     Shape(Mark),
@@ -152,6 +155,8 @@ pub fn push_own(out: &mut Vec<u8>, own: Own) -> Result<(), OutOfMemory>
             b"<tspan x=\"45\" dy=\"14\">not drawn</tspan></text></g>",
         ),
         Own::ContentText => push_all(out, b"<text class=\"in\" dx=\"4\" y=\"55\" x=\""),
+        Own::PartingText => push_all(out, b"<text class=\"parts\" dx=\"4\" dy=\"112\" x=\""),
+        Own::PartingWords => push_all(out, b"\">the journals part here</text>"),
         Own::SvgEnd => push_all(out, b"</svg>\n"),
         Own::Shape(mark) => push_shape(out, mark),
         Own::Block(x) => push_block(out, x),

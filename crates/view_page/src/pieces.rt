@@ -73,31 +73,16 @@ fn word_at(line: &[u8], spaces: u32) -> &[u8]
     &line[line.len()..]
 }
 
-// What follows the sign ` = ` of an event's line.
+// What follows the first sign ` = ` of an event's line.
 fn outcome_in(line: &[u8]) -> &[u8]
     ensures { result.now ≡ spec.outcome_in line.now }
 {
-    let mut seen = 0;
-    for (at, byte) in line.iter().enumerate() {
-        if seen == 3 {
-            return &line[at..];
+    for (at, _) in line.iter().enumerate() {
+        if let Some(outcome) = line[at..].strip_prefix(b" = ") {
+            return outcome;
         }
-        seen = seen_after(seen, *byte);
     }
     &line[line.len()..]
-}
-
-// How many bytes of the sign end with this one, if so many ended before it.
-fn seen_after(seen: u32, byte: u8) -> u32
-    ensures { result ≡ spec.seen_after seen byte }
-{
-    if byte == b' ' {
-        if seen == 2 { 3 } else { 1 }
-    } else if byte == b'=' && seen == 1 {
-        2
-    } else {
-        0
-    }
 }
 
 fn first_word(line: &[u8]) -> &[u8]

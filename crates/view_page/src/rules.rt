@@ -6,7 +6,7 @@ ghost use Rattle.view_page.specs.Rules.{lines_of, rules};
 use crate::escape::push_all;
 use std::alloc::AllocError as OutOfMemory;
 
-const RULES: [&[u8]; 20] = [
+const RULES: [&[u8]; 21] = [
     b"svg.tl{font:10px sans-serif;display:block;background:#fff}",
     b"text.lane{text-anchor:end;font-size:12px}",
     b".strip,.gap,.place{fill:#5f6b7a}.gap,.place{text-anchor:middle}",
@@ -20,6 +20,7 @@ const RULES: [&[u8]; 20] = [
     b".hash{fill:#8fd0b6;stroke:#007a5a}.g-w{stroke:#d55e00;stroke-dasharray:2 3}",
     b".g-v{stroke:#b00020;stroke-width:2}.g-d{stroke:#b00020;stroke-dasharray:6 3}",
     b".g-a{stroke:#007a5a;stroke-dasharray:1 3}.g-p{stroke:#7a5cff;stroke-width:2}",
+    b".parts{fill:#7a5cff;font-weight:bold}",
     b"rect.gap{fill:#fff;stroke:#9aa5b1;stroke-dasharray:3 4}rect.f-v{fill:#b00020}",
     b"rect.f-d{fill:#fff;stroke:#b00020}rect.f-a{fill:#007a5a}",
     b"rect.f-o{fill:#fff;stroke:#007a5a}rect.f-p{fill:#fff;stroke:#9aa5b1}",

@@ -9,7 +9,7 @@ use view_page::layout::reading::{Event, Inode};
 use view_page::layout::{Window, width, windows};
 
 /// A window of an inode's journal that a page draws.
-#[derive(Clone, Copy, Debug, PartialEq, Eq)]
+#[derive(Clone, Copy)]
 pub struct Shown {
     pub inode: u64,
     pub window: Window,

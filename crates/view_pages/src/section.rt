@@ -16,7 +16,7 @@ use view_page::layout::reading::{Event, Inode, InodeHead, Span};
 use view_page::{Side, View, push_inode};
 
 /// What a section has of a journal that isn't drawn whole.
-#[derive(Clone, Copy, Debug, PartialEq, Eq)]
+#[derive(Clone, Copy)]
 pub enum Detail {
     /// An overview, and windows.
     Overview,

@@ -6,7 +6,7 @@ ghost use Rattle.view_pages.specs.Slots as spec;
 use view_page::layout::reading::{Deed, Event, Inode, Outcome, Placed, Span};
 
 /// An event: its inode, its place in the journal, and its line.
-#[derive(Clone, Copy, Debug, PartialEq, Eq)]
+#[derive(Clone, Copy)]
 pub struct At {
     pub inode: u32,
     pub place: u32,
@@ -21,7 +21,7 @@ const MOST: usize = 4_294_967_296;
 
 /// What a table says of its slots: which event added the entry, or which was the first of the call
 /// of this task.
-#[derive(Clone, Copy, Debug, PartialEq, Eq)]
+#[derive(Clone, Copy)]
 pub enum Asked {
     Entries,
     Calls(u64),

@@ -7,14 +7,14 @@ use text_forms::{is_short_numeral, short_number_of};
 use view_pages::drawn::layout::Window;
 
 /// An inode of a report, and the places of its journal if not all are asked for.
-#[derive(Clone, Copy, Debug, PartialEq, Eq)]
+#[derive(Clone, Copy)]
 pub struct Asked {
     pub inode: u32,
     pub range: Option<Window>,
 }
 
 /// What the words ask for.
-#[derive(Clone, Copy, Debug, PartialEq, Eq)]
+#[derive(Clone, Copy)]
 pub enum Command {
     /// The page of a run.
     Page,
