@@ -128,8 +128,8 @@ fn overwrite(alloc: Global, content: &mut Content, from: u64, bytes: &[u8]) -> R
     }
 }
 
-// Changes the content as the event did.
-fn follow(alloc: Global, content: &mut Content, event: &Event) -> Result<(), OutOfMemory>
+/// Changes the content as the event did.
+pub fn follow(alloc: Global, content: &mut Content, event: &Event) -> Result<(), OutOfMemory>
     ensures { OnOk result (content.new ≡ content_after event.now.deed event.now.told content.old) }
 {
     match (&event.deed, &event.told) {
@@ -152,7 +152,8 @@ fn follow(alloc: Global, content: &mut Content, event: &Event) -> Result<(), Out
     }
 }
 
-fn is_read(deed: &Deed) -> bool
+/// Whether the deed is a read.
+pub fn is_read(deed: &Deed) -> bool
     ensures { result ≡ is_read deed.now }
 {
     match deed {

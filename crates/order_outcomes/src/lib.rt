@@ -13,7 +13,7 @@ mod made;
 mod outcome;
 mod sets;
 
-pub use calls::{listed_of, place_told, verdict_of};
+pub use calls::{follow, is_read, listed_of, place_told, verdict_of};
 pub use lines::Kind;
 pub use made::{Made, made_of};
 pub use order_counts as counts;

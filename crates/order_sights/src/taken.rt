@@ -2,13 +2,13 @@
 
 ghost use Rattle.std.specs.Prelude.{◌≡◌, IfOk, IsTrue, OnOk};
 ghost use Rattle.inode_events.specs.Past.{past};
-ghost use Rattle.inode_events.specs.State.{content_after};
-ghost use Rattle.inode_events.specs.pages.Content.{overwritten, piece_at};
+ghost use Rattle.inode_events.specs.pages.Content.{piece_at};
 ghost use Rattle.order_sights.specs.Taken.{none_taken, taken, taken_after, taken_more};
 
 use crate::same::same_all;
-use inode_events::pages::{Content, Page, PageErr};
+use inode_events::pages::{Content, Page};
 use inode_events::{Deed, Event, Told};
+use order_outcomes::follow;
 use std::alloc::{AllocError as OutOfMemory, Global};
 use std::marker::Model;
 
@@ -92,43 +92,6 @@ impl Taken {
         ensures { IsTrue result → (self.now ≡ other.now) }
     {
         same_all(self.pages.as_slice(), other.pages.as_slice())
-    }
-}
-
-// Overwrites the content, also with no bytes: then it is still as long as the offset.
-fn overwrite(alloc: Global, content: &mut Content, from: u64, bytes: &[u8]) -> Result<(), PageErr>
-    ensures { OnOk result (content.new ≡ overwritten content.old from bytes.now) }
-{
-    if !bytes.is_empty() {
-        content.write(alloc, from, bytes)
-    } else if content.len() < from {
-        content.resize(alloc, from)
-    } else {
-        Ok(())
-    }
-}
-
-// Changes the content as the event did.
-fn follow(alloc: Global, content: &mut Content, event: &Event) -> Result<(), OutOfMemory>
-    ensures { OnOk result (content.new ≡ content_after event.now.deed event.now.told content.old) }
-{
-    match (&event.deed, &event.told) {
-        (Deed::Birth, Told::Image(image)) => {
-            *content = image.get().content.share(alloc)?;
-            Ok(())
-        }
-        // The errors must be memory: what was done isn't too long.
-        (Deed::Write { from, bytes, .. }, Told::Done) => {
-            match overwrite(alloc, content, *from, bytes.as_slice()) {
-                Ok(()) => Ok(()),
-                Err(_) => Err(OutOfMemory),
-            }
-        }
-        (Deed::Trunc { len, .. }, Told::Done) => match content.resize(alloc, *len) {
-            Ok(()) => Ok(()),
-            Err(_) => Err(OutOfMemory),
-        },
-        _ => Ok(()),
     }
 }
 

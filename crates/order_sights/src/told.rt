@@ -9,7 +9,7 @@ ghost use Rattle.order_sights.specs.Told.{AreEntriesSame, IsAt, IsCallSame, IsTh
 use crate::same::Same;
 use inode_events::templates::Entry;
 use inode_events::{Deed, EndedInode, Event, Told};
-use order_outcomes::{listed_of, place_told, verdict_of};
+use order_outcomes::{is_read, listed_of, place_told, verdict_of};
 use std::alloc::{AllocError as OutOfMemory, Global};
 
 // ---- checks
@@ -140,15 +140,6 @@ fn is_grant(told: &Told) -> bool
 {
     match told {
         Told::Grant(_) => true,
-        _ => false,
-    }
-}
-
-fn is_read(deed: &Deed) -> bool
-    ensures { result ≡ is_read deed.now }
-{
-    match deed {
-        Deed::Read { .. } => true,
         _ => false,
     }
 }
