@@ -1,5 +1,5 @@
 -- What is kept of a way, and what a step of counting makes of the ways of one length.
-use Rattle.std.specs.Prelude.{◌≡◌, ℕ, ◌<◌, not, Bool, false, All, List, [], ◌∷◌, ◌++◌, ◌⊎◌, map, Option, Some, None, slice_get, slice_set}
+use Rattle.std.specs.Prelude.{◌≡◌, ℕ, ◌<◌, not, Bool, true, false, All, List, [], ◌∷◌, ◌++◌, ◌⊎◌, map, Option, Some, None, slice_get, slice_set}
 use Rattle.order_alike.specs.Alike.{IsAlike}
 use Rattle.order_outcomes.specs.Orders.{moment_after, moved, outcome_at}
 use Rattle.order_outcomes.specs.counts.Layers.{Advances, AllAdvance, IsJoined, Spreads, StandsAt, joined, root, with_turn}
@@ -68,6 +68,11 @@ pub record IsMetAs (old : List Way) (way : Way) (new : List Way) : Type 0 where
   pub meets : CanMeet before way
   pub set : new
       ≡ slice_set old place (record before { counted = joined before.counted way.counted })
+
+-- the way is met as one of the ways, or they stay as they are
+abbrev pub IsMet : Bool → List Way → Way → List Way → Type 0
+IsMet true old way new = IsMetAs old way new
+IsMet false old way new = new ≡ old
 
 -- the way is one of the ways, or is met as one of them
 abbrev pub IsWayAdded : List Way → Way → List Way → Type 0

@@ -92,8 +92,7 @@ fn turned_by<G: Gate>(
     if task >= play.tasks() {
         return Ok(None);
     }
-    let longer = turned(alloc, play, &point, task, gate)?;
-    Ok(longer)
+    turned(alloc, play, &point, task, gate)
 }
 
 /// The point after these turns, if each of them moves its task.

@@ -6,7 +6,7 @@ ghost use Rattle.order_outcomes.specs.Orders.{moved};
 ghost use Rattle.order_outcomes.specs.counts.Layers.{root};
 ghost use Rattle.order_outcomes.specs.reports.model.Turns.{Moment};
 ghost use Rattle.order_outcomes.specs.scripts.Limits.{most_turns};
-ghost use Rattle.order_runs.specs.Steps.{AreAdded, CanMeet, IsKept, IsRoot, IsSpread, IsTurned, IsWayAdded, led_on, opening};
+ghost use Rattle.order_runs.specs.Steps.{AreAdded, CanMeet, IsKept, IsMet, IsRoot, IsSpread, IsTurned, IsWayAdded, led_on, opening};
 
 use crate::part::Part;
 use crate::points::{Point, reached, turned};
@@ -135,6 +135,43 @@ fn push_way(ways: &mut Vec<Way>, way: Way) -> Result<(), OutOfMemory>
     Ok(())
 }
 
+// Adds the count of the longer way to that of the way at this place, if 128 bits have the sum.
+// Returns whether they have.
+fn join_at(
+    alloc: Global,
+    ways: &mut Vec<Way>,
+    place: usize,
+    longer: &Way,
+) -> Result<bool, OutOfMemory>
+    requires { IsSomeAnd (slice_get ways.old.items place) (λ way. CanMeet way longer.now) }
+    ensures { IfOk result (λ met. IsMet met ways.old.items longer.now ways.new.items) }
+{
+    match ways[place].counted.join(alloc, &longer.counted)? {
+        Some(joined) => {
+            ways[place].counted = joined;
+            Ok(true)
+        }
+        None => Ok(false),
+    }
+}
+
+// Adds the count of the longer way to that of one as which it can be met, if there is one and 128
+// bits have the sum. Returns whether it did.
+fn meet(
+    alloc: Global,
+    ways: &mut Vec<Way>,
+    index: &Index,
+    mark: u64,
+    longer: &Way,
+) -> Result<bool, OutOfMemory>
+    ensures { IfOk result (λ met. IsMet met ways.old.items longer.now ways.new.items) }
+{
+    match meeting(alloc, ways.as_slice(), index.get(mark), longer)? {
+        Some(place) => join_at(alloc, ways, place, longer),
+        None => Ok(false),
+    }
+}
+
 // Adds the way, or its count to that of a way as which it can be met, if 128 bits have the sum.
 fn add_way(
     alloc: Global,
@@ -145,15 +182,11 @@ fn add_way(
     ensures { OnOk result (IsWayAdded next.old.items way next.new.items) }
 {
     let mark = way.point.sight.mark();
-    if let Some(place) = meeting(alloc, next.as_slice(), index.get(mark), &way)? {
-        if let Some(joined) = next[place].counted.join(alloc, &way.counted)? {
-            next[place].counted = joined;
-            return Ok(());
-        }
+    if meet(alloc, next, index, mark, &way)? {
+        return Ok(());
     }
     index.add(alloc, mark, next.len())?;
-    push_way(next, way)?;
-    Ok(())
+    push_way(next, way)
 }
 
 // Adds the longer way, if there is one. Returns whether there is any so far.
