@@ -106,9 +106,10 @@ strip_items kind (c ∷ cs) =
 abbrev pub is_executed : Column → Bool
 is_executed c = nat_lt 0 c.state.execs
 
--- the strip of those that execute the file, if there ever is one
+-- the strip of those that execute the file, if there are any at one of the columns
 abbrev pub execs_items : List Column → List Item
-execs_items columns = if list_any is_executed columns then strip_items strip.Execs columns else []
+execs_items columns =
+    if list_any is_executed columns then strip_items strip.Execs columns else []
 
 abbrev pub strips_items : List Column → List Item
 strips_items columns =
@@ -246,7 +247,8 @@ middle_items s =
     strips_items s.columns
     ++ (flat_map (write_items s.bottom) s.columns
     ++ (flat_map (guide_items s.bottom) s.flags
-    ++ (flat_map (bar_items s.columns) s.seats ++ flat_map (hashing_items (end_of s.columns) s.seats) s.columns)))
+    ++ (flat_map (bar_items s.columns) s.seats
+    ++ flat_map (hashing_items (end_of s.columns) s.seats) s.columns)))
 
 abbrev pub front_items : Sketch → List Item
 front_items s =

@@ -21,7 +21,7 @@ pub fn push_strips(items: &mut Vec<Item>, columns: &[Column]) -> Result<(), OutO
     push_strip(items, Strip::Content, columns)
 }
 
-// The strip of those that execute the file, if there ever is one.
+// The strip of those that execute the file, if there are any at one of the columns.
 fn push_execs(items: &mut Vec<Item>, columns: &[Column]) -> Result<(), OutOfMemory>
     ensures { OnOk result (items.new.items ≡ items.old.items ++ spec.execs_items columns.now) }
 {
