@@ -7,11 +7,14 @@ It needs crates/imakern/out/imakern, which `rt ci` or `./imakern` builds. There 
 file of its own, cuts it to no byte and lengthens it again to 262,144 bytes, 250 times, and closes
 it. In the fourth each task opens a file of its own of three bytes, writes, reads, sets its length
 and closes it, 100 times. The fifth text is for `buffers`: 64 callers measure 128 buffers of 4,096
-bytes each. RUNS (41) runs on four threads, as many on one, and as many times four runs on one
-thread each at once make a block; three blocks follow one another. It prints medians and least
-times, and ends with status 1 if a ratio of medians is above its limit. Run it with nothing else on
-the machine: a quarter of what four runs at once take is the least that the machine gave just then,
-and if that is more than a quarter of one run, others had a part of its processors.
+bytes each. Each of RUNS (41) rounds has a run on four threads, one on one thread, and four on one
+thread each at once. It prints medians and ratios, and ends with status 1 if the ratio to a run on
+one thread that is alone is above its limit. Run it with nothing else on the machine.
+
+If four runs at once take more than 1.2 times as long as one alone, the machine gave less than four
+processors: others had a part of them, or some are threads of one core, where a thread that is alone
+runs faster than each of two. Then the limit is compared with the ratio to a run on one thread that
+goes beside three others, so that all processors are busy in both.
 """
 import os, statistics, subprocess, sys, time
 
@@ -59,20 +62,13 @@ def at_once(text, count):
 def measure(name, text, limit):
     four, one = text(4), text(1)
     at_once(four, 1), at_once(one, 1)
-    fours, ones, quarters = [], [], []
-    for _ in range(3):
-        fours += [at_once(four, 1) for _ in range(RUNS)]
-        ones += [at_once(one, 1) for _ in range(RUNS)]
-        quarters += [at_once(one, 4) / 4 for _ in range(RUNS)]
-    middle = statistics.median(fours) / statistics.median(ones)
-    print('%s: medians %.1f and %.1f ms, %.3f times (limit %s)' % (
-        name, statistics.median(fours) * 1e3, statistics.median(ones) * 1e3, middle, limit))
-    print('  least %.1f and %.1f ms, %.3f times' % (
-        min(fours) * 1e3, min(ones) * 1e3, min(fours) / min(ones)))
-    print('  a quarter of four at once %.1f ms, %.3f times' % (
-        statistics.median(quarters) * 1e3,
-        statistics.median(quarters) / statistics.median(ones)), flush=True)
-    return middle <= limit
+    rounds = [(at_once(four, 1), at_once(one, 1), at_once(one, 4)) for _ in range(RUNS)]
+    on_four, alone, beside = [statistics.median(times) for times in zip(*rounds)]
+    print('%s: %.1f ms on four threads, %.1f ms on one, %.3f times (limit %s)' % (
+        name, on_four * 1e3, alone * 1e3, on_four / alone, limit))
+    print('  %.1f ms on one beside three others, %.2f times alone; %.3f times' % (
+        beside * 1e3, beside / alone, on_four / beside), flush=True)
+    return on_four <= limit * (alone if beside <= 1.2 * alone else beside)
 
 
 print('%d processors' % os.cpu_count())
