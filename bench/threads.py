@@ -13,8 +13,8 @@ one thread that is alone is above its limit. Run it with nothing else on the mac
 
 If four runs at once take more than 1.2 times as long as one alone, the machine gave less than four
 processors: others had a part of them, or some are threads of one core, where a thread that is alone
-runs faster than each of two. Then the limit is compared with the ratio to a run on one thread that
-goes beside three others, so that all processors are busy in both.
+runs faster than each of two. The ratio to a run on one thread that goes beside three others, so
+that all processors are busy in both, is printed too; the limit isn't compared with it.
 """
 import os, statistics, subprocess, sys, time
 
@@ -68,7 +68,7 @@ def measure(name, text, limit):
         name, on_four * 1e3, alone * 1e3, on_four / alone, limit))
     print('  %.1f ms on one beside three others, %.2f times alone; %.3f times' % (
         beside * 1e3, beside / alone, on_four / beside), flush=True)
-    return on_four <= limit * (alone if beside <= 1.2 * alone else beside)
+    return on_four <= limit * alone
 
 
 print('%d processors' % os.cpu_count())
