@@ -4,10 +4,10 @@ use Rattle.std.specs.Prelude.{nat_lt, slice_get}
 use Rattle.std.specs.List.{position_from}
 use Rattle.std.proofs.lemmas.Bool.{cond-false, cond-true, le-ltb, lt-ltb}
 use Rattle.std.proofs.lemmas.Option.{none-some, same_Some}
-use Rattle.task_frame.specs.model.matching.Decision.{decides, place_of_first}
-use Rattle.task_frame.specs.model.matching.declared.family.Family.{Family}
-use Rattle.task_frame.specs.model.policy.RuleValue.{RuleValue}
-use Rattle.task_frame.specs.model.policy.declared.access.Access.{Access}
+use Rattle.world_model.specs.model.matching.Decision.{decides, place_of_first}
+use Rattle.world_model.specs.model.matching.declared.family.Family.{Family}
+use Rattle.world_model.specs.model.policy.RuleValue.{RuleValue}
+use Rattle.world_model.specs.model.policy.declared.access.Access.{Access}
 use Rattle.audit_trail.specs.Asked.{asking_line, asks, if_asking}
 
 -- ---- the first element that passes, in a first part of a list

@@ -2,33 +2,33 @@
 use Rattle.std.proofs.Common.{◌≡◌, ℕ, true, false, List, [], ◌∷◌, ◌++◌, map, codes, Some, None, refl}
 use Rattle.std.specs.List.{join_with_byte}
 use Rattle.report_text.specs.Numerals.{numeral}
-use Rattle.task_frame.specs.model.Scene.{Program, Station}
-use Rattle.task_frame.specs.model.events.Checks.{no_action}
-use Rattle.task_frame.specs.model.events.EndedInode.{EndedInodeValue}
-use Rattle.task_frame.specs.model.events.Inode.{nobody}
-use Rattle.task_frame.specs.model.events.Past.{past}
-use Rattle.task_frame.specs.model.events.declared.deed.Change.TheVariants as change
-use Rattle.task_frame.specs.model.events.declared.deed.Deed.{Deed}
-use Rattle.task_frame.specs.model.events.declared.deed.Deed.TheVariants as deed
-use Rattle.task_frame.specs.model.events.declared.deed.How.TheVariants as how
-use Rattle.task_frame.specs.model.events.declared.image.Image.{Image}
-use Rattle.task_frame.specs.model.events.declared.settings.Settings.{Settings}
-use Rattle.task_frame.specs.model.events.declared.told.Event.{Event}
-use Rattle.task_frame.specs.model.events.declared.told.Told.{Told}
-use Rattle.task_frame.specs.model.events.declared.told.Told.TheVariants as told
-use Rattle.task_frame.specs.model.events.hashes.Digest.{digest_of}
-use Rattle.task_frame.specs.model.events.hashes.declared.algo.Algo.TheVariants.{Md5, Sha256, Sha384}
-use Rattle.task_frame.specs.model.events.meta.declared.appraisal.Mode.TheVariants as mode
-use Rattle.task_frame.specs.model.events.meta.declared.appraisal.Need.TheVariants as need
-use Rattle.task_frame.specs.model.events.meta.declared.identity.Cred.{Cred}
-use Rattle.task_frame.specs.model.events.meta.declared.measurement.Template.TheVariants as template
-use Rattle.task_frame.specs.model.policy.RuleValue.{RuleValue}
-use Rattle.task_frame.specs.model.policy.declared.rule.Act.{Act}
-use Rattle.task_frame.specs.model.policy.declared.rule.Act.TheVariants as act
-use Rattle.task_frame.specs.model.policy.declared.rule.Func.{Func}
-use Rattle.task_frame.specs.model.policy.declared.rule.Func.TheVariants as func
-use Rattle.task_frame.specs.model.policy.declared.rule.IdTest.TheVariants.{Is}
-use Rattle.task_frame.specs.model.steps.declared.call.Call.TheVariants as call
+use Rattle.world_model.specs.model.Scene.{Program, Station}
+use Rattle.world_model.specs.model.events.Checks.{no_action}
+use Rattle.world_model.specs.model.events.EndedInode.{EndedInodeValue}
+use Rattle.world_model.specs.model.events.Inode.{nobody}
+use Rattle.world_model.specs.model.events.Past.{past}
+use Rattle.world_model.specs.model.events.declared.deed.Change.TheVariants as change
+use Rattle.world_model.specs.model.events.declared.deed.Deed.{Deed}
+use Rattle.world_model.specs.model.events.declared.deed.Deed.TheVariants as deed
+use Rattle.world_model.specs.model.events.declared.deed.How.TheVariants as how
+use Rattle.world_model.specs.model.events.declared.image.Image.{Image}
+use Rattle.world_model.specs.model.events.declared.settings.Settings.{Settings}
+use Rattle.world_model.specs.model.events.declared.told.Event.{Event}
+use Rattle.world_model.specs.model.events.declared.told.Told.{Told}
+use Rattle.world_model.specs.model.events.declared.told.Told.TheVariants as told
+use Rattle.world_model.specs.model.events.hashes.Digest.{digest_of}
+use Rattle.world_model.specs.model.events.hashes.declared.algo.Algo.TheVariants.{Md5, Sha256, Sha384}
+use Rattle.world_model.specs.model.events.meta.declared.appraisal.Mode.TheVariants as mode
+use Rattle.world_model.specs.model.events.meta.declared.appraisal.Need.TheVariants as need
+use Rattle.world_model.specs.model.events.meta.declared.identity.Cred.{Cred}
+use Rattle.world_model.specs.model.events.meta.declared.measurement.Template.TheVariants as template
+use Rattle.world_model.specs.model.policy.RuleValue.{RuleValue}
+use Rattle.world_model.specs.model.policy.declared.rule.Act.{Act}
+use Rattle.world_model.specs.model.policy.declared.rule.Act.TheVariants as act
+use Rattle.world_model.specs.model.policy.declared.rule.Func.{Func}
+use Rattle.world_model.specs.model.policy.declared.rule.Func.TheVariants as func
+use Rattle.world_model.specs.model.policy.declared.rule.IdTest.TheVariants.{Is}
+use Rattle.world_model.specs.model.steps.declared.call.Call.TheVariants as call
 use Rattle.audit_trail.specs.Trail.{all_lines, digest_word, label_word, trail_lines}
 
 -- ---- the script

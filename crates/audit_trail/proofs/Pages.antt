@@ -7,8 +7,8 @@ use Rattle.std.proofs.lemmas.List.{append-nil, drop_all, take_more}
 use Rattle.std.proofs.lemmas.List.Folds.{concat-append}
 use Rattle.std.proofs.lemmas.Option.{same_Some, slice_get-get_or}
 use Rattle.std.proofs.lemmas.Slice.Eq.{bytes_eq-Decides}
-use Rattle.task_frame.specs.model.events.pages.Content.{piece_at, piece_bytes}
-use Rattle.task_frame.specs.model.events.pages.Pages.{ArePagesOf}
+use Rattle.world_model.specs.model.events.pages.Content.{piece_at, piece_bytes}
+use Rattle.world_model.specs.model.events.pages.Pages.{ArePagesOf}
 
 -- the bytes of one page more
 pub concat_more : (pages : List (List ℕ)) (i : ℕ) (page : List ℕ) → i < length pages

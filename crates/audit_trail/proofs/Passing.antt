@@ -4,24 +4,24 @@ use Rattle.std.specs.Prelude.{slice_get}
 use Rattle.std.proofs.lemmas.List.{get_or_read}
 use Rattle.report_text.specs.Words.{Line}
 use Rattle.script_scene.specs.Scene.{station_of}
-use Rattle.task_frame.specs.model.Scene.{Station, no_super}
-use Rattle.task_frame.specs.model.events.EndedInode.{EndedInodeValue}
-use Rattle.task_frame.specs.model.events.Integrity.{label_in}
-use Rattle.task_frame.specs.model.events.Past.{past}
-use Rattle.task_frame.specs.model.events.State.{metadata}
-use Rattle.task_frame.specs.model.events.Verdicts.{fresh_digest}
-use Rattle.task_frame.specs.model.events.declared.deed.Deed.{Deed}
-use Rattle.task_frame.specs.model.events.declared.deed.Deed.TheVariants as deed
-use Rattle.task_frame.specs.model.events.declared.told.Event.{Event}
-use Rattle.task_frame.specs.model.events.declared.told.Told.{Told}
-use Rattle.task_frame.specs.model.events.hashes.Digest.{digest_of}
-use Rattle.task_frame.specs.model.events.Inode.{Inode}
-use Rattle.task_frame.specs.model.events.labels.Labels.{collect_algo}
-use Rattle.task_frame.specs.model.events.meta.declared.step.Who.{Who}
-use Rattle.task_frame.specs.model.matching.declared.family.Family.TheVariants.{Auditing, Hashing}
-use Rattle.task_frame.specs.model.policy.declared.access.Action.{Action}
-use Rattle.task_frame.specs.model.policy.declared.access.Super.{Super}
-use Rattle.task_frame.specs.model.policy.declared.rule.Func.{Func}
+use Rattle.world_model.specs.model.Scene.{Station, no_super}
+use Rattle.world_model.specs.model.events.EndedInode.{EndedInodeValue}
+use Rattle.world_model.specs.model.events.Integrity.{label_in}
+use Rattle.world_model.specs.model.events.Past.{past}
+use Rattle.world_model.specs.model.events.State.{metadata}
+use Rattle.world_model.specs.model.events.Verdicts.{fresh_digest}
+use Rattle.world_model.specs.model.events.declared.deed.Deed.{Deed}
+use Rattle.world_model.specs.model.events.declared.deed.Deed.TheVariants as deed
+use Rattle.world_model.specs.model.events.declared.told.Event.{Event}
+use Rattle.world_model.specs.model.events.declared.told.Told.{Told}
+use Rattle.world_model.specs.model.events.hashes.Digest.{digest_of}
+use Rattle.world_model.specs.model.events.Inode.{Inode}
+use Rattle.world_model.specs.model.events.labels.Labels.{collect_algo}
+use Rattle.world_model.specs.model.events.meta.declared.step.Who.{Who}
+use Rattle.world_model.specs.model.matching.declared.family.Family.TheVariants.{Auditing, Hashing}
+use Rattle.world_model.specs.model.policy.declared.access.Action.{Action}
+use Rattle.world_model.specs.model.policy.declared.access.Super.{Super}
+use Rattle.world_model.specs.model.policy.declared.rule.Func.{Func}
 use Rattle.audit_trail.proofs.Placed.{mapped_there}
 use Rattle.audit_trail.proofs.Standing.{past_count, past_next}
 use Rattle.audit_trail.specs.Asked.{asker_of, line_for}

@@ -7,10 +7,10 @@ use Rattle.hex.specs.Hex.{encode_lower}
 use Rattle.report_text.specs.Numerals.{numeral}
 use Rattle.report_text.specs.Texts.{line_text}
 use Rattle.report_text.specs.Words.{Line, who_word}
-use Rattle.task_frame.specs.model.events.forms.Words.{text_of}
-use Rattle.task_frame.specs.model.events.hashes.Algo.{algo_name}
-use Rattle.task_frame.specs.model.events.hashes.declared.digest.Digest.{Digest}
-use Rattle.task_frame.specs.model.events.meta.declared.step.Who.{Who}
+use Rattle.world_model.specs.model.events.forms.Words.{text_of}
+use Rattle.world_model.specs.model.events.hashes.Algo.{algo_name}
+use Rattle.world_model.specs.model.events.hashes.declared.digest.Digest.{Digest}
+use Rattle.world_model.specs.model.events.meta.declared.step.Who.{Who}
 use Rattle.audit_trail.specs.Texts.{front_text, place_text}
 use Rattle.audit_trail.specs.Trail.{digest_word, record_line, trail_lines}
 

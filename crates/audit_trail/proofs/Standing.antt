@@ -4,18 +4,18 @@ use Rattle.std.specs.Prelude.{All, slice_get}
 use Rattle.std.proofs.lemmas.List.{length-reverse, length-take-le, reverse-append, take-append-drop, take_all, take_more}
 use Rattle.std.proofs.lemmas.List.Elements.{All-head, All-tail}
 use Rattle.std.proofs.lemmas.Option.{none-some, same_Some}
-use Rattle.task_frame.proofs.laws_of_journals.Covered.{follows_at}
-use Rattle.task_frame.specs.model.EndedValue.{EndedValue, inodes_ended}
-use Rattle.task_frame.specs.model.Scene.{Scene, Station, inode_of}
-use Rattle.task_frame.specs.model.Shown.{journals_of}
-use Rattle.task_frame.specs.model.events.EndedInode.{EndedInodeValue, ended_inode}
-use Rattle.task_frame.specs.model.events.Inode.{Inode}
-use Rattle.task_frame.specs.model.events.Legal.{EachFollows, Follows, Legal}
-use Rattle.task_frame.specs.model.events.Merged.{Journal}
-use Rattle.task_frame.specs.model.events.Past.{past, past_more}
-use Rattle.task_frame.specs.model.events.declared.settings.Settings.{Settings}
-use Rattle.task_frame.specs.model.events.declared.told.Event.{Event}
-use Rattle.task_frame.specs.model.steps.declared.ending.Ending.{Ending}
+use Rattle.world_model.proofs.laws_of_journals.Covered.{follows_at}
+use Rattle.world_model.specs.model.EndedValue.{EndedValue, inodes_ended}
+use Rattle.world_model.specs.model.Scene.{Scene, Station, inode_of}
+use Rattle.world_model.specs.model.Shown.{journals_of}
+use Rattle.world_model.specs.model.events.EndedInode.{EndedInodeValue, ended_inode}
+use Rattle.world_model.specs.model.events.Inode.{Inode}
+use Rattle.world_model.specs.model.events.Legal.{EachFollows, Follows, Legal}
+use Rattle.world_model.specs.model.events.Merged.{Journal}
+use Rattle.world_model.specs.model.events.Past.{past, past_more}
+use Rattle.world_model.specs.model.events.declared.settings.Settings.{Settings}
+use Rattle.world_model.specs.model.events.declared.told.Event.{Event}
+use Rattle.world_model.specs.model.steps.declared.ending.Ending.{Ending}
 use Rattle.audit_trail.specs.Trail.{IsOfRun, inode_with}
 
 -- before the first event there is none

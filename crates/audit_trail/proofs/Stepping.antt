@@ -3,27 +3,27 @@ use Rattle.std.proofs.Common.{◌≡◌, ℕ, Bool, true, false, cond, List, [],
 use Rattle.std.specs.Prelude.{◌&&◌, not, option_map}
 use Rattle.std.specs.Str.{bytes_eq}
 use Rattle.std.proofs.lemmas.Option.{none-some, same_Some}
-use Rattle.task_frame.proofs.laws_of_journals.Fresh.{take_grants}
-use Rattle.task_frame.specs.model.events.Inode.{Inode}
-use Rattle.task_frame.specs.model.events.Integrity as journal
-use Rattle.task_frame.specs.model.events.Integrity.{Collection, Digests, attributes, attributes_after, collected_more, collecting, digest_from, digests_of, fixed_by, ima_name, in_force, integrity, label_in, labelled_by, voids_digest}
-use Rattle.task_frame.specs.model.events.Legal.{Follows}
-use Rattle.task_frame.specs.model.events.Says.{is_too_long, placed_in, set_attr_told, unless_collecting}
-use Rattle.task_frame.specs.model.events.State.{changed, content, content_after, metadata, metadata_after, present}
-use Rattle.task_frame.specs.model.events.declared.deed.Deed.{Deed}
-use Rattle.task_frame.specs.model.events.declared.deed.Deed.TheVariants as deed
-use Rattle.task_frame.specs.model.events.declared.told.Event.{Event}
-use Rattle.task_frame.specs.model.events.declared.told.Told.{Told}
-use Rattle.task_frame.specs.model.events.declared.told.Told.TheVariants as told
-use Rattle.task_frame.specs.model.events.evm.Input.{evm_name}
-use Rattle.task_frame.specs.model.events.evm.Status.{renewed}
-use Rattle.task_frame.specs.model.events.hashes.Digest.{digest_of}
-use Rattle.task_frame.specs.model.events.hashes.declared.digest.Digest.{Digest}
-use Rattle.task_frame.specs.model.events.labels.Labels.{collect_algo}
-use Rattle.task_frame.specs.model.events.meta.declared.identity.Meta.{Meta}
-use Rattle.task_frame.specs.model.events.meta.declared.step.Who.{Who}
-use Rattle.task_frame.specs.model.events.templates.xattrs.Attrs.{Pair}
-use Rattle.task_frame.specs.inodes.Changes.{changed_on}
+use Rattle.world_model.proofs.laws_of_journals.Fresh.{take_grants}
+use Rattle.world_model.specs.model.events.Inode.{Inode}
+use Rattle.world_model.specs.model.events.Integrity as journal
+use Rattle.world_model.specs.model.events.Integrity.{Collection, Digests, attributes, attributes_after, collected_more, collecting, digest_from, digests_of, fixed_by, ima_name, in_force, integrity, label_in, labelled_by, voids_digest}
+use Rattle.world_model.specs.model.events.Legal.{Follows}
+use Rattle.world_model.specs.model.events.Says.{is_too_long, placed_in, set_attr_told, unless_collecting}
+use Rattle.world_model.specs.model.events.State.{changed, content, content_after, metadata, metadata_after, present}
+use Rattle.world_model.specs.model.events.declared.deed.Deed.{Deed}
+use Rattle.world_model.specs.model.events.declared.deed.Deed.TheVariants as deed
+use Rattle.world_model.specs.model.events.declared.told.Event.{Event}
+use Rattle.world_model.specs.model.events.declared.told.Told.{Told}
+use Rattle.world_model.specs.model.events.declared.told.Told.TheVariants as told
+use Rattle.world_model.specs.model.events.evm.Input.{evm_name}
+use Rattle.world_model.specs.model.events.evm.Status.{renewed}
+use Rattle.world_model.specs.model.events.hashes.Digest.{digest_of}
+use Rattle.world_model.specs.model.events.hashes.declared.digest.Digest.{Digest}
+use Rattle.world_model.specs.model.events.labels.Labels.{collect_algo}
+use Rattle.world_model.specs.model.events.meta.declared.identity.Meta.{Meta}
+use Rattle.world_model.specs.model.events.meta.declared.step.Who.{Who}
+use Rattle.world_model.specs.model.events.templates.xattrs.Attrs.{Pair}
+use Rattle.world_model.specs.inodes.Changes.{changed_on}
 use Rattle.audit_trail.specs.Steps.{IsKeptOf, IsWellFormed, attrs_after, begun, closed_by, finished_after, gathered_after, left_after, mended_by, sets_content, taken_digest, taken_more}
 use Rattle.audit_trail.specs.Walk.{GoesOn, IsWalk, taken_of}
 use Rattle.audit_trail.specs.declared.walk.Walk.{Walk}

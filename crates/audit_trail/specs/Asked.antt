@@ -1,19 +1,19 @@
 -- The line of the policy that asks for a record of a check: in each family of actions the first
 -- line that matches the access decides, among the rules that the check names.
 use Rattle.std.specs.Prelude.{ℕ, Bool, false, List, Option, Some, None, slice_get, if◌then◌else◌}
-use Rattle.task_frame.specs.model.Scene.{Program}
-use Rattle.task_frame.specs.model.events.meta.declared.identity.Cred.{Cred}
-use Rattle.task_frame.specs.model.events.meta.declared.identity.Meta.{Meta}
-use Rattle.task_frame.specs.model.events.meta.declared.step.Who.{Who}
-use Rattle.task_frame.specs.model.matching.Decision.{access_of, is_done, place_of_first}
-use Rattle.task_frame.specs.model.matching.declared.family.Family.{Family}
-use Rattle.task_frame.specs.model.policy.Accesses.{mask_of_purpose}
-use Rattle.task_frame.specs.model.policy.RuleValue.{RuleValue}
-use Rattle.task_frame.specs.model.policy.declared.access.Access.{Access}
-use Rattle.task_frame.specs.model.policy.declared.access.Super.{Super}
-use Rattle.task_frame.specs.model.policy.declared.rule.Func.{Func}
-use Rattle.task_frame.specs.model.steps.Steps.{course_of, purpose_of}
-use Rattle.task_frame.specs.model.steps.declared.call.Call.{Call}
+use Rattle.world_model.specs.model.Scene.{Program}
+use Rattle.world_model.specs.model.events.meta.declared.identity.Cred.{Cred}
+use Rattle.world_model.specs.model.events.meta.declared.identity.Meta.{Meta}
+use Rattle.world_model.specs.model.events.meta.declared.step.Who.{Who}
+use Rattle.world_model.specs.model.matching.Decision.{access_of, is_done, place_of_first}
+use Rattle.world_model.specs.model.matching.declared.family.Family.{Family}
+use Rattle.world_model.specs.model.policy.Accesses.{mask_of_purpose}
+use Rattle.world_model.specs.model.policy.RuleValue.{RuleValue}
+use Rattle.world_model.specs.model.policy.declared.access.Access.{Access}
+use Rattle.world_model.specs.model.policy.declared.access.Super.{Super}
+use Rattle.world_model.specs.model.policy.declared.rule.Func.{Func}
+use Rattle.world_model.specs.model.steps.Steps.{course_of, purpose_of}
+use Rattle.world_model.specs.model.steps.declared.call.Call.{Call}
 
 -- ---- who asks
 

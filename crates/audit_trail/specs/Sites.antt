@@ -3,12 +3,12 @@ use Rattle.std.specs.Prelude.{◌≡◌, ℕ, ◌<◌, List, length, map, Some, 
 use Rattle.std.specs.List.{AllByRecursion}
 use Rattle.report_text.specs.Words.{Line}
 use Rattle.script_scene.specs.Scene.{fs_of, program_of, station_of}
-use Rattle.task_frame.specs.model.Scene.{Program, Station}
-use Rattle.task_frame.specs.model.events.EndedInode.{EndedInodeValue}
-use Rattle.task_frame.specs.model.events.Inode.{Inode}
-use Rattle.task_frame.specs.model.events.Legal.{Legal}
-use Rattle.task_frame.specs.model.events.Past.{past}
-use Rattle.task_frame.specs.model.events.declared.told.Event.{Event}
+use Rattle.world_model.specs.model.Scene.{Program, Station}
+use Rattle.world_model.specs.model.events.EndedInode.{EndedInodeValue}
+use Rattle.world_model.specs.model.events.Inode.{Inode}
+use Rattle.world_model.specs.model.events.Legal.{Legal}
+use Rattle.world_model.specs.model.events.Past.{past}
+use Rattle.world_model.specs.model.events.declared.told.Event.{Event}
 use Rattle.audit_trail.specs.Trail.{all_lines, inode_lines, inode_with, journal_lines, step_lines}
 use Rattle.audit_trail.specs.Walk.{digest_at}
 use Rattle.audit_trail.specs.declared.site.Context.{Context}

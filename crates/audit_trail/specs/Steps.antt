@@ -1,22 +1,22 @@
 -- What one event changes of an inode, as a walk over its journal carries it along.
 use Rattle.std.specs.Prelude.{◌≡◌, ℕ, ◌+◌, ◌<◌, Bool, true, false, List, [], ◌++◌, length, Option, Some, None, option_map}
-use Rattle.task_frame.specs.inodes.Changes.{changed_on, fixed_on, labelled_on}
-use Rattle.task_frame.specs.model.events.Integrity.{label_in}
-use Rattle.task_frame.specs.model.events.Says.{is_too_long}
-use Rattle.task_frame.specs.model.events.State.{changed}
-use Rattle.task_frame.specs.model.events.declared.deed.Deed.{Deed}
-use Rattle.task_frame.specs.model.events.declared.deed.Deed.TheVariants as deed
-use Rattle.task_frame.specs.model.events.declared.told.Told.{Told}
-use Rattle.task_frame.specs.model.events.declared.told.Told.TheVariants as told
-use Rattle.task_frame.specs.model.events.evm.Setup.{Setup}
-use Rattle.task_frame.specs.model.events.evm.Status.{renewed}
-use Rattle.task_frame.specs.model.events.hashes.Digest.{digest_of}
-use Rattle.task_frame.specs.model.events.hashes.declared.algo.Algo.{Algo}
-use Rattle.task_frame.specs.model.events.hashes.declared.digest.Digest.{Digest}
-use Rattle.task_frame.specs.model.events.labels.Labels.{collect_algo}
-use Rattle.task_frame.specs.model.events.meta.declared.identity.Meta.{Meta}
-use Rattle.task_frame.specs.model.events.pages.Content.{piece_at}
-use Rattle.task_frame.specs.model.events.templates.xattrs.Attrs.{Pair}
+use Rattle.world_model.specs.inodes.Changes.{changed_on, fixed_on, labelled_on}
+use Rattle.world_model.specs.model.events.Integrity.{label_in}
+use Rattle.world_model.specs.model.events.Says.{is_too_long}
+use Rattle.world_model.specs.model.events.State.{changed}
+use Rattle.world_model.specs.model.events.declared.deed.Deed.{Deed}
+use Rattle.world_model.specs.model.events.declared.deed.Deed.TheVariants as deed
+use Rattle.world_model.specs.model.events.declared.told.Told.{Told}
+use Rattle.world_model.specs.model.events.declared.told.Told.TheVariants as told
+use Rattle.world_model.specs.model.events.evm.Setup.{Setup}
+use Rattle.world_model.specs.model.events.evm.Status.{renewed}
+use Rattle.world_model.specs.model.events.hashes.Digest.{digest_of}
+use Rattle.world_model.specs.model.events.hashes.declared.algo.Algo.{Algo}
+use Rattle.world_model.specs.model.events.hashes.declared.digest.Digest.{Digest}
+use Rattle.world_model.specs.model.events.labels.Labels.{collect_algo}
+use Rattle.world_model.specs.model.events.meta.declared.identity.Meta.{Meta}
+use Rattle.world_model.specs.model.events.pages.Content.{piece_at}
+use Rattle.world_model.specs.model.events.templates.xattrs.Attrs.{Pair}
 use Rattle.audit_trail.specs.TakenValue.{TakenValue}
 
 -- what a legal journal says of an event that changes content or attributes: a write has bytes, and

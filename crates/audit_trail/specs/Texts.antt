@@ -3,7 +3,7 @@ use Rattle.std.specs.Prelude.{ℕ, List, [], ◌∷◌, ◌++◌, codes}
 use Rattle.std.specs.List.{join_with_byte}
 use Rattle.report_text.specs.Numerals.{numeral}
 use Rattle.report_text.specs.Words.{who_word}
-use Rattle.task_frame.specs.model.events.meta.declared.step.Who.{Who}
+use Rattle.world_model.specs.model.events.meta.declared.step.Who.{Who}
 
 -- `I.K TASK.CALL.STEP`
 abbrev pub place_text : ℕ → ℕ → Who → List ℕ

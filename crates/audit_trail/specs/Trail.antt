@@ -8,27 +8,27 @@ use Rattle.hex.specs.Hex.{encode_lower}
 use Rattle.report_text.specs.Numerals.{numeral}
 use Rattle.report_text.specs.Report.{force_word}
 use Rattle.report_text.specs.Words.{Line, who_word}
-use Rattle.task_frame.specs.model.EndedValue.{EndedValue, ended_of}
-use Rattle.task_frame.specs.model.Scene.{Program, Scene, Station, rules_with}
-use Rattle.task_frame.specs.model.Served.{Run}
-use Rattle.task_frame.specs.model.Shown.{IsShown}
-use Rattle.task_frame.specs.model.events.EndedInode.{EndedInodeValue}
-use Rattle.task_frame.specs.model.events.Inode.{Inode}
-use Rattle.task_frame.specs.model.events.Past.{past}
-use Rattle.task_frame.specs.model.events.State.{metadata}
-use Rattle.task_frame.specs.model.events.Verdicts.{fresh_digest}
-use Rattle.task_frame.specs.model.events.declared.deed.Deed.{Deed}
-use Rattle.task_frame.specs.model.events.declared.deed.Deed.TheVariants as deed
-use Rattle.task_frame.specs.model.events.declared.settings.Settings.{Settings}
-use Rattle.task_frame.specs.model.events.declared.told.Event.{Event}
-use Rattle.task_frame.specs.model.events.forms.Words.{text_of}
-use Rattle.task_frame.specs.model.events.hashes.declared.digest.Digest.{Digest}
-use Rattle.task_frame.specs.model.events.labels.Labels.{label_of}
-use Rattle.task_frame.specs.model.events.meta.declared.identity.Meta.{Meta}
-use Rattle.task_frame.specs.model.events.meta.declared.step.Who.{Who}
-use Rattle.task_frame.specs.model.matching.declared.family.Family.TheVariants.{Auditing, Hashing}
-use Rattle.task_frame.specs.model.policy.RuleValue.{RuleValue}
-use Rattle.task_frame.specs.model.steps.declared.ending.Ending.{Ending}
+use Rattle.world_model.specs.model.EndedValue.{EndedValue, ended_of}
+use Rattle.world_model.specs.model.Scene.{Program, Scene, Station, rules_with}
+use Rattle.world_model.specs.model.Served.{Run}
+use Rattle.world_model.specs.model.Shown.{IsShown}
+use Rattle.world_model.specs.model.events.EndedInode.{EndedInodeValue}
+use Rattle.world_model.specs.model.events.Inode.{Inode}
+use Rattle.world_model.specs.model.events.Past.{past}
+use Rattle.world_model.specs.model.events.State.{metadata}
+use Rattle.world_model.specs.model.events.Verdicts.{fresh_digest}
+use Rattle.world_model.specs.model.events.declared.deed.Deed.{Deed}
+use Rattle.world_model.specs.model.events.declared.deed.Deed.TheVariants as deed
+use Rattle.world_model.specs.model.events.declared.settings.Settings.{Settings}
+use Rattle.world_model.specs.model.events.declared.told.Event.{Event}
+use Rattle.world_model.specs.model.events.forms.Words.{text_of}
+use Rattle.world_model.specs.model.events.hashes.declared.digest.Digest.{Digest}
+use Rattle.world_model.specs.model.events.labels.Labels.{label_of}
+use Rattle.world_model.specs.model.events.meta.declared.identity.Meta.{Meta}
+use Rattle.world_model.specs.model.events.meta.declared.step.Who.{Who}
+use Rattle.world_model.specs.model.matching.declared.family.Family.TheVariants.{Auditing, Hashing}
+use Rattle.world_model.specs.model.policy.RuleValue.{RuleValue}
+use Rattle.world_model.specs.model.steps.declared.ending.Ending.{Ending}
 use Rattle.audit_trail.specs.Asked.{asker_of, line_for}
 
 -- ---- a record

@@ -1,15 +1,15 @@
 -- A walk over a journal: the inode as the events so far left it, and when the walk agrees with
 -- them.
 use Rattle.std.specs.Prelude.{◌≡◌, List, Option, Some, option_map}
-use Rattle.task_frame.specs.model.events.Inode.{Inode}
-use Rattle.task_frame.specs.model.events.Integrity.{Collection, Digests, attributes, collecting, in_force, label_in}
-use Rattle.task_frame.specs.model.events.State.{content, content_after, metadata, metadata_after}
-use Rattle.task_frame.specs.model.events.declared.settings.Settings.{Settings}
-use Rattle.task_frame.specs.model.events.declared.told.Event.{Event}
-use Rattle.task_frame.specs.model.events.hashes.Digest.{digest_of}
-use Rattle.task_frame.specs.model.events.hashes.declared.algo.Algo.{Algo}
-use Rattle.task_frame.specs.model.events.hashes.declared.digest.Digest.{Digest}
-use Rattle.task_frame.specs.model.events.labels.Labels.{collect_algo}
+use Rattle.world_model.specs.model.events.Inode.{Inode}
+use Rattle.world_model.specs.model.events.Integrity.{Collection, Digests, attributes, collecting, in_force, label_in}
+use Rattle.world_model.specs.model.events.State.{content, content_after, metadata, metadata_after}
+use Rattle.world_model.specs.model.events.declared.settings.Settings.{Settings}
+use Rattle.world_model.specs.model.events.declared.told.Event.{Event}
+use Rattle.world_model.specs.model.events.hashes.Digest.{digest_of}
+use Rattle.world_model.specs.model.events.hashes.declared.algo.Algo.{Algo}
+use Rattle.world_model.specs.model.events.hashes.declared.digest.Digest.{Digest}
+use Rattle.world_model.specs.model.events.labels.Labels.{collect_algo}
 use Rattle.audit_trail.specs.Steps.{IsKeptOf, attrs_after, finished_after, gathered_after, left_after, taken_digest}
 use Rattle.audit_trail.specs.TakenValue.{TakenValue}
 use Rattle.audit_trail.specs.declared.walk.Walk.{Walk}

@@ -2,10 +2,10 @@
 
 ghost use Rattle.std.specs.Prelude.{◌≡◌, map, slice_get, take};
 ghost use Rattle.script_scene.specs.Scene.{program_of};
-ghost use Rattle.task_frame.specs.model.matching.Decision.{is_done, place_of_first};
-ghost use Rattle.task_frame.specs.model.matching.declared.family.Family.{Family as AnyFamily};
-ghost use Rattle.task_frame.specs.model.matching.declared.family.Family.TheVariants.{Auditing, Hashing};
-ghost use Rattle.task_frame.specs.model.policy.declared.access.Access.{Access as AnyAccess};
+ghost use Rattle.world_model.specs.model.matching.Decision.{is_done, place_of_first};
+ghost use Rattle.world_model.specs.model.matching.declared.family.Family.{Family as AnyFamily};
+ghost use Rattle.world_model.specs.model.matching.declared.family.Family.TheVariants.{Auditing, Hashing};
+ghost use Rattle.world_model.specs.model.policy.declared.access.Access.{Access as AnyAccess};
 ghost use Rattle.audit_trail.specs.Asked.{asker_by, asker_of, asking_line, asks, line_for, mask_of};
 ghost use Rattle.audit_trail.specs.Sites.{programs_in};
 

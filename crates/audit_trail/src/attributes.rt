@@ -3,7 +3,7 @@
 
 ghost use Rattle.std.specs.Prelude.{◌≡◌, option_map, OnOk};
 ghost use Rattle.audit_trail.specs.Steps.{IsKeptOf, IsWellFormed, attrs_after, closed_by, mended_by, taken_digest};
-ghost use Rattle.task_frame.specs.inodes.Changes.{fixed_on, labelled_on};
+ghost use Rattle.world_model.specs.inodes.Changes.{fixed_on, labelled_on};
 
 use crate::digests::digest_taken;
 use crate::taken::Taken;
@@ -14,8 +14,8 @@ use script_scene::scripts::hashes::Digest;
 use script_scene::scripts::meta::{EvmStatus, Meta};
 use script_scene::scripts::xattrs::Attrs;
 use std::alloc::AllocError as OutOfMemory;
-use task_frame::inodes::states::changed;
-use task_frame::inodes::{change_on, label_on};
+use world_model::inodes::states::changed;
+use world_model::inodes::{change_on, label_on};
 
 // Writes the label of what a collection took.
 fn label(

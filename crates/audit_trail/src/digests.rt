@@ -1,7 +1,7 @@
 // Digests of contents, each computed at most once between two changes of the content.
 
 ghost use Rattle.std.specs.Prelude.{◌≡◌, IfSome, Some};
-ghost use Rattle.task_frame.specs.model.events.hashes.Digest.{digest_of};
+ghost use Rattle.world_model.specs.model.events.hashes.Digest.{digest_of};
 ghost use Rattle.audit_trail.specs.Steps.{IsKeptOf, taken_digest};
 
 use crate::taken::Taken;

@@ -1,10 +1,10 @@
 // The records of journals, in order.
 
 ghost use Rattle.std.specs.Prelude.{◌≡◌, ◌+◌, ◌≤◌, [], ◌++◌, Some, length, slice_get, vec_len, IfOk, OnOk};
-ghost use Rattle.task_frame.specs.model.Scene.{Station as AnyStation};
-ghost use Rattle.task_frame.specs.model.events.Legal.{Legal};
-ghost use Rattle.task_frame.specs.model.events.Past.{past};
-ghost use Rattle.task_frame.specs.model.events.forms.Words.{text_of};
+ghost use Rattle.world_model.specs.model.Scene.{Station as AnyStation};
+ghost use Rattle.world_model.specs.model.events.Legal.{Legal};
+ghost use Rattle.world_model.specs.model.events.Past.{past};
+ghost use Rattle.world_model.specs.model.events.forms.Words.{text_of};
 ghost use Rattle.audit_trail.specs.Sites.{AreLegal, ArePlaced, event_lines, inode_at, lines_from, numbered_lines, site_lines, stations_in};
 ghost use Rattle.audit_trail.specs.Trail.{inode_with};
 ghost use Rattle.audit_trail.specs.Walk.{IsCached, IsWalk, StillWalks};

@@ -1,7 +1,7 @@
 // The records of a check, as they are printed.
 
 ghost use Rattle.std.specs.Prelude.{◌≡◌, ◌+◌, ◌≤◌, ◌∷◌, ◌++◌, length, vec_len, IfOk, OnOk};
-ghost use Rattle.task_frame.specs.model.events.forms.Words.{text_of};
+ghost use Rattle.world_model.specs.model.events.forms.Words.{text_of};
 ghost use Rattle.audit_trail.specs.Texts.{front_text, place_text};
 ghost use Rattle.audit_trail.specs.Trail.{audit_line, hash_line, if_line, label_word, lines_of};
 

@@ -4,8 +4,8 @@
 ghost use Rattle.std.specs.Prelude.{◌≡◌, IfOk, IsTrue, OnOk};
 ghost use Rattle.std.specs.List.{concat};
 ghost use Rattle.audit_trail.specs.Steps.{begun, taken_digest, taken_more};
-ghost use Rattle.task_frame.specs.model.events.hashes.Digest.{digest_of};
-ghost use Rattle.task_frame.specs.model.events.pages.Content.{piece_at};
+ghost use Rattle.world_model.specs.model.events.hashes.Digest.{digest_of};
+ghost use Rattle.world_model.specs.model.events.pages.Content.{piece_at};
 
 use script_scene::scripts::events::pages::{Content, Page};
 use script_scene::scripts::hashes::{Algo, Digest, Running};

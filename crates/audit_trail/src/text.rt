@@ -2,8 +2,8 @@
 
 ghost use Rattle.std.specs.Prelude.{◌≡◌, ◌++◌, IfOk, OnOk};
 ghost use Rattle.script_scene.specs.Scene.{IsForFiles, scene_of};
-ghost use Rattle.task_frame.specs.model.events.forms.Words.{text_of};
-ghost use Rattle.task_frame.specs.model.rules.Policy.{rules_in};
+ghost use Rattle.world_model.specs.model.events.forms.Words.{text_of};
+ghost use Rattle.world_model.specs.model.rules.Policy.{rules_in};
 ghost use Rattle.audit_trail.specs.Sites.{AreLegal, ArePlaced, lines_from};
 ghost use Rattle.audit_trail.specs.Trail.{IsOfRun, trail_lines, trail_text};
 

@@ -1,7 +1,7 @@
 // The state of an inode, carried along its journal.
 
 ghost use Rattle.std.specs.Prelude.{◌≡◌, if◌then◌else◌, option_map, IfOk, OnOk};
-ghost use Rattle.task_frame.specs.model.events.State.{content_after};
+ghost use Rattle.world_model.specs.model.events.State.{content_after};
 ghost use Rattle.audit_trail.specs.Steps.{IsWellFormed, finished_after, gathered_after, left_after, sets_content, taken_more};
 
 use crate::attributes::rewrite;
@@ -14,7 +14,7 @@ use script_scene::scripts::labels::collect_algo;
 use script_scene::scripts::meta::Meta;
 use script_scene::scripts::xattrs::Attrs;
 use std::alloc::{AllocError as OutOfMemory, Global};
-use task_frame::inodes::states::metadata_after;
+use world_model::inodes::states::metadata_after;
 
 // An inode as the events so far left it.
 #[derive(Drop)]
@@ -132,7 +132,7 @@ fn unless(changed: bool, kept: Option<Digest>) -> Option<Digest>
 
 impl Walk {
     ghost use Rattle.std.specs.Prelude.{[]};
-    ghost use Rattle.task_frame.specs.model.events.Inode.{Inode as AnyInode};
+    ghost use Rattle.world_model.specs.model.events.Inode.{Inode as AnyInode};
     ghost use Rattle.audit_trail.specs.Walk.{GoesOn, IsCached, IsWalk, StillWalks, digest_at};
 
     // The inode before its first event.

@@ -11,7 +11,7 @@ use mathlib.Core.List.{IsPrefix}
 use Rattle.report_text.proofs.about_growing.Others.{bit, count_by-cons}
 use Rattle.report_text.proofs.about_growing.Prefixes.{prefix_get, prefix_whole}
 use Rattle.script_text.specs.steps.hashes.declared.algo.Algo.{Algo}
-use Rattle.script_text.specs.steps.templates.Replay.{banks_of}
+use Rattle.measure_book.specs.Replay.{banks_of}
 use Rattle.script_text.specs.steps.templates.Same.{IsDistinct, add_by, place_of_same, placed_by, same}
 use Rattle.script_text.specs.steps.templates.declared.entry.Entry.{Entry}
 use Rattle.script_text.proofs.Lasts.{each_weaker}

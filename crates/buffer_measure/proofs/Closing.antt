@@ -11,8 +11,8 @@ use Rattle.report_text.specs.model.growing.Others.{HasOthers, beside_own}
 use Rattle.report_text.specs.model.growing.Shown.{Grown, Passed}
 use Rattle.report_text.proofs.about_growing.Others.{bit, count_by-cons, others_in_order}
 use Rattle.script_text.specs.steps.hashes.declared.algo.Algo.{Algo}
-use Rattle.script_text.specs.steps.registers.declared.banks.Banks.{Banks}
-use Rattle.script_text.specs.steps.templates.Replay.{banks_of}
+use Rattle.measure_book.specs.registers.declared.banks.Banks.{Banks}
+use Rattle.measure_book.specs.Replay.{banks_of}
 use Rattle.script_text.specs.steps.templates.Same.{IsDistinct}
 use Rattle.script_text.specs.steps.templates.declared.entry.Entry.{Entry}
 use Rattle.buffer_measure.specs.Answers.{IsAnswer, Rises, added_in}

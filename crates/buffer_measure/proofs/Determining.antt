@@ -18,7 +18,7 @@ use Rattle.script_text.specs.events.forms.Tokens.{is_filled}
 use Rattle.script_text.specs.events.forms.Words.{is_clean, is_line, is_visible, is_word}
 use Rattle.report_text.proofs.about_forms.Tells.{text_tells}
 use Rattle.script_text.specs.steps.hashes.declared.algo.Algo.{Algo}
-use Rattle.script_text.specs.steps.templates.Replay.{banks_of}
+use Rattle.measure_book.specs.Replay.{banks_of}
 use Rattle.script_text.specs.steps.templates.declared.entry.Entry.{Entry}
 use Rattle.script_text.specs.Forms.{are_bytes, is_cred}
 use Rattle.script_text.specs.Limits.{most_value}

@@ -4,7 +4,7 @@ use Rattle.report_text.specs.Numerals.{numeral}
 use Rattle.report_text.specs.Report.{entry_words, pcr_lines}
 use Rattle.report_text.specs.Words.{Line}
 use Rattle.script_text.specs.events.forms.Words.{text_of}
-use Rattle.script_text.specs.steps.registers.declared.banks.Banks.{Banks}
+use Rattle.measure_book.specs.registers.declared.banks.Banks.{Banks}
 use Rattle.script_text.specs.steps.templates.declared.entry.Entry.{Entry}
 use Rattle.buffer_measure.specs.Forms.{IsBufferText}
 use Rattle.buffer_measure.specs.Run.{IsRunOf, RunValue}

@@ -1,8 +1,8 @@
 -- A run of a text of buffers: the list, the registers, and each caller's answers.
 use Rattle.std.specs.Prelude.{◌≡◌, ℕ, ◌<◌, ◌==◌, List, Some, count_by, length, slice_get, if◌then◌else◌}
 use Rattle.std.specs.List.{AllByRecursion, AllZip, flat_map}
-use Rattle.script_text.specs.steps.registers.declared.banks.Banks.{Banks}
-use Rattle.script_text.specs.steps.templates.Replay.{banks_of}
+use Rattle.measure_book.specs.registers.declared.banks.Banks.{Banks}
+use Rattle.measure_book.specs.Replay.{banks_of}
 use Rattle.script_text.specs.steps.templates.Same.{IsDistinct}
 use Rattle.script_text.specs.steps.templates.declared.entry.Entry.{Entry}
 use Rattle.buffer_measure.specs.Answers.{IsAnswer, Rises, added_in}

@@ -1,5 +1,5 @@
 use crate::answers::Answers;
-use script_text::registers::Banks;
+use measure_book::registers::Banks;
 use script_text::templates::Entry;
 use std::marker::Model;
 

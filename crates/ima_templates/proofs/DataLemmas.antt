@@ -5,16 +5,16 @@ use Rattle.std.proofs.lemmas.List.{length-replicate, append-nil, append_cancel_l
 use Rattle.std.proofs.Math.Seq.{take-append_seam, drop-append_seam}
 use Rattle.std.specs.List.{All, flat_map, take_while}
 use Rattle.byteorder.specs.Endian.{little_bytes}
-use Rattle.pcr_bank.specs.hashes.declared.algo.Algo.{Algo}
-use Rattle.pcr_bank.specs.hashes.declared.algo.Algo.TheVariants.{Md5, Sha1, Sha256, Sha384, Sha512, Sha224}
-use Rattle.pcr_bank.specs.hashes.declared.digest.Digest.{Digest}
-use Rattle.pcr_bank.specs.hashes.Algo.{algo_by_name, algo_name, algo_size}
-use Rattle.pcr_bank.specs.hashes.Digest.{HasDigestSize}
-use Rattle.pcr_bank.specs.meta.Fields.{template_fields}
-use Rattle.pcr_bank.specs.meta.declared.measurement.Field.{Field}
-use Rattle.pcr_bank.specs.meta.declared.measurement.Field.TheVariants as field
-use Rattle.pcr_bank.specs.meta.declared.measurement.Template.{Template}
-use Rattle.pcr_bank.specs.meta.declared.measurement.Template.TheVariants.{Ima, ImaNg, ImaSig, ImaBuf}
+use Rattle.hash_algos.specs.declared.algo.Algo.{Algo}
+use Rattle.hash_algos.specs.declared.algo.Algo.TheVariants.{Md5, Sha1, Sha256, Sha384, Sha512, Sha224}
+use Rattle.hash_algos.specs.declared.digest.Digest.{Digest}
+use Rattle.hash_algos.specs.Algo.{algo_by_name, algo_name, algo_size}
+use Rattle.hash_algos.specs.Digest.{HasDigestSize}
+use Rattle.inode_meta.specs.Fields.{template_fields}
+use Rattle.inode_meta.specs.declared.measurement.Field.{Field}
+use Rattle.inode_meta.specs.declared.measurement.Field.TheVariants as field
+use Rattle.inode_meta.specs.declared.measurement.Template.{Template}
+use Rattle.inode_meta.specs.declared.measurement.Template.TheVariants.{Ima, ImaNg, ImaSig, ImaBuf}
 use Rattle.ima_templates.specs.declared.entry.Entry.{Entry}
 use Rattle.ima_templates.specs.Data.{HasLengths, content, d_ng, data_by, field_data, n_ng, n_padded, sized, template_data}
 use Rattle.ima_templates.specs.IsEntry.{IsEntry}

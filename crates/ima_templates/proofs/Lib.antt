@@ -1,4 +1,3 @@
 pub mod DataLemmas
 pub mod SameLemmas
-pub mod ReplayLemmas
 pub mod Examples

@@ -2,13 +2,13 @@
 use Rattle.std.specs.Prelude.{ℕ, Bool, true, false, if◌then◌else◌, ◌-◌, ◌≤◌, List, [], ◌∷◌, ◌++◌, length, replicate, codes}
 use Rattle.std.specs.List.{flat_map}
 use Rattle.byteorder.specs.Endian.{little_bytes}
-use Rattle.pcr_bank.specs.hashes.declared.digest.Digest.{Digest}
-use Rattle.pcr_bank.specs.hashes.Algo.{algo_name}
-use Rattle.pcr_bank.specs.hashes.Digest.{HasDigestSize}
-use Rattle.pcr_bank.specs.meta.declared.measurement.Template.{Template}
-use Rattle.pcr_bank.specs.meta.declared.measurement.Field.{Field}
-use Rattle.pcr_bank.specs.meta.declared.measurement.Field.TheVariants as field
-use Rattle.pcr_bank.specs.meta.Fields.{template_fields}
+use Rattle.hash_algos.specs.declared.digest.Digest.{Digest}
+use Rattle.hash_algos.specs.Algo.{algo_name}
+use Rattle.hash_algos.specs.Digest.{HasDigestSize}
+use Rattle.inode_meta.specs.declared.measurement.Template.{Template}
+use Rattle.inode_meta.specs.declared.measurement.Field.{Field}
+use Rattle.inode_meta.specs.declared.measurement.Field.TheVariants as field
+use Rattle.inode_meta.specs.Fields.{template_fields}
 use Rattle.xattr_store.specs.Attrs.{most_value}
 use Rattle.ima_templates.specs.declared.entry.Entry.{Entry}
 

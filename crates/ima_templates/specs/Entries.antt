@@ -1,11 +1,11 @@
 -- The entries for measurements and violations.
 use Rattle.std.specs.Prelude.{ℕ, true, false, List, []}
-use Rattle.pcr_bank.specs.hashes.declared.algo.Algo.{Algo}
-use Rattle.pcr_bank.specs.hashes.declared.algo.Algo.TheVariants.{Sha1}
-use Rattle.pcr_bank.specs.hashes.declared.digest.Digest.{Digest}
-use Rattle.pcr_bank.specs.hashes.Digest.{zero_digest}
-use Rattle.pcr_bank.specs.meta.declared.measurement.Template.{Template}
-use Rattle.pcr_bank.specs.meta.Registers.{default_pcr}
+use Rattle.hash_algos.specs.declared.algo.Algo.{Algo}
+use Rattle.hash_algos.specs.declared.algo.Algo.TheVariants.{Sha1}
+use Rattle.hash_algos.specs.declared.digest.Digest.{Digest}
+use Rattle.hash_algos.specs.Digest.{zero_digest}
+use Rattle.inode_meta.specs.declared.measurement.Template.{Template}
+use Rattle.inode_meta.specs.Registers.{default_pcr}
 use Rattle.ima_templates.specs.declared.entry.Entry.{Entry}
 use Rattle.ima_templates.specs.Shown.{shown_digest, shown_name, shown_sig}
 

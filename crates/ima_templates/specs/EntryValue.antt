@@ -1,7 +1,7 @@
 -- An entry as contracts see it.
 use Rattle.std.specs.Prelude.{ℕ, Bool, false, List}
-use Rattle.pcr_bank.specs.hashes.declared.digest.Digest.{Digest}
-use Rattle.pcr_bank.specs.meta.declared.measurement.Template.{Template}
+use Rattle.hash_algos.specs.declared.digest.Digest.{Digest}
+use Rattle.inode_meta.specs.declared.measurement.Template.{Template}
 
 -- an entry of the measurement list
 pub record EntryValue : Type 0 where

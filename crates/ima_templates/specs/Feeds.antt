@@ -2,8 +2,8 @@
 use Rattle.std.specs.Prelude.{◌≡◌, ℕ, List, [], ◌++◌, refl}
 use Rattle.std.proofs.Common.{sym, ◌∙◌, subst, append_assoc}
 use Rattle.std.proofs.lemmas.List.{append-nil}
-use Rattle.pcr_bank.specs.hashes.declared.running.Running.{Running}
-use Rattle.pcr_bank.specs.hashes.Running.{running_algo, HasTaken}
+use Rattle.hash_algos.specs.declared.running.Running.{Running}
+use Rattle.hash_algos.specs.Running.{running_algo, HasTaken}
 
 -- the hash took exactly these bytes
 pub record Feeds (old new : Running) (bytes : List ℕ) : Type 0 where

@@ -1,10 +1,10 @@
 -- The invariant of an entry.
 use Rattle.std.specs.Prelude.{◌≡◌, ◌≢◌, ◌<◌, ◌≤◌, true, [], length}
 use Rattle.std.specs.List.{All}
-use Rattle.pcr_bank.specs.hashes.declared.algo.Algo.TheVariants.{Sha1}
-use Rattle.pcr_bank.specs.hashes.Digest.{HasDigestSize, zero_digest}
-use Rattle.pcr_bank.specs.meta.Registers.{default_pcr}
-use Rattle.pcr_bank.specs.meta.declared.measurement.Template.TheVariants.{Ima, ImaNg, ImaBuf}
+use Rattle.hash_algos.specs.declared.algo.Algo.TheVariants.{Sha1}
+use Rattle.hash_algos.specs.Digest.{HasDigestSize, zero_digest}
+use Rattle.inode_meta.specs.Registers.{default_pcr}
+use Rattle.inode_meta.specs.declared.measurement.Template.TheVariants.{Ima, ImaNg, ImaBuf}
 use Rattle.xattr_store.specs.Attrs.{most_value}
 use Rattle.ima_templates.specs.declared.entry.Entry.TheInside.{Inside}
 use Rattle.ima_templates.specs.EntryValue.{EntryValue}

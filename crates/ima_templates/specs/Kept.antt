@@ -1,7 +1,7 @@
 -- The invariant of an entry's fields: those that contracts see are a valid entry, and the others
 -- are its template digests.
 use Rattle.std.specs.Prelude.{◌≡◌}
-use Rattle.pcr_bank.specs.meta.declared.measurement.Bank.TheVariants.{Sha1, Sha256}
+use Rattle.inode_meta.specs.declared.measurement.Bank.TheVariants.{Sha1, Sha256}
 use Rattle.ima_templates.specs.declared.entry.Entry.TheInside.{Inside}
 use Rattle.ima_templates.specs.Digests.{template_digest}
 use Rattle.ima_templates.specs.IsEntry.{IsEntry, fields_of}

@@ -9,6 +9,6 @@ pub mod Appends
 pub mod Kept
 pub mod Digests
 pub mod Same
-pub mod Replay
-pub use Rattle.pcr_bank.specs as registers
+pub use Rattle.hash_algos.specs as hashes
+pub use Rattle.inode_meta.specs as meta
 pub use Rattle.xattr_store.specs as xattrs

@@ -2,8 +2,8 @@
 use Rattle.std.specs.Prelude.{◌≡◌, ℕ, ◌==◌, ◌≤◌, List, length}
 use Rattle.std.specs.List.{All, after_last}
 use Rattle.std.specs.Str.{byte}
-use Rattle.pcr_bank.specs.meta.declared.measurement.Template.{Template}
-use Rattle.pcr_bank.specs.meta.declared.measurement.Template.TheVariants.{Ima}
+use Rattle.inode_meta.specs.declared.measurement.Template.{Template}
+use Rattle.inode_meta.specs.declared.measurement.Template.TheVariants.{Ima}
 
 -- a printing ASCII byte other than the space
 abbrev pub IsGraphic : ℕ → Type 0

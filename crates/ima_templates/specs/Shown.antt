@@ -1,8 +1,8 @@
 -- The fields that a template shows of a file: `d` and `n`, or `d-ng`, `n-ng` and perhaps a third.
 use Rattle.std.specs.Prelude.{ℕ, nat_le, if◌then◌else◌, List, [], length}
-use Rattle.pcr_bank.specs.hashes.declared.digest.Digest.{Digest}
-use Rattle.pcr_bank.specs.meta.declared.measurement.Template.{Template}
-use Rattle.pcr_bank.specs.meta.declared.measurement.Template.TheVariants.{Ima, ImaNg, ImaSig, ImaBuf}
+use Rattle.hash_algos.specs.declared.digest.Digest.{Digest}
+use Rattle.inode_meta.specs.declared.measurement.Template.{Template}
+use Rattle.inode_meta.specs.declared.measurement.Template.TheVariants.{Ima, ImaNg, ImaSig, ImaBuf}
 use Rattle.ima_templates.specs.Path.{last_component}
 
 -- `d` is the SHA-1 digest, whatever was collected; `d-ng` is the collected digest

@@ -5,7 +5,7 @@ ghost use Rattle.std.specs.Vec.{vec_len};
 ghost use Rattle.ima_templates.specs.Feeds.{Feeds, Feeds-append, Feeds-nothing};
 ghost use Rattle.ima_templates.specs.Appends.{append_more, append_nothing, keeps_all, keeps_further, length_more, length_nothing};
 
-use pcr_bank::hashes::Running;
+use hash_algos::Running;
 use std::alloc::AllocError as OutOfMemory;
 
 /// A destination of bytes, which come piece after piece. After an error it may have taken a part of

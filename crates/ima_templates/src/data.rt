@@ -2,14 +2,14 @@
 
 ghost use Rattle.std.specs.Prelude.{◌≡◌, ◌+◌, ◌^◌, ◌<◌, ◌≤◌, ◌++◌, length, replicate, IfOk, OnOk};
 ghost use Rattle.byteorder.specs.Endian.{little_bytes};
-ghost use Rattle.pcr_bank.specs.hashes.Digest.{digest_of};
-ghost use Rattle.pcr_bank.specs.hashes.Hash.{hash};
+ghost use Rattle.hash_algos.specs.Digest.{digest_of};
+ghost use Rattle.hash_algos.specs.Hash.{hash};
 ghost use Rattle.ima_templates.specs.Data.{HasLengths, content, data_by, field_data, has_length, n_length};
 
 use crate::absorb::{Absorb, Count};
 use byteorder::{ByteOrder, LittleEndian};
-use pcr_bank::hashes::{Algo, Digest, Running};
-use pcr_bank::meta::{Field, Template};
+use hash_algos::{Algo, Digest, Running};
+use inode_meta::{Field, Template};
 use std::alloc::AllocError as OutOfMemory;
 
 // The field `n` is padded to this length with zeros.

@@ -9,8 +9,8 @@ ghost use Rattle.xattr_store.specs.Attrs.{most_value};
 
 use crate::entry::Entry;
 use crate::shown::{shown_digest, shown_name, shown_sig};
-use pcr_bank::hashes::{Algo, Digest};
-use pcr_bank::meta::{DEFAULT_PCR, Template};
+use hash_algos::{Algo, Digest};
+use inode_meta::{DEFAULT_PCR, Template};
 use std::alloc::{AllocError as OutOfMemory, Global};
 use xattr_store::Bytes;
 

@@ -5,9 +5,8 @@ ghost use Rattle.ima_templates.specs.Data.{template_data};
 
 use crate::absorb::{Absorb, Count};
 use crate::data::{absorb_data, sums};
-use pcr_bank::Banks;
-use pcr_bank::hashes::{Algo, Digest};
-use pcr_bank::meta::{Bank, Template};
+use hash_algos::{Algo, Digest};
+use inode_meta::{Bank, Template};
 use std::alloc::AllocError as OutOfMemory;
 use std::marker::Model;
 use xattr_store::Bytes;
@@ -61,10 +60,10 @@ pub enum Placed {
 }
 
 impl Entry {
-    ghost use Rattle.ima_templates.specs.Digests.{template_digest};
+    ghost use Rattle.inode_meta.specs.declared.measurement.Bank.TheVariants.{Sha1, Sha256};
+    ghost use Rattle.ima_templates.specs.Digests.{extension, template_digest};
     ghost use Rattle.ima_templates.specs.EntryValue.{fields};
     ghost use Rattle.ima_templates.specs.IsEntry.{IsEntry};
-    ghost use Rattle.ima_templates.specs.Replay.{extended_by};
     ghost use Rattle.ima_templates.specs.Same.{same, same_data, SameFields};
 
     /// An entry with these fields that isn't a violation, with its template digests.
@@ -102,15 +101,16 @@ impl Entry {
         }
     }
 
-    /// Extends the entry's register in each bank by the bank's template digest, or by 0xff bytes
-    /// for a violation.
-    pub fn extend(&self, banks: &mut Banks)
-        ensures { banks.new ≡ extended_by banks.old self.now }
+    /// The values by which the entry extends its register in the SHA-1 bank and in the SHA-256 bank:
+    /// the bank's template digest, or 0xff bytes for a violation.
+    pub fn extension(&self) -> ([u8; 20], [u8; 32])
+        ensures sha1 { result.0 ≡ extension self.now Sha1 }
+        ensures sha256 { result.1 ≡ extension self.now Sha256 }
     {
         if self.violation {
-            banks.extend(self.pcr, &[0xff; 20], &[0xff; 32]);
+            ([0xff; 20], [0xff; 32])
         } else {
-            banks.extend(self.pcr, &self.sha1, &self.sha256);
+            (self.sha1, self.sha256)
         }
     }
 

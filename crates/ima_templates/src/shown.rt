@@ -1,12 +1,12 @@
 // The digest, the name and the signature that a template shows of a file.
 
 ghost use Rattle.std.specs.Prelude.{◌≡◌, IsTrue};
-ghost use Rattle.pcr_bank.specs.hashes.Digest.{HasDigestSize};
+ghost use Rattle.hash_algos.specs.Digest.{HasDigestSize};
 ghost use Rattle.ima_templates.specs.Path.{last_component, IsMeasuredPath};
 ghost use Rattle.ima_templates.specs.Shown.{shown_digest, shown_name, shown_sig};
 
-use pcr_bank::hashes::Digest;
-use pcr_bank::meta::Template;
+use hash_algos::Digest;
+use inode_meta::Template;
 
 // The digest in the field `d` or `d-ng`: the SHA-1 digest under `ima`, else the collected one.
 pub(crate) fn shown_digest(template: Template, file: &Digest, sha1: &Digest) -> Digest

@@ -27,4 +27,3 @@ pub use Rattle.label_values.specs as labels
 pub use Rattle.inode_meta.specs as meta
 pub use Rattle.hash_algos.specs as hashes
 pub use Rattle.policy_text.specs.forms
-pub use Rattle.ima_templates.specs.registers

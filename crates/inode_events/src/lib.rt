@@ -21,7 +21,7 @@ pub use ended::EndedInode;
 pub use evm_verify as evm;
 pub use hash_algos as hashes;
 pub use ima_templates as templates;
-pub use ima_templates::{registers, xattrs};
+pub use ima_templates::xattrs;
 pub use image::{BoxedImage, Image};
 pub use inode_meta as meta;
 pub use inode_pages as pages;

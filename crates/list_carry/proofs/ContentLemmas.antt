@@ -11,14 +11,14 @@ use Rattle.ima_templates.specs.Data.{d_ng, data_by, n_ng, n_padded, sized, templ
 use Rattle.ima_templates.specs.IsEntry.{IsEntry}
 use Rattle.ima_templates.specs.Path.{IsGraphic}
 use Rattle.ima_templates.specs.declared.entry.Entry.{Entry}
-use Rattle.ima_templates.specs.registers.hashes.Algo.{algo_by_name, algo_name, algo_size, algos}
-use Rattle.ima_templates.specs.registers.hashes.Digest.{HasDigestSize}
-use Rattle.ima_templates.specs.registers.hashes.declared.algo.Algo.{Algo}
-use Rattle.ima_templates.specs.registers.hashes.declared.algo.Algo.TheVariants.{Md5, Sha1, Sha256, Sha384, Sha512, Sha224}
-use Rattle.ima_templates.specs.registers.hashes.declared.digest.Digest.{Digest}
-use Rattle.ima_templates.specs.registers.meta.declared.measurement.Field.TheVariants.{DigestNg, Sig}
-use Rattle.ima_templates.specs.registers.meta.declared.measurement.Template.{Template}
-use Rattle.ima_templates.specs.registers.meta.declared.measurement.Template.TheVariants.{Ima, ImaNg, ImaSig, ImaBuf}
+use Rattle.ima_templates.specs.hashes.Algo.{algo_by_name, algo_name, algo_size, algos}
+use Rattle.ima_templates.specs.hashes.Digest.{HasDigestSize}
+use Rattle.ima_templates.specs.hashes.declared.algo.Algo.{Algo}
+use Rattle.ima_templates.specs.hashes.declared.algo.Algo.TheVariants.{Md5, Sha1, Sha256, Sha384, Sha512, Sha224}
+use Rattle.ima_templates.specs.hashes.declared.digest.Digest.{Digest}
+use Rattle.ima_templates.specs.meta.declared.measurement.Field.TheVariants.{DigestNg, Sig}
+use Rattle.ima_templates.specs.meta.declared.measurement.Template.{Template}
+use Rattle.ima_templates.specs.meta.declared.measurement.Template.TheVariants.{Ima, ImaNg, ImaSig, ImaBuf}
 use Rattle.ima_templates.proofs.DataLemmas.{HasLengths-entry, length-content-fits}
 use Rattle.list_carry.specs.Contents.{Fields, contents_in, digest_after, digest_by, digest_in, head_in, ima_in, is_colon, is_zero, last_in, name_in, ng_in, nothing_in, padded_in, third_in}
 use Rattle.list_carry.specs.Cut.{◌>>=◌, cut_at, from_first, sized_in}

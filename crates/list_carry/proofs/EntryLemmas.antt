@@ -9,12 +9,12 @@ use Rattle.ima_templates.specs.Data.{template_data}
 use Rattle.ima_templates.specs.IsEntry.{IsEntry, IsViolation}
 use Rattle.ima_templates.specs.Path.{IsGraphic}
 use Rattle.ima_templates.specs.declared.entry.Entry.{Entry}
-use Rattle.ima_templates.specs.registers.hashes.Algo.{algo_size}
-use Rattle.ima_templates.specs.registers.hashes.Digest.{HasDigestSize}
-use Rattle.ima_templates.specs.registers.hashes.declared.digest.Digest.{Digest}
-use Rattle.ima_templates.specs.registers.meta.Registers.{default_pcr}
-use Rattle.ima_templates.specs.registers.meta.declared.measurement.Template.{Template}
-use Rattle.ima_templates.specs.registers.meta.declared.measurement.Template.TheVariants.{Ima, ImaNg, ImaSig, ImaBuf}
+use Rattle.ima_templates.specs.hashes.Algo.{algo_size}
+use Rattle.ima_templates.specs.hashes.Digest.{HasDigestSize}
+use Rattle.ima_templates.specs.hashes.declared.digest.Digest.{Digest}
+use Rattle.ima_templates.specs.meta.Registers.{default_pcr}
+use Rattle.ima_templates.specs.meta.declared.measurement.Template.{Template}
+use Rattle.ima_templates.specs.meta.declared.measurement.Template.TheVariants.{Ima, ImaNg, ImaSig, ImaBuf}
 use Rattle.ima_templates.specs.xattrs.Attrs.{most_value}
 use Rattle.list_carry.specs.Contents.{Fields, contents_in, is_zero}
 use Rattle.list_carry.specs.Cut.{◌>>=◌}

@@ -5,10 +5,10 @@ use Rattle.ima_templates.specs.Entries.{entry_of, violation_of}
 use Rattle.ima_templates.specs.EntryValue.{all_fields}
 use Rattle.ima_templates.specs.Same.{same}
 use Rattle.ima_templates.specs.declared.entry.Entry.{Entry}
-use Rattle.ima_templates.specs.registers.hashes.Digest.{zero_digest}
-use Rattle.ima_templates.specs.registers.hashes.declared.algo.Algo.TheVariants as algo
-use Rattle.ima_templates.specs.registers.hashes.declared.digest.Digest.{Digest}
-use Rattle.ima_templates.specs.registers.meta.declared.measurement.Template.TheVariants.{Ima, ImaNg, ImaSig, ImaBuf}
+use Rattle.ima_templates.specs.hashes.Digest.{zero_digest}
+use Rattle.ima_templates.specs.hashes.declared.algo.Algo.TheVariants as algo
+use Rattle.ima_templates.specs.hashes.declared.digest.Digest.{Digest}
+use Rattle.ima_templates.specs.meta.declared.measurement.Template.TheVariants.{Ima, ImaNg, ImaSig, ImaBuf}
 use Rattle.list_carry.specs.Entries.{entry_in}
 use Rattle.list_carry.specs.Form.{carried_form, header, record_of}
 use Rattle.list_carry.specs.Reading.{has_header, load_of, record_in}

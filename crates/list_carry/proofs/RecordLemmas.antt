@@ -10,8 +10,8 @@ use Rattle.byteorder.specs.Numbers.{little_number-reads_back}
 use Rattle.ima_templates.specs.Data.{sized, template_data}
 use Rattle.ima_templates.specs.IsEntry.{IsEntry}
 use Rattle.ima_templates.specs.declared.entry.Entry.{Entry}
-use Rattle.ima_templates.specs.registers.meta.declared.measurement.Template.{Template}
-use Rattle.ima_templates.specs.registers.meta.declared.measurement.Template.TheVariants.{Ima, ImaNg, ImaSig, ImaBuf}
+use Rattle.ima_templates.specs.meta.declared.measurement.Template.{Template}
+use Rattle.ima_templates.specs.meta.declared.measurement.Template.TheVariants.{Ima, ImaNg, ImaSig, ImaBuf}
 use Rattle.ima_templates.proofs.DataLemmas.{length-template_data-fits}
 use Rattle.list_carry.specs.Cut.{◌>>=◌, sized_in}
 use Rattle.list_carry.specs.Entries.{entry_in}

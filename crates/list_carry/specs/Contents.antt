@@ -4,12 +4,12 @@ use Rattle.std.specs.Prelude.{ℕ, ◌==◌, ◌&&◌, Bool, List, [], ◌∷◌
 use Rattle.std.specs.List.{before_first, list_all}
 use Rattle.std.specs.Str.{byte}
 use Rattle.ima_templates.specs.Data.{n_length}
-use Rattle.ima_templates.specs.registers.hashes.declared.algo.Algo.{Algo}
-use Rattle.ima_templates.specs.registers.hashes.declared.algo.Algo.TheVariants.{Sha1}
-use Rattle.ima_templates.specs.registers.hashes.declared.digest.Digest.{Digest}
-use Rattle.ima_templates.specs.registers.hashes.Algo.{algo_by_name, algo_size}
-use Rattle.ima_templates.specs.registers.meta.declared.measurement.Template.{Template}
-use Rattle.ima_templates.specs.registers.meta.declared.measurement.Template.TheVariants.{Ima, ImaNg, ImaSig, ImaBuf}
+use Rattle.ima_templates.specs.hashes.declared.algo.Algo.{Algo}
+use Rattle.ima_templates.specs.hashes.declared.algo.Algo.TheVariants.{Sha1}
+use Rattle.ima_templates.specs.hashes.declared.digest.Digest.{Digest}
+use Rattle.ima_templates.specs.hashes.Algo.{algo_by_name, algo_size}
+use Rattle.ima_templates.specs.meta.declared.measurement.Template.{Template}
+use Rattle.ima_templates.specs.meta.declared.measurement.Template.TheVariants.{Ima, ImaNg, ImaSig, ImaBuf}
 use Rattle.list_carry.specs.declared.contents.Contents.{Contents}
 use Rattle.list_carry.specs.Cut.{◌>>=◌, cut_at, from_first, sized_in}
 

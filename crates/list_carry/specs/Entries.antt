@@ -3,9 +3,9 @@ use Rattle.std.specs.Prelude.{ℕ, ◌==◌, ◌&&◌, ◌||◌, not, nat_le, na
 use Rattle.std.specs.List.{list_all}
 use Rattle.ima_templates.specs.EntryValue.{all_fields}
 use Rattle.ima_templates.specs.declared.entry.Entry.{Entry}
-use Rattle.ima_templates.specs.registers.meta.Registers.{default_pcr}
-use Rattle.ima_templates.specs.registers.meta.declared.measurement.Template.{Template}
-use Rattle.ima_templates.specs.registers.meta.declared.measurement.Template.TheVariants.{Ima, ImaNg, ImaSig, ImaBuf}
+use Rattle.ima_templates.specs.meta.Registers.{default_pcr}
+use Rattle.ima_templates.specs.meta.declared.measurement.Template.{Template}
+use Rattle.ima_templates.specs.meta.declared.measurement.Template.TheVariants.{Ima, ImaNg, ImaSig, ImaBuf}
 use Rattle.ima_templates.specs.xattrs.Attrs.{most_value}
 use Rattle.list_carry.specs.Contents.{Fields, contents_in, is_zero}
 use Rattle.list_carry.specs.Cut.{◌>>=◌}

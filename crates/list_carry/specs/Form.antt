@@ -6,8 +6,8 @@ use Rattle.ima_templates.specs.Data.{sized, template_data}
 use Rattle.ima_templates.specs.IsEntry.{IsEntry}
 use Rattle.ima_templates.specs.Same.{IsDistinct}
 use Rattle.ima_templates.specs.declared.entry.Entry.{Entry}
-use Rattle.ima_templates.specs.registers.meta.declared.measurement.Template.{Template}
-use Rattle.ima_templates.specs.registers.meta.declared.measurement.Template.TheVariants.{Ima, ImaNg, ImaSig, ImaBuf}
+use Rattle.ima_templates.specs.meta.declared.measurement.Template.{Template}
+use Rattle.ima_templates.specs.meta.declared.measurement.Template.TheVariants.{Ima, ImaNg, ImaSig, ImaBuf}
 
 -- the byte for a violation, and for another entry
 abbrev pub flag : Bool → ℕ

@@ -5,8 +5,8 @@ use Rattle.std.specs.Str.{bytes_eq}
 use Rattle.byteorder.specs.Endian.{little_number}
 use Rattle.ima_templates.specs.Same.{place_of_same}
 use Rattle.ima_templates.specs.declared.entry.Entry.{Entry}
-use Rattle.ima_templates.specs.registers.meta.declared.measurement.Template.{Template}
-use Rattle.ima_templates.specs.registers.meta.declared.measurement.Template.TheVariants.{Ima, ImaNg, ImaSig, ImaBuf}
+use Rattle.ima_templates.specs.meta.declared.measurement.Template.{Template}
+use Rattle.ima_templates.specs.meta.declared.measurement.Template.TheVariants.{Ima, ImaNg, ImaSig, ImaBuf}
 use Rattle.list_carry.specs.declared.causes.CarryCause.{CarryCause}
 use Rattle.list_carry.specs.declared.causes.CarryCause.TheVariants as cause
 use Rattle.list_carry.specs.declared.causes.CarryErr.{CarryErr}

@@ -7,7 +7,7 @@ ghost use Rattle.list_carry.specs.Contents.{shown};
 ghost use Rattle.list_carry.specs.Entries.{entry_in, entry_with, has_violations, is_graphic, is_name, is_valid, is_violation, most_name};
 
 use crate::contents::{Contents, contents_in, is_zero};
-use ima_templates::registers::meta::{DEFAULT_PCR, Template};
+use ima_templates::meta::{DEFAULT_PCR, Template};
 use ima_templates::xattrs::{Bytes, MAX_VALUE};
 use ima_templates::{Entry, restore};
 use std::alloc::{AllocError as OutOfMemory, Global};

@@ -7,12 +7,12 @@ use Rattle.std.specs.Prelude.{slice_get}
 use Rattle.grow_list.specs.Shown.{Grown, Passed}
 use Rattle.grow_list.proofs.Prefixes.{prefix_append, prefix_get}
 use Rattle.ima_templates.specs.IsEntry.{IsEntry}
-use Rattle.ima_templates.specs.Replay.{banks_of, extended_by}
+use Rattle.measure_book.specs.Replay.{banks_of, extended_by}
 use Rattle.ima_templates.specs.Same.{IsDistinct, place_of_same}
 use Rattle.ima_templates.specs.declared.entry.Entry.{Entry}
-use Rattle.ima_templates.proofs.ReplayLemmas.{banks_of-push}
-use Rattle.ima_templates.specs.registers.Banks.{new_banks}
-use Rattle.ima_templates.specs.registers.declared.banks.Banks.{Banks}
+use Rattle.measure_book.proofs.ReplayLemmas.{banks_of-push}
+use Rattle.pcr_bank.specs.Banks.{new_banks}
+use Rattle.pcr_bank.specs.declared.banks.Banks.{Banks}
 use Rattle.measure_book.specs.BookFields.{HasBooted, IsBook}
 use Rattle.measure_book.specs.Key.{key_of}
 use Rattle.measure_book.specs.declared.book.Book.TheInside.{Inside}

@@ -1,3 +1,4 @@
+pub mod ReplayLemmas
 pub mod Below
 pub mod Tables
 pub mod Finding

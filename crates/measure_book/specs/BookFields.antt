@@ -2,7 +2,7 @@
 use Rattle.std.specs.Prelude.{◌≡◌, ℕ, ◌-◌, ◌/◌, min, length, map, All, [], ◌∷◌, Some, slice_get}
 use Rattle.grow_list.specs.Shown.{Grown, Passed}
 use Rattle.ima_templates.specs.IsEntry.{IsEntry}
-use Rattle.ima_templates.specs.Replay.{banks_of}
+use Rattle.measure_book.specs.Replay.{banks_of}
 use Rattle.ima_templates.specs.Same.{IsDistinct}
 use Rattle.ima_templates.specs.declared.entry.Entry.{Entry}
 use Rattle.measure_book.specs.Key.{key_of}

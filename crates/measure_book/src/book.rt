@@ -6,16 +6,17 @@ ghost use Rattle.grow_list.specs.Entries.{has_place};
 ghost use Rattle.grow_list.specs.Others.{HasOthers, beside_own};
 ghost use Rattle.grow_list.specs.Shown.{IsSameList, HasItsOwn, fresh};
 ghost use Rattle.ima_templates.specs.IsEntry.{IsEntry};
-ghost use Rattle.ima_templates.specs.Replay.{banks_of, replay};
+ghost use Rattle.measure_book.specs.Replay.{banks_of, replay};
 ghost use Rattle.ima_templates.specs.Same.{IsDistinct, add, gained, place_of_same, placed};
 ghost use Rattle.measure_book.specs.Book.{numbers_after};
 ghost use Rattle.measure_book.specs.Key.{key_of, stands_at};
 
+use crate::extending::extend;
 use crate::places::Places;
 use byteorder::{BigEndian, ByteOrder};
 use grow_list::{Grow, Pass};
-use ima_templates::registers::{Bank, Banks};
 use ima_templates::{Entry, Placed};
+use pcr_bank::{Bank, Banks};
 use std::alloc::{AllocError as OutOfMemory, Global};
 use std::marker::Model;
 
@@ -67,7 +68,7 @@ impl Book {
         let mut places = Places::with_buckets(alloc, 2)?;
         let mut banks = Banks::new();
         places.push(key_of(&boot));
-        boot.extend(&mut banks);
+        extend(&mut banks, &boot);
         list.push(&mut own, boot);
         let book = Book {
             list,
@@ -117,7 +118,7 @@ impl Book {
             }
             None => {
                 self.places.push(key_of(&e));
-                e.extend(&mut self.banks);
+                extend(&mut self.banks, &e);
                 Placed::Added(self.list.push(pass, e))
             }
         }

@@ -3,8 +3,11 @@
 #![tactic(auto)]
 
 mod book;
+mod extending;
 mod places;
 
 pub use book::Book;
+pub use extending::extend;
 pub use grow_list::Pass;
+pub use pcr_bank as registers;
 pub use std::alloc::AllocError as OutOfMemory;

@@ -1,4 +1,6 @@
 pub mod GoingOn
+pub mod Scenes
+pub mod Playing
 pub mod Joining
 pub mod Pointing
 pub mod Stepping

@@ -16,7 +16,7 @@ use Rattle.order_outcomes.specs.reports.model.Rounds.{moves, moves_at}
 use Rattle.order_outcomes.specs.reports.model.Scene.{Program, Scene}
 use Rattle.order_outcomes.specs.reports.model.Turns.{Moment, start_of, turn, turns_of}
 use Rattle.order_outcomes.specs.scripts.Limits.{most_turns}
-use Rattle.order_sights.specs.Plays.{IsSchedule, moment_by}
+use Rattle.order_runs.specs.Plays.{IsSchedule, moment_by}
 use Rattle.order_sights.specs.Sights.{IsSight}
 use Rattle.order_runs.specs.Points.{IsMoved, IsPoint, IsPointOf}
 use Rattle.order_runs.specs.declared.points.Point.{Point}

@@ -8,7 +8,7 @@ use Rattle.order_outcomes.specs.counts.Rows.{Counted}
 use Rattle.order_outcomes.specs.reports.model.Rounds.{all_tasks}
 use Rattle.order_outcomes.specs.reports.model.Scene.{Scene}
 use Rattle.order_outcomes.specs.reports.model.Turns.{Moment}
-use Rattle.order_sights.specs.Plays.{moment_by}
+use Rattle.order_runs.specs.Plays.{moment_by}
 use Rattle.order_sights.specs.Sights.{IsSight}
 use Rattle.order_runs.specs.Points.{IsPointAt}
 use Rattle.order_runs.specs.declared.part.Part.{Part}

@@ -9,14 +9,15 @@
 
 pub mod laws;
 mod part;
+mod play;
 mod points;
 mod rows;
 mod ways;
 
 pub use order_outcomes as outcomes;
 pub use order_sights as sights;
-pub use order_sights::Play;
 pub use part::Part;
+pub use play::Play;
 pub use points::Point;
 pub use rows::{MOST_TURNS, Row, Stopped, rows_of};
 pub use ways::Way;

@@ -1,6 +1,6 @@
 //! Some of a play's orders.
 
-use order_sights::Play;
+use crate::play::Play;
 
 /// The orders of a play that begin with the same turns.
 #[derive(Drop)]

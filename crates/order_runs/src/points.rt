@@ -6,13 +6,14 @@ ghost use Rattle.order_outcomes.specs.Orders.{moment_after, moved};
 ghost use Rattle.order_outcomes.specs.reports.model.Turns.{Moment};
 ghost use Rattle.order_outcomes.specs.scripts.Limits.{most_turns};
 ghost use Rattle.order_runs.specs.Points.{IsMoved, IsPoint, IsPointOf};
-ghost use Rattle.order_sights.specs.Plays.{IsSchedule, moment_by};
+ghost use Rattle.order_runs.specs.Plays.{IsSchedule, moment_by};
 ghost use Rattle.order_sights.specs.Sights.{IsSight};
 
+use crate::play::Play;
 use order_outcomes::counts::Order;
 use order_outcomes::reports::outer::Gate;
 use order_outcomes::{Made, made_of};
-use order_sights::{Play, Sight};
+use order_sights::Sight;
 use std::alloc::{AllocError as OutOfMemory, Global};
 
 /// Turns each of which moves its task, and the run that stops after them.

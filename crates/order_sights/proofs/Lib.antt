@@ -9,8 +9,6 @@ pub mod Seen
 pub mod Saying
 pub mod Meeting
 pub mod Founding
-pub mod Scenes
-pub mod Playing
 pub mod Taking
 pub mod Listing
 pub mod Pages

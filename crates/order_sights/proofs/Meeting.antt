@@ -3,7 +3,7 @@ use Rattle.std.proofs.Common.{◌≡◌, ℕ, zero, suc, ◌+◌, ◌<◌, ◌�
 use Rattle.std.specs.Prelude.{All, reverse}
 use Rattle.std.proofs.lemmas.Option.{get_or_from_slice_get, none-some, same_Some, slice_get-map, slice_get_within}
 use Rattle.call_steps.specs.declared.call.Call.{Call}
-use Rattle.ending_laws.proofs.Totals.{count_past, counted_when_reached}
+use Rattle.progress_laws.proofs.Totals.{count_past, counted_when_reached}
 use Rattle.inode_cell.specs.Value.{CellValue}
 use Rattle.inode_events.specs.Checks.{last_check}
 use Rattle.inode_events.specs.EndedInode.{EndedInodeValue, ended_inode}
@@ -36,8 +36,8 @@ use Rattle.run_model.specs.History.{Thought}
 use Rattle.run_model.specs.Scene.{Program, Scene, Station, inode_of}
 use Rattle.run_model.specs.Turns.{Moment, State, journal_at}
 use Rattle.task_core.specs.Cells.{IsCellAt}
-use Rattle.task_core.specs.frames.Frame.{Site, inode_in, station_of}
-use Rattle.task_core.specs.frames.Runs.{thought_of}
+use Rattle.task_core.specs.worlds.Frame.{Site, inode_in, station_of}
+use Rattle.task_core.specs.worlds.Runs.{thought_of}
 use Rattle.order_sights.specs.Inodes.{AreFilesSame, AreJournalsSame, FitsIfThere, IsCellSame, IsPairFit}
 use Rattle.order_sights.specs.Pairs.{AreThoughtsPaired, are_apart, are_within, has_pair, named}
 use Rattle.order_sights.specs.Sights.{AreInodesSame, IsInodeSame, IsSight}

@@ -5,5 +5,4 @@ pub mod Told
 pub mod TakenValue
 pub mod Taken
 pub mod Inodes
-pub mod Plays
 pub mod Sights

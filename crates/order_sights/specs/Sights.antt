@@ -7,7 +7,7 @@ use Rattle.order_outcomes.specs.Orders.{left_at}
 use Rattle.run_model.specs.Scene.{Scene}
 use Rattle.run_model.specs.Turns.{Moment}
 use Rattle.task_core.specs.Cells.{IsCellAt}
-use Rattle.task_core.specs.laws_of_turns.Runs.{moment_in, scene_in}
+use Rattle.task_core.specs.worlds.WorldRuns.{moment_in, scene_in}
 use Rattle.world_close.specs.Finished.{IsFinished}
 use Rattle.order_sights.specs.Inodes.{AreJournalsSame, IsCellSame}
 use Rattle.order_sights.specs.declared.pairs.Pair.{Pair}

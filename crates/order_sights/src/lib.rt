@@ -1,8 +1,7 @@
 //! What is seen of a script's run between two turns, and when two runs can be met as one.
 //!
-//! A [`Play`] is run from the start by the turns of a schedule. Its [`Sight`] has what the run
-//! leaves, and the world and the tasks as they stand, which say what can follow. [`are_alike`]
-//! compares two of them.
+//! A [`Sight`] has what the run leaves, and the world and the tasks as they stand, which say what
+//! can follow. [`are_alike`] compares two of them.
 #![tactic(auto)]
 
 mod files;
@@ -10,7 +9,6 @@ mod inodes;
 mod lists;
 mod mark;
 mod pairs;
-mod play;
 mod same;
 mod sight;
 mod states;
@@ -19,5 +17,4 @@ mod tasks;
 mod told;
 
 pub use order_outcomes as outcomes;
-pub use play::Play;
 pub use sight::{Sight, are_alike};

@@ -2,7 +2,7 @@
 
 ghost use Rattle.std.specs.Prelude.{◌≡◌, IsTrue, map};
 ghost use Rattle.order_sights.specs.Pairs.{AreThoughtsPaired, IsThoughtPaired};
-ghost use Rattle.task_core.specs.frames.Runs.{thought_of};
+ghost use Rattle.task_core.specs.worlds.Runs.{thought_of};
 
 use crate::pairs::{Pair, same_handles, same_progress};
 use crate::same::same_all;

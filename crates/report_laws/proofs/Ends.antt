@@ -9,7 +9,7 @@ use Rattle.std.proofs.lemmas.List.Splits.{slice_split-cons_no, slice_split-cons_
 use Rattle.inode_meta.specs.declared.measurement.Template.{Template}
 use Rattle.inode_meta.specs.declared.step.Who.{Who}
 use Rattle.ima_templates.specs.declared.entry.Entry.{Entry}
-use Rattle.ima_templates.specs.registers.declared.banks.Banks.{Banks}
+use Rattle.run_model.specs.registers.declared.banks.Banks.{Banks}
 use Rattle.text_forms.specs.Lines.{lines}
 use Rattle.text_forms.specs.Tokens.{is_filled}
 use Rattle.text_forms.specs.Words.{is_line, text_of, words}

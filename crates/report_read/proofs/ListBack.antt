@@ -8,8 +8,8 @@ use Rattle.report_text.specs.Numerals.{numeral}
 use Rattle.report_text.specs.Report.{entry_words, pcr_lines_at, pcr_lines_to}
 use Rattle.report_text.specs.Words.{Line}
 use Rattle.report_text.specs.model.events.meta.declared.measurement.Bank.TheVariants as bank
-use Rattle.report_text.specs.model.events.registers.Banks.{register}
-use Rattle.report_text.specs.model.events.registers.declared.banks.Banks.{Banks}
+use Rattle.report_text.specs.model.registers.Banks.{register}
+use Rattle.report_text.specs.model.registers.declared.banks.Banks.{Banks}
 use Rattle.report_text.specs.model.events.templates.declared.entry.Entry.{Entry}
 use Rattle.report_read.specs.declared.draft.Stage.{Stage}
 use Rattle.report_read.specs.declared.draft.Stage.TheVariants as stage

@@ -11,7 +11,7 @@ use Rattle.report_text.specs.model.events.declared.deed.How.TheVariants as how
 use Rattle.report_text.specs.model.events.declared.told.Event.{Event}
 use Rattle.report_text.specs.model.events.declared.told.Told.TheVariants as told
 use Rattle.report_text.specs.model.events.meta.declared.measurement.Template.TheVariants as template
-use Rattle.report_text.specs.model.events.registers.declared.banks.Banks.{Banks}
+use Rattle.report_text.specs.model.registers.declared.banks.Banks.{Banks}
 use Rattle.report_text.specs.model.events.templates.declared.entry.Entry.{Entry}
 use Rattle.report_text.specs.model.steps.declared.reply.Reply.TheVariants as reply
 use Rattle.report_read.specs.ReadBack.{AreRegisters, IsReadable, IsShownEntry, IsShownInode}

@@ -19,8 +19,8 @@ use Rattle.report_text.specs.model.events.declared.told.Told.{Told}
 use Rattle.report_text.specs.model.events.declared.told.Told.TheVariants as told
 use Rattle.report_text.specs.model.events.meta.declared.measurement.Template.{Template}
 use Rattle.report_text.specs.model.events.meta.declared.measurement.Bank.TheVariants.{Sha1, Sha256}
-use Rattle.report_text.specs.model.events.registers.Banks.{register}
-use Rattle.report_text.specs.model.events.registers.declared.banks.Banks.{Banks}
+use Rattle.report_text.specs.model.registers.Banks.{register}
+use Rattle.report_text.specs.model.registers.declared.banks.Banks.{Banks}
 use Rattle.report_text.specs.model.events.templates.Digests.{template_digest}
 use Rattle.report_text.specs.model.events.templates.declared.entry.Entry.{Entry}
 use Rattle.report_text.specs.model.events.templates.declared.entry.Placed.{Placed}

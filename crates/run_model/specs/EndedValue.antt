@@ -2,8 +2,8 @@
 use Rattle.std.specs.Prelude.{ℕ, Bool, true, false, List, [], ◌∷◌, length}
 use Rattle.std.specs.List.{list_any}
 use Rattle.inode_meta.specs.declared.measurement.Template.{Template}
-use Rattle.call_steps.specs.registers.declared.banks.Banks.{Banks}
-use Rattle.call_steps.specs.templates.Replay.{banks_of}
+use Rattle.measure_book.specs.registers.declared.banks.Banks.{Banks}
+use Rattle.measure_book.specs.Replay.{banks_of}
 use Rattle.call_steps.specs.templates.declared.entry.Entry.{Entry}
 use Rattle.call_steps.specs.events.EndedInode.{EndedInodeValue, ended_inode}
 use Rattle.call_steps.specs.events.declared.told.Event.{Event}

@@ -1,8 +1,8 @@
 use call_steps::Reply;
 use call_steps::events::EndedInode;
-use call_steps::registers::Banks;
 use call_steps::templates::Entry;
 use inode_meta::Template;
+use measure_book::registers::Banks;
 use policy_cell::RuleEntry;
 use std::marker::Model;
 

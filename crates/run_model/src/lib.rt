@@ -13,6 +13,7 @@ pub use call_steps as steps;
 pub use call_steps::{events, policy};
 pub use ended::{Ended, EndedTask};
 pub use inode_meta as meta;
+pub use measure_book::registers;
 pub use policy_cell as rules;
 pub use policy_cell::{RuleEntry, matching};
 pub use turn::Turn;

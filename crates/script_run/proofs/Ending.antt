@@ -5,10 +5,10 @@ use Rattle.std.proofs.lemmas.List.{length-map}
 use Rattle.std.proofs.lemmas.List.Elements.{All-from_recursion}
 use Rattle.call_steps.specs.declared.ending.Ending.{Ending}
 use Rattle.call_steps.specs.declared.ending.Ending.TheVariants as ending
-use Rattle.ima_templates.proofs.ReplayLemmas.{register-banks_of}
-use Rattle.ima_templates.specs.Replay.{banks_of}
-use Rattle.ima_templates.specs.registers.Banks.{register}
-use Rattle.ima_templates.specs.registers.declared.banks.Banks.{Banks}
+use Rattle.measure_book.proofs.ReplayLemmas.{register-banks_of}
+use Rattle.measure_book.specs.Replay.{banks_of}
+use Rattle.run_model.specs.registers.Banks.{register}
+use Rattle.run_model.specs.registers.declared.banks.Banks.{Banks}
 use Rattle.ima_templates.specs.declared.entry.Entry.{Entry}
 use Rattle.run_model.specs.Ended.{IsThrough}
 use Rattle.run_model.specs.EndedValue.{EndedValue, ended_of}
@@ -26,16 +26,17 @@ use Rattle.report_text.specs.Report.{report_of}
 use Rattle.shown_laws.proofs.Denied.{denied_there}
 use Rattle.shown_laws.proofs.Sound.{admitted_there, covered_there, fresh_there, labelled_there, rare_there}
 use Rattle.shown_laws.specs.Places.{HasForms}
-use Rattle.task_runner.specs.frames.Frame as frames
-use Rattle.task_runner.specs.frames.Runs as runs
-use Rattle.task_runner.specs.frames.Runs.{programs_of}
-use Rattle.task_runner.specs.frames.Tasks.{Tasked}
-use Rattle.task_runner.specs.frames.World.{WorldValue}
-use Rattle.task_runner.specs.laws_of_turns.Runs.{StillRuns, moment_in, scene_in}
+use Rattle.task_runner.specs.worlds.Frame as worlds
+use Rattle.task_runner.specs.worlds.Runs as runs
+use Rattle.task_runner.specs.worlds.Runs.{programs_of}
+use Rattle.task_runner.specs.worlds.Tasks.{Tasked}
+use Rattle.task_runner.specs.worlds.World.{WorldValue}
+use Rattle.task_runner.specs.worlds.WorldRuns.{StillRuns, moment_in, scene_in}
 use Rattle.task_runner.specs.ends.Settled.{is_over}
+use Rattle.script_start.specs.Started.{HasStarted}
 use Rattle.script_scene.specs.Scene.{IsForFiles, scene_of}
-use Rattle.script_run.specs.Run.{AreRulesKept, AreWithin, HasRun, HasStarted, LeadsTo, Promised}
-use Rattle.script_run.proofs.Fits.{at_most, below}
+use Rattle.script_run.specs.Run.{AreRulesKept, AreWithin, HasRun, LeadsTo, Promised}
+use Rattle.script_start.proofs.Fits.{at_most, below}
 use Rattle.script_run.proofs.Forms.{script_forms}
 use Rattle.script_run.proofs.Names.{script_names}
 
@@ -116,7 +117,7 @@ pub still_all : (s : ScriptValue) (world world2 : WorldValue) (tasks tasks2 : Li
 still_all s world world2 tasks tasks2 way started still =
     sym (length-map tasks2 runs.program_of) ∙ ap length still.programs
     ∙ length-map tasks runs.program_of ∙ started.count
-    ∙ ap (λ (f : frames.Frame). f.tasks) (sym still.frame)
+    ∙ ap (λ (f : worlds.Frame). f.tasks) (sym still.frame)
 
 module _ (s : ScriptValue) (kept : IsScript s) (world world2 : WorldValue)
     (tasks tasks2 : List Tasked) (way : Ending) (started : HasStarted s world tasks way)
@@ -130,7 +131,7 @@ module _ (s : ScriptValue) (kept : IsScript s) (world world2 : WorldValue)
 
   -- the scene after the turns is still the script's
   same_scene : scene_in world2 tasks2 ≡ scene_of s kept.template
-  same_scene = (λ i. frames.scene_of (still.frame i) (still.programs i))
+  same_scene = (λ i. worlds.scene_of (still.frame i) (still.programs i))
       ∙ started.scene kept.template
 
   leads_on : LeadsTo (scene_of s kept.template) (length tasks2) s.ending

@@ -1,9 +1,6 @@
-pub mod Crewing
 pub mod Ending
-pub mod Fits
 pub mod Forms
 pub mod Names
-pub mod StartedScenes
-pub mod Starting
-pub use Rattle.script_scene.proofs as about_scenes
+pub use Rattle.script_start.proofs.about_scenes
 pub use Rattle.task_runner.proofs as about_runners
+pub use Rattle.script_start.proofs as about_starts

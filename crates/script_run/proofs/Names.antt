@@ -20,7 +20,7 @@ use Rattle.policy_text.specs.forms.Tokens.{is_filled}
 use Rattle.policy_text.specs.forms.Words.{is_clean, is_visible, is_word}
 use Rattle.ima_templates.specs.xattrs.Attrs.{Pair}
 use Rattle.script_run.specs.Run.{AreRulesKept, KeepsRule}
-use Rattle.script_run.proofs.Fits.{at_most}
+use Rattle.script_start.proofs.Fits.{at_most}
 use Rattle.script_run.proofs.Forms.{script_forms}
 
 word_clean : (w : List ℕ) → is_word 255 w ≡ true → is_clean w ≡ true

@@ -1,15 +1,15 @@
 -- The run of a script, the state that it leaves, and what is proved of both.
 use Rattle.std.specs.Prelude.{◌≡◌, ℕ, ◌<◌, ◌≤◌, ◌++◌, false, All, List, length}
 use Rattle.std.specs.List.{AllByRecursion}
-use Rattle.ima_templates.specs.Replay.{replay}
-use Rattle.ima_templates.specs.registers.Banks.{register}
-use Rattle.ima_templates.specs.registers.meta.declared.measurement.Bank.{Bank}
+use Rattle.measure_book.specs.Replay.{replay}
+use Rattle.run_model.specs.registers.Banks.{register}
+use Rattle.ima_templates.specs.meta.declared.measurement.Bank.{Bank}
 use Rattle.run_model.specs.EndedValue.{EndedValue, ended_of}
 use Rattle.run_model.specs.Rounds.{IsRunOf, RoundsTo, moves}
 use Rattle.run_model.specs.Scene.{Scene}
 use Rattle.run_model.specs.Served.{Run}
 use Rattle.run_model.specs.Shown.{IsShown}
-use Rattle.run_model.specs.Turns.{Moment, start_of, turns_of}
+use Rattle.run_model.specs.Turns.{Moment, turns_of}
 use Rattle.call_steps.specs.declared.call.Call.{Call}
 use Rattle.call_steps.specs.declared.call.Call.TheVariants as call
 use Rattle.call_steps.specs.declared.ending.Ending.{Ending}
@@ -21,10 +21,8 @@ use Rattle.script_scene.specs.Scene.{IsForFiles, scene_of}
 use Rattle.script_text.specs.ScriptValue.{ScriptValue}
 use Rattle.script_text.specs.declared.blocks.TaskBlock.{TaskBlock}
 use Rattle.task_runner.specs.Passes.{HasRunOnThreads}
-use Rattle.task_runner.specs.frames.Runs.{AreTasks}
-use Rattle.task_runner.specs.frames.Tasks.{Tasked}
-use Rattle.task_runner.specs.frames.World.{WorldValue}
-use Rattle.task_runner.specs.laws_of_turns.Runs.{moment_in, scene_in}
+use Rattle.task_runner.specs.worlds.Tasks.{Tasked}
+use Rattle.task_runner.specs.worlds.World.{WorldValue}
 use Rattle.shown_laws.specs.Laws.{AreAdmitted, AreDenied, AreLabelled, AreReadsCovered, IsFresh, IsRarelyHashed}
 
 -- what is promised of a run of this scene with this ending, and of the state `e` that it leaves
@@ -76,16 +74,6 @@ abbrev pub AreRulesKept : ScriptValue → Type 0
 AreRulesKept s = AllByRecursion (λ (b : TaskBlock). AllByRecursion KeepsRule b.calls) s.tasks
 
 -- ---- intermediate states
-
--- the world and the tasks of the script before their first turn
-pub record HasStarted (s : ScriptValue) (world : WorldValue) (tasks : List Tasked)
-    (way : Ending) : Type 0 where
-  pub scene : (for_files : IsForFiles s) → scene_in world tasks ≡ scene_of s for_files
-  pub start : moment_in world tasks ≡ start_of (scene_in world tasks)
-  pub each : AreTasks world.frame tasks
-  pub count : length tasks ≡ world.frame.tasks
-  pub all : length tasks ≡ length s.tasks
-  pub ending : way ≡ s.ending
 
 -- a schedule names only tasks below `count`, and `threads` asks for at least one thread
 abbrev pub AreWithin : ℕ → Ending → Type 0

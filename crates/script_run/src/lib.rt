@@ -4,12 +4,10 @@
 
 mod appended;
 mod laws;
-mod members;
 mod running;
 
 pub use laws::shown_runs_are_sound;
-pub use members::crew;
-pub use running::{run, started};
-pub use script_scene as scenes;
+pub use running::run;
+pub use script_start::{crew, scenes, started};
 pub use task_runner as runners;
 pub use task_runner::tasks;

@@ -1,15 +1,14 @@
 //! The run of a script, from its start to its end.
 
 ghost use Rattle.std.specs.Prelude.{◌≡◌, ◌<◌, All, IfOk, length};
-ghost use Rattle.script_run.specs.Run.{AreWithin, HasRun, HasStarted, HaveRunAs, LeadsTo};
-ghost use Rattle.task_runner.specs.frames.Runs.{AreTasks};
-ghost use Rattle.task_runner.specs.laws_of_turns.Runs.{StillRuns, moment_in, scene_in};
+ghost use Rattle.script_run.specs.Run.{AreWithin, HasRun, HaveRunAs, LeadsTo};
+ghost use Rattle.task_runner.specs.worlds.Runs.{AreTasks};
+ghost use Rattle.task_runner.specs.worlds.WorldRuns.{StillRuns, moment_in, scene_in};
 
 use crate::appended::rules_kept;
-use crate::members::crew;
 use call_steps::Ending;
 use run_model::Ended;
-use script_scene::{ScriptParts, parts_of};
+use script_start::started;
 use script_text::Script;
 use std::alloc::{AllocError as OutOfMemory, Global};
 use std::marker::Brand;
@@ -18,30 +17,6 @@ use std::thread::Threads;
 use task_runner::outer::Gate;
 use task_runner::tasks::{Task, World};
 use task_runner::{run_rounds, run_schedule, run_threads};
-
-/// The world of a script and its tasks before their first turn, and the ending that says how they
-/// run.
-pub fn started(alloc: Global, script: Script) -> Result<(World, Vec<Task>, Ending), OutOfMemory>
-    ensures { IfOk result (λ r. HasStarted script r.0 r.1.items r.2) }
-{
-    script.keeps();
-    let ScriptParts {
-        settings,
-        boot,
-        inodes,
-        places,
-        supers,
-        rules,
-        tasks: blocks,
-        ending,
-    } = parts_of(alloc, script)?;
-    let count = blocks.len() as u32;
-    let (world, passes) = World::start(
-        alloc, settings, boot, inodes, supers, places, rules, count,
-    )?;
-    let tasks = crew(alloc, blocks, passes)?;
-    Ok((world, tasks, ending))
-}
 
 // Gives the tasks their turns, as the ending says.
 fn turn_all<G: Gate + Sync, R: Threads + Wait + Sync>(

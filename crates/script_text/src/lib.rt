@@ -21,7 +21,7 @@ mod tasks;
 
 pub use blocks::{Calls, FileBlock, TaskBlock};
 pub use call_steps as steps;
-pub use call_steps::{Ending, events, registers, templates};
+pub use call_steps::{Ending, events, templates};
 pub use evm_verify as evm;
 pub use files::{pop_last, sum_of, two};
 pub use hash_algos as hashes;

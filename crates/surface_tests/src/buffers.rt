@@ -2,7 +2,8 @@
 
 ghost use Rattle.std.specs.Prelude.{◌-◌, ◌<◌, ◌^◌, length};
 
-use ima_top::scripts::{hashes, meta, policy, registers, templates, xattrs};
+use ima_top::reports::model::registers;
+use ima_top::scripts::{hashes, meta, policy, templates, xattrs};
 use ima_top::{buffers, outer, scripts};
 use std::alloc::Global;
 use std::sync::Wait;

@@ -5,8 +5,9 @@ ghost use Rattle.ima_top.specs.carrying.Form.{IsCarried};
 
 use crate::lists::EntryPass;
 use ima_top::carrying;
-use ima_top::scripts::{LineCause, hashes, registers, templates, xattrs};
-use ima_top::tasks::frames::books;
+use ima_top::reports::model::registers;
+use ima_top::scripts::{LineCause, hashes, templates, xattrs};
+use ima_top::tasks::worlds::books;
 use std::alloc::Global;
 
 // ---- list_carry

@@ -5,7 +5,7 @@ ghost use Rattle.ima_top.specs.policy.RuleValue.{is_named_template};
 
 use ima_top::scripts::hashing::pages;
 use ima_top::scripts::{events, evm, hashes, labels, meta, policy, templates, xattrs};
-use ima_top::tasks::frames::inodes;
+use ima_top::tasks::worlds::inodes;
 
 // ---- inode_events
 

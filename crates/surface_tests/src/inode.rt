@@ -11,14 +11,14 @@ ghost use Rattle.ima_top.specs.events.Stage.{Asked, CloseCollected, CloseCollect
 ghost use Rattle.ima_top.specs.events.meta.declared.measurement.Template.TheVariants.{Ima};
 ghost use Rattle.ima_top.specs.events.pages.Content.{most_bytes};
 ghost use Rattle.ima_top.specs.events.templates.Path.{IsMeasuredPath};
-ghost use Rattle.ima_top.specs.frames.inodes.Ending.{HasPasses};
-ghost use Rattle.ima_top.specs.frames.inodes.Sums.{HasSums};
-ghost use Rattle.ima_top.specs.frames.laws_of_journals.Own.{counter};
+ghost use Rattle.ima_top.specs.worlds.inodes.Ending.{HasPasses};
+ghost use Rattle.ima_top.specs.worlds.inodes.Sums.{HasSums};
+ghost use Rattle.ima_top.specs.worlds.laws_of_journals.Own.{counter};
 
 use ima_top::scripts::hashing::pages;
 use ima_top::scripts::{events, hashes, hashing, meta, policy, templates};
-use ima_top::tasks::frames::inodes::{growing, matching};
-use ima_top::tasks::frames::{books, inodes};
+use ima_top::tasks::worlds::inodes::{growing, matching};
+use ima_top::tasks::worlds::{books, inodes};
 use std::alloc::Global;
 
 pub type EventPass = growing::Pass<events::Event>;

@@ -1,7 +1,7 @@
 // Labels, EVM and verdicts.
 
 use ima_top::scripts::{evm, hashes, labels, meta, xattrs};
-use ima_top::tasks::frames::inodes::appraisals;
+use ima_top::tasks::worlds::inodes::appraisals;
 use std::alloc::Global;
 
 // ---- label_values

@@ -5,13 +5,14 @@ ghost use Rattle.ima_top.specs.events.hashes.declared.algo.Algo.TheVariants.{Sha
 ghost use Rattle.ima_top.specs.events.meta.declared.measurement.Template.TheVariants.{ImaBuf};
 ghost use Rattle.ima_top.specs.events.templates.Path.{IsMeasuredPath};
 ghost use Rattle.ima_top.specs.events.templates.xattrs.Attrs.{most_value};
-ghost use Rattle.ima_top.specs.frames.model.growing.Others.{HasOthers};
-ghost use Rattle.ima_top.specs.frames.model.growing.Shown.{HasEach};
+ghost use Rattle.ima_top.specs.worlds.model.growing.Others.{HasOthers};
+ghost use Rattle.ima_top.specs.worlds.model.growing.Shown.{HasEach};
 
 use ima_top::generator::prints::list_lines;
-use ima_top::scripts::{hashes, meta, registers, templates, xattrs};
-use ima_top::tasks::frames::books;
-use ima_top::tasks::frames::inodes::growing;
+use ima_top::reports::model::registers;
+use ima_top::scripts::{hashes, meta, templates, xattrs};
+use ima_top::tasks::worlds::books;
+use ima_top::tasks::worlds::inodes::growing;
 use std::alloc::Global;
 
 pub type EntryPass = growing::Pass<templates::Entry>;

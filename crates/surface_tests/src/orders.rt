@@ -103,30 +103,6 @@ pub fn outcome_of(
 
 // ---- order_sights
 
-pub fn read(
-    alloc: Global,
-    text: templates::xattrs::Bytes,
-) -> Result<sights::Play, scripts::ScriptErr>
-    requires { length text < 2 ^ 32 - 1 }
-{
-    sights::Play::read(alloc, text)
-}
-
-pub fn tasks(play: &sights::Play) -> u32 {
-    play.tasks()
-}
-
-pub fn sight<G: outer::Gate>(
-    alloc: Global,
-    play: &sights::Play,
-    turns: &counts::Order,
-    gate: &G,
-) -> Result<sights::Sight, OutOfMemory>
-    requires { IsSchedule play.now turns.now }
-{
-    play.sight(alloc, turns, gate)
-}
-
 pub fn mark(sight: &sights::Sight) -> u64 {
     sight.mark()
 }
@@ -136,6 +112,27 @@ pub fn are_alike(alloc: Global, a: &sights::Sight, b: &sights::Sight) -> Result<
 }
 
 // ---- order_runs
+
+pub fn read(alloc: Global, text: templates::xattrs::Bytes) -> Result<runs::Play, scripts::ScriptErr>
+    requires { length text < 2 ^ 32 - 1 }
+{
+    runs::Play::read(alloc, text)
+}
+
+pub fn tasks(play: &runs::Play) -> u32 {
+    play.tasks()
+}
+
+pub fn sight<G: outer::Gate>(
+    alloc: Global,
+    play: &runs::Play,
+    turns: &counts::Order,
+    gate: &G,
+) -> Result<sights::Sight, OutOfMemory>
+    requires { IsSchedule play.now turns.now }
+{
+    play.sight(alloc, turns, gate)
+}
 
 pub fn rows_of<G: outer::Gate>(
     alloc: Global,

@@ -1,12 +1,12 @@
 // Rules, their texts, and which of them decide; and the rules that tasks append.
 
 ghost use Rattle.std.specs.Prelude.{◌≡◌, ◌-◌, ◌<◌, ◌≤◌, ◌^◌, length};
-ghost use Rattle.ima_top.specs.frames.model.growing.Shown.{HasEach};
+ghost use Rattle.ima_top.specs.worlds.model.growing.Shown.{HasEach};
 ghost use Rattle.ima_top.specs.policy.Limits.{most_rules};
 
 use ima_top::reports::model::rules;
 use ima_top::scripts::{hashes, meta, policy, xattrs};
-use ima_top::tasks::frames::inodes::{growing, matching};
+use ima_top::tasks::worlds::inodes::{growing, matching};
 use std::alloc::Global;
 
 pub type RulePass = growing::Pass<rules::RuleEntry>;

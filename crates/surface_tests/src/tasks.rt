@@ -3,15 +3,15 @@
 // "Only calls that take a lock or start threads take the runtime, before the allocator"
 
 ghost use Rattle.std.specs.Prelude.{◌≡◌, ◌+◌, ◌-◌, ◌<◌, ◌≤◌, ◌^◌, All, length};
-ghost use Rattle.ima_top.specs.frames.Runs.{AreTasks};
-ghost use Rattle.ima_top.specs.frames.Tasks.{IsTask};
+ghost use Rattle.ima_top.specs.worlds.Runs.{AreTasks};
+ghost use Rattle.ima_top.specs.worlds.Tasks.{IsTask};
 ghost use Rattle.ima_top.specs.starts.Started.{IsFile};
 
-use ima_top::reports::model::rules;
+use ima_top::reports::model::{registers, rules};
 use ima_top::runs::runners;
-use ima_top::scripts::{events, meta, policy, registers, steps, templates, xattrs};
-use ima_top::tasks::frames::inodes;
-use ima_top::tasks::frames::inodes::growing;
+use ima_top::scripts::{events, meta, policy, steps, templates, xattrs};
+use ima_top::tasks::worlds::inodes;
+use ima_top::tasks::worlds::inodes::growing;
 use ima_top::{outer, tasks};
 use std::alloc::Global;
 use std::sync::Wait;

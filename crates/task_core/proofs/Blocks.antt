@@ -13,11 +13,11 @@ use Rattle.inode_meta.specs.declared.identity.Cred.{Cred}
 use Rattle.inode_meta.specs.declared.step.Who.{Who}
 use Rattle.run_model.specs.Turns.{State}
 use Rattle.task_core.specs.Shared.{IsBlockedOn}
-use Rattle.task_frame.specs.Frame.{Frame, Site, inode_in}
-use Rattle.task_frame.specs.Tasks.{PassesValue}
-use Rattle.task_frame.specs.declared.gathered.Gathered.{Gathered}
-use Rattle.task_frame.specs.declared.gathered.Gathered.TheVariants as gathered
-use Rattle.world_locks.proofs.laws_of_tasks.Eventing.{get_set}
+use Rattle.world_model.specs.Frame.{Frame, Site, inode_in}
+use Rattle.world_model.specs.Tasks.{PassesValue}
+use Rattle.world_model.specs.declared.gathered.Gathered.{Gathered}
+use Rattle.world_model.specs.declared.gathered.Gathered.TheVariants as gathered
+use Rattle.world_locks.proofs.about_worlds.Eventing.{get_set}
 use Rattle.world_locks.specs.Met.{CheckMet, EventMet, SignalsMet, state_seen}
 use Rattle.world_locks.specs.acts.Acting.{EventIn, IsPlacedAt, IsSaid, told_in, told_of}
 use Rattle.world_locks.specs.acts.Checking.{CheckIn}
@@ -26,9 +26,9 @@ use Rattle.world_locks.specs.acts.Turning.{reached_by}
 use Rattle.world_locks.specs.acts.declared.answers.Answered.{Answered}
 use Rattle.world_locks.specs.acts.declared.answers.Reached.{Reached}
 use Rattle.world_locks.specs.acts.declared.answers.Reached.TheVariants as reached
-use Rattle.world_locks.specs.deeds.declared.listed.Checks.{Checks as Asked}
-use Rattle.world_locks.specs.laws_of_tasks.Events.{EventOn}
-use Rattle.world_locks.specs.laws_of_tasks.Ready.{HasLooked}
+use Rattle.world_locks.specs.acts.declared.listed.Checks.{Checks as Asked}
+use Rattle.world_locks.specs.worlds.Events.{EventOn}
+use Rattle.world_locks.specs.worlds.Ready.{HasLooked}
 
 -- a turn with an answer wasn't blocked
 pub told_moves : {E : Type 0} (a : Answered)

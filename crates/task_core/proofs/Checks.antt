@@ -17,22 +17,22 @@ use Rattle.policy_cell.specs.Policy.{PolicyValue, in_force, rules_in}
 use Rattle.policy_cell.specs.declared.cell.RuleEntry.{RuleEntry}
 use Rattle.policy_text.specs.RuleValue.{RuleValue}
 use Rattle.policy_text.specs.declared.access.Super.{Super}
-use Rattle.task_frame.specs.laws_of_rules.Stations.{CountsAll}
+use Rattle.world_model.specs.laws_of_runs.Stations.{CountsAll}
 use Rattle.run_model.specs.Scene.{no_super, rules_with}
 use Rattle.run_model.specs.Turns.{State}
 use Rattle.task_core.proofs.Seen.{PassSees, same_twice, sees_alone, sees_more}
-use Rattle.world_locks.specs.deeds.declared.listed.Checks.{Checks}
-use Rattle.task_frame.specs.Frame.{Frame, Site, inode_in, scene_of, super_at}
-use Rattle.task_frame.specs.Tasks.{PassesValue}
-use Rattle.task_frame.specs.World.{StationValue, journal_of, site_of}
-use Rattle.task_frame.specs.declared.gathered.Gathered.{Gathered}
-use Rattle.world_locks.proofs.laws_of_tasks.Eventing.{get_map, get_set}
-use Rattle.world_locks.specs.laws_of_tasks.Events.{EventOn}
-use Rattle.world_locks.specs.laws_of_tasks.Steps.{Adds}
-use Rattle.world_ended.specs.closes.Closed.{AreIdle}
+use Rattle.world_locks.specs.acts.declared.listed.Checks.{Checks}
+use Rattle.world_model.specs.Frame.{Frame, Site, inode_in, scene_of, super_at}
+use Rattle.world_model.specs.Tasks.{PassesValue}
+use Rattle.world_model.specs.World.{StationValue, journal_of, site_of}
+use Rattle.world_model.specs.declared.gathered.Gathered.{Gathered}
+use Rattle.world_locks.proofs.about_worlds.Eventing.{get_map, get_set}
+use Rattle.world_locks.specs.worlds.Events.{EventOn}
+use Rattle.world_locks.specs.worlds.Steps.{Adds}
+use Rattle.world_close.specs.Closed.{AreIdle}
 use Rattle.world_locks.proofs.about_acts.Looked.{force_count, frame_looked, parts_looked}
 use Rattle.world_locks.proofs.about_acts.Looks.{at_index}
-use Rattle.world_locks.proofs.about_acts.Worlds.{event_on, frame_same, map_same, world_same}
+use Rattle.world_locks.proofs.about_acts.Lists.{event_on, frame_same, map_same, world_same}
 use Rattle.world_locks.specs.acts.Acting.{StationDid, told_in}
 use Rattle.world_locks.specs.acts.Checking.{CheckIn, IsChecked, check_by}
 use Rattle.world_locks.specs.acts.Parts.{AreParts, frame_by, state_by}

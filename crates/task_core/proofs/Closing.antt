@@ -4,7 +4,7 @@ use Rattle.std.specs.Prelude.{map, not, slice_get}
 use Rattle.std.specs.List.{list_any}
 use Rattle.std.proofs.lemmas.List.{length-map}
 use Rattle.grow_list.specs.Shown.{Grown}
-use Rattle.ima_templates.specs.Replay.{banks_of}
+use Rattle.measure_book.specs.Replay.{banks_of}
 use Rattle.ima_templates.specs.declared.entry.Entry.{Entry}
 use Rattle.inode_events.specs.Past.{past}
 use Rattle.inode_events.specs.Semaphores.{left}
@@ -14,18 +14,18 @@ use Rattle.policy_cell.specs.Policy.{PolicyValue, in_force}
 use Rattle.policy_text.specs.declared.access.Super.{Super}
 use Rattle.run_model.specs.EndedValue.{EndedValue}
 use Rattle.run_model.specs.Turns.{State}
-use Rattle.task_frame.specs.Frame.{Frame, scene_of}
-use Rattle.task_frame.specs.Runs.{AreTasks, moment_of, programs_of}
-use Rattle.task_frame.specs.Tasks.{ArePassesOf, PassesValue, Tasked}
-use Rattle.task_frame.specs.World.{AreRulesOf, AreSignalsOf, IsBookOf, StationValue, site_of}
-use Rattle.world_ended.specs.closes.Closed.{AreStations, WorldClosed, ended_station}
-use Rattle.world_ended.specs.closes.Finished.{HaveMade}
-use Rattle.world_ended.proofs.about_closes.Gets.{get_map}
+use Rattle.world_model.specs.Frame.{Frame, scene_of}
+use Rattle.world_model.specs.Runs.{AreTasks, moment_of, programs_of}
+use Rattle.world_model.specs.Tasks.{ArePassesOf, PassesValue, Tasked}
+use Rattle.world_model.specs.World.{AreRulesOf, AreSignalsOf, IsBookOf, StationValue, site_of}
+use Rattle.world_close.specs.Closed.{AreStations, WorldClosed, ended_station}
+use Rattle.world_close.specs.Finished.{HaveMade}
+use Rattle.world_close.proofs.Gets.{get_map}
 use Rattle.world_locks.proofs.about_acts.Looked.{force_count}
 use Rattle.world_locks.specs.acts.Parts.{AreParts, frame_by, state_by}
-use Rattle.world_ended.proofs.Ending.{closed_ended}
-use Rattle.world_ended.specs.Leaves.{are_stuck, left_by, may_append, task_left}
-use Rattle.world_ended.specs.Settled.{HasEnded}
+use Rattle.world_close.proofs.Ending.{closed_ended}
+use Rattle.world_close.specs.Leaves.{are_stuck, left_by, may_append, task_left}
+use Rattle.world_close.specs.Settled.{HasEnded}
 
 module _ (settings : Settings) (stations : List StationValue) (supers : List Super)
     (book : Grown Entry) (sems : Grown Event) (rules : PolicyValue) (count : ℕ) (frame : Frame)

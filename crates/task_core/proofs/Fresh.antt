@@ -5,10 +5,10 @@ use Rattle.inode_events.specs.Checks.{no_action}
 use Rattle.inode_meta.specs.declared.identity.Cred.{Cred}
 use Rattle.run_model.specs.History.{start}
 use Rattle.run_model.specs.Scene.{Program}
-use Rattle.task_frame.specs.Frame.{Frame}
-use Rattle.task_frame.specs.Tasks.{AreCallsOf, ArePassesOf, AreUnused, IsTask, PassesValue}
-use Rattle.task_frame.specs.declared.gathered.Gathered.TheVariants as gathered
-use Rattle.world_locks.proofs.laws_of_tasks.Playing.{fresh_is_task}
+use Rattle.world_model.specs.Frame.{Frame}
+use Rattle.world_model.specs.Tasks.{AreCallsOf, ArePassesOf, AreUnused, IsTask, PassesValue}
+use Rattle.world_model.specs.declared.gathered.Gathered.TheVariants as gathered
+use Rattle.world_locks.proofs.about_worlds.Playing.{fresh_is_task}
 use Rattle.task_mind.specs.Value.{TaskValue}
 
 -- a task that has made no step is a task of every world whose passes it has

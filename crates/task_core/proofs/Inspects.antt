@@ -3,8 +3,8 @@ use Rattle.std.proofs.Common.{◌≡◌, ℕ, ◌+◌, ◌<◌, List, length, ge
 use Rattle.std.specs.Prelude.{Result, slice_get, slice_set}
 use Rattle.grow_list.specs.Shown.{Grown, Passed}
 use Rattle.ima_templates.specs.declared.entry.Entry.{Entry}
-use Rattle.task_frame.specs.inodes.Acts.{MayBy}
-use Rattle.task_frame.specs.inodes.Value.{CellValue}
+use Rattle.world_model.specs.inodes.Acts.{MayBy}
+use Rattle.world_model.specs.inodes.Value.{CellValue}
 use Rattle.inode_events.specs.Past.{past}
 use Rattle.inode_events.specs.State.{metadata}
 use Rattle.inode_events.specs.declared.deed.Deed.{Deed}
@@ -20,14 +20,14 @@ use Rattle.policy_text.specs.RuleValue.{RuleValue}
 use Rattle.policy_text.specs.declared.access.Super.{Super}
 use Rattle.task_core.proofs.Checks.{RulesLooked, check_frame, check_idle, check_in, check_parts}
 use Rattle.task_core.proofs.Opens.{open_book, open_found, open_may, open_pass}
-use Rattle.world_locks.specs.deeds.declared.listed.Checks.{Checks}
-use Rattle.task_frame.specs.Frame.{Frame}
-use Rattle.task_frame.specs.Tasks.{ArePassesOf, PassesValue}
-use Rattle.task_frame.specs.World.{StationValue, WorldValue}
-use Rattle.task_frame.specs.declared.gathered.Gathered.{Gathered}
-use Rattle.task_frame.specs.declared.gathered.Gathered.TheVariants as gathered
-use Rattle.world_locks.specs.laws_of_tasks.Ready.{HasLooked}
-use Rattle.world_ended.specs.closes.Closed.{AreIdle}
+use Rattle.world_locks.specs.acts.declared.listed.Checks.{Checks}
+use Rattle.world_model.specs.Frame.{Frame}
+use Rattle.world_model.specs.Tasks.{ArePassesOf, PassesValue}
+use Rattle.world_model.specs.World.{StationValue, WorldValue}
+use Rattle.world_model.specs.declared.gathered.Gathered.{Gathered}
+use Rattle.world_model.specs.declared.gathered.Gathered.TheVariants as gathered
+use Rattle.world_locks.specs.worlds.Ready.{HasLooked}
+use Rattle.world_close.specs.Closed.{AreIdle}
 use Rattle.world_locks.proofs.about_acts.Calls.{found_place, found_rules}
 use Rattle.world_locks.proofs.about_acts.Looks.{at_index}
 use Rattle.world_locks.specs.acts.Acting.{ReadyAt, StationDid, told_in}

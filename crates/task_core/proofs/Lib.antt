@@ -10,6 +10,6 @@ pub mod Closing
 pub mod Visible
 pub mod Blocks
 pub mod SharedSteps
-pub use Rattle.task_frame.proofs.laws_of_endings
-pub use Rattle.turn_laws.proofs as laws_of_turns
-pub use Rattle.world_ended.proofs.about_closes
+pub use Rattle.world_model.proofs.laws_of_progress
+pub use Rattle.world_model.proofs as about_worlds
+pub use Rattle.world_close.proofs as about_closes

@@ -16,18 +16,18 @@ use Rattle.policy_text.specs.RuleValue.{RuleValue}
 use Rattle.policy_text.specs.declared.access.Super.{Super}
 use Rattle.run_model.specs.Turns.{State}
 use Rattle.task_core.proofs.Seen.{PassSees, sees_alone}
-use Rattle.task_frame.specs.Frame.{Frame, Site, boot_in, inode_in}
-use Rattle.task_frame.specs.Runs.{HasMade}
-use Rattle.task_frame.specs.Tasks.{ArePassesOf, IsTask, PassesValue, Tasked}
-use Rattle.task_frame.specs.World.{StationValue, WorldValue, journal_of, site_of}
-use Rattle.task_frame.specs.declared.gathered.Gathered.{Gathered}
-use Rattle.world_locks.proofs.laws_of_tasks.Eventing.{get_map}
-use Rattle.world_locks.proofs.laws_of_tasks.Looking.{look_is_made, look_is_played}
-use Rattle.world_locks.specs.laws_of_tasks.Looks.{HasLookedAtAll, InodeLooked}
-use Rattle.world_locks.specs.laws_of_tasks.Plays.{task_left}
-use Rattle.world_locks.specs.laws_of_tasks.Ready.{HasLooked}
+use Rattle.world_model.specs.Frame.{Frame, Site, boot_in, inode_in}
+use Rattle.world_model.specs.Runs.{HasMade}
+use Rattle.world_model.specs.Tasks.{ArePassesOf, IsTask, PassesValue, Tasked}
+use Rattle.world_model.specs.World.{StationValue, WorldValue, journal_of, site_of}
+use Rattle.world_model.specs.declared.gathered.Gathered.{Gathered}
+use Rattle.world_locks.proofs.about_worlds.Eventing.{get_map}
+use Rattle.world_locks.proofs.about_worlds.Looking.{look_is_made, look_is_played}
+use Rattle.world_locks.specs.worlds.Looks.{HasLookedAtAll, InodeLooked}
+use Rattle.world_locks.specs.worlds.Plays.{task_left}
+use Rattle.world_locks.specs.worlds.Ready.{HasLooked}
 use Rattle.task_mind.specs.Value.{TaskValue}
-use Rattle.world_ended.specs.closes.Closed.{AreIdle}
+use Rattle.world_close.specs.Closed.{AreIdle}
 use Rattle.world_locks.proofs.about_acts.Keeping.{journals_kept, sites_kept, stations_kept}
 use Rattle.world_locks.specs.acts.Looking.{AreKept, HaveLooked, LookedAt}
 use Rattle.world_locks.specs.acts.Parts.{AreParts, frame_by, state_by}

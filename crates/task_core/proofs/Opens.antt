@@ -5,7 +5,7 @@ use Rattle.std.proofs.lemmas.List.{length-map}
 use Rattle.grow_list.proofs.Prefixes.{prefix_refl}
 use Rattle.grow_list.specs.Shown.{Grown, Passed}
 use Rattle.ima_templates.specs.declared.entry.Entry.{Entry}
-use Rattle.task_frame.specs.inodes.Acts.{MayBy}
+use Rattle.world_model.specs.inodes.Acts.{MayBy}
 use Rattle.inode_events.specs.Asked.{outcome}
 use Rattle.inode_events.specs.Past.{past}
 use Rattle.inode_events.specs.declared.deed.Deed.{Deed}
@@ -18,17 +18,17 @@ use Rattle.policy_cell.specs.Policy.{PolicyValue}
 use Rattle.policy_cell.specs.declared.cell.RuleEntry.{RuleEntry}
 use Rattle.policy_text.specs.ActionValue.{ActionValue}
 use Rattle.policy_text.specs.declared.access.Super.{Super}
-use Rattle.task_frame.specs.laws_of_rules.Stations.{CountsAll}
-use Rattle.task_frame.specs.Frame.{Frame}
-use Rattle.task_frame.specs.Tasks.{ArePassesOf, PassesValue}
-use Rattle.task_frame.specs.World.{StationValue, WorldValue, site_of}
-use Rattle.task_frame.specs.declared.gathered.Gathered.{Gathered}
-use Rattle.world_locks.proofs.laws_of_tasks.Eventing.{adds_none}
-use Rattle.world_locks.specs.laws_of_tasks.Ready.{HasLooked, IsReady}
-use Rattle.world_ended.specs.closes.Closed.{AreIdle}
+use Rattle.world_model.specs.laws_of_runs.Stations.{CountsAll}
+use Rattle.world_model.specs.Frame.{Frame}
+use Rattle.world_model.specs.Tasks.{ArePassesOf, PassesValue}
+use Rattle.world_model.specs.World.{StationValue, WorldValue, site_of}
+use Rattle.world_model.specs.declared.gathered.Gathered.{Gathered}
+use Rattle.world_locks.proofs.about_worlds.Eventing.{adds_none}
+use Rattle.world_locks.specs.worlds.Ready.{HasLooked, IsReady}
+use Rattle.world_close.specs.Closed.{AreIdle}
 use Rattle.world_locks.proofs.about_acts.Calls.{found_may, found_pass, found_ready, found_said}
 use Rattle.world_locks.proofs.about_acts.Looks.{at_index}
-use Rattle.world_locks.proofs.about_acts.Worlds.{event_in, frame_same, world_same}
+use Rattle.world_locks.proofs.about_acts.Lists.{event_in, frame_same, world_same}
 use Rattle.world_locks.specs.acts.Acting.{EventIn, IsPlacedAt, IsSaid, ReadyAt, StationDid, told_of}
 use Rattle.world_locks.specs.acts.Parts.{AreParts, frame_by, state_by}
 use Rattle.world_locks.specs.acts.declared.answers.Answered.{Answered}

@@ -3,7 +3,7 @@ use Rattle.std.proofs.Common.{◌≡◌, List, [], sym, ◌∙◌, subst}
 use Rattle.std.proofs.lemmas.List.{append-nil}
 use mathlib.Core.List.{IsPrefix}
 use Rattle.grow_list.specs.Shown.{Grown, HasItsOwn, IsSameList, Passed}
-use Rattle.world_locks.specs.laws_of_tasks.Steps.{Adds}
+use Rattle.world_locks.specs.worlds.Steps.{Adds}
 
 -- the pass has seen the list, and both are otherwise as they were
 pub record PassSees {E : Type 0} (g g2 : Grown E) (q q2 : Passed E) : Type 0 where

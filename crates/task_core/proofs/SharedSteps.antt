@@ -18,12 +18,12 @@ use Rattle.run_model.specs.declared.turn.Turn.TheVariants as turns
 use Rattle.task_core.proofs.Blocks.{check_blocks, deed_blocks, err_fails, no_answer, over_ends, signal_blocks, told_moves}
 use Rattle.task_core.proofs.Turns.{appends_fail, appends_turn, check_turn, does_turn, signals_turn}
 use Rattle.task_core.specs.Shared.{IsBlockedBy, IsBlockedOn, IsIdle, ReachesMet, StepsTo}
-use Rattle.world_locks.specs.deeds.declared.listed.Checks.{Checks as Asked}
-use Rattle.task_frame.specs.Frame.{Frame, Site, mode_in, scene_of}
-use Rattle.task_frame.specs.Tasks.{PassesValue, Tasked}
-use Rattle.task_frame.specs.declared.gathered.Gathered.{Gathered}
-use Rattle.world_locks.proofs.laws_of_tasks.Blocking.{task_of_who}
-use Rattle.world_locks.specs.laws_of_tasks.Plays.{task_after, task_left}
+use Rattle.world_locks.specs.acts.declared.listed.Checks.{Checks as Asked}
+use Rattle.world_model.specs.Frame.{Frame, Site, mode_in, scene_of}
+use Rattle.world_model.specs.Tasks.{PassesValue, Tasked}
+use Rattle.world_model.specs.declared.gathered.Gathered.{Gathered}
+use Rattle.world_locks.proofs.about_worlds.Blocking.{task_of_who}
+use Rattle.world_locks.specs.worlds.Plays.{task_after, task_left}
 use Rattle.task_mind.specs.Value.{TaskValue}
 use Rattle.world_locks.proofs.about_acts.Sharing.{nothing_tells}
 use Rattle.world_locks.specs.acts.Acting.{told_in}

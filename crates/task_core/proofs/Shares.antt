@@ -9,9 +9,9 @@ use Rattle.policy_cell.specs.Policy.{PolicyValue}
 use Rattle.policy_cell.specs.declared.cell.RuleEntry.{RuleEntry}
 use Rattle.policy_text.specs.RuleValue.{RuleValue}
 use Rattle.policy_text.specs.declared.access.Super.{Super}
-use Rattle.task_frame.specs.Frame.{Frame}
-use Rattle.task_frame.specs.World.{AreRulesOf, AreSignalsOf, StationValue}
-use Rattle.world_ended.specs.closes.Closed.{AreIdle}
+use Rattle.world_model.specs.Frame.{Frame}
+use Rattle.world_model.specs.World.{AreRulesOf, AreSignalsOf, StationValue}
+use Rattle.world_close.specs.Closed.{AreIdle}
 use Rattle.world_locks.specs.acts.Parts.{AreParts, frame_by}
 
 module _ (settings : Settings) (stations : List StationValue) (supers : List Super)

@@ -21,15 +21,15 @@ use Rattle.run_model.specs.History.{Answer, Thought, hear, step_at, who_at}
 use Rattle.run_model.specs.Scene.{Program}
 use Rattle.run_model.specs.Turns.{State}
 use Rattle.run_model.specs.declared.turn.Turn.TheVariants as turns
-use Rattle.task_frame.specs.Frame.{Frame, inode_in, mode_in}
-use Rattle.task_frame.specs.Tasks.{ArePassesOf, HasPlayed, IsTask, PassesValue, Tasked}
-use Rattle.task_frame.specs.declared.gathered.Gathered.{Gathered}
-use Rattle.world_locks.proofs.laws_of_tasks.Blocking.{task_of_who}
-use Rattle.world_locks.proofs.laws_of_tasks.Readying.{ready_by_look}
-use Rattle.world_locks.specs.laws_of_tasks.Due.{slot_in}
-use Rattle.world_locks.specs.laws_of_tasks.Plays.{task_after, task_left}
-use Rattle.world_locks.specs.laws_of_tasks.Ready.{HasLooked, IsReady, IsStepOn}
-use Rattle.world_locks.specs.deeds.declared.listed.Checks.{Checks as Asked}
+use Rattle.world_model.specs.Frame.{Frame, inode_in, mode_in}
+use Rattle.world_model.specs.Tasks.{ArePassesOf, HasPlayed, IsTask, PassesValue, Tasked}
+use Rattle.world_model.specs.declared.gathered.Gathered.{Gathered}
+use Rattle.world_locks.proofs.about_worlds.Blocking.{task_of_who}
+use Rattle.world_locks.proofs.about_worlds.Readying.{ready_by_look}
+use Rattle.world_locks.specs.worlds.Due.{slot_in}
+use Rattle.world_locks.specs.worlds.Plays.{task_after, task_left}
+use Rattle.world_locks.specs.worlds.Ready.{HasLooked, IsReady, IsStepOn}
+use Rattle.world_locks.specs.acts.declared.listed.Checks.{Checks as Asked}
 use Rattle.task_mind.specs.Steps.{step_in}
 use Rattle.task_mind.specs.Value.{IsSameTask, TaskValue, due_at}
 use Rattle.task_mind.specs.declared.step.Step.{Step as Named}

@@ -3,13 +3,13 @@ use Rattle.std.proofs.Common.{◌≡◌, ◌<◌, ◌≤◌, ℕ, List, length, 
 use Rattle.std.specs.Prelude.{map, option_map, slice_get}
 use Rattle.std.proofs.lemmas.Option.{slice_get-map, slice_get_past, slice_get_read}
 use Rattle.inode_events.specs.declared.settings.Settings.{Settings}
-use Rattle.task_frame.specs.inodes.Value.{CellValue}
+use Rattle.world_model.specs.inodes.Value.{CellValue}
 use Rattle.run_model.specs.Turns.{State}
 use Rattle.task_core.specs.Cells.{IsCellAt}
 use Rattle.task_core.specs.WorldFields.{IsWorld, frame_in, world_of}
 use Rattle.task_core.specs.declared.world.World.TheInside.{Inside}
-use Rattle.task_frame.specs.Frame.{Frame, inode_in}
-use Rattle.task_frame.specs.World.{IsStation, StationValue, WorldValue, journal_of, site_of}
+use Rattle.world_model.specs.Frame.{Frame, inode_in}
+use Rattle.world_model.specs.World.{IsStation, StationValue, WorldValue, journal_of, site_of}
 
 abbrev pub cell_of : StationValue → CellValue
 cell_of s = s.cell

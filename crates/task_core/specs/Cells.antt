@@ -1,8 +1,8 @@
 -- What can be seen of a world between turns.
 use Rattle.std.specs.Prelude.{◌≡◌, ℕ, Option, Some, None, slice_get}
-use Rattle.task_frame.specs.inodes.Value.{CellValue}
+use Rattle.world_model.specs.inodes.Value.{CellValue}
 use Rattle.run_model.specs.Turns.{State}
-use Rattle.task_frame.specs.Frame.{Frame, Site, inode_in}
+use Rattle.world_model.specs.Frame.{Frame, Site, inode_in}
 
 -- the inode of this number is that of its site, with its journal; there is none from the end on
 abbrev pub IsCellAt : Frame → State → ℕ → Option CellValue → Type 0

@@ -11,10 +11,10 @@ use Rattle.inode_events.specs.declared.told.Event.{Event}
 use Rattle.run_model.specs.History.{step_at}
 use Rattle.run_model.specs.Turns.{State}
 use Rattle.run_model.specs.declared.turn.Turn.{Turn}
-use Rattle.task_frame.specs.Frame.{Frame, Site, inode_in}
-use Rattle.task_frame.specs.Tasks.{PassesValue, Tasked}
-use Rattle.task_frame.specs.declared.gathered.Gathered.{Gathered}
-use Rattle.world_locks.specs.laws_of_tasks.Ready.{HasLooked}
+use Rattle.world_model.specs.Frame.{Frame, Site, inode_in}
+use Rattle.world_model.specs.Tasks.{PassesValue, Tasked}
+use Rattle.world_model.specs.declared.gathered.Gathered.{Gathered}
+use Rattle.world_locks.specs.worlds.Ready.{HasLooked}
 use Rattle.world_locks.specs.acts.Turning.{Goes, Reaches, turned_to}
 use Rattle.world_locks.specs.acts.declared.answers.Reached.{Reached}
 use Rattle.world_locks.specs.acts.declared.answers.Reached.TheVariants as reached

@@ -4,7 +4,7 @@ use Rattle.call_steps.specs.declared.call.Call.{Call}
 use Rattle.inode_meta.specs.declared.step.Who.{Who}
 use Rattle.run_model.specs.History.{call_at, who_at}
 use Rattle.task_core.specs.declared.task.Task.TheInside.{Inside}
-use Rattle.task_frame.specs.Tasks.{Tasked}
+use Rattle.world_model.specs.Tasks.{Tasked}
 
 abbrev pub tasked_of : Inside → Tasked
 tasked_of t =

@@ -1,8 +1,8 @@
 -- The value of a world that contracts see, and the invariant of its fields.
 use Rattle.task_core.specs.declared.world.World.TheInside.{Inside}
-use Rattle.task_frame.specs.Frame.{Frame}
-use Rattle.task_frame.specs.World.{WorldValue}
-use Rattle.world_ended.specs.closes.Closed.{AreIdle}
+use Rattle.world_model.specs.Frame.{Frame}
+use Rattle.world_model.specs.World.{WorldValue}
+use Rattle.world_close.specs.Closed.{AreIdle}
 use Rattle.world_locks.specs.acts.Parts.{AreParts, frame_by, state_by}
 
 abbrev pub frame_in : Inside → Frame

@@ -3,18 +3,17 @@
 ghost use Rattle.inode_events.specs.declared.deed.Deed.TheVariants as Deed;
 ghost use Rattle.std.specs.Prelude.{◌≡◌, IfOk, slice_get};
 ghost use Rattle.inode_events.specs.Checks.{no_action};
-ghost use Rattle.task_frame.specs.Tasks.{ArePassesOf};
-ghost use Rattle.task_frame.specs.declared.gathered.Gathered.{Gathered as AnyGathered};
+ghost use Rattle.world_model.specs.Tasks.{ArePassesOf};
+ghost use Rattle.world_model.specs.declared.gathered.Gathered.{Gathered as AnyGathered};
 ghost use Rattle.task_mind.specs.Steps.{deed_in};
 ghost use Rattle.world_locks.specs.acts.Acting.{EventIn, IsSaid, ReadyAt, told_in};
 ghost use Rattle.world_locks.specs.acts.Checking.{CheckIn};
 
 use crate::world::World;
 use std::alloc::AllocError as OutOfMemory;
-use task_frame::{Gathered, Passes};
 use task_mind::Doing;
-use world_locks::acts::{Answered, act_at, check_at};
-use world_locks::deeds::{Actor, Checks};
+use world_locks::acts::{Actor, Answered, Checks, act_at, check_at};
+use world_model::{Gathered, Passes};
 
 impl World {
     /// Does the deed on the inode of this number, through the task's passes. `None` means that it

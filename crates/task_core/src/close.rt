@@ -11,22 +11,21 @@ ghost use Rattle.run_model.specs.EndedValue.{ended_of};
 ghost use Rattle.run_model.specs.Rounds.{moves};
 ghost use Rattle.run_model.specs.Shown.{IsShown};
 ghost use Rattle.run_model.specs.Turns.{run_at};
-ghost use Rattle.task_frame.specs.Frame.{Frame, scene_of};
-ghost use Rattle.task_frame.specs.Runs.{AreTasks, moment_of, programs_of};
-ghost use Rattle.task_frame.specs.Tasks.{Tasked};
-ghost use Rattle.turn_laws.specs.Runs.{moment_in, scene_in};
-ghost use Rattle.world_ended.specs.closes.Finished.{HaveMade, IsFinished};
-ghost use Rattle.world_ended.specs.Leaves.{are_stuck, done_by, may_append, rests, task_left};
-ghost use Rattle.world_ended.specs.Settled.{HasEnded, HaveSameMinds, is_over};
+ghost use Rattle.world_model.specs.Frame.{Frame, scene_of};
+ghost use Rattle.world_model.specs.Runs.{AreTasks, moment_of, programs_of};
+ghost use Rattle.world_model.specs.Tasks.{Tasked};
+ghost use Rattle.world_model.specs.WorldRuns.{moment_in, scene_in};
+ghost use Rattle.world_close.specs.Finished.{HaveMade, IsFinished};
+ghost use Rattle.world_close.specs.Leaves.{are_stuck, done_by, may_append, rests, task_left};
+ghost use Rattle.world_close.specs.Settled.{HasEnded, HaveSameMinds, is_over};
 
 use crate::task::Task;
 use crate::world::World;
 use run_model::{Ended, EndedTask};
 use std::alloc::{AllocError as OutOfMemory, Global};
-use task_frame::Passes;
-use world_ended::closes::{Lists, close_lists};
-use world_ended::rests;
-use world_ended::semaphores::SemaphoreCell;
+use world_close::semaphores::SemaphoreCell;
+use world_close::{Lists, close_lists, rests};
+use world_model::Passes;
 
 /// Lets each task look at all lists of the world. Afterwards the entries of its number in each list
 /// are exactly those that it has made.

@@ -1,8 +1,8 @@
 //! The look of a task at all lists of its world.
 
 ghost use Rattle.std.specs.Prelude.{◌≡◌};
-ghost use Rattle.task_frame.specs.Runs.{HasMade};
-ghost use Rattle.task_frame.specs.Tasks.{IsTask};
+ghost use Rattle.world_model.specs.Runs.{HasMade};
+ghost use Rattle.world_model.specs.Tasks.{IsTask};
 
 use crate::task::Task;
 use crate::world::World;

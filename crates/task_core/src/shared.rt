@@ -5,7 +5,7 @@ ghost use Rattle.run_model.specs.History.{step_at};
 ghost use Rattle.run_model.specs.Rounds.{is_moved};
 ghost use Rattle.run_model.specs.declared.turn.Turn.TheVariants as Turn;
 ghost use Rattle.task_core.specs.Shared.{IsBlockedBy, ReachesMet, StepsTo};
-ghost use Rattle.task_frame.specs.Tasks.{IsTask};
+ghost use Rattle.world_model.specs.Tasks.{IsTask};
 ghost use Rattle.world_locks.specs.Met.{mines_of};
 
 use crate::live::Live;
@@ -15,11 +15,10 @@ use inode_events::{Deed, Told};
 use run_model::Turn;
 use std::alloc::AllocError as OutOfMemory;
 use std::sync::Wait;
-use task_frame::{Gathered, Passes};
 use task_mind::{Step, TaskMind};
 use world_locks::Name;
-use world_locks::acts::{Answered, Reached, became};
-use world_locks::deeds::{Actor, Checks};
+use world_locks::acts::{Actor, Answered, Checks, Reached, became};
+use world_model::{Gathered, Passes};
 
 impl<N: Name> Live<N> {
     /// Makes the step that is due for the task with these passes and hashes.

@@ -6,15 +6,15 @@ ghost use Rattle.inode_events.specs.Past.{past};
 ghost use Rattle.inode_events.specs.Semaphores.{semaphore_says};
 ghost use Rattle.world_locks.specs.acts.Acting.{IsPlacedAt, told_in, told_of};
 ghost use Rattle.world_locks.specs.acts.Sharing.{AppendsTo, SignalsOn};
-ghost use Rattle.task_frame.specs.Tasks.{ArePassesOf};
+ghost use Rattle.world_model.specs.Tasks.{ArePassesOf};
 
 use crate::world::World;
 use inode_events::{Deed, Told};
 use inode_meta::Who;
 use policy_text::Rule;
 use std::alloc::AllocError as OutOfMemory;
-use task_frame::Passes;
 use world_locks::acts::Answered;
+use world_model::Passes;
 
 impl World {
     /// Posts to a semaphore or waits for one. `None` means that it is blocked.

@@ -10,7 +10,7 @@ use inode_events::xattrs::Bytes;
 use inode_events::{Image, Settings};
 use policy_text::{Policy, Super};
 use std::alloc::{AllocError as OutOfMemory, Global};
-use task_frame::Passes;
+use world_model::Passes;
 use world_start::{Start, start_lists};
 
 impl World {

@@ -1,15 +1,15 @@
 ghost use Rattle.std.specs.Prelude.{◌≡◌, length, IfOk};
 ghost use Rattle.run_model.specs.History.{start};
 ghost use Rattle.task_core.specs.TaskFields.{who_of};
-ghost use Rattle.task_frame.specs.Frame.{Frame};
-ghost use Rattle.task_frame.specs.Tasks.{AreCallsOf, ArePassesOf, AreUnused, IsTask};
+ghost use Rattle.world_model.specs.Frame.{Frame};
+ghost use Rattle.world_model.specs.Tasks.{AreCallsOf, ArePassesOf, AreUnused, IsTask};
 
 use call_steps::Call;
 use inode_meta::{Cred, Who};
 use std::alloc::{AllocError as OutOfMemory, Global};
 use std::marker::Model;
-use task_frame::{Gathered, Passes};
 use task_mind::TaskMind;
+use world_model::{Gathered, Passes};
 
 /// A task. Contracts see its number, its knowledge of its own calls, what it has hashed, and its
 /// passes.
@@ -22,7 +22,7 @@ pub struct Task {
 }
 
 impl Model for Task {
-    ghost use Rattle.task_frame.specs.Tasks.{Tasked};
+    ghost use Rattle.world_model.specs.Tasks.{Tasked};
 
     ghost Value = { Tasked };
 

@@ -4,9 +4,9 @@ ghost use Rattle.std.specs.Prelude.{◌≡◌, List, IfOk, OnErr};
 ghost use Rattle.run_model.specs.Scene.{Program};
 ghost use Rattle.run_model.specs.Turns.{go};
 ghost use Rattle.world_locks.specs.acts.Turning.{Reaches, turned_to};
-ghost use Rattle.task_frame.specs.Frame.{scene_of};
-ghost use Rattle.task_frame.specs.Tasks.{IsTask};
-ghost use Rattle.world_locks.specs.laws_of_tasks.Due.{slot_in};
+ghost use Rattle.world_model.specs.Frame.{scene_of};
+ghost use Rattle.world_model.specs.Tasks.{IsTask};
+ghost use Rattle.world_locks.specs.worlds.Due.{slot_in};
 ghost use Rattle.task_mind.specs.Value.{due_at};
 
 use crate::task::Task;
@@ -16,10 +16,9 @@ use inode_events::{Deed, Told};
 use inode_meta::Slot;
 use run_model::Turn;
 use std::alloc::AllocError as OutOfMemory;
-use task_frame::{Gathered, Passes};
 use task_mind::{Step, TaskMind};
-use world_locks::acts::{Answered, Reached, became};
-use world_locks::deeds::{Actor, Checks};
+use world_locks::acts::{Actor, Answered, Checks, Reached, became};
+use world_model::{Gathered, Passes};
 
 // The slot of a take, if one is due.
 pub(crate) fn slot_due(mind: &TaskMind) -> Slot

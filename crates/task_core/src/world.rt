@@ -4,9 +4,9 @@ use policy_cell::{PolicyCell, RuleEntry};
 use policy_text::Super;
 use std::alloc::Global;
 use std::marker::Model;
-use task_frame::Station;
-use task_frame::books::Book;
-use world_ended::semaphores::SemaphoreCell;
+use world_close::semaphores::SemaphoreCell;
+use world_model::Station;
+use world_model::books::Book;
 
 /// The inodes, the measurement list, the semaphores and the rules that tasks share. Contracts see
 /// its constants and its lists.
@@ -24,7 +24,7 @@ pub struct World {
 }
 
 impl Model for World {
-    ghost use Rattle.task_frame.specs.World.{WorldValue};
+    ghost use Rattle.world_model.specs.World.{WorldValue};
 
     ghost Value = { WorldValue };
 

@@ -6,12 +6,12 @@ use Rattle.std.proofs.lemmas.Bool.{cases_lt}
 use Rattle.std.proofs.lemmas.List.{length-append, length-set, take-append-le, take_all}
 use Rattle.std.proofs.lemmas.List.Elements.{All-head, All-tail}
 use Rattle.std.proofs.lemmas.Option.{same_Some}
-use Rattle.task_core.specs.frames.Frame.{Frame}
-use Rattle.task_core.specs.frames.Runs.{AreTasks, program_of}
-use Rattle.task_core.specs.frames.Tasks.{IsTask, Tasked}
-use Rattle.task_core.specs.frames.World.{WorldValue}
+use Rattle.task_core.specs.worlds.Frame.{Frame}
+use Rattle.task_core.specs.worlds.Runs.{AreTasks, program_of}
+use Rattle.task_core.specs.worlds.Tasks.{IsTask, Tasked}
+use Rattle.task_core.specs.worlds.World.{WorldValue}
 use Rattle.task_runner.specs.Parts.{AreStill, GoneFrom, HaveGone}
-use Rattle.task_core.specs.laws_of_turns.Runs.{StillRuns}
+use Rattle.task_core.specs.worlds.WorldRuns.{StillRuns}
 use Rattle.task_core.proofs.about_closes.Gets.{all_by_get, get_set}
 
 -- a property of all elements holds of the one at a place

@@ -13,8 +13,8 @@ use Rattle.std.proofs.lemmas.Option.{same_Some, slice_get_past}
 use Rattle.run_model.specs.Rounds.{is_moved}
 use Rattle.run_model.specs.Turns.{go}
 use Rattle.run_model.specs.declared.turn.Turn.{Turn}
-use Rattle.task_core.specs.frames.Frame.{Frame, scene_of}
-use Rattle.task_core.specs.frames.Tasks.{Tasked}
+use Rattle.task_core.specs.worlds.Frame.{Frame, scene_of}
+use Rattle.task_core.specs.worlds.Tasks.{Tasked}
 use Rattle.task_core.proofs.about_closes.Gets.{get_last, get_set}
 use Rattle.task_runner.specs.Passes.{AreOver, IsPartIn, HasStayed, HavePassed, HaveRunInParts, HaveStepped, IsPartOver, IsPass, SteppedBy, StepsAt}
 

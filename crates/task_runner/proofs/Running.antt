@@ -3,14 +3,14 @@ use Rattle.std.proofs.Common.{◌≡◌, ◌<◌, ℕ, false, List, [], length, 
 use Rattle.std.specs.Prelude.{slice_get, slice_index_or}
 use Rattle.std.proofs.lemmas.List.{length-map}
 use Rattle.std.proofs.lemmas.Option.{slice_get-get_or}
-use Rattle.task_core.proofs.laws_of_endings.Rounds.{still as still_at_rest}
+use Rattle.task_core.proofs.laws_of_progress.Rounds.{still as still_at_rest}
 use Rattle.run_model.specs.Rounds.{RoundsTo, moves}
 use Rattle.run_model.specs.Scene.{Program}
 use Rattle.run_model.specs.Turns.{Moment}
-use Rattle.task_core.specs.frames.Runs.{AreTasks, program_of}
-use Rattle.task_core.specs.frames.Tasks.{Tasked}
-use Rattle.task_core.specs.frames.World.{WorldValue}
-use Rattle.task_core.specs.laws_of_turns.Runs.{HasTurned, StillRuns, scene_in}
+use Rattle.task_core.specs.worlds.Runs.{AreTasks, program_of}
+use Rattle.task_core.specs.worlds.Tasks.{Tasked}
+use Rattle.task_core.specs.worlds.World.{WorldValue}
+use Rattle.task_core.specs.worlds.WorldRuns.{HasTurned, StillRuns, scene_in}
 
 -- there is a task of this number
 pub task_there : (tasks : List Tasked) (k : ℕ) (t : Tasked) → k < length tasks

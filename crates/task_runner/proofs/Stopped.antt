@@ -7,11 +7,11 @@ use Rattle.std.proofs.lemmas.List.{length-append, length-map, take-append-le, ta
 use Rattle.run_model.specs.Rounds.{all_tasks, any_moves, numbers}
 use Rattle.run_model.specs.Scene.{Scene}
 use Rattle.run_model.specs.Turns.{Moment, turns_of}
-use Rattle.task_core.specs.frames.Runs.{program_of, programs_of, thought_of}
-use Rattle.task_core.specs.frames.Tasks.{Tasked}
-use Rattle.task_core.specs.frames.World.{WorldValue}
-use Rattle.task_core.proofs.laws_of_turns.Turning.{scene_same}
-use Rattle.task_core.specs.laws_of_turns.Runs.{HasRounded, IsInRound, moment_in, scene_in}
+use Rattle.task_core.specs.worlds.Runs.{program_of, programs_of, thought_of}
+use Rattle.task_core.specs.worlds.Tasks.{Tasked}
+use Rattle.task_core.specs.worlds.World.{WorldValue}
+use Rattle.task_core.proofs.about_worlds.Turning.{scene_same}
+use Rattle.task_core.specs.worlds.WorldRuns.{HasRounded, IsInRound, moment_in, scene_in}
 use Rattle.task_runner.specs.Stops.{StopsIn, StopsInRounds}
 
 -- the moment is as before if the lists and where the task stands are

@@ -4,14 +4,14 @@ use mathlib.Core.List.{map-map}
 use Rattle.run_model.specs.Rounds.{moves}
 use Rattle.run_model.specs.Scene.{Program, Scene}
 use Rattle.run_model.specs.Turns.{Moment}
-use Rattle.task_core.specs.frames.Frame.{Frame}
-use Rattle.task_core.specs.frames.Runs.{AreTasks}
-use Rattle.task_core.specs.frames.Tasks.{Tasked}
-use Rattle.task_core.specs.frames.World.{WorldValue}
+use Rattle.task_core.specs.worlds.Frame.{Frame}
+use Rattle.task_core.specs.worlds.Runs.{AreTasks}
+use Rattle.task_core.specs.worlds.Tasks.{Tasked}
+use Rattle.task_core.specs.worlds.World.{WorldValue}
 use Rattle.task_core.specs.minds.Value.{TaskValue}
 use Rattle.task_runner.proofs.Running.{still_even}
-use Rattle.task_core.proofs.laws_of_turns.Turning.{scene_same}
-use Rattle.task_core.specs.laws_of_turns.Runs.{StillRuns, scene_in}
+use Rattle.task_core.proofs.about_worlds.Turning.{scene_same}
+use Rattle.task_core.specs.worlds.WorldRuns.{StillRuns, scene_in}
 use Rattle.task_core.specs.ends.Settled.{HaveSameMinds, mind_of}
 
 -- no task moves, by the scene at the start

@@ -1,8 +1,8 @@
 -- How threads change the tasks that they run.
 use Rattle.std.specs.Prelude.{◌≡◌, ℕ, List, length, Some, slice_get}
-use Rattle.task_core.specs.frames.Frame.{Frame}
-use Rattle.task_core.specs.frames.Runs.{AreTasks, programs_of}
-use Rattle.task_core.specs.frames.Tasks.{IsTask, Tasked}
+use Rattle.task_core.specs.worlds.Frame.{Frame}
+use Rattle.task_core.specs.worlds.Runs.{AreTasks, programs_of}
+use Rattle.task_core.specs.worlds.Tasks.{IsTask, Tasked}
 
 -- the task was one of the world, and still is, with the same number and program
 pub record GoneFrom (frame : Frame) (old : List Tasked) (k : ℕ) (t : Tasked) : Type 0 where

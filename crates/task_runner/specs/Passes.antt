@@ -5,10 +5,10 @@ use Rattle.run_model.specs.Rounds.{RoundsTo, is_moved}
 use Rattle.run_model.specs.declared.turn.Turn.{Turn}
 use Rattle.task_core.specs.Shared.{StepsTo}
 use Rattle.task_core.specs.ends.Settled.{HaveSameMinds}
-use Rattle.task_core.specs.frames.Frame.{Frame}
-use Rattle.task_core.specs.frames.Tasks.{Tasked}
-use Rattle.task_core.specs.frames.World.{WorldValue}
-use Rattle.task_core.specs.laws_of_turns.Runs.{moment_in, scene_in}
+use Rattle.task_core.specs.worlds.Frame.{Frame}
+use Rattle.task_core.specs.worlds.Tasks.{Tasked}
+use Rattle.task_core.specs.worlds.World.{WorldValue}
+use Rattle.task_core.specs.worlds.WorldRuns.{moment_in, scene_in}
 use Rattle.world_locks.specs.Met.{mines_of}
 
 -- ---- one step

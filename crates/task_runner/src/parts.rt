@@ -2,7 +2,7 @@
 
 ghost use Rattle.std.specs.Prelude.{◌≡◌, ◌*◌, ◌-◌, ◌<◌, ◌≤◌, Some, All, IfOk, OnOk, length};
 ghost use denote.Param.Send.{IsSync};
-ghost use Rattle.task_core.specs.frames.Tasks.{IsTask};
+ghost use Rattle.task_core.specs.worlds.Tasks.{IsTask};
 ghost use Rattle.task_runner.specs.Parts.{HaveGone};
 ghost use Rattle.task_runner.specs.Passes.{AreOver, HaveRunInParts, IsPartOver, IsPass, StepsAt};
 

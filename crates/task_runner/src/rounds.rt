@@ -2,8 +2,8 @@
 
 ghost use Rattle.std.specs.Prelude.{◌≡◌, ℕ, ◌<◌, ◌||◌, false, IfOk, OnErr, OnOk, length};
 ghost use Rattle.run_model.specs.Rounds.{RoundsTo, all_tasks, is_moved, moves};
-ghost use Rattle.task_core.specs.frames.Runs.{AreTasks};
-ghost use Rattle.task_core.specs.laws_of_turns.Runs.{IsRound, StillRuns, moment_in, scene_in};
+ghost use Rattle.task_core.specs.worlds.Runs.{AreTasks};
+ghost use Rattle.task_core.specs.worlds.WorldRuns.{IsRound, StillRuns, moment_in, scene_in};
 ghost use Rattle.task_runner.specs.Stops.{StopsIn, StopsInRounds};
 
 use crate::turns::turn_at;

@@ -2,10 +2,10 @@
 
 ghost use Rattle.std.specs.Prelude.{◌≡◌, ℕ, ◌<◌, ◌≤◌, false, IfOk, OnOk, length};
 ghost use Rattle.run_model.specs.Rounds.{moves};
-ghost use Rattle.task_core.specs.frames.Runs.{AreTasks};
+ghost use Rattle.task_core.specs.worlds.Runs.{AreTasks};
 ghost use Rattle.task_runner.specs.Parts.{AreStill};
 ghost use Rattle.task_runner.specs.Passes.{HasRunOnThreads, HaveRunInParts};
-ghost use Rattle.task_core.specs.laws_of_turns.Runs.{StillRuns, moment_in, scene_in};
+ghost use Rattle.task_core.specs.worlds.WorldRuns.{StillRuns, moment_in, scene_in};
 
 use crate::parts::run_parts;
 use crate::rounds::run_rounds;

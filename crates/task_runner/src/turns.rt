@@ -2,8 +2,8 @@
 
 ghost use Rattle.std.specs.Prelude.{◌≡◌, ◌<◌, All, IfOk, OnErr, OnOk, length};
 ghost use Rattle.run_model.specs.Turns.{turns_of};
-ghost use Rattle.task_core.specs.frames.Runs.{AreTasks};
-ghost use Rattle.task_core.specs.laws_of_turns.Runs.{IsTurn, StillRuns, moment_in, scene_in};
+ghost use Rattle.task_core.specs.worlds.Runs.{AreTasks};
+ghost use Rattle.task_core.specs.worlds.WorldRuns.{IsTurn, StillRuns, moment_in, scene_in};
 ghost use Rattle.task_runner.specs.Stops.{StopsIn};
 
 use ima_io::{Gate, Who};

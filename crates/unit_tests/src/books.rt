@@ -5,8 +5,8 @@ ghost use Rattle.std.specs.Prelude.{◌≡◌, ◌≢◌, IfOk};
 ghost use Rattle.grow_list.specs.Shown.{fresh};
 
 use hash_algos::{Algo, Digest};
-use ima_templates::registers::Bank;
 use ima_templates::{Entry, Placed, build, can_show, violation};
+use measure_book::registers::Bank;
 use measure_book::{Book, Pass};
 use policy_text::meta::Template;
 use std::alloc::{AllocError as OutOfMemory, Global};

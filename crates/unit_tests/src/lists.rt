@@ -6,9 +6,10 @@
 // rest. The registers of the one are in a case of `worked_runs`.
 
 use hash_algos::{Algo, Digest};
-use ima_templates::registers::Banks;
 use ima_templates::{Entry, build, can_show, violation};
 use list_format::{ascii, binary};
+use measure_book::extend;
+use measure_book::registers::Banks;
 use policy_text::meta::{Bank, Template};
 use std::alloc::{AllocError as OutOfMemory, Global};
 use std::process::Abort;
@@ -129,7 +130,7 @@ fn holds(
 ) -> Result<(), OutOfMemory> {
     let mut banks = Banks::new();
     for e in list {
-        e.extend(&mut banks);
+        extend(&mut banks, &e);
     }
     assert!(rt; pcr < 24);
     assert_eq!(rt;

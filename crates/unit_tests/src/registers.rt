@@ -1,6 +1,6 @@
 // A register after two extends, against values of `sha1sum` and `sha256sum`.
 
-use ima_templates::registers::{Bank, Banks};
+use measure_book::registers::{Bank, Banks};
 
 const SHA1_TWICE: [u8; 20] = [
     0x0e, 0x88, 0x99, 0x1a, 0x16, 0x8f, 0x26, 0x48, 0x2d, 0x5b, 0x6e, 0x38, 0x18, 0x24, 0x27, 0x1f,

@@ -1,7 +1,7 @@
 -- The examples of ends of runs.
 use Rattle.std.proofs.Common.{◌≡◌, ◌≤◌, true, false, refl, arith, ◌∷◌, []}
-use Rattle.merged_laws.specs.model.Ended.{IsEnded}
-use Rattle.merged_laws.specs.model.steps.declared.ending.Ending.TheVariants as ending
+use Rattle.run_laws.specs.model.Ended.{IsEnded}
+use Rattle.run_laws.specs.model.steps.declared.ending.Ending.TheVariants as ending
 use Rattle.worked_examples.specs.Ended.{EndedExamples, both_done, posts_and_waits}
 
 -- true isn't false

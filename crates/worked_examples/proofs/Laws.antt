@@ -16,7 +16,7 @@ use Rattle.inode_events.specs.meta.declared.appraisal.Need.{Need}
 use Rattle.inode_events.specs.meta.declared.appraisal.Need.TheVariants as need
 use Rattle.inode_events.specs.meta.declared.appraisal.Slot.{Slot}
 use Rattle.inode_events.specs.meta.declared.appraisal.Slot.TheVariants as slot
-use Rattle.merged_laws.specs.laws_of_journals.Laws.{AreVerdictsFresh, IsDigestFresh}
+use Rattle.run_laws.specs.laws_of_journals.Laws.{AreVerdictsFresh, IsDigestFresh}
 use Rattle.worked_examples.specs.Laws.{LawExamples, changed, created, filled, filling, hashed, hashing, hashing_twice}
 use Rattle.worked_examples.specs.Shared.{abc, enforced, file_a, xbc}
 use Rattle.worked_examples.specs.Unmodified.{hashed_before}

@@ -13,13 +13,13 @@ use Rattle.inode_events.specs.declared.told.Event.{Event}
 use Rattle.inode_events.specs.declared.told.Told.TheVariants as told
 use Rattle.inode_events.specs.meta.declared.appraisal.Mode.TheVariants.{Off}
 use Rattle.inode_events.specs.policy.declared.rule.Func.TheVariants.{BprmCheck, FileCheck}
-use Rattle.merged_laws.specs.model.History.{Answer, Thought, own, plain_answer}
-use Rattle.merged_laws.specs.model.Rounds.{rounds}
-use Rattle.merged_laws.specs.model.Scene.{Program}
-use Rattle.merged_laws.specs.model.Served.{IsDecided, IsServed, RulesRise, Run, Served, events_of}
-use Rattle.merged_laws.specs.model.Turns.{start_of, turns_of}
-use Rattle.merged_laws.specs.model.rules.declared.cell.RuleEntry.{RuleEntry}
-use Rattle.merged_laws.specs.model.steps.declared.call.Call.TheVariants as call
+use Rattle.run_laws.specs.model.History.{Answer, Thought, own, plain_answer}
+use Rattle.run_laws.specs.model.Rounds.{rounds}
+use Rattle.run_laws.specs.model.Scene.{Program}
+use Rattle.run_laws.specs.model.Served.{IsDecided, IsServed, RulesRise, Run, Served, events_of}
+use Rattle.run_laws.specs.model.Turns.{start_of, turns_of}
+use Rattle.run_laws.specs.model.rules.declared.cell.RuleEntry.{RuleEntry}
+use Rattle.run_laws.specs.model.steps.declared.call.Call.TheVariants as call
 use Rattle.worked_examples.specs.Served.{ServedExamples, both, counting, counting_journal, counting_run, growing, grown, has_finished, has_opened, measure_at, opening, station, task}
 use Rattle.worked_examples.specs.Shared.{birth, did, file_a, who}
 

@@ -6,8 +6,8 @@ use Rattle.inode_events.specs.policy.RuleValue.{RuleValue}
 use Rattle.inode_events.specs.policy.declared.access.Access.{Access}
 use Rattle.inode_events.specs.policy.declared.rule.Func.TheVariants.{FileCheck}
 use Rattle.inode_events.specs.policy.declared.rule.IdTest.TheVariants.{Is}
-use Rattle.merged_laws.specs.model.Scene.{decided, no_super}
-use Rattle.merged_laws.specs.model.matching.Decision.{access_of}
+use Rattle.run_laws.specs.model.Scene.{decided, no_super}
+use Rattle.run_laws.specs.model.matching.Decision.{access_of}
 use Rattle.worked_examples.specs.Served.{measure_at}
 use Rattle.worked_examples.specs.Shared.{meta}
 

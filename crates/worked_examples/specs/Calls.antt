@@ -8,17 +8,17 @@ use Rattle.inode_events.specs.hashes.DigestValue.{DigestValue}
 use Rattle.inode_events.specs.hashes.Digest.{zero_digest}
 use Rattle.inode_events.specs.hashes.declared.algo.Algo.TheVariants.{Sha256}
 use Rattle.inode_events.specs.meta.declared.appraisal.Mode.TheVariants.{Off}
-use Rattle.merged_laws.specs.model.History.{Answer, plain_answer, step_at, thought}
-use Rattle.merged_laws.specs.model.Scene.{Program}
-use Rattle.merged_laws.specs.model.steps.Handles.{hand_of}
-use Rattle.merged_laws.specs.model.steps.Mind.{Does}
-use Rattle.merged_laws.specs.model.steps.Steps.{first}
-use Rattle.merged_laws.specs.model.steps.declared.ask.Ask.TheVariants as ask
-use Rattle.merged_laws.specs.model.steps.declared.call.Call.TheVariants as call
-use Rattle.merged_laws.specs.model.steps.declared.held.Handle.{Handle}
-use Rattle.merged_laws.specs.model.steps.declared.held.Name.{Name}
-use Rattle.merged_laws.specs.model.steps.declared.held.Name.TheVariants.{Descriptor, Run}
-use Rattle.merged_laws.specs.model.steps.declared.reply.Reply.TheVariants as reply
+use Rattle.run_laws.specs.model.History.{Answer, plain_answer, step_at, thought}
+use Rattle.run_laws.specs.model.Scene.{Program}
+use Rattle.run_laws.specs.model.steps.Handles.{hand_of}
+use Rattle.run_laws.specs.model.steps.Mind.{Does}
+use Rattle.run_laws.specs.model.steps.Steps.{first}
+use Rattle.run_laws.specs.model.steps.declared.ask.Ask.TheVariants as ask
+use Rattle.run_laws.specs.model.steps.declared.call.Call.TheVariants as call
+use Rattle.run_laws.specs.model.steps.declared.held.Handle.{Handle}
+use Rattle.run_laws.specs.model.steps.declared.held.Name.{Name}
+use Rattle.run_laws.specs.model.steps.declared.held.Name.TheVariants.{Descriptor, Run}
+use Rattle.run_laws.specs.model.steps.declared.reply.Reply.TheVariants as reply
 use Rattle.worked_examples.specs.Served.{task}
 
 -- a file that was counted at this place of an inode's journal, under a name

@@ -1,10 +1,10 @@
 -- Ends of runs in which tasks post and wait.
 use Rattle.std.specs.Prelude.{◌≡◌, ℕ, true, false, List, [], ◌∷◌}
-use Rattle.merged_laws.specs.model.Ended.{IsEnded, is_stuck}
-use Rattle.merged_laws.specs.model.History.{Thought, start}
-use Rattle.merged_laws.specs.model.Scene.{Program}
-use Rattle.merged_laws.specs.model.steps.declared.call.Call.TheVariants as call
-use Rattle.merged_laws.specs.model.steps.declared.ending.Ending.TheVariants as ending
+use Rattle.run_laws.specs.model.Ended.{IsEnded, is_stuck}
+use Rattle.run_laws.specs.model.History.{Thought, start}
+use Rattle.run_laws.specs.model.Scene.{Program}
+use Rattle.run_laws.specs.model.steps.declared.call.Call.TheVariants as call
+use Rattle.run_laws.specs.model.steps.declared.ending.Ending.TheVariants as ending
 use Rattle.worked_examples.specs.Served.{has_finished, task}
 
 -- a task posts the semaphore 0, and another waits for this one

@@ -22,7 +22,7 @@ use Rattle.inode_events.specs.meta.declared.appraisal.Slot.TheVariants as slot
 use Rattle.inode_events.specs.policy.declared.access.Action.{Action}
 use Rattle.inode_events.specs.policy.declared.rule.Func.TheVariants.{FileCheck}
 use Rattle.inode_events.specs.templates.declared.entry.Placed.TheVariants.{Added, Already}
-use Rattle.merged_laws.specs.laws_of_journals.Laws.{AreVerdictsFresh, IsAdmitted, IsDigestFresh}
+use Rattle.run_laws.specs.laws_of_journals.Laws.{AreVerdictsFresh, IsAdmitted, IsDigestFresh}
 use Rattle.worked_examples.specs.Shared.{abc, appraise, did, enforced, file_a, granted, hashing_open, image, journal, measure, settings, xbc}
 use Rattle.worked_examples.specs.Unmodified.{closed_before, hashed_before, refused, written_between}
 

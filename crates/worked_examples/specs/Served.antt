@@ -11,15 +11,15 @@ use Rattle.inode_events.specs.policy.RuleValue.{RuleValue}
 use Rattle.inode_events.specs.policy.declared.rule.Act.TheVariants.{Measure}
 use Rattle.inode_events.specs.policy.declared.rule.Func.{Func}
 use Rattle.inode_events.specs.policy.declared.rule.Func.TheVariants.{BprmCheck, FileCheck}
-use Rattle.merged_laws.specs.model.History.{Thought}
-use Rattle.merged_laws.specs.model.Rounds.{rounds}
-use Rattle.merged_laws.specs.model.Scene.{Program, Scene, Station}
-use Rattle.merged_laws.specs.model.Served.{Run, Served}
-use Rattle.merged_laws.specs.model.Turns.{State, start_of, turns_of}
-use Rattle.merged_laws.specs.model.steps.declared.call.Call.{Call}
-use Rattle.merged_laws.specs.model.steps.declared.call.Call.TheVariants as call
-use Rattle.merged_laws.specs.model.steps.declared.held.Name.TheVariants.{Descriptor}
-use Rattle.merged_laws.specs.model.steps.declared.reply.Reply.TheVariants as reply
+use Rattle.run_laws.specs.model.History.{Thought}
+use Rattle.run_laws.specs.model.Rounds.{rounds}
+use Rattle.run_laws.specs.model.Scene.{Program, Scene, Station}
+use Rattle.run_laws.specs.model.Served.{Run, Served}
+use Rattle.run_laws.specs.model.Turns.{State, start_of, turns_of}
+use Rattle.run_laws.specs.model.steps.declared.call.Call.{Call}
+use Rattle.run_laws.specs.model.steps.declared.call.Call.TheVariants as call
+use Rattle.run_laws.specs.model.steps.declared.held.Name.TheVariants.{Descriptor}
+use Rattle.run_laws.specs.model.steps.declared.reply.Reply.TheVariants as reply
 use Rattle.worked_examples.specs.Shared.{abc, birth, boot, did, file_a, image, measure, settings, who}
 
 -- ---- scripts

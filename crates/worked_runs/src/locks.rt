@@ -1,7 +1,7 @@
 // Steps of two tasks on threads, while a third thread holds the file of one of them.
 ghost use Rattle.std.specs.Prelude.{◌≡◌, ◌<◌, All, length};
 ghost use Rattle.std.specs.Thread.{IsSync};
-ghost use Rattle.ima_top.specs.frames.Tasks.{IsTask};
+ghost use Rattle.ima_top.specs.worlds.Tasks.{IsTask};
 
 use crate::gates::sees;
 use crate::start::started;

@@ -1,6 +1,6 @@
 // Starts the world and the tasks of a script, for tests that take the turns themselves.
 ghost use Rattle.std.specs.Prelude.{◌≡◌, All, IfOk, length};
-ghost use Rattle.ima_top.specs.frames.Tasks.{IsTask};
+ghost use Rattle.ima_top.specs.worlds.Tasks.{IsTask};
 
 use ima_top::runs::crew;
 use ima_top::scenes::{ScriptParts, parts_of};

@@ -13,28 +13,28 @@ use Rattle.inode_events.specs.Past.{past}
 use Rattle.inode_events.specs.Inode.{Inode}
 use Rattle.inode_events.specs.Legal.{EachFollows}
 use Rattle.inode_events.specs.declared.told.Event.{Event}
-use Rattle.task_frame.specs.laws_of_journals.Own.{IsOwned}
-use Rattle.task_frame.specs.laws_of_endings.Resting.{AreLegal, IsReached, Resting}
-use Rattle.task_frame.proofs.laws_of_endings.Ends.{ends, paid_when}
-use Rattle.task_frame.specs.laws_of_merging.Logs.{log}
-use Rattle.task_frame.specs.laws_of_merging.Steps.{Rises}
-use Rattle.task_frame.proofs.laws_of_merging.Joining.{joined}
+use Rattle.world_model.specs.laws_of_journals.Own.{IsOwned}
+use Rattle.world_model.specs.laws_of_progress.Resting.{AreLegal, IsReached, Resting}
+use Rattle.world_model.proofs.laws_of_progress.Ends.{ends, paid_when}
+use Rattle.world_model.specs.laws_of_runs.Logs.{log}
+use Rattle.world_model.specs.laws_of_runs.Steps.{Rises}
+use Rattle.world_model.proofs.laws_of_runs.Joining.{joined}
 use Rattle.policy_cell.specs.declared.cell.RuleEntry.{RuleEntry}
-use Rattle.task_frame.specs.laws_of_rules.Checks.{SeesMore, seen_of}
-use Rattle.task_frame.specs.laws_of_rules.Moments.{seen_in}
-use Rattle.task_frame.proofs.laws_of_rules.Checking.{law_fits_are_suited}
-use Rattle.task_frame.specs.model.History.{Thought, own, own_rules, own_signals, thought}
-use Rattle.task_frame.specs.model.Scene.{Program, Scene, Station, inode_of, mode_of}
-use Rattle.task_frame.specs.model.Served.{IsServed, RulesRise, Run, Served, events_of, rules_of}
-use Rattle.task_frame.specs.model.Turns.{State, run_at}
-use Rattle.task_frame.specs.laws_of_steps.NextSteps.{IsFit}
-use Rattle.task_frame.specs.laws_of_steps.Rests.{AreFit}
-use Rattle.task_frame.specs.laws_of_steps.Stations.{IsWithin}
-use Rattle.task_frame.proofs.laws_of_steps.Rests.{rests}
-use Rattle.task_frame.specs.Frame.{Frame, mode_in, scene_of, station_of}
-use Rattle.task_frame.specs.Runs.{AreTasks, HasMade, moment_of, program_of, programs_of, thought_of}
-use Rattle.task_frame.specs.Tasks.{PassesValue, Tasked}
-use Rattle.task_frame.specs.World.{StationValue, journal_of}
+use Rattle.world_model.specs.laws_of_runs.Checks.{SeesMore, seen_of}
+use Rattle.world_model.specs.laws_of_runs.Moments.{seen_in}
+use Rattle.world_model.proofs.laws_of_runs.Checking.{law_fits_are_suited}
+use Rattle.world_model.specs.model.History.{Thought, own, own_rules, own_signals, thought}
+use Rattle.world_model.specs.model.Scene.{Program, Scene, Station, inode_of, mode_of}
+use Rattle.world_model.specs.model.Served.{IsServed, RulesRise, Run, Served, events_of, rules_of}
+use Rattle.world_model.specs.model.Turns.{State, run_at}
+use Rattle.world_model.specs.laws_of_progress.NextSteps.{IsFit}
+use Rattle.world_model.specs.laws_of_progress.Rests.{AreFit}
+use Rattle.world_model.specs.laws_of_progress.Stations.{IsWithin}
+use Rattle.world_model.proofs.laws_of_progress.Rests.{rests}
+use Rattle.world_model.specs.Frame.{Frame, mode_in, scene_of, station_of}
+use Rattle.world_model.specs.Runs.{AreTasks, HasMade, moment_of, program_of, programs_of, thought_of}
+use Rattle.world_model.specs.Tasks.{PassesValue, Tasked}
+use Rattle.world_model.specs.World.{StationValue, journal_of}
 use Rattle.world_close.specs.Closed.{AreStations, StationClosed, WorldClosed}
 use Rattle.world_close.specs.Finished.{ClosedIsFinished, FinishedEnds, FinishedIsShown, HaveMade, state_at}
 use Rattle.world_close.proofs.Gets.{all_by_get, get_map}

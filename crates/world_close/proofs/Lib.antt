@@ -4,5 +4,8 @@ pub mod Stationing
 pub mod Scening
 pub mod Finishing
 pub mod Listing
-pub use Rattle.task_frame.proofs.laws_of_endings
-pub use Rattle.task_frame.proofs.laws_of_rules
+pub mod Leaving
+pub mod Settling
+pub mod Ending
+pub use Rattle.world_model.proofs.laws_of_progress
+pub use Rattle.world_model.proofs.laws_of_runs

@@ -15,9 +15,9 @@ use Rattle.ima_templates.specs.declared.entry.Entry.{Entry}
 use Rattle.inode_events.specs.declared.told.Event.{Event}
 use Rattle.policy_cell.specs.Policy.{PolicyValue}
 use Rattle.policy_cell.specs.declared.cell.RuleEntry.{RuleEntry}
-use Rattle.task_frame.specs.Frame.{Frame, Site}
-use Rattle.task_frame.specs.Tasks.{ArePassesOf, PassesValue}
-use Rattle.task_frame.specs.World.{AreRulesOf, AreSignalsOf, IsBookOf, StationValue}
+use Rattle.world_model.specs.Frame.{Frame, Site}
+use Rattle.world_model.specs.Tasks.{ArePassesOf, PassesValue}
+use Rattle.world_model.specs.World.{AreRulesOf, AreSignalsOf, IsBookOf, StationValue}
 use Rattle.world_close.specs.Closed.{AreIdle, AreStations, StationClosed, journal_name, no_site}
 use Rattle.world_close.specs.Rows.{AreNamed, RowFits, RowsFit}
 use Rattle.world_close.proofs.Gets.{all_by_get, get_map, get_parts, got, map_get}

@@ -6,8 +6,8 @@ use Rattle.grow_list.specs.Shown.{Grown, ListName, Passed}
 use Rattle.grow_list.specs.Others.{HasOthers}
 use Rattle.grow_list.proofs.Others.{others_in_order}
 use Rattle.inode_events.specs.declared.told.Event.{Event}
-use Rattle.task_frame.specs.inodes.Ending.{HasPasses}
-use Rattle.task_frame.specs.inodes.Value.{CellValue}
+use Rattle.world_model.specs.inodes.Ending.{HasPasses}
+use Rattle.world_model.specs.inodes.Value.{CellValue}
 use Rattle.world_close.specs.Rows.{ColumnFits, RowFits, RowsFit, RowsMid}
 use Rattle.world_close.proofs.Gets.{get_left, get_last, get_parts, get_set, got}
 

@@ -10,11 +10,11 @@ use Rattle.inode_events.specs.Legal.{Legal}
 use Rattle.inode_events.specs.Merged.{Journal}
 use Rattle.inode_events.specs.Past.{past}
 use Rattle.inode_events.specs.declared.told.Event.{Event}
-use Rattle.task_frame.specs.laws_of_merging.Laws.{InodeClosed}
-use Rattle.task_frame.specs.model.Scene.{Program, Scene, Station, inode_of}
-use Rattle.task_frame.specs.model.Shown.{journals_of}
-use Rattle.task_frame.specs.Frame.{Frame, Site, scene_of, station_of}
-use Rattle.task_frame.specs.World.{StationValue, journal_of, site_of}
+use Rattle.world_model.specs.laws_of_runs.Laws.{InodeClosed}
+use Rattle.world_model.specs.model.Scene.{Program, Scene, Station, inode_of}
+use Rattle.world_model.specs.model.Shown.{journals_of}
+use Rattle.world_model.specs.Frame.{Frame, Site, scene_of, station_of}
+use Rattle.world_model.specs.World.{StationValue, journal_of, site_of}
 use Rattle.world_close.specs.Closed.{AreStations, StationClosed}
 use Rattle.world_close.proofs.Gets.{all_by_get, get_map}
 

@@ -7,7 +7,7 @@ use Rattle.grow_list.specs.Shown.{ListName, Passed}
 use Rattle.ima_templates.specs.declared.entry.Entry.{Entry}
 use Rattle.inode_events.specs.EndedInode.{EndedInodeValue}
 use Rattle.policy_cell.specs.declared.cell.RuleEntry.{RuleEntry}
-use Rattle.task_frame.specs.World.{StationValue}
+use Rattle.world_model.specs.World.{StationValue}
 use Rattle.world_close.specs.Closed.{AreClosed, AreClosedBehind, IsPushed, StationClosed, ended_station}
 use Rattle.world_close.specs.Rows.{AreNamed}
 use Rattle.world_close.proofs.Gets.{get_left, get_last}

@@ -4,7 +4,7 @@ use Rattle.std.specs.List.{AllZip}
 use Rattle.grow_list.specs.Shown.{ListName, Passed, no_name}
 use Rattle.ima_templates.specs.IsEntry.{IsEntry}
 use Rattle.ima_templates.specs.declared.entry.Entry.{Entry}
-use Rattle.inode_events.specs.registers.declared.banks.Banks.{Banks}
+use Rattle.run_model.specs.registers.declared.banks.Banks.{Banks}
 use Rattle.inode_events.specs.Callers.{caller_of}
 use Rattle.inode_events.specs.EndedInode.{EndedInodeValue, ended_inode}
 use Rattle.inode_events.specs.Legal.{Legal}
@@ -13,15 +13,15 @@ use Rattle.inode_events.specs.Semaphores.{LegalSemaphores}
 use Rattle.inode_events.specs.declared.told.Event.{Event}
 use Rattle.ima_templates.specs.Path.{IsMeasuredPath}
 use Rattle.inode_events.specs.meta.declared.measurement.Template.TheVariants.{Ima}
-use Rattle.task_frame.specs.laws_of_journals.Booked.{IsBooked}
-use Rattle.task_frame.specs.laws_of_journals.Own.{IsOwned}
-use Rattle.task_frame.specs.laws_of_merging.Laws.{BookClosed}
+use Rattle.world_model.specs.laws_of_journals.Booked.{IsBooked}
+use Rattle.world_model.specs.laws_of_journals.Own.{IsOwned}
+use Rattle.world_model.specs.laws_of_runs.Laws.{BookClosed}
 use Rattle.policy_cell.specs.declared.cell.RuleEntry.{RuleEntry}
-use Rattle.task_frame.specs.inodes.Value.{CellValue}
-use Rattle.task_frame.specs.states.Value.{nothing}
-use Rattle.task_frame.specs.Frame.{Frame, Site}
-use Rattle.task_frame.specs.Tasks.{PassesValue}
-use Rattle.task_frame.specs.World.{IsStation, StationValue}
+use Rattle.world_model.specs.inodes.Value.{CellValue}
+use Rattle.world_model.specs.states.Value.{nothing}
+use Rattle.world_model.specs.Frame.{Frame, Site}
+use Rattle.world_model.specs.Tasks.{PassesValue}
+use Rattle.world_model.specs.World.{IsStation, StationValue}
 
 -- ---- an inode
 

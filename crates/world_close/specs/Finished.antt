@@ -4,19 +4,19 @@ use Rattle.ima_templates.specs.declared.entry.Entry.{Entry}
 use Rattle.inode_events.specs.Legal.{Legal}
 use Rattle.inode_events.specs.Merged.{IsMerged, Journal}
 use Rattle.inode_events.specs.declared.told.Event.{Event}
-use Rattle.task_frame.specs.steps.declared.ending.Ending.{Ending}
-use Rattle.task_frame.specs.laws_of_endings.Resting.{IsReached}
+use Rattle.world_model.specs.steps.declared.ending.Ending.{Ending}
+use Rattle.world_model.specs.laws_of_progress.Resting.{IsReached}
 use Rattle.policy_cell.specs.declared.cell.RuleEntry.{RuleEntry}
-use Rattle.task_frame.specs.model.Ended.{IsThrough, all_done, is_stuck}
-use Rattle.task_frame.specs.model.Rounds.{moves}
-use Rattle.task_frame.specs.model.Scene.{Scene}
-use Rattle.task_frame.specs.model.Served.{Served}
-use Rattle.task_frame.specs.model.Shown.{IsShown, journals_of}
-use Rattle.task_frame.specs.model.Turns.{Moment, State, run_at}
-use Rattle.task_frame.specs.Frame.{Frame, scene_of}
-use Rattle.task_frame.specs.Runs.{AreTasks, HasMade, moment_of, programs_of}
-use Rattle.task_frame.specs.Tasks.{Tasked}
-use Rattle.task_frame.specs.World.{StationValue, journal_of}
+use Rattle.world_model.specs.model.Ended.{IsThrough, all_done, is_stuck}
+use Rattle.world_model.specs.model.Rounds.{moves}
+use Rattle.world_model.specs.model.Scene.{Scene}
+use Rattle.world_model.specs.model.Served.{Served}
+use Rattle.world_model.specs.model.Shown.{IsShown, journals_of}
+use Rattle.world_model.specs.model.Turns.{Moment, State, run_at}
+use Rattle.world_model.specs.Frame.{Frame, scene_of}
+use Rattle.world_model.specs.Runs.{AreTasks, HasMade, moment_of, programs_of}
+use Rattle.world_model.specs.Tasks.{Tasked}
+use Rattle.world_model.specs.World.{StationValue, journal_of}
 use Rattle.world_close.specs.Closed.{AreStations, WorldClosed}
 
 -- the lists of a world, as the state of a run

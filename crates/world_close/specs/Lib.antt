@@ -1,8 +1,10 @@
 pub mod Rows
 pub mod Closed
 pub mod Finished
-pub use Rattle.task_frame.specs as frames
-pub use Rattle.task_frame.specs.minds
-pub use Rattle.task_frame.specs.states
-pub use Rattle.task_frame.specs.laws_of_rules
-pub use Rattle.task_frame.specs.model
+pub mod Leaves
+pub mod Settled
+pub use Rattle.world_model.specs as worlds
+pub use Rattle.world_model.specs.minds
+pub use Rattle.world_model.specs.states
+pub use Rattle.world_model.specs.laws_of_runs
+pub use Rattle.world_model.specs.model

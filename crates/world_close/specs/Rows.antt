@@ -2,7 +2,7 @@
 use Rattle.std.specs.Prelude.{◌≡◌, ℕ, ◌+◌, ◌<◌, ◌≤◌, List, length, Some, slice_get}
 use Rattle.grow_list.specs.Shown.{ListName, Passed}
 use Rattle.inode_events.specs.declared.told.Event.{Event}
-use Rattle.task_frame.specs.World.{StationValue}
+use Rattle.world_model.specs.World.{StationValue}
 
 -- the row of task k has a pass of each of the first n journals
 pub record RowFits (n : ℕ) (names : ℕ → ListName) (k : ℕ) (row : List (Passed Event)) : Type 0 where

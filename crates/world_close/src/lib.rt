@@ -1,13 +1,16 @@
-//! The end of a world: closing its lists yields the run that is shown.
+//! The end of a world: closing its lists yields the run that is shown, its closed lists and its
+//! tasks hold exactly the final state of its run, and which tasks rest at the end.
 //!
 //! The laws are stated in `specs/`, and are lemmas of `proofs/`.
 #![tactic(auto)]
 
 mod lists;
+mod resting;
 mod rows;
 mod stations;
 
 pub use lists::{Lists, close_lists};
+pub use resting::rests;
 pub use semaphore_cell as semaphores;
-pub use task_frame as frames;
-pub use task_frame::{books, inodes, minds};
+pub use world_model as worlds;
+pub use world_model::{books, inodes, minds};

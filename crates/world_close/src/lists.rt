@@ -1,22 +1,22 @@
 ghost use Rattle.std.specs.Prelude.{◌≡◌, ℕ, ◌+◌, ◌++◌, [], length, map, All, IfOk, Some, slice_get};
-ghost use Rattle.ima_templates.specs.Replay.{banks_of};
-ghost use Rattle.task_frame.specs.Frame.{Frame};
-ghost use Rattle.task_frame.specs.Tasks.{ArePassesOf, PassesValue};
-ghost use Rattle.task_frame.specs.World.{AreRulesOf, AreSignalsOf, IsBookOf};
+ghost use Rattle.measure_book.specs.Replay.{banks_of};
+ghost use Rattle.world_model.specs.Frame.{Frame};
+ghost use Rattle.world_model.specs.Tasks.{ArePassesOf, PassesValue};
+ghost use Rattle.world_model.specs.World.{AreRulesOf, AreSignalsOf, IsBookOf};
 ghost use Rattle.world_close.specs.Closed.{AreIdle, AreReturned, AreStations, WorldClosed, ended_station};
 
 use crate::rows::Row;
 use crate::stations::{Closed, close_stations};
 use grow_list::Pass;
 use ima_templates::Entry;
-use inode_events::registers::Banks;
 use inode_events::{EndedInode, Event};
 use policy_cell::{PolicyCell, RuleEntry};
+use run_model::registers::Banks;
 use semaphore_cell::SemaphoreCell;
 use std::alloc::{AllocError as OutOfMemory, Global};
 use std::marker::Model;
-use task_frame::books::Book;
-use task_frame::{Passes, Station};
+use world_model::books::Book;
+use world_model::{Passes, Station};
 
 /// The closed lists of a world. Contracts see a record of the fields, with each vector as a list.
 #[derive(Drop)]

@@ -11,7 +11,7 @@ use inode_events::{EndedInode, Event};
 use policy_cell::RuleEntry;
 use std::alloc::{AllocError as OutOfMemory, Global};
 use std::marker::Model;
-use task_frame::Station;
+use world_model::Station;
 
 // The closed inodes, in order, and their passes of the other lists.
 #[derive(Drop)]

@@ -18,9 +18,9 @@ use Rattle.inode_events.specs.declared.told.Event.{Event}
 use Rattle.inode_events.specs.declared.told.Told.{Told}
 use Rattle.inode_cell.specs.laws_of_journals.OwnLaws.{TellsByMine}
 use Rattle.inode_cell.specs.laws_of_journals.Own.{IsBy, IsOwned}
-use Rattle.world_deeds.proofs.about_deeds.Leaving.{acts_leave, leaves_looked, stays_leave}
-use Rattle.world_deeds.specs.deeds.Leaving.{Leaves, told_by}
-use Rattle.world_deeds.specs.laws_of_tasks.Ready.{HasLooked}
+use Rattle.task_steps.proofs.Leaving.{acts_leave, leaves_looked, stays_leave}
+use Rattle.task_steps.specs.Leaving.{Leaves, told_by}
+use Rattle.task_steps.specs.worlds.Ready.{HasLooked}
 
 -- a look at the journal of a cell, which leaves the cell as it was
 pub record CellLooked (old new : CellValue) (pass pass2 : Passed Event) : Type 0 where

@@ -16,18 +16,18 @@ use Rattle.policy_cell.specs.Policy.{PolicyValue, in_force, rules_in}
 use Rattle.policy_cell.specs.declared.cell.RuleEntry.{RuleEntry}
 use Rattle.policy_text.specs.RuleValue.{RuleValue}
 use Rattle.policy_text.specs.declared.access.Super.{Super}
-use Rattle.world_close.specs.laws_of_rules.Stations.{CountsAll}
+use Rattle.world_close.specs.laws_of_runs.Stations.{CountsAll}
 use Rattle.run_model.specs.Scene.{no_super, rules_with}
-use Rattle.world_deeds.specs.deeds.declared.listed.Checks.{Checks}
-use Rattle.world_close.specs.frames.Frame.{Frame, scene_of, super_at}
-use Rattle.world_close.specs.frames.World.{AreRulesOf, IsBookOf, IsStation, StationValue}
-use Rattle.world_close.specs.frames.declared.gathered.Gathered.{Gathered}
-use Rattle.world_close.specs.frames.declared.gathered.Gathered.TheVariants as gathered
-use Rattle.world_deeds.proofs.Looked.{force_count}
-use Rattle.world_deeds.proofs.Looks.{at_index}
-use Rattle.world_deeds.specs.Acting.{StationDid, told_in}
-use Rattle.world_deeds.specs.Checking.{IsChecked, check_by}
-use Rattle.world_deeds.specs.declared.answers.Answered.{Answered}
+use Rattle.task_steps.specs.declared.listed.Checks.{Checks}
+use Rattle.world_close.specs.worlds.Frame.{Frame, scene_of, super_at}
+use Rattle.world_close.specs.worlds.World.{AreRulesOf, IsBookOf, IsStation, StationValue}
+use Rattle.world_close.specs.worlds.declared.gathered.Gathered.{Gathered}
+use Rattle.world_close.specs.worlds.declared.gathered.Gathered.TheVariants as gathered
+use Rattle.task_steps.proofs.Looked.{force_count}
+use Rattle.task_steps.proofs.Looks.{at_index}
+use Rattle.task_steps.specs.Acting.{StationDid, told_in}
+use Rattle.task_steps.specs.Checking.{IsChecked, check_by}
+use Rattle.task_steps.specs.declared.answers.Answered.{Answered}
 use Rattle.world_locks.proofs.Lists.{book_still, rules_still}
 use Rattle.world_locks.proofs.Stations.{station_looked, station_still}
 use Rattle.world_locks.specs.Kept.{AskMet}

@@ -12,17 +12,17 @@ use Rattle.inode_events.specs.declared.told.Event.{Event}
 use Rattle.inode_events.specs.declared.told.Told.{Told}
 use Rattle.run_model.specs.Scene.{rules_with}
 use Rattle.run_model.specs.Turns.{State}
-use Rattle.world_deeds.specs.deeds.declared.listed.Checks.{Checks}
-use Rattle.world_close.specs.frames.Frame.{Frame, Site, scene_of, super_at}
-use Rattle.world_close.specs.frames.Tasks.{PassesValue}
-use Rattle.world_close.specs.frames.declared.gathered.Gathered.{Gathered}
-use Rattle.world_close.specs.frames.declared.gathered.Gathered.TheVariants as gathered
-use Rattle.world_deeds.specs.laws_of_tasks.Events.{EventOn}
-use Rattle.world_deeds.proofs.Worlds.{map_same}
-use Rattle.world_deeds.specs.Acting.{EventIn, told_in}
-use Rattle.world_deeds.specs.Checking.{CheckIn, check_by}
-use Rattle.world_deeds.specs.Sharing.{SignalsOn}
-use Rattle.world_deeds.specs.declared.answers.Answered.{Answered}
+use Rattle.task_steps.specs.declared.listed.Checks.{Checks}
+use Rattle.world_close.specs.worlds.Frame.{Frame, Site, scene_of, super_at}
+use Rattle.world_close.specs.worlds.Tasks.{PassesValue}
+use Rattle.world_close.specs.worlds.declared.gathered.Gathered.{Gathered}
+use Rattle.world_close.specs.worlds.declared.gathered.Gathered.TheVariants as gathered
+use Rattle.task_steps.specs.worlds.Events.{EventOn}
+use Rattle.task_steps.proofs.Lists.{map_same}
+use Rattle.task_steps.specs.Acting.{EventIn, told_in}
+use Rattle.task_steps.specs.Checking.{CheckIn, check_by}
+use Rattle.task_steps.specs.Sharing.{SignalsOn}
+use Rattle.task_steps.specs.declared.answers.Answered.{Answered}
 use Rattle.world_locks.specs.Met.{CheckMet, EventMet, SignalsMet, mine_of, mines_of, state_seen}
 
 event_on_idle : (frame : Frame) (i : ℕ) (s : Site) (who : Who) (d : Deed) (old new : State)

@@ -8,5 +8,5 @@ pub mod Paging
 pub mod Opening
 pub mod Locking
 pub mod Idle
-pub use Rattle.world_deeds.proofs.laws_of_tasks
-pub use Rattle.world_deeds.proofs as about_acts
+pub use Rattle.task_steps.proofs.about_worlds
+pub use Rattle.task_steps.proofs as about_acts

@@ -13,10 +13,10 @@ use Rattle.inode_events.specs.declared.told.Event.{Event}
 use Rattle.inode_events.specs.declared.told.Told.{Told}
 use Rattle.policy_cell.specs.Policy.{PolicyValue}
 use Rattle.policy_cell.specs.declared.cell.RuleEntry.{RuleEntry}
-use Rattle.world_close.specs.frames.Frame.{Frame}
-use Rattle.world_close.specs.frames.World.{AreRulesOf, IsBookOf, StationValue}
-use Rattle.world_close.specs.frames.declared.gathered.Gathered.{Gathered}
-use Rattle.world_deeds.specs.Acting.{StationDid}
+use Rattle.world_close.specs.worlds.Frame.{Frame}
+use Rattle.world_close.specs.worlds.World.{AreRulesOf, IsBookOf, StationValue}
+use Rattle.world_close.specs.worlds.declared.gathered.Gathered.{Gathered}
+use Rattle.task_steps.specs.Acting.{StationDid}
 
 -- ---- the measurement list
 

@@ -4,8 +4,8 @@ use Rattle.std.specs.Prelude.{slice_get}
 use Rattle.std.proofs.lemmas.List.{length-map}
 use Rattle.std.proofs.lemmas.Option.{same_Some}
 use Rattle.ima_templates.specs.declared.entry.Entry.{Entry}
-use Rattle.world_close.specs.frames.Frame.{Frame, Site, boot_in}
-use Rattle.world_close.specs.frames.World.{IsStation, StationValue, site_of}
+use Rattle.world_close.specs.worlds.Frame.{Frame, Site, boot_in}
+use Rattle.world_close.specs.worlds.World.{IsStation, StationValue, site_of}
 use Rattle.world_close.proofs.Gets.{get_last, get_left, get_map, get_parts}
 use Rattle.world_close.specs.Closed.{AreStations}
 use Rattle.world_locks.specs.Parts.{AreEach, KeepFrame, frame_of_parts}

@@ -19,20 +19,20 @@ use Rattle.inode_events.specs.declared.told.Told.{Told}
 use Rattle.policy_cell.specs.declared.cell.RuleEntry.{RuleEntry}
 use Rattle.run_model.specs.Scene.{rules_with}
 use Rattle.run_model.specs.Turns.{State, state_on}
-use Rattle.world_deeds.specs.deeds.declared.listed.Checks.{Checks}
-use Rattle.world_close.specs.frames.Frame.{Frame, Site, inode_in, scene_of, super_at}
-use Rattle.world_close.specs.frames.Tasks.{PassesValue}
-use Rattle.world_close.specs.frames.World.{IsStation, StationValue, site_of}
-use Rattle.world_close.specs.frames.declared.gathered.Gathered.{Gathered}
-use Rattle.world_deeds.proofs.laws_of_tasks.Eventing.{adds_none, get_map, get_set}
-use Rattle.world_deeds.specs.laws_of_tasks.Due.{HashesTold}
-use Rattle.world_deeds.specs.laws_of_tasks.Events.{EventOn}
-use Rattle.world_deeds.specs.laws_of_tasks.Ready.{HasLooked}
-use Rattle.world_deeds.specs.laws_of_tasks.Steps.{Adds}
-use Rattle.world_deeds.proofs.Worlds.{map_set}
-use Rattle.world_deeds.specs.Acting.{EventIn, IsPlacedAt, IsSaid, StationDid, told_in, told_of}
-use Rattle.world_deeds.specs.Checking.{CheckIn, IsChecked, check_by}
-use Rattle.world_deeds.specs.declared.answers.Answered.{Answered}
+use Rattle.task_steps.specs.declared.listed.Checks.{Checks}
+use Rattle.world_close.specs.worlds.Frame.{Frame, Site, inode_in, scene_of, super_at}
+use Rattle.world_close.specs.worlds.Tasks.{PassesValue}
+use Rattle.world_close.specs.worlds.World.{IsStation, StationValue, site_of}
+use Rattle.world_close.specs.worlds.declared.gathered.Gathered.{Gathered}
+use Rattle.task_steps.proofs.about_worlds.Eventing.{adds_none, get_map, get_set}
+use Rattle.task_steps.specs.worlds.Due.{HashesTold}
+use Rattle.task_steps.specs.worlds.Events.{EventOn}
+use Rattle.task_steps.specs.worlds.Ready.{HasLooked}
+use Rattle.task_steps.specs.worlds.Steps.{Adds}
+use Rattle.task_steps.proofs.Lists.{map_set}
+use Rattle.task_steps.specs.Acting.{EventIn, IsPlacedAt, IsSaid, StationDid, told_in, told_of}
+use Rattle.task_steps.specs.Checking.{CheckIn, IsChecked, check_by}
+use Rattle.task_steps.specs.declared.answers.Answered.{Answered}
 use Rattle.world_locks.proofs.Stations.{inode_same}
 use Rattle.world_locks.specs.Kept.{AskMet, DeedMet}
 use Rattle.world_locks.specs.Met.{CheckMet, EventMet, seen_of, state_met, state_seen}

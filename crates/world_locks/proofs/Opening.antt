@@ -10,15 +10,15 @@ use Rattle.inode_events.specs.declared.deed.Deed.{Deed}
 use Rattle.inode_events.specs.declared.told.Event.{Event}
 use Rattle.policy_cell.specs.declared.cell.RuleEntry.{RuleEntry}
 use Rattle.policy_text.specs.ActionValue.{ActionValue}
-use Rattle.world_deeds.specs.deeds.declared.listed.Checks.{Checks}
-use Rattle.world_close.specs.frames.Frame.{Frame}
-use Rattle.world_close.specs.frames.Tasks.{ArePassesOf, PassesValue}
-use Rattle.world_close.specs.frames.declared.gathered.Gathered.{Gathered}
+use Rattle.task_steps.specs.declared.listed.Checks.{Checks}
+use Rattle.world_close.specs.worlds.Frame.{Frame}
+use Rattle.world_close.specs.worlds.Tasks.{ArePassesOf, PassesValue}
+use Rattle.world_close.specs.worlds.declared.gathered.Gathered.{Gathered}
 use Rattle.world_close.proofs.Gets.{got}
 use Rattle.world_close.specs.Closed.{no_site}
-use Rattle.world_deeds.proofs.Looks.{at_index}
-use Rattle.world_deeds.specs.Acting.{ReadyAt}
-use Rattle.world_deeds.specs.declared.answers.Answered.{Answered}
+use Rattle.task_steps.proofs.Looks.{at_index}
+use Rattle.task_steps.specs.Acting.{ReadyAt}
+use Rattle.task_steps.specs.declared.answers.Answered.{Answered}
 use Rattle.world_locks.proofs.Meeting.{ask_met, deed_met}
 use Rattle.world_locks.proofs.Signals.{appends_met, signals_met}
 use Rattle.world_locks.specs.Kept.{AppendMet, AskMet, DeedMet, IsPassAt, IsReadyBy, SignalMet}

@@ -22,18 +22,18 @@ use Rattle.inode_events.specs.declared.told.Told.{Told}
 use Rattle.inode_meta.specs.declared.step.Who.{Who}
 use Rattle.inode_events.specs.pages.Content.{piece_at}
 use Rattle.inode_cell.specs.laws_of_journals.Own.{IsBy}
-use Rattle.world_deeds.proofs.about_deeds.Hashing.{close_piece_left, piece_left}
-use Rattle.world_deeds.specs.deeds.Hashed.{HasGathered}
-use Rattle.world_deeds.specs.deeds.Leaving.{Leaves, told_by}
-use Rattle.world_close.specs.frames.Frame.{Frame}
-use Rattle.world_close.specs.frames.Tasks.{HashesBefore, HasTakenIn}
-use Rattle.world_close.specs.frames.World.{IsStation, StationValue, site_of}
-use Rattle.world_close.specs.frames.declared.gathered.Gathered.{Gathered}
-use Rattle.world_deeds.proofs.laws_of_tasks.Eventing.{adds_none}
-use Rattle.world_deeds.specs.laws_of_tasks.Due.{HashesAfter, HashesTold}
-use Rattle.world_deeds.specs.laws_of_tasks.Ready.{HasLooked}
-use Rattle.world_deeds.specs.Acting.{IsPlacedAt, StationDid, StationDidAlone, told_in, told_of}
-use Rattle.world_deeds.specs.declared.answers.Answered.{Answered}
+use Rattle.task_steps.proofs.Hashing.{close_piece_left, piece_left}
+use Rattle.task_steps.specs.Hashed.{HasGathered}
+use Rattle.task_steps.specs.Leaving.{Leaves, told_by}
+use Rattle.world_close.specs.worlds.Frame.{Frame}
+use Rattle.world_close.specs.worlds.Tasks.{HashesBefore, HasTakenIn}
+use Rattle.world_close.specs.worlds.World.{IsStation, StationValue, site_of}
+use Rattle.world_close.specs.worlds.declared.gathered.Gathered.{Gathered}
+use Rattle.task_steps.proofs.about_worlds.Eventing.{adds_none}
+use Rattle.task_steps.specs.worlds.Due.{HashesAfter, HashesTold}
+use Rattle.task_steps.specs.worlds.Ready.{HasLooked}
+use Rattle.task_steps.specs.Acting.{IsPlacedAt, StationDid, StationDidAlone, told_in, told_of}
+use Rattle.task_steps.specs.declared.answers.Answered.{Answered}
 use Rattle.world_locks.proofs.Stations.{inode_same, its_pass}
 use Rattle.world_locks.specs.Kept.{DeedMet, IsPassAt}
 use Rattle.world_locks.specs.Pages.{AloneMet, IsPageDeed, MayByLook, PageMet, taken_in}

@@ -12,10 +12,10 @@ use Rattle.inode_events.specs.declared.told.Event.{Event}
 use Rattle.inode_events.specs.declared.told.Told.{Told}
 use Rattle.inode_events.specs.declared.told.Told.TheVariants as told
 use Rattle.policy_cell.specs.declared.cell.RuleEntry.{RuleEntry}
-use Rattle.world_close.specs.frames.Tasks.{PassesValue}
-use Rattle.world_deeds.proofs.laws_of_tasks.Eventing.{adds_none}
-use Rattle.world_deeds.specs.Acting.{IsPlacedAt, told_of}
-use Rattle.world_deeds.specs.declared.answers.Answered.{Answered}
+use Rattle.world_close.specs.worlds.Tasks.{PassesValue}
+use Rattle.task_steps.proofs.about_worlds.Eventing.{adds_none}
+use Rattle.task_steps.specs.Acting.{IsPlacedAt, told_of}
+use Rattle.task_steps.specs.declared.answers.Answered.{Answered}
 use Rattle.world_locks.specs.Kept.{AppendMet, SignalMet, signalled_at}
 use Rattle.world_locks.specs.Met.{AppendsMet, SignalsMet, state_seen}
 

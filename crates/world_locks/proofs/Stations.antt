@@ -15,14 +15,14 @@ use Rattle.inode_events.specs.declared.told.Event.{Event}
 use Rattle.inode_events.specs.declared.told.Told.{Told}
 use Rattle.policy_cell.specs.declared.cell.RuleEntry.{RuleEntry}
 use Rattle.policy_text.specs.ActionValue.{ActionValue}
-use Rattle.world_close.proofs.laws_of_rules.Risen.{law_rise_by_look, law_rise_by_outcome}
-use Rattle.world_close.specs.laws_of_rules.Stations.{CountsAll, StationRules}
-use Rattle.world_close.specs.frames.Frame.{Frame, Site, inode_in}
-use Rattle.world_close.specs.frames.World.{IsStation, StationValue, site_of}
-use Rattle.world_deeds.specs.deeds.Leaving.{Leaves}
-use Rattle.world_close.specs.frames.declared.gathered.Gathered.{Gathered}
-use Rattle.world_deeds.specs.laws_of_tasks.Ready.{HasLooked, IsReady}
-use Rattle.world_deeds.specs.Acting.{StationDid}
+use Rattle.world_close.proofs.laws_of_runs.Risen.{law_rise_by_look, law_rise_by_outcome}
+use Rattle.world_close.specs.laws_of_runs.Stations.{CountsAll, StationRules}
+use Rattle.world_close.specs.worlds.Frame.{Frame, Site, inode_in}
+use Rattle.world_close.specs.worlds.World.{IsStation, StationValue, site_of}
+use Rattle.task_steps.specs.Leaving.{Leaves}
+use Rattle.world_close.specs.worlds.declared.gathered.Gathered.{Gathered}
+use Rattle.task_steps.specs.worlds.Ready.{HasLooked, IsReady}
+use Rattle.task_steps.specs.Acting.{StationDid}
 use Rattle.world_locks.specs.Kept.{IsPassAt, IsReadyBy, NumberedStation}
 
 module _ (frame : Frame) (i : ℕ) (st : StationValue) (is : IsStation frame i st) where

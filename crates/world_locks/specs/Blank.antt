@@ -5,7 +5,7 @@ use Rattle.inode_events.specs.hashes.declared.algo.Algo.TheVariants.{Sha1}
 use Rattle.inode_meta.specs.declared.appraisal.Mode.TheVariants.{Log}
 use Rattle.inode_meta.specs.declared.measurement.Template.TheVariants.{Ima}
 use Rattle.inode_events.specs.declared.settings.Settings.{Settings}
-use Rattle.world_close.specs.frames.Frame.{Frame, no_entry}
+use Rattle.world_close.specs.worlds.Frame.{Frame, no_entry}
 
 abbrev pub no_settings : Settings
 no_settings = record {

@@ -17,16 +17,16 @@ use Rattle.policy_cell.specs.Policy.{PolicyValue}
 use Rattle.policy_cell.specs.declared.cell.RuleEntry.{RuleEntry}
 use Rattle.policy_text.specs.ActionValue.{ActionValue}
 use Rattle.run_model.specs.Scene.{rules_with}
-use Rattle.world_deeds.specs.deeds.declared.listed.Checks.{Checks}
-use Rattle.world_close.specs.frames.Frame.{Frame, Site, inode_in, scene_of, super_at}
-use Rattle.world_close.specs.frames.World.{AreRulesOf, IsStation, StationValue}
-use Rattle.world_close.specs.frames.declared.gathered.Gathered.{Gathered}
-use Rattle.world_deeds.specs.laws_of_tasks.Ready.{HasLooked, IsReady}
-use Rattle.world_deeds.specs.laws_of_tasks.Steps.{Adds}
+use Rattle.task_steps.specs.declared.listed.Checks.{Checks}
+use Rattle.world_close.specs.worlds.Frame.{Frame, Site, inode_in, scene_of, super_at}
+use Rattle.world_close.specs.worlds.World.{AreRulesOf, IsStation, StationValue}
+use Rattle.world_close.specs.worlds.declared.gathered.Gathered.{Gathered}
+use Rattle.task_steps.specs.worlds.Ready.{HasLooked, IsReady}
+use Rattle.task_steps.specs.worlds.Steps.{Adds}
 use Rattle.world_close.specs.Closed.{AreIdle}
-use Rattle.world_deeds.specs.Acting.{IsPlacedAt, StationDid, told_in, told_of}
-use Rattle.world_deeds.specs.Checking.{IsChecked, check_by}
-use Rattle.world_deeds.specs.declared.answers.Answered.{Answered}
+use Rattle.task_steps.specs.Acting.{IsPlacedAt, StationDid, told_in, told_of}
+use Rattle.task_steps.specs.Checking.{IsChecked, check_by}
+use Rattle.task_steps.specs.declared.answers.Answered.{Answered}
 use Rattle.std.specs.Prelude.{None}
 
 -- an inode under its lock, with its number

@@ -12,14 +12,14 @@ use Rattle.inode_events.specs.declared.told.Event.{Event}
 use Rattle.inode_events.specs.declared.told.Told.TheVariants as told
 use Rattle.policy_cell.specs.declared.cell.RuleEntry.{RuleEntry}
 use Rattle.run_model.specs.Turns.{State}
-use Rattle.world_deeds.specs.deeds.declared.listed.Checks.{Checks}
-use Rattle.world_close.specs.frames.Frame.{Frame}
-use Rattle.world_close.specs.frames.Tasks.{PassesValue}
-use Rattle.world_close.specs.frames.declared.gathered.Gathered.{Gathered}
-use Rattle.world_deeds.specs.Acting.{EventIn, IsPlacedAt, IsSaid, told_in, told_of}
-use Rattle.world_deeds.specs.Checking.{CheckIn}
-use Rattle.world_deeds.specs.Sharing.{AppendsTo, SignalsOn}
-use Rattle.world_deeds.specs.declared.answers.Answered.{Answered}
+use Rattle.task_steps.specs.declared.listed.Checks.{Checks}
+use Rattle.world_close.specs.worlds.Frame.{Frame}
+use Rattle.world_close.specs.worlds.Tasks.{PassesValue}
+use Rattle.world_close.specs.worlds.declared.gathered.Gathered.{Gathered}
+use Rattle.task_steps.specs.Acting.{EventIn, IsPlacedAt, IsSaid, told_in, told_of}
+use Rattle.task_steps.specs.Checking.{CheckIn}
+use Rattle.task_steps.specs.Sharing.{AppendsTo, SignalsOn}
+use Rattle.task_steps.specs.declared.answers.Answered.{Answered}
 use Rattle.std.specs.Prelude.{None}
 
 abbrev pub seen_of : Passed Event → List Event

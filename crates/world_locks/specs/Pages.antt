@@ -16,10 +16,10 @@ use Rattle.inode_events.specs.declared.told.Told.{Told}
 use Rattle.inode_meta.specs.declared.step.Who.{Who}
 use Rattle.inode_events.specs.pages.Content.{piece_at}
 use Rattle.inode_cell.specs.laws_of_journals.Own.{IsBy}
-use Rattle.world_deeds.specs.deeds.Leaving.{Leaves, told_by}
-use Rattle.world_close.specs.frames.Frame.{Frame, Site, inode_in}
-use Rattle.world_close.specs.frames.World.{IsStation, StationValue}
-use Rattle.world_deeds.specs.laws_of_tasks.Ready.{HasLooked}
+use Rattle.task_steps.specs.Leaving.{Leaves, told_by}
+use Rattle.world_close.specs.worlds.Frame.{Frame, Site, inode_in}
+use Rattle.world_close.specs.worlds.World.{IsStation, StationValue}
+use Rattle.task_steps.specs.worlds.Ready.{HasLooked}
 use Rattle.world_locks.specs.declared.pages.TakenPage.{TakenPage}
 
 -- the deed continues a collection by one page

@@ -1,9 +1,9 @@
 -- The lists of a world, each of which belongs to the world's constants.
 use Rattle.std.specs.Prelude.{◌≡◌, List, Some, ℕ, slice_get}
-use Rattle.world_close.specs.frames.Frame.{Frame}
-use Rattle.world_close.specs.frames.World.{AreRulesOf, AreSignalsOf, IsBookOf, IsStation, StationValue}
+use Rattle.world_close.specs.worlds.Frame.{Frame}
+use Rattle.world_close.specs.worlds.World.{AreRulesOf, AreSignalsOf, IsBookOf, IsStation, StationValue}
 use Rattle.world_close.specs.Closed.{AreIdle, AreStations}
-use Rattle.world_deeds.specs.Parts.{frame_by, state_by}
+use Rattle.task_steps.specs.Parts.{frame_by, state_by}
 use Rattle.run_model.specs.Turns.{State}
 use Rattle.world_locks.specs.declared.parts.Parts.{Parts}
 

@@ -3,11 +3,11 @@
 ghost use Rattle.inode_events.specs.declared.deed.Deed.TheVariants as Deed;
 ghost use Rattle.std.specs.Prelude.{◌≡◌, ◌<◌, length};
 ghost use Rattle.inode_events.specs.Checks.{no_action};
-ghost use Rattle.world_close.specs.frames.Tasks.{ArePassesOf};
-ghost use Rattle.world_close.specs.frames.declared.gathered.Gathered.{Gathered as AnyGathered};
+ghost use Rattle.world_close.specs.worlds.Tasks.{ArePassesOf};
+ghost use Rattle.world_close.specs.worlds.declared.gathered.Gathered.{Gathered as AnyGathered};
 ghost use Rattle.task_mind.specs.Steps.{deed_in};
-ghost use Rattle.world_deeds.specs.Acting.{ReadyAt};
-ghost use Rattle.world_deeds.specs.deeds.Hashed.{IsAloneDeed, IsListedDeed};
+ghost use Rattle.task_steps.specs.Acting.{ReadyAt};
+ghost use Rattle.task_steps.specs.Hashed.{IsAloneDeed, IsListedDeed};
 ghost use Rattle.world_locks.specs.Met.{CheckMet, EventMet};
 ghost use Rattle.world_locks.specs.Pages.{IsPageDeed};
 
@@ -17,9 +17,8 @@ use crate::order::Order;
 use std::alloc::AllocError as OutOfMemory;
 use std::sync::Wait;
 use task_mind::Doing;
-use world_close::frames::{Gathered, Passes};
-use world_deeds::Answered;
-use world_deeds::deeds::{Actor, Checks, gather, piece_told};
+use task_steps::{Actor, Answered, Checks, gather, piece_told};
+use world_close::worlds::{Gathered, Passes};
 
 impl<N: Name> Locks<N> {
     /// Does the deed on the inode of this number, through the task's passes. `None` means that it

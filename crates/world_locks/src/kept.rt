@@ -2,7 +2,7 @@
 //! the constants that `N` names.
 
 ghost use Rattle.std.specs.Prelude.{◌≡◌, ◌+◌, IfOk, OnErr};
-ghost use Rattle.world_close.specs.frames.World.{AreSignalsOf, IsBookOf};
+ghost use Rattle.world_close.specs.worlds.World.{AreSignalsOf, IsBookOf};
 ghost use Rattle.world_locks.specs.Kept.{AppendMet, RulesKeep, SignalMet, signalled_at};
 
 use crate::name::Name;
@@ -14,8 +14,8 @@ use policy_cell::{PolicyCell, RuleEntry};
 use policy_text::Rule;
 use std::alloc::{AllocError as OutOfMemory, Global};
 use std::marker::{Model, PhantomData};
+use task_steps::Answered;
 use world_close::semaphores::SemaphoreCell;
-use world_deeds::Answered;
 
 /// The measurement list, with the invariant that it belongs to the constants that `N` names.
 #[derive(Drop)]
@@ -27,7 +27,7 @@ pub struct KeptBook<N: Name> {
 impl<N: Name> Model for KeptBook<N> {
     ghost use Rattle.grow_list.specs.Shown.{Grown};
     ghost use Rattle.ima_templates.specs.declared.entry.Entry.{Entry};
-    ghost use Rattle.world_close.specs.frames.World.{IsBookOf};
+    ghost use Rattle.world_close.specs.worlds.World.{IsBookOf};
 
     ghost Value = { Grown Entry };
 
@@ -68,7 +68,7 @@ pub struct KeptSemaphores<N: Name> {
 impl<N: Name> Model for KeptSemaphores<N> {
     ghost use Rattle.grow_list.specs.Shown.{Grown};
     ghost use Rattle.inode_events.specs.declared.told.Event.{Event};
-    ghost use Rattle.world_close.specs.frames.World.{AreSignalsOf};
+    ghost use Rattle.world_close.specs.worlds.World.{AreSignalsOf};
 
     ghost Value = { Grown Event };
 

@@ -27,5 +27,4 @@ pub use parts::Parts;
 pub use run_model::steps;
 pub use std::alloc::AllocError as OutOfMemory;
 pub use task_mind as minds;
-pub use world_deeds as acts;
-pub use world_deeds::deeds;
+pub use task_steps as acts;

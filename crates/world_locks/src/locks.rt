@@ -2,7 +2,7 @@
 
 ghost use Rattle.std.specs.Prelude.{◌≡◌, ◌<◌, IfOk, length};
 ghost use Rattle.std.specs.Sync.Mutex.{mutex_guard_value};
-ghost use Rattle.world_close.specs.frames.World.{IsStation};
+ghost use Rattle.world_close.specs.worlds.World.{IsStation};
 ghost use Rattle.world_close.specs.Closed.{AreStations};
 ghost use Rattle.world_locks.specs.Parts.{KeepFrame, frame_of_parts};
 
@@ -16,7 +16,7 @@ use inode_meta::Mode;
 use policy_text::Super;
 use std::alloc::{AllocError as OutOfMemory, Global};
 use std::sync::{Mutex, MutexGuard, Wait};
-use world_close::frames::Station;
+use world_close::worlds::Station;
 
 /// The lists of a world, with a lock for each inode, and one lock each for the measurement list,
 /// the semaphores and the rules. They belong to the constants that `N` names.

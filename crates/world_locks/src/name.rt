@@ -4,7 +4,7 @@ use std::marker::Brand;
 /// invariant that it belongs to these constants, so a task that has taken a lock knows that the
 /// list is the one of its pass.
 pub trait Name: Send + Sync {
-    ghost use Rattle.world_close.specs.frames.Frame.{Frame};
+    ghost use Rattle.world_close.specs.worlds.Frame.{Frame};
 
     ghost frame: { Frame };
 }

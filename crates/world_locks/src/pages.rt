@@ -11,8 +11,8 @@ ghost use Rattle.inode_events.specs.Integrity.{Collection as AnyCollection, coll
 ghost use Rattle.inode_events.specs.Past.{past};
 ghost use Rattle.inode_events.specs.State.{content};
 ghost use Rattle.inode_events.specs.pages.Content.{piece_at};
-ghost use Rattle.world_deeds.specs.deeds.Leaving.{Leaves, told_by};
-ghost use Rattle.world_deeds.specs.laws_of_tasks.Ready.{HasLooked};
+ghost use Rattle.task_steps.specs.Leaving.{Leaves, told_by};
+ghost use Rattle.task_steps.specs.worlds.Ready.{HasLooked};
 ghost use Rattle.task_mind.specs.Steps.{deed_in};
 ghost use Rattle.world_locks.specs.Pages.{IsPageDeed, taken_in};
 

@@ -4,8 +4,8 @@ use inode_events::Settings;
 use policy_cell::{PolicyCell, RuleEntry};
 use policy_text::Super;
 use std::alloc::Global;
-use world_close::frames::Station;
 use world_close::semaphores::SemaphoreCell;
+use world_close::worlds::Station;
 
 /// The lists of a world, taken apart.
 #[derive(Drop)]

@@ -1,7 +1,7 @@
 //! The steps of a task on the semaphores and the rules, each under its lock alone.
 
 ghost use Rattle.std.specs.Prelude.{◌≡◌, IfOk, OnErr};
-ghost use Rattle.world_close.specs.frames.Tasks.{ArePassesOf};
+ghost use Rattle.world_close.specs.worlds.Tasks.{ArePassesOf};
 ghost use Rattle.world_locks.specs.Met.{AppendsMet, SignalsMet};
 
 use crate::locks::Locks;
@@ -12,8 +12,8 @@ use inode_meta::Who;
 use policy_text::Rule;
 use std::alloc::AllocError as OutOfMemory;
 use std::sync::Wait;
-use world_close::frames::Passes;
-use world_deeds::Answered;
+use task_steps::Answered;
+use world_close::worlds::Passes;
 
 impl<N: Name> Locks<N> {
     /// Posts to a semaphore or waits for one. `None` means that it is blocked.

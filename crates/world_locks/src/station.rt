@@ -5,10 +5,10 @@ ghost use Rattle.std.specs.Prelude.{◌≡◌, ◌+◌};
 ghost use Rattle.grow_list.specs.Shown.{Passed as AnyPass};
 ghost use Rattle.ima_templates.specs.declared.entry.Entry.{Entry as AnyEntry};
 ghost use Rattle.inode_events.specs.Checks.{no_action};
-ghost use Rattle.world_close.specs.frames.World.{IsStation};
-ghost use Rattle.world_close.specs.frames.declared.gathered.Gathered.{Gathered as AnyGathered};
+ghost use Rattle.world_close.specs.worlds.World.{IsStation};
+ghost use Rattle.world_close.specs.worlds.declared.gathered.Gathered.{Gathered as AnyGathered};
 ghost use Rattle.task_mind.specs.Steps.{deed_in};
-ghost use Rattle.world_deeds.specs.deeds.Hashed.{IsAloneDeed, IsListedDeed};
+ghost use Rattle.task_steps.specs.Hashed.{IsAloneDeed, IsListedDeed};
 ghost use Rattle.world_locks.specs.Kept.{AskMet, DeedMet, IsPassAt, IsReadyBy};
 ghost use Rattle.world_locks.specs.Pages.{IsPageDeed, MayByLook, PageMet};
 
@@ -24,9 +24,8 @@ use policy_text::Super;
 use std::alloc::AllocError as OutOfMemory;
 use std::marker::{Model, PhantomData};
 use task_mind::Doing;
-use world_close::frames::{Gathered, Station};
-use world_deeds::deeds::{Actor, Checks};
-use world_deeds::{Answered, act_alone_at, act_at, check_at};
+use task_steps::{Actor, Answered, Checks, act_alone_at, act_at, check_at};
+use world_close::worlds::{Gathered, Station};
 
 /// An inode with its number, and the invariant that it belongs to the constants that `N` names.
 #[derive(Drop)]
@@ -37,7 +36,7 @@ pub struct KeptStation<N: Name> {
 }
 
 impl<N: Name> Model for KeptStation<N> {
-    ghost use Rattle.world_close.specs.frames.World.{IsStation};
+    ghost use Rattle.world_close.specs.worlds.World.{IsStation};
     ghost use Rattle.world_locks.specs.Kept.{NumberedStation};
 
     ghost Value = { NumberedStation };

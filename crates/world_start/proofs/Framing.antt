@@ -14,17 +14,17 @@ use Rattle.world_close.specs.states.Value.{birth_of}
 use Rattle.policy_cell.specs.Policy.{PolicyValue}
 use Rattle.policy_cell.specs.declared.cell.RuleEntry.{RuleEntry}
 use Rattle.policy_text.specs.declared.access.Super.{Super}
-use Rattle.world_close.specs.laws_of_rules.Stations.{StationRules}
-use Rattle.world_close.proofs.laws_of_rules.Risen.{law_rise_at_first}
+use Rattle.world_close.specs.laws_of_runs.Stations.{StationRules}
+use Rattle.world_close.proofs.laws_of_runs.Risen.{law_rise_at_first}
 use Rattle.world_close.specs.model.Turns.{newborn}
-use Rattle.world_close.specs.frames.Frame.{Frame, Site, boot_in, station_of}
-use Rattle.world_close.specs.frames.Tasks.{ArePassesOf, AreUnused, PassesValue}
-use Rattle.world_close.specs.frames.World.{AreRulesOf, AreSignalsOf, IsBookOf, IsStation, StationValue, journal_of, site_of}
+use Rattle.world_close.specs.worlds.Frame.{Frame, Site, boot_in, station_of}
+use Rattle.world_close.specs.worlds.Tasks.{ArePassesOf, AreUnused, PassesValue}
+use Rattle.world_close.specs.worlds.World.{AreRulesOf, AreSignalsOf, IsBookOf, IsStation, StationValue, journal_of, site_of}
 use Rattle.world_close.specs.Closed.{AreIdle, AreStations}
 use Rattle.world_close.proofs.Gets.{all_by_get, get_map, map_get}
 use Rattle.world_close.proofs.Listing.{all_at}
 use Rattle.world_start.proofs.Fresh.{below_max}
-use Rattle.world_deeds.specs.Parts.{frame_by, state_by}
+use Rattle.task_steps.specs.Parts.{frame_by, state_by}
 use Rattle.world_start.specs.Start.{AreFirstPasses, Begins, IsFrameOf}
 use Rattle.world_start.specs.Started.{AreFresh, AreRows, AreStarted, IsStarted, SeatsValue, counter_of, file_of, lister_of, named_by, pass_of, place_of, row_of}
 

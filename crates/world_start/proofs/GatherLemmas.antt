@@ -1,7 +1,7 @@
 -- One more task has its passes.
 use Rattle.std.proofs.Common.{◌≡◌, List, [], ◌∷◌, ◌++◌, length, refl, ap, ◌∙◌, arith}
 use Rattle.std.specs.Prelude.{map}
-use Rattle.world_close.specs.frames.Tasks.{PassesValue}
+use Rattle.world_close.specs.worlds.Tasks.{PassesValue}
 use Rattle.world_start.specs.Started.{AreGathered, ColumnsValue, HasTaken}
 use Rattle.world_start.proofs.Starting.{ended, moved}
 

@@ -10,7 +10,7 @@ use Rattle.inode_events.specs.declared.image.Image.{Image}
 use Rattle.inode_events.specs.declared.settings.Settings.{Settings}
 use Rattle.inode_events.specs.declared.told.Event.{Event}
 use Rattle.policy_cell.specs.declared.cell.RuleEntry.{RuleEntry}
-use Rattle.world_close.specs.frames.World.{StationValue}
+use Rattle.world_close.specs.worlds.World.{StationValue}
 use Rattle.world_close.proofs.Gets.{got}
 use Rattle.world_start.specs.Started.{AreRows, AreStarted, IsFile, IsStarted, SeatsValue, StartsBefore, counter_of, file_of, lister_of, named_by, pass_of, place_of, row_of}
 

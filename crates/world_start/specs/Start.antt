@@ -7,9 +7,9 @@ use Rattle.policy_text.specs.RuleValue.{RuleValue}
 use Rattle.policy_text.specs.declared.access.Super.{Super}
 use Rattle.world_close.specs.model.Scene.{Program}
 use Rattle.world_close.specs.model.Turns.{State, start_of}
-use Rattle.world_close.specs.frames.Frame.{Frame, Site, scene_of}
-use Rattle.world_close.specs.frames.Tasks.{ArePassesOf, AreUnused, PassesValue}
-use Rattle.world_deeds.specs.Parts.{frame_by, state_by}
+use Rattle.world_close.specs.worlds.Frame.{Frame, Site, scene_of}
+use Rattle.world_close.specs.worlds.Tasks.{ArePassesOf, AreUnused, PassesValue}
+use Rattle.task_steps.specs.Parts.{frame_by, state_by}
 use Rattle.world_start.specs.declared.lists.Start.{Start}
 
 abbrev pub frame_of_start : Start → Frame

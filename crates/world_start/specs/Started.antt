@@ -10,8 +10,8 @@ use Rattle.inode_events.specs.declared.told.Event.{Event}
 use Rattle.inode_events.specs.pages.Content.{most_bytes}
 use Rattle.world_close.specs.states.Value.{birth_of, new_pass}
 use Rattle.policy_cell.specs.declared.cell.RuleEntry.{RuleEntry}
-use Rattle.world_close.specs.frames.World.{StationValue}
-use Rattle.world_close.specs.frames.Tasks.{PassesValue}
+use Rattle.world_close.specs.worlds.World.{StationValue}
+use Rattle.world_close.specs.worlds.Tasks.{PassesValue}
 
 -- a file that a world can have: each template can represent its path, and its content is within the
 -- limit

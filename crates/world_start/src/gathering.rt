@@ -1,6 +1,6 @@
 // The passes of each task, collected from the passes of each list.
 ghost use Rattle.std.specs.Prelude.{◌≡◌, ℕ, IfNone, IfOk, IfSome, length, map};
-ghost use Rattle.world_close.specs.frames.Tasks.{PassesValue};
+ghost use Rattle.world_close.specs.worlds.Tasks.{PassesValue};
 ghost use Rattle.world_start.specs.Started.{HasTaken};
 
 use crate::rows::Row;
@@ -11,7 +11,7 @@ use policy_cell::RuleEntry;
 use std::alloc::{AllocError as OutOfMemory, Global};
 use std::collections::VecDeque;
 use std::marker::Model;
-use world_close::frames::Passes;
+use world_close::worlds::Passes;
 
 // The passes of all tasks, sorted by the list that each belongs to.
 #[derive(Drop)]

@@ -1,8 +1,8 @@
 ghost use Rattle.std.specs.Prelude.{◌≡◌, ℕ, ◌+◌, ◌<◌, ◌^◌, [], All, IfOk, length, map};
 ghost use Rattle.grow_list.specs.Shown.{Passed};
 ghost use Rattle.ima_templates.specs.declared.entry.Entry.{Entry as AnyEntry};
-ghost use Rattle.world_close.specs.frames.Tasks.{PassesValue};
-ghost use Rattle.world_close.specs.frames.World.{AreRulesOf, AreSignalsOf, IsBookOf};
+ghost use Rattle.world_close.specs.worlds.Tasks.{PassesValue};
+ghost use Rattle.world_close.specs.worlds.World.{AreRulesOf, AreSignalsOf, IsBookOf};
 ghost use Rattle.world_close.specs.Closed.{AreIdle, AreStations};
 ghost use Rattle.world_start.specs.Start.{AreFirstPasses, Begins, IsFrameOf, frame_of_start, state_of_start};
 ghost use Rattle.world_start.specs.Started.{AreRows, AreStarted, IsFile};
@@ -19,8 +19,8 @@ use policy_cell::{PolicyCell, RuleEntry};
 use policy_text::{Policy, Super};
 use std::alloc::{AllocError as OutOfMemory, Global};
 use world_close::books::Book;
-use world_close::frames::{Passes, Station};
 use world_close::semaphores::SemaphoreCell;
+use world_close::worlds::{Passes, Station};
 
 /// What a world starts with: its lists, and the passes of its tasks, in order.
 #[derive(Drop)]

@@ -9,7 +9,7 @@ use inode_events::Event;
 use std::alloc::AllocError as OutOfMemory;
 use std::collections::VecDeque;
 use std::marker::Model;
-use world_close::frames::Station;
+use world_close::worlds::Station;
 
 // The passes of one task: one for each inode's journal, in order.
 #[derive(Drop)]

@@ -12,8 +12,8 @@ use inode_events::xattrs::Bytes;
 use inode_events::{Event, Image, Settings};
 use std::alloc::{AllocError as OutOfMemory, Global};
 use std::collections::VecDeque;
-use world_close::frames::Station;
 use world_close::inodes::InodeCell;
+use world_close::worlds::Station;
 
 // Starts one inode, and the passes of its journal.
 fn start_station(

@@ -3,7 +3,7 @@ use Rattle.std.specs.Prelude.{◌≡◌, ℕ, List, ◌∷◌, ◌++◌, codes, 
 use Rattle.hash_algos.specs.declared.algo.Algo.TheVariants as algo
 use Rattle.hex.specs.Hex.{encode_lower}
 use Rattle.ima_templates.specs.declared.entry.Entry.{Entry}
-use Rattle.ima_templates.specs.Replay.{banks_of}
+use Rattle.measure_book.specs.Replay.{banks_of}
 use Rattle.list_carry.specs.Books.{carried_on}
 use Rattle.list_carry.specs.Form.{carried_form}
 use Rattle.list_carry.specs.Grammar.{carry_of, line_text}

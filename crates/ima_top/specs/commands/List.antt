@@ -6,7 +6,7 @@ use Rattle.hash_algos.specs.Digest.{zero_digest}
 use Rattle.inode_meta.specs.Registers.{default_pcr}
 use Rattle.ima_templates.specs.declared.entry.Entry.{Entry}
 use Rattle.ima_templates.specs.Same.{add}
-use Rattle.ima_templates.specs.Replay.{banks_of}
+use Rattle.measure_book.specs.Replay.{banks_of}
 use Rattle.list_format.specs.Line.{ascii_line}
 use Rattle.report_text.specs.Report.{pcr_lines_at}
 use Rattle.script_text.specs.ListGrammar.{Listed, list_of}

@@ -1,6 +1,6 @@
 // The command `carry`: the measurement list that goes on from the one that an earlier boot left.
 ghost use Rattle.std.specs.Prelude.{◌≡◌, ◌∷◌, ◌++◌, ◌≤◌, length, IfOk, OnOk, map};
-ghost use Rattle.ima_templates.specs.Replay.{banks_of};
+ghost use Rattle.measure_book.specs.Replay.{banks_of};
 ghost use Rattle.list_carry.specs.Form.{IsCarried};
 ghost use Rattle.ima_top.specs.Answered.{Answers};
 ghost use Rattle.ima_top.specs.Limits.{most_input};
@@ -9,9 +9,9 @@ ghost use Rattle.ima_top.specs.commands.Carry.{bad_carry_line, carried_list, car
 use crate::commands::entries::entries_of;
 use crate::not_done::NotDone;
 use ima_templates::Entry;
-use ima_templates::registers::Banks;
 use list_carry::{Carried, CarryFault, CarryText, CarryTextErr, carry_on, parse, save};
 use list_format::append_hex;
+use measure_book::registers::Banks;
 use report_text::{push_entries, push_registers};
 use std::alloc::{AllocError as OutOfMemory, Global};
 

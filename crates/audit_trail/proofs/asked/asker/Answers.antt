@@ -1,6 +1,6 @@
 use Rattle.std.proofs.Common.{Option, sym, ◌∙◌, ap}
 use Rattle.script_scene.specs.Scene.{program_of}
-use Rattle.task_frame.specs.model.Scene.{Program}
+use Rattle.world_model.specs.model.Scene.{Program}
 use Rattle.audit_trail.proofs.Placed.{mapped_past, mapped_there}
 use Rattle.audit_trail.specs.Asked.{asker_in}
 use Rattle.audit_trail.proofs.asked.asker.Goals as goal

@@ -1,7 +1,7 @@
 -- the walk has passed the events so far, and their records are printed
 use Rattle.std.proofs.Common.{◌≡◌, ◌+◌, ◌≤◌, ◌++◌, length, take, vec_len}
-use Rattle.task_frame.specs.model.events.Past.{past}
-use Rattle.task_frame.specs.model.events.forms.Words.{text_of}
+use Rattle.world_model.specs.model.events.Past.{past}
+use Rattle.world_model.specs.model.events.forms.Words.{text_of}
 use Rattle.audit_trail.specs.Sites.{inode_at, site_lines}
 use Rattle.audit_trail.specs.Walk.{IsWalk}
 use Rattle.audit_trail.proofs.journals.push_events.Given as goal

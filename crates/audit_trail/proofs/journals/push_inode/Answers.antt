@@ -2,11 +2,11 @@ use Rattle.std.proofs.Common.{◌≡◌, ◌<◌, ◌++◌, List, length, refl, 
 use Rattle.std.specs.Prelude.{IfOk}
 use Rattle.report_text.specs.Words.{Line}
 use Rattle.script_scene.specs.Scene.{fs_of}
-use Rattle.task_frame.specs.model.events.EndedInode.{EndedInodeValue}
-use Rattle.task_frame.specs.model.events.Legal.{Legal}
-use Rattle.task_frame.specs.model.events.Past.{past}
-use Rattle.task_frame.specs.model.events.declared.told.Event.{Event}
-use Rattle.task_frame.specs.model.events.forms.Words.{text_of}
+use Rattle.world_model.specs.model.events.EndedInode.{EndedInodeValue}
+use Rattle.world_model.specs.model.events.Legal.{Legal}
+use Rattle.world_model.specs.model.events.Past.{past}
+use Rattle.world_model.specs.model.events.declared.told.Event.{Event}
+use Rattle.world_model.specs.model.events.forms.Words.{text_of}
 use Rattle.audit_trail.proofs.Passing.{numbered, site_there}
 use Rattle.audit_trail.proofs.Placed.{placed_at}
 use Rattle.audit_trail.specs.Sites.{inode_at, station_at}

@@ -1,7 +1,7 @@
 use Rattle.std.proofs.Common.{Some, refl, sym, ◌∙◌, ap, arith}
 use Rattle.std.proofs.lemmas.Option.{slice_get-get_or}
 use Rattle.report_text.proofs.Joins.{lines_end, lines_on}
-use Rattle.task_frame.specs.model.events.EndedInode.{EndedInodeValue}
+use Rattle.world_model.specs.model.events.EndedInode.{EndedInodeValue}
 use Rattle.audit_trail.proofs.Printing.{counts_end, counts_on}
 use Rattle.audit_trail.specs.Sites.{lines_from, numbered_lines}
 use Rattle.audit_trail.proofs.journals.push_inodes.Goals as goal

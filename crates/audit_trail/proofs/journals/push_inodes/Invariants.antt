@@ -1,6 +1,6 @@
 -- the records of the inodes that are left are still to come
 use Rattle.std.proofs.Common.{◌≡◌, ◌+◌, ◌≤◌, ◌++◌, drop, length, vec_len}
-use Rattle.task_frame.specs.model.events.forms.Words.{text_of}
+use Rattle.world_model.specs.model.events.forms.Words.{text_of}
 use Rattle.audit_trail.specs.Sites.{lines_from}
 use Rattle.audit_trail.proofs.journals.push_inodes.Given as goal
 

@@ -1,5 +1,5 @@
 use Rattle.std.proofs.Common.{ℕ, List, ◌∷◌, ◌++◌, codes, Option, sym, ◌∙◌, ap}
-use Rattle.task_frame.specs.model.events.forms.Words.{text_of}
+use Rattle.world_model.specs.model.events.forms.Words.{text_of}
 use Rattle.audit_trail.proofs.Printing.{record_pushed, text_of_one}
 use Rattle.audit_trail.specs.Trail.{hash_line, if_line, label_word}
 use Rattle.audit_trail.proofs.records.push_hash.Goals as goal

@@ -1,6 +1,6 @@
 use Rattle.std.proofs.Common.{◌∙◌, ◌++◌, ap, subst, sym, take}
 use Rattle.std.specs.List.{concat}
-use Rattle.task_frame.specs.model.events.hashes.Running.{HasTaken}
+use Rattle.world_model.specs.model.events.hashes.Running.{HasTaken}
 use Rattle.audit_trail.proofs.Pages.{concat_more}
 use Rattle.audit_trail.proofs.taken.digest_of_pages.Goals as goal
 

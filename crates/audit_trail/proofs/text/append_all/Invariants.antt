@@ -1,6 +1,6 @@
 -- the rules so far are appended
 use Rattle.std.proofs.Common.{◌≡◌, ◌++◌, take}
-use Rattle.task_frame.specs.model.rules.Policy.{rules_in}
+use Rattle.world_model.specs.model.rules.Policy.{rules_in}
 use Rattle.audit_trail.proofs.text.append_all.Given as goal
 
 abbrev pub invariant-loop-entry : goal.invariant-loop-entry

@@ -5,10 +5,10 @@ use Rattle.std.proofs.lemmas.Bool.{cases_Bool, ltb-false, ltb-true}
 use Rattle.std.proofs.lemmas.Option.{slice_get_past}
 use Rattle.std.proofs.lemmas.Result.{IfOk-weaker}
 use Rattle.script_scene.specs.Scene.{IsForFiles, fs_of, program_of, scene_of, station_of}
-use Rattle.task_frame.specs.model.EndedValue.{EndedValue}
-use Rattle.task_frame.specs.model.events.forms.Words.{text_of}
-use Rattle.task_frame.specs.model.policy.declared.access.Super.{Super}
-use Rattle.task_frame.specs.model.rules.Policy.{rules_in}
+use Rattle.world_model.specs.model.EndedValue.{EndedValue}
+use Rattle.world_model.specs.model.events.forms.Words.{text_of}
+use Rattle.world_model.specs.model.policy.declared.access.Super.{Super}
+use Rattle.world_model.specs.model.rules.Policy.{rules_in}
 use Rattle.audit_trail.proofs.Placed.{placed_all}
 use Rattle.audit_trail.proofs.Standing.{run_legal}
 use Rattle.audit_trail.specs.Trail.{all_lines, trail_lines}

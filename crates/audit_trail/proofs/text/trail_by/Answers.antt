@@ -1,7 +1,7 @@
 use Rattle.std.proofs.Common.{List, ℕ, ◌≡◌, ◌∷◌, [], ◌++◌, codes, ◌∙◌, ap}
 use Rattle.std.specs.List.{join_with_byte}
 use Rattle.report_text.specs.Numerals.{numeral}
-use Rattle.task_frame.specs.model.events.forms.Words.{text_of}
+use Rattle.world_model.specs.model.events.forms.Words.{text_of}
 use Rattle.audit_trail.proofs.Printing.{trail_pushed}
 use Rattle.audit_trail.specs.Sites.{lines_from}
 use Rattle.audit_trail.proofs.text.trail_by.Goals as goal

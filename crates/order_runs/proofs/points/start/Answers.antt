@@ -1,5 +1,5 @@
 use Rattle.std.proofs.Common.{◌∙◌, List, ℕ, sym, subst}
-use Rattle.order_sights.specs.Plays.{IsSchedule, moment_by}
+use Rattle.order_runs.specs.Plays.{IsSchedule, moment_by}
 use Rattle.order_sights.specs.Sights.{IsSight}
 use Rattle.order_runs.proofs.Pointing.{none_fits, start_point}
 use Rattle.order_runs.proofs.points.start.Goals as goal

@@ -1,6 +1,6 @@
 use Rattle.std.proofs.Common.{◌∙◌, List, ℕ, sym, subst}
 use Rattle.std.proofs.lemmas.Bool.{true≢false}
-use Rattle.order_sights.specs.Plays.{IsSchedule, moment_by}
+use Rattle.order_runs.specs.Plays.{IsSchedule, moment_by}
 use Rattle.order_sights.specs.Sights.{IsSight}
 use Rattle.order_runs.proofs.Pointing.{more_fits, moved_none, moved_some}
 use Rattle.order_runs.proofs.points.turned.Goals as goal

@@ -1,7 +1,7 @@
 use Rattle.std.proofs.Common.{◌≡◌, ◌∙◌, true, List, length, map, ap, sym, subst, arith}
 use Rattle.std.proofs.lemmas.List.{nil_from_length}
-use Rattle.task_core.specs.frames.Runs.{thought_of}
-use Rattle.task_core.specs.frames.Tasks.{Tasked}
+use Rattle.task_core.specs.worlds.Runs.{thought_of}
+use Rattle.task_core.specs.worlds.Tasks.{Tasked}
 use Rattle.order_sights.specs.Pairs.{AreThoughtsPaired, are_within}
 use Rattle.order_sights.specs.declared.sight.Sight.{Sight}
 use Rattle.order_sights.proofs.Meeting.{alike}

@@ -1,7 +1,7 @@
 use Rattle.std.proofs.Common.{◌∙◌, length, sym, arith}
 use Rattle.std.proofs.lemmas.List.{length-map}
-use Rattle.task_core.specs.frames.Runs.{thought_of}
-use Rattle.task_core.specs.frames.Tasks.{Tasked}
+use Rattle.task_core.specs.worlds.Runs.{thought_of}
+use Rattle.task_core.specs.worlds.Tasks.{Tasked}
 use Rattle.order_sights.specs.Pairs.{IsThoughtPaired}
 use Rattle.order_sights.proofs.Twos.{two_all, two_mapped, two_next}
 use Rattle.order_sights.proofs.tasks.same_tasks.Goals as goal

@@ -1,6 +1,6 @@
 -- the tasks so far are the same, with files that are pairs
 use Rattle.std.proofs.Common.{map}
-use Rattle.task_core.specs.frames.Runs.{thought_of}
+use Rattle.task_core.specs.worlds.Runs.{thought_of}
 use Rattle.order_sights.specs.Pairs.{AreTwo, IsThoughtPaired}
 use Rattle.order_sights.proofs.tasks.same_tasks.Given as goal
 

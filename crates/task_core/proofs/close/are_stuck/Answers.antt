@@ -1,7 +1,7 @@
 use Rattle.std.specs.List.{list_all}
 use Rattle.inode_events.specs.Past.{past}
 use Rattle.inode_events.specs.Semaphores.{left}
-use Rattle.world_ended.specs.Leaves.{done_by, rests}
+use Rattle.world_close.specs.Leaves.{done_by, rests}
 use Rattle.task_core.proofs.Closing.{stuck_when}
 use Rattle.task_core.proofs.close.are_stuck.Goals as goal
 

@@ -6,11 +6,11 @@ use Rattle.inode_events.specs.Past.{past}
 use Rattle.inode_events.specs.Semaphores.{left}
 use Rattle.policy_cell.specs.declared.cell.RuleEntry.{RuleEntry}
 use Rattle.policy_text.specs.RuleValue.{RuleValue}
-use Rattle.task_frame.specs.Frame.{Frame}
-use Rattle.task_frame.specs.Tasks.{PassesValue, Tasked}
-use Rattle.task_frame.specs.World.{WorldValue}
-use Rattle.world_ended.specs.closes.Closed.{AreIdle, ListsValue, WorldClosed}
-use Rattle.world_ended.specs.Leaves.{are_stuck, may_append}
+use Rattle.world_model.specs.Frame.{Frame}
+use Rattle.world_model.specs.Tasks.{PassesValue, Tasked}
+use Rattle.world_model.specs.World.{WorldValue}
+use Rattle.world_close.specs.Closed.{AreIdle, ListsValue, WorldClosed}
+use Rattle.world_close.specs.Leaves.{are_stuck, may_append}
 use Rattle.task_core.proofs.Closing.{are_rules, are_signals, are_stations, base_is, ended_by, is_book, passes_are}
 use Rattle.task_core.proofs.close.end.Goals as goal
 

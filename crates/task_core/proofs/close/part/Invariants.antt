@@ -1,6 +1,6 @@
 use Rattle.std.proofs.Common.{◌≡◌, map}
-use Rattle.task_frame.specs.Tasks.{Tasked}
-use Rattle.world_ended.specs.Leaves.{task_left}
+use Rattle.world_model.specs.Tasks.{Tasked}
+use Rattle.world_close.specs.Leaves.{task_left}
 use Rattle.task_core.proofs.close.part.Given as goal
 
 abbrev pub invariant-loop-task : goal.invariant-loop-task

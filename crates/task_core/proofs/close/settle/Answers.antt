@@ -3,10 +3,10 @@ use Rattle.std.proofs.Common.{◌<◌, ◌≤◌, length, refl, sym, subst, ◌�
 use Rattle.std.proofs.lemmas.Option.{slice_get_read}
 use Rattle.std.proofs.lemmas.List.{length-set}
 use Rattle.run_model.specs.Turns.{State}
-use Rattle.task_frame.specs.Frame.{Frame}
-use Rattle.task_frame.specs.Runs.{HasMade}
-use Rattle.task_frame.specs.Tasks.{IsTask}
-use Rattle.world_ended.proofs.Settling.{looked_all, looked_more, looked_none}
+use Rattle.world_model.specs.Frame.{Frame}
+use Rattle.world_model.specs.Runs.{HasMade}
+use Rattle.world_model.specs.Tasks.{IsTask}
+use Rattle.world_close.proofs.Settling.{looked_all, looked_more, looked_none}
 use Rattle.task_core.proofs.close.settle.Goals as goal
 
 pub loop-k-init : goal.loop-k-init

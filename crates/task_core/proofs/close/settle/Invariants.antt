@@ -1,5 +1,5 @@
 use Rattle.std.proofs.Common.{◌≡◌, length}
-use Rattle.world_ended.specs.Settled.{HaveLooked}
+use Rattle.world_close.specs.Settled.{HaveLooked}
 use Rattle.task_core.proofs.close.settle.Given as goal
 
 abbrev pub invariant-loop-k : goal.invariant-loop-k

@@ -1,7 +1,7 @@
 -- Both halves have few enough parts, and the parts of the halves are those of all tasks.
 use Rattle.std.proofs.Common.{◌-◌, ◌/◌, ◌++◌, List, length, sym, subst, arith}
 use Rattle.std.proofs.lemmas.Result.{on_ok_weaker}
-use Rattle.task_core.specs.frames.Tasks.{Tasked}
+use Rattle.task_core.specs.worlds.Tasks.{Tasked}
 use Rattle.task_runner.proofs.Going.{gone_both}
 use Rattle.task_runner.proofs.Passing.{halves_fit, over_alone, over_both}
 use Rattle.task_runner.specs.Parts.{HaveGone}

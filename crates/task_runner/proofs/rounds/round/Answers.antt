@@ -2,9 +2,9 @@
 use Rattle.std.proofs.Common.{◌≡◌, ◌+◌, ℕ, Bool, length, refl, sym, ◌∙◌, subst, arith}
 use Rattle.std.proofs.Math.Bool.{or_comm}
 use Rattle.run_model.specs.Rounds.{all_tasks, is_moved}
-use Rattle.task_core.specs.laws_of_turns.Runs.{IsInRound, moment_in, scene_in}
-use Rattle.task_core.proofs.laws_of_turns.Rounding.{round_is_whole, turn_in_round}
-use Rattle.task_core.proofs.laws_of_turns.Turning.{still_more}
+use Rattle.task_core.specs.worlds.WorldRuns.{IsInRound, moment_in, scene_in}
+use Rattle.task_core.proofs.about_worlds.Rounding.{round_is_whole, turn_in_round}
+use Rattle.task_core.proofs.about_worlds.Turning.{still_more}
 use Rattle.task_core.proofs.SharedSteps.{on_err}
 use Rattle.task_runner.specs.Stops.{StopsIn}
 use Rattle.task_runner.proofs.Running.{no_turns, still_even}

@@ -1,5 +1,5 @@
 -- The tasks below the number have had their turns.
-use Rattle.task_core.specs.laws_of_turns.Runs.{IsInRound}
+use Rattle.task_core.specs.worlds.WorldRuns.{IsInRound}
 use Rattle.task_runner.proofs.rounds.round.Given as goal
 
 abbrev pub invariant-loop-k : goal.invariant-loop-k

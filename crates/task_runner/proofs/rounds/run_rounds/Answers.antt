@@ -1,8 +1,8 @@
 -- One more round, or the last one.
 use Rattle.std.proofs.Common.{◌≡◌, Bool, true, false, refl, subst, arith, rules}
-use Rattle.task_core.specs.laws_of_turns.Runs.{IsRound, moment_in, scene_in}
-use Rattle.task_core.proofs.laws_of_turns.Rounding.{round_is_more, rounds_are_over}
-use Rattle.task_core.proofs.laws_of_turns.Turning.{still_more}
+use Rattle.task_core.specs.worlds.WorldRuns.{IsRound, moment_in, scene_in}
+use Rattle.task_core.proofs.about_worlds.Rounding.{round_is_more, rounds_are_over}
+use Rattle.task_core.proofs.about_worlds.Turning.{still_more}
 use Rattle.task_core.proofs.SharedSteps.{on_err}
 use Rattle.task_runner.specs.Stops.{StopsInRounds}
 use Rattle.task_runner.proofs.Running.{none_moves, still_here}

@@ -1,5 +1,5 @@
 -- The rounds so far, each of which moved a task.
-use Rattle.task_core.specs.laws_of_turns.Runs.{HasRounded}
+use Rattle.task_core.specs.worlds.WorldRuns.{HasRounded}
 use Rattle.task_runner.proofs.rounds.run_rounds.Given as goal
 
 abbrev pub invariant-loop : goal.invariant-loop

@@ -2,7 +2,7 @@
 use Rattle.std.proofs.Common.{◌≡◌, ◌++◌, drop, length, refl, sym, take, ◌∙◌, subst}
 use Rattle.std.specs.Prelude.{All, List}
 use Rattle.std.proofs.lemmas.Result.{err_from_is_err_and}
-use Rattle.task_core.specs.frames.Tasks.{IsTask, Tasked}
+use Rattle.task_core.specs.worlds.Tasks.{IsTask, Tasked}
 use Rattle.task_runner.proofs.Going.{all_tasks, front_is, gone_named, gone_none, still_runs}
 use Rattle.task_runner.proofs.Passing.{parts_named}
 use Rattle.task_runner.proofs.threads.run_shared.Goals as goal

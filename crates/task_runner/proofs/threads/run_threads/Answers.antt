@@ -1,11 +1,11 @@
 -- The tasks look at all lists, and rounds of them end the run.
 use Rattle.std.proofs.Common.{sym, subst}
-use Rattle.task_core.specs.frames.Frame.{Frame}
-use Rattle.task_core.specs.frames.Runs.{AreTasks}
+use Rattle.task_core.specs.worlds.Frame.{Frame}
+use Rattle.task_core.specs.worlds.Runs.{AreTasks}
 use Rattle.run_model.specs.Rounds.{RoundsTo}
 use Rattle.run_model.specs.Scene.{Scene}
-use Rattle.task_core.proofs.laws_of_turns.Turning.{scene_same, still_more}
-use Rattle.task_core.specs.laws_of_turns.Runs.{moment_in}
+use Rattle.task_core.proofs.about_worlds.Turning.{scene_same, still_more}
+use Rattle.task_core.specs.worlds.WorldRuns.{moment_in}
 use Rattle.task_runner.proofs.Going.{runs_still}
 use Rattle.task_runner.proofs.Stopping.{none_stirs, settled_runs}
 use Rattle.task_runner.proofs.threads.run_threads.Goals as goal

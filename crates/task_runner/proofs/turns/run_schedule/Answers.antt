@@ -2,8 +2,8 @@
 use Rattle.std.proofs.Common.{◌≡◌, ◌<◌, ◌≤◌, ℕ, List, take, length, sym, ◌∙◌, ap, subst, arith, slice_index_or}
 use Rattle.std.proofs.lemmas.List.{take_all, take_more}
 use Rattle.run_model.specs.Turns.{turns_of}
-use Rattle.task_core.specs.laws_of_turns.Runs.{HasTurned, moment_in, scene_in}
-use Rattle.task_core.proofs.laws_of_turns.Turning.{still_more, turn_is_more}
+use Rattle.task_core.specs.worlds.WorldRuns.{HasTurned, moment_in, scene_in}
+use Rattle.task_core.proofs.about_worlds.Turning.{still_more, turn_is_more}
 use Rattle.task_core.proofs.SharedSteps.{on_err}
 use Rattle.task_runner.specs.Stops.{StopsIn}
 use Rattle.task_runner.proofs.Running.{no_turns, still_even}

@@ -1,6 +1,6 @@
 -- The turns so far.
 use Rattle.std.proofs.Common.{take}
-use Rattle.task_core.specs.laws_of_turns.Runs.{HasTurned}
+use Rattle.task_core.specs.worlds.WorldRuns.{HasTurned}
 use Rattle.task_runner.proofs.turns.run_schedule.Given as goal
 
 abbrev pub invariant-loop-k : goal.invariant-loop-k

@@ -3,8 +3,8 @@ use Rattle.std.proofs.Common.{◌≡◌}
 use Rattle.std.specs.Prelude.{slice_set}
 use Rattle.std.proofs.lemmas.Result.{IfOk-weaker, on_err_weaker}
 use Rattle.run_model.specs.declared.turn.Turn.{Turn}
-use Rattle.task_core.specs.laws_of_turns.Runs.{GoesTo, IsTurn}
-use Rattle.task_core.proofs.laws_of_turns.Stepping.{step_is_turn}
+use Rattle.task_core.specs.worlds.WorldRuns.{GoesTo, IsTurn}
+use Rattle.task_core.proofs.about_worlds.Stepping.{step_is_turn}
 use Rattle.task_runner.proofs.Running.{task_there}
 use Rattle.task_runner.proofs.Stopped.{moment_same}
 use Rattle.task_runner.proofs.turns.turn_at.Goals as goal

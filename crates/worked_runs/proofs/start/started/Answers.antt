@@ -4,10 +4,10 @@ use Rattle.std.proofs.lemmas.List.{length-map}
 use Rattle.std.proofs.lemmas.List.Elements.{All-from_recursion}
 use Rattle.ima_top.specs.events.declared.image.Image.{Image}
 use Rattle.ima_top.specs.policy.declared.access.Super.{Super}
-use Rattle.ima_top.proofs.about_runs.Fits.{files_fit, places_fit}
-use Rattle.ima_top.proofs.about_runs.Starting.{started_is}
+use Rattle.ima_top.proofs.about_runs.about_starts.Fits.{files_fit, places_fit}
+use Rattle.ima_top.proofs.about_runs.about_starts.Beginning.{started_is}
 use Rattle.ima_top.specs.scenes.Scene.{file_of, fs_of}
-use Rattle.ima_top.specs.frames.Frame.{Site}
+use Rattle.ima_top.specs.worlds.Frame.{Site}
 use Rattle.ima_top.proofs.about_runners.Going.{all_tasks}
 use Rattle.ima_top.specs.starts.Started.{IsFile}
 use Rattle.worked_runs.proofs.start.started.Goals as goal

@@ -8,7 +8,7 @@ use Rattle.grow_list.specs.Shown.{HasEach, HasItsOwn, Passed}
 use Rattle.inode_events.specs.Callers.{caller_of}
 use Rattle.inode_events.specs.declared.told.Event.{Event}
 use Rattle.ima_templates.specs.declared.entry.Entry.{Entry}
-use Rattle.task_frame.specs.states.Value.{beside_own}
+use Rattle.world_model.specs.states.Value.{beside_own}
 use Rattle.policy_cell.specs.declared.cell.RuleEntry.{RuleEntry}
 use Rattle.world_close.proofs.Listing.{all_ruled, book_others, rules_each, sem_others}
 use Rattle.world_close.proofs.lists.close_lists.Goals as goal

@@ -1,5 +1,5 @@
 use Rattle.std.proofs.Common.{◌≡◌, map}
-use Rattle.task_frame.specs.Tasks.{PassesValue}
+use Rattle.world_model.specs.Tasks.{PassesValue}
 use Rattle.world_close.proofs.lists.part.Given as goal
 
 abbrev pub invariant-loop-one : goal.invariant-loop-one

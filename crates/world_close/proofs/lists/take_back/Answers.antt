@@ -2,7 +2,7 @@ use Rattle.std.proofs.Common.{ℕ, List, ◌++◌, length, ap, subst, sym, ◌�
 use Rattle.std.proofs.lemmas.List.{length-map}
 use Rattle.grow_list.specs.Shown.{Passed}
 use Rattle.inode_events.specs.declared.told.Event.{Event}
-use Rattle.task_frame.specs.Tasks.{PassesValue}
+use Rattle.world_model.specs.Tasks.{PassesValue}
 use Rattle.world_close.specs.Closed.{ClosedValue, journal_name}
 use Rattle.world_close.specs.Rows.{AreNamed, RowsFit}
 use Rattle.world_close.proofs.Listing.{are_named, rows_fit}

@@ -1,6 +1,6 @@
 use Rattle.std.proofs.Common.{sym, subst, ◌∙◌, ap, ◌+◌, ℕ}
-use Rattle.task_frame.specs.inodes.Ending.{HasPasses}
-use Rattle.task_frame.specs.World.{StationValue}
+use Rattle.world_model.specs.inodes.Ending.{HasPasses}
+use Rattle.world_model.specs.World.{StationValue}
 use Rattle.world_close.proofs.Rowing.{column_others}
 use Rattle.world_close.proofs.stations.close_last.Goals as goal
 

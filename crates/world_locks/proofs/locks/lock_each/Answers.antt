@@ -1,6 +1,6 @@
 -- The last inode is put under its lock, and those before it remain.
 use Rattle.std.proofs.Common.{◌≡◌, ℕ, ap, arith, length, length-append, subst}
-use Rattle.world_close.specs.frames.World.{IsStation}
+use Rattle.world_close.specs.worlds.World.{IsStation}
 use Rattle.world_locks.proofs.Locking.{each_before, last_is}
 use Rattle.world_locks.proofs.locks.lock_each.Goals as goal
 

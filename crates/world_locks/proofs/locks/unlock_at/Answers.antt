@@ -1,6 +1,6 @@
 -- The number under the lock is the place.
 use Rattle.std.proofs.Common.{◌≡◌, ℕ, arith, subst}
-use Rattle.world_close.specs.frames.World.{IsStation}
+use Rattle.world_close.specs.worlds.World.{IsStation}
 use Rattle.world_locks.proofs.locks.unlock_at.Goals as goal
 
 pub returns : goal.returns

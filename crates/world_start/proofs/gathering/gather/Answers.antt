@@ -1,5 +1,5 @@
 use Rattle.std.proofs.Common.{◌≡◌, length, subst, sym, arith, ap, rules}
-use Rattle.world_close.specs.frames.Tasks.{PassesValue}
+use Rattle.world_close.specs.worlds.Tasks.{PassesValue}
 use Rattle.std.specs.Prelude.{List}
 use Rattle.world_start.specs.Started.{AreGathered}
 use Rattle.world_start.proofs.GatherLemmas.{gathered_all, gathered_more, gathered_none}

@@ -4,8 +4,8 @@ use Rattle.grow_list.specs.Shown.{Passed}
 use Rattle.ima_templates.specs.declared.entry.Entry.{Entry}
 use Rattle.policy_cell.specs.declared.cell.RuleEntry.{RuleEntry}
 use Rattle.policy_text.specs.RuleValue.{RuleValue}
-use Rattle.world_close.specs.frames.Tasks.{PassesValue}
-use Rattle.world_deeds.specs.Parts.{frame_by}
+use Rattle.world_close.specs.worlds.Tasks.{PassesValue}
+use Rattle.task_steps.specs.Parts.{frame_by}
 use Rattle.world_start.specs.Start.{IsFrameOf}
 use Rattle.world_start.specs.Started.{AreFresh}
 use Rattle.world_start.proofs.Fresh.{unused}

@@ -5,7 +5,7 @@ use Rattle.ima_templates.specs.declared.entry.Entry.{Entry}
 use Rattle.inode_events.specs.declared.image.Image.{Image}
 use Rattle.inode_events.specs.declared.told.Event.{Event}
 use Rattle.grow_list.specs.Shown.{Passed}
-use Rattle.world_close.specs.frames.World.{StationValue}
+use Rattle.world_close.specs.worlds.World.{StationValue}
 use Rattle.world_close.proofs.Listing.{all_at}
 use Rattle.world_start.specs.Started.{AreRows, IsFile, StartsBefore}
 use Rattle.world_start.proofs.Starting.{rows_more, started_all, started_more, started_none}

@@ -1,9 +1,9 @@
 use Rattle.std.proofs.Common.{◌≡◌, ℕ, Bool, cond, List, Option, None, ◌∙◌, ap, subst, sym}
 use Rattle.std.specs.Prelude.{option_map}
-use Rattle.task_frame.specs.model.events.State.{content_after}
-use Rattle.task_frame.specs.model.events.declared.deed.Deed.{Deed}
-use Rattle.task_frame.specs.model.events.declared.told.Told.{Told}
-use Rattle.task_frame.specs.model.events.hashes.declared.digest.Digest.{Digest}
+use Rattle.world_model.specs.model.events.State.{content_after}
+use Rattle.world_model.specs.model.events.declared.deed.Deed.{Deed}
+use Rattle.world_model.specs.model.events.declared.told.Told.{Told}
+use Rattle.world_model.specs.model.events.hashes.declared.digest.Digest.{Digest}
 use Rattle.audit_trail.proofs.Stepping.{kept_on}
 use Rattle.audit_trail.specs.Steps.{IsKeptOf, attrs_after, finished_after, left_after, sets_content, taken_digest}
 use Rattle.audit_trail.specs.TakenValue.{TakenValue}

@@ -1,7 +1,7 @@
 -- Under the same template, comparing the fields decides.
 use Rattle.std.proofs.Common.{rules, ◌≡◌, ap, subst, sym, ◌∙◌}
 use denote.Enum.Bare.{same_true}
-use Rattle.pcr_bank.specs.meta.contracts.measurement.Template.{the_type}
+use Rattle.inode_meta.specs.contracts.measurement.Template.{the_type}
 use Rattle.ima_templates.specs.declared.entry.Entry.{Entry}
 use Rattle.ima_templates.specs.IsEntry.{IsEntry}
 use Rattle.ima_templates.proofs.SameLemmas.{same_data-fields}

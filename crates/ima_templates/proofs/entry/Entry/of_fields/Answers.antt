@@ -1,7 +1,7 @@
 -- The stored digests are the template digests of the fields.
 use Rattle.std.proofs.Common.{◌∙◌}
-use Rattle.pcr_bank.specs.hashes.Hash.{hash}
-use Rattle.pcr_bank.specs.hashes.declared.algo.Algo.TheVariants.{Sha1, Sha256}
+use Rattle.hash_algos.specs.Hash.{hash}
+use Rattle.hash_algos.specs.declared.algo.Algo.TheVariants.{Sha1, Sha256}
 use Rattle.ima_templates.specs.Data.{data_by, template_data}
 use Rattle.ima_templates.proofs.entry.Entry.of_fields.Goals as goal
 

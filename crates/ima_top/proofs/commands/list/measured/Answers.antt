@@ -1,7 +1,7 @@
 -- The list begins with the boot aggregate, since an empty list has no entry that is the same.
 use Rattle.std.proofs.Common.{◌≡◌, ◌∷◌, List, IfOk, None, map, ap, ◌∙◌, subst}
 use Rattle.hash_algos.specs.declared.digest.Digest.{Digest}
-use Rattle.ima_templates.specs.Replay.{banks_of}
+use Rattle.measure_book.specs.Replay.{banks_of}
 use Rattle.ima_templates.specs.declared.entry.Entry.{Entry}
 use Rattle.list_carry.specs.Books.{carried_on}
 use Rattle.ima_top.specs.commands.Entries.{boot_entry, file_entry}

@@ -4,9 +4,9 @@ use Rattle.grow_list.specs.Shown.{Passed, fresh}
 use Rattle.grow_list.specs.Shown.{HasEach}
 use Rattle.grow_list.proofs.Others.{HasOthers-rest, first_is, rest_fresh, split_first}
 use Rattle.ima_templates.specs.IsEntry.{IsEntry}
-use Rattle.ima_templates.specs.Replay.{extended_by}
+use Rattle.measure_book.specs.Replay.{extended_by}
 use Rattle.ima_templates.specs.declared.entry.Entry.{Entry}
-use Rattle.ima_templates.specs.registers.declared.banks.Banks.{Banks}
+use Rattle.pcr_bank.specs.declared.banks.Banks.{Banks}
 use Rattle.measure_book.proofs.Keeping.{IsBook-start}
 use Rattle.measure_book.proofs.book.Book.start.Goals as goal
 

@@ -1,11 +1,11 @@
 -- The registers are the replay of the list.
 use Rattle.std.proofs.Common.{ap, ◌∙◌}
 use Rattle.grow_list.specs.Shown.{Grown}
-use Rattle.ima_templates.specs.Replay.{replay}
+use Rattle.measure_book.specs.Replay.{replay}
 use Rattle.ima_templates.specs.declared.entry.Entry.{Entry}
-use Rattle.ima_templates.proofs.ReplayLemmas.{register-banks_of}
-use Rattle.ima_templates.specs.registers.Banks.{register}
-use Rattle.ima_templates.specs.registers.declared.banks.Banks.{Banks}
+use Rattle.measure_book.proofs.ReplayLemmas.{register-banks_of}
+use Rattle.pcr_bank.specs.Banks.{register}
+use Rattle.pcr_bank.specs.declared.banks.Banks.{Banks}
 use Rattle.measure_book.proofs.book.Book.value.Goals as goal
 
 pub returns : goal.returns

@@ -1,7 +1,7 @@
 -- The lists that are taken out of their locks make a world with the same constants.
 use Rattle.std.proofs.Common.{sym, subst}
-use Rattle.task_frame.specs.Frame.{Frame}
-use Rattle.world_ended.specs.closes.Closed.{AreIdle}
+use Rattle.world_model.specs.Frame.{Frame}
+use Rattle.world_close.specs.Closed.{AreIdle}
 use Rattle.world_locks.specs.acts.Parts.{AreParts}
 use Rattle.task_core.proofs.live.Live.back.Goals as goal
 

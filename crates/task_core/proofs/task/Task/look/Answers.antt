@@ -2,8 +2,8 @@
 use Rattle.std.proofs.Common.{◌∙◌, ap}
 use Rattle.task_core.proofs.Looks.{frame_looked, idle_looked, look_names, look_opens, looked_made, looked_still, parts_looked, state_looked}
 use Rattle.task_core.specs.WorldFields.{frame_in, world_of}
-use Rattle.task_frame.specs.Tasks.{IsTask, PassesValue, Tasked}
-use Rattle.task_frame.specs.World.{WorldValue}
+use Rattle.world_model.specs.Tasks.{IsTask, PassesValue, Tasked}
+use Rattle.world_model.specs.World.{WorldValue}
 use Rattle.task_core.proofs.task.Task.look.Goals as goal
 
 pub look_at_inodes-requires-clause-names : goal.look_at_inodes-requires-clause-names

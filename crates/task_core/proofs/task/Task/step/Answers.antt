@@ -2,9 +2,9 @@
 use Rattle.std.proofs.Common.{◌≡◌, ◌∙◌, ap, sym, subst}
 use Rattle.std.specs.Option.{option_copied}
 use Rattle.task_core.proofs.Turns.{blocked_still, left_still, moved_still, over_still, task_same}
-use Rattle.task_frame.specs.Frame.{Frame, mode_in}
-use Rattle.task_frame.specs.Tasks.{IsTask, Tasked}
-use Rattle.task_frame.specs.World.{WorldValue}
+use Rattle.world_model.specs.Frame.{Frame, mode_in}
+use Rattle.world_model.specs.Tasks.{IsTask, Tasked}
+use Rattle.world_model.specs.World.{WorldValue}
 use Rattle.task_core.proofs.task.Task.step.Goals as goal
 use Rattle.task_core.proofs.task.Task.step.Goals.{in-Over, in-Blocked, in-Told+in-Image-1, in-Told+in-Held-1}
 

@@ -5,8 +5,8 @@ use Rattle.std.specs.Option.{option_copied}
 use Rattle.run_model.specs.declared.turn.Turn.TheVariants as turns
 use Rattle.task_core.proofs.SharedSteps.{HasRoom, blocked_steps, blocked_with, idle_adds, moved_steps, on_err, over_steps, steps_with}
 use Rattle.task_core.proofs.Turns.{blocked_still, left_still, moved_still, over_still, task_same}
-use Rattle.task_frame.specs.Tasks.{IsTask, Tasked}
-use Rattle.world_locks.specs.laws_of_tasks.Plays.{task_after, task_left}
+use Rattle.world_model.specs.Tasks.{IsTask, Tasked}
+use Rattle.world_locks.specs.worlds.Plays.{task_after, task_left}
 use Rattle.world_locks.specs.acts.declared.answers.Reached.{Reached}
 use Rattle.world_locks.specs.acts.declared.answers.Reached.TheVariants as reached
 use Rattle.world_locks.specs.Met.{mines_of, state_seen}

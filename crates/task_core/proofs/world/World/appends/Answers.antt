@@ -1,7 +1,7 @@
 -- The rules have one more, or are as they were.
 use Rattle.std.proofs.Common.{◌≡◌, ◌∙◌, ap}
 use Rattle.task_core.proofs.Shares.{with_rule, with_same_rules}
-use Rattle.task_frame.specs.Tasks.{PassesValue}
+use Rattle.world_model.specs.Tasks.{PassesValue}
 use Rattle.task_core.proofs.world.World.appends.Goals as goal
 
 pub invariant_of-self : goal.invariant_of-self

@@ -3,14 +3,14 @@ use Rattle.std.proofs.Common.{◌<◌, ◌∙◌, ℕ, length, refl, subst, sym,
 use Rattle.std.specs.Prelude.{List}
 use Rattle.std.proofs.lemmas.List.{length-map}
 use Rattle.run_model.specs.Turns.{State}
-use Rattle.task_frame.specs.Frame.{Frame}
-use Rattle.task_frame.specs.Runs.{AreTasks, program_of}
+use Rattle.world_model.specs.Frame.{Frame}
+use Rattle.world_model.specs.Runs.{AreTasks, program_of}
 use Rattle.task_mind.specs.Value.{TaskValue}
-use Rattle.turn_laws.specs.Runs.{moment_in, scene_in}
-use Rattle.world_ended.proofs.about_closes.Finishing.{finished_ends, finished_shown}
-use Rattle.world_ended.specs.closes.Finished.{HaveMade}
-use Rattle.world_ended.proofs.Ending.{ended_same}
-use Rattle.world_ended.specs.Settled.{mind_of}
+use Rattle.world_model.specs.WorldRuns.{moment_in, scene_in}
+use Rattle.world_close.proofs.Finishing.{finished_ends, finished_shown}
+use Rattle.world_close.specs.Finished.{HaveMade}
+use Rattle.world_close.proofs.Ending.{ended_same}
+use Rattle.world_close.specs.Settled.{mind_of}
 use Rattle.task_core.proofs.world.World.close.Goals as goal
 
 -- the requires, in order: frame, count, tasks, made

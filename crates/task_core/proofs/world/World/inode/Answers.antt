@@ -1,7 +1,7 @@
 -- The inode of a number is that of its site.
 use Rattle.task_core.proofs.Visible.{inode_there, no_inode}
 use Rattle.task_core.proofs.world.World.inode.Goals as goal
-use Rattle.task_frame.specs.contracts.station.Station.{the_view}
+use Rattle.world_model.specs.contracts.station.Station.{the_view}
 
 pub returns-in-Some : goal.returns-in-Some
 returns-in-Some c =

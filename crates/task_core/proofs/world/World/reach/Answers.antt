@@ -3,7 +3,7 @@ use Rattle.std.proofs.Common.{None, refl}
 use Rattle.inode_events.specs.declared.deed.Deed.TheVariants as deed
 use Rattle.inode_events.specs.declared.told.Told.TheVariants as told
 use Rattle.run_model.specs.History.{step_at}
-use Rattle.task_frame.specs.Tasks.{Tasked}
+use Rattle.world_model.specs.Tasks.{Tasked}
 use Rattle.task_mind.specs.Steps.{deed_in}
 use Rattle.task_mind.specs.declared.step.Step.TheVariants as step
 use Rattle.world_locks.proofs.about_acts.Sharing.{nothing_tells}

@@ -1,9 +1,9 @@
 -- The lists of a world belong to its constants.
 use Rattle.std.proofs.Common.{◌∙◌, ap, subst}
 use Rattle.task_core.proofs.Closing.{are_rules, are_signals, are_stations, is_book}
-use Rattle.task_frame.specs.Frame.{Frame}
-use Rattle.task_frame.specs.World.{WorldValue}
-use Rattle.world_ended.specs.closes.Closed.{AreIdle}
+use Rattle.world_model.specs.Frame.{Frame}
+use Rattle.world_model.specs.World.{WorldValue}
+use Rattle.world_close.specs.Closed.{AreIdle}
 use Rattle.task_core.proofs.world.World.share.Goals as goal
 
 pub new-requires-after_bounds : goal.new-requires-after_bounds

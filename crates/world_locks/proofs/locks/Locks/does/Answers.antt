@@ -2,7 +2,7 @@
 use Rattle.std.proofs.Common.{◌≤◌, arith, length, subst, sym}
 use Rattle.task_mind.specs.Steps.{deed_in}
 use Rattle.task_mind.specs.declared.step.Doing.{Doing}
-use Rattle.world_deeds.specs.deeds.Hashed.{IsListedDeed}
+use Rattle.task_steps.specs.Hashed.{IsListedDeed}
 use Rattle.world_locks.proofs.Meeting.{none_met}
 use Rattle.world_locks.specs.Pages.{IsPageDeed}
 use Rattle.world_locks.proofs.locks.Locks.does.Goals as goal

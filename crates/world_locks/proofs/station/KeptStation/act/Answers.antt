@@ -1,7 +1,7 @@
 -- A deed on the inode under its lock.
 use Rattle.task_mind.specs.Steps.{deed_in}
-use Rattle.world_deeds.proofs.Calls.{does_count}
-use Rattle.world_deeds.specs.Acting.{told_in}
+use Rattle.task_steps.proofs.Calls.{does_count}
+use Rattle.task_steps.specs.Acting.{told_in}
 use Rattle.world_locks.proofs.Lists.{book_still}
 use Rattle.world_locks.proofs.Stations.{its_pass, its_ready, station_at, station_still}
 use Rattle.world_locks.proofs.station.KeptStation.act.Goals as goal

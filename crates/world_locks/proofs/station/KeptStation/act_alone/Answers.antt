@@ -1,8 +1,8 @@
 -- A deed on the inode under its lock, from the view of a pass of the measurement list.
 use Rattle.std.proofs.Common.{[]}
 use Rattle.task_mind.specs.Steps.{deed_in}
-use Rattle.world_deeds.proofs.Calls.{does_count}
-use Rattle.world_deeds.specs.Acting.{told_in}
+use Rattle.task_steps.proofs.Calls.{does_count}
+use Rattle.task_steps.specs.Acting.{told_in}
 use Rattle.world_locks.proofs.Paging.{alone_met}
 use Rattle.world_locks.proofs.Stations.{its_pass, its_ready, station_at, station_left}
 use Rattle.world_locks.proofs.station.KeptStation.act_alone.Goals as goal

@@ -4,10 +4,10 @@ use Rattle.std.specs.Prelude.{Result}
 use Rattle.std.specs.declared.alloc.AllocError.{AllocError}
 use Rattle.inode_cell.specs.Answers.{piece_told}
 use Rattle.inode_cell.specs.declared.answers.Piece.{Piece}
-use Rattle.world_deeds.specs.deeds.Leaving.{told_by}
-use Rattle.world_close.specs.frames.World.{IsStation, StationValue}
+use Rattle.task_steps.specs.Leaving.{told_by}
+use Rattle.world_close.specs.worlds.World.{IsStation, StationValue}
 use Rattle.task_mind.specs.Steps.{deed_in}
-use Rattle.world_deeds.proofs.Calls.{does_count}
+use Rattle.task_steps.proofs.Calls.{does_count}
 use Rattle.world_locks.proofs.Paging.{may_alone, page_is_met}
 use Rattle.world_locks.proofs.Stations.{station_left, station_opened}
 use Rattle.world_locks.specs.Pages.{PageMet}

@@ -1,0 +1,2 @@
+//! Lemmas on lists alone, for the crates of laws.
+#![tactic(auto)]

@@ -1,0 +1,100 @@
+-- Moments at which no task moves.
+use Rattle.std.specs.Prelude.{◌≡◌, ℕ, ◌+◌, ◌<◌, ◌≤◌, Bool, true, false, ◌||◌, All, List, [], ◌∷◌, length, reverse, Option, Some, None, slice_get}
+use Rattle.inode_meta.specs.declared.appraisal.Mode.{Mode}
+use Rattle.inode_events.specs.Callers.{caller_of}
+use Rattle.inode_events.specs.Inode.{Inode}
+use Rattle.inode_events.specs.Legal.{EachFollows, May}
+use Rattle.inode_events.specs.Past.{past}
+use Rattle.inode_events.specs.Semaphores.{LegalSemaphores, posts, waits}
+use Rattle.inode_events.specs.declared.deed.Deed.{Deed}
+use Rattle.inode_events.specs.declared.deed.Deed.TheVariants as deed
+use Rattle.inode_events.specs.declared.told.Event.{Event}
+use Rattle.call_steps.specs.Mind.{Step}
+use Rattle.call_steps.specs.Mind.{Nothing, Does, Checks, Signals, Appends}
+use Rattle.journal_laws.specs.Own.{IsOwned}
+use Rattle.run_model.specs.Ended.{all_done, how_many, is_stuck, posted, posts_to, waited, waits_for}
+use Rattle.run_model.specs.History.{Answer, Thought, own, own_signals, step_at, thought}
+use Rattle.run_model.specs.Rounds.{all_tasks, any_moves, is_moved, moves}
+use Rattle.run_model.specs.Served.{events_of}
+use Rattle.run_model.specs.Scene.{Program, Scene, Station, inode_of, mode_of}
+use Rattle.run_model.specs.Turns.{Moment, State, go}
+use Rattle.inode_events.specs.Stage.{is_collecting, stage_in}
+
+-- the deed continues or ends the collection of the file
+abbrev pub GoesOn : ℕ → Deed → Type 0
+GoesOn f (deed.Chunk g) = g ≡ f
+GoesOn f (deed.Finish g) = g ≡ f
+GoesOn f (deed.CloseChunk g) = g ≡ f
+GoesOn f (deed.CloseFinish g) = g ≡ f
+GoesOn f _ = ⊥
+
+-- the next step may be made: its inode exists, and its deed may be done
+abbrev pub MayStep : Scene → State → Option Step → Type 0
+MayStep scene s (Some (Does i d)) =
+    (station : Station) × (journal : List Event) × (slice_get scene.stations i ≡ Some station)
+    × (slice_get s.journals i ≡ Some journal) × May (inode_of scene station) (past journal) d
+MayStep scene s (Some (Checks i file func mask)) =
+    (station : Station) × (slice_get scene.stations i ≡ Some station)
+MayStep scene s _ = Unit {0}
+
+-- task n has made the steps of a history, and its next step may be made
+pub record Resting (scene : Scene) (s : State) (n : ℕ) (p : Program) (t : Thought) : Type 0 where
+  pub history : List Answer
+  pub stands : thought (mode_of scene) p history ≡ t
+  pub events : (i : ℕ) (journal : List Event) → slice_get s.journals i ≡ Some journal
+      → events_of n journal ≡ own (mode_of scene) n p i history
+  pub signals : events_of n s.signals ≡ own_signals (mode_of scene) n p history
+  pub may : MayStep scene s (step_at p t.mind)
+
+-- the lists are legal, and each event is by one of the tasks
+pub record AreLegal (scene : Scene) (s : State) (thoughts : List Thought) : Type 0 where
+  pub thoughts_even : length thoughts ≡ length scene.programs
+  pub follows : (i : ℕ) (station : Station) (journal : List Event)
+      → slice_get scene.stations i ≡ Some station → slice_get s.journals i ≡ Some journal
+      → EachFollows (inode_of scene station) (past journal) × IsOwned (past journal)
+      × All (λ e. caller_of e ≤ length scene.programs) (past journal)
+  pub are_signals : LegalSemaphores (past s.signals)
+  pub signed : All (λ e. (0 < caller_of e) × (caller_of e ≤ length scene.programs)) s.signals
+
+-- a moment of a run: the lists are legal, and each task has made the steps of a history
+pub record IsReached (scene : Scene) (m : Moment) : Type 0 where
+  pub legal : AreLegal scene m.state m.thoughts
+  pub tasks : (n : ℕ) (p : Program) (t : Thought) → slice_get scene.programs n ≡ Some p
+      → slice_get m.thoughts n ≡ Some t → Resting scene m.state n p t
+
+-- a moment of a run at which no task moves
+pub record AtRest (scene : Scene) (m : Moment) : Type 0 where
+  pub legal : AreLegal scene m.state m.thoughts
+  pub tasks : (n : ℕ) (p : Program) (t : Thought) → slice_get scene.programs n ≡ Some p
+      → slice_get m.thoughts n ≡ Some t → Resting scene m.state n p t
+  pub still : (n : ℕ) → n < length scene.programs → moves scene m n ≡ false
+
+-- ---- the laws
+
+-- at rest, the answered posts and waits are those in the list of posts and waits
+abbrev pub SignalsCounted : Type 0
+SignalsCounted = (scene : Scene) (m : Moment) → AtRest scene m → (sem : ℕ)
+    → (posted sem scene.programs m.thoughts ≡ posts sem m.state.signals)
+    × (waited sem scene.programs m.thoughts ≡ waits sem m.state.signals)
+
+-- at each moment of a run, the answered posts and waits are those in the list of posts and waits
+abbrev pub SignalsCountedWhenReached : Type 0
+SignalsCountedWhenReached = (scene : Scene) (m : Moment) → IsReached scene m → (sem : ℕ)
+    → (posted sem scene.programs m.thoughts ≡ posts sem m.state.signals)
+    × (waited sem scene.programs m.thoughts ≡ waits sem m.state.signals)
+
+-- at each moment of a run, every wait that was answered had its post
+abbrev pub PaidWhenReached : Type 0
+PaidWhenReached = (scene : Scene) (m : Moment) → IsReached scene m → (sem : ℕ)
+    → waited sem scene.programs m.thoughts ≤ posted sem scene.programs m.thoughts
+
+abbrev pub EndsAtRest : Type 0
+EndsAtRest = (scene : Scene) (m : Moment) → AtRest scene m
+    → ((sem : ℕ) → waited sem scene.programs m.thoughts ≤ posted sem scene.programs m.thoughts)
+    × ((all_done scene.programs m.thoughts || is_stuck scene.programs m.thoughts) ≡ true)
+
+-- if a round moves no task, no task can move
+abbrev pub StillAtRest : Type 0
+StillAtRest =
+    (scene : Scene) (m : Moment) → any_moves scene m (all_tasks scene) ≡ false → (n : ℕ)
+    → n < length scene.programs → moves scene m n ≡ false

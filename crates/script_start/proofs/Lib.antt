@@ -1,0 +1,5 @@
+pub mod Crewing
+pub mod Fits
+pub mod StartedScenes
+pub mod Beginning
+pub use Rattle.script_scene.proofs as about_scenes

@@ -1,0 +1,34 @@
+use Rattle.std.proofs.Common.{◌≡◌, ℕ, ◌<◌, All, List, length, map, sym, subst, rules}
+use Rattle.std.proofs.lemmas.List.Elements.{All-from_recursion}
+use Rattle.run_model.specs.events.declared.image.Image.{Image}
+use Rattle.policy_text.specs.declared.access.Super.{Super}
+use Rattle.task_core.specs.starts.Started.{IsFile}
+use Rattle.script_scene.specs.Scene.{file_of, fs_of}
+use Rattle.script_start.proofs.Fits.{files_fit, places_fit}
+use Rattle.script_start.proofs.Beginning.{started_is}
+use Rattle.script_start.proofs.starting.started.Goals as goal
+
+pub start-requires-clause-files : goal.start-requires-clause-files
+start-requires-clause-files c =
+    let s = c.args.script in
+    subst (λ (l : List (List ℕ × Image)). All IsFile l) (sym c.in_ok-settings.ensures.inodes)
+    (All-from_recursion IsFile (map file_of s.files)
+    (files_fit s.supers s.files c.keeps.ensures.files.each))
+
+pub start-requires-clause-places : goal.start-requires-clause-places
+start-requires-clause-places c =
+    let s = c.args.script in
+    let parts = c.in_ok-settings.ensures in
+    subst (λ (x : List ℕ × List Super). All (λ place. place < length x.1) x.0)
+    (λ i. (sym parts.places i, sym parts.supers i))
+    (All-from_recursion (λ place. place < length s.supers) (map fs_of s.files)
+    (places_fit s.supers s.files c.keeps.ensures.files.each))
+
+pub returns : goal.returns
+returns c =
+    let count : c.len-count.result ≡ length c.in_ok-settings.field-0.tasks.items =
+    search rules in
+    started_is c.args.script c.keeps.ensures c.in_ok-settings.field-0 c.in_ok-settings.ensures
+    c.in_ok-world.world c.in_ok-world.passes.items c.in_ok-tasks.tasks.items c.len-count.result
+    count c.in_ok-world.ensures.frame c.in_ok-world.ensures.begins c.in_ok-world.ensures.passes
+    c.in_ok-tasks.ensures

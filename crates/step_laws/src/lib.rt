@@ -1,2 +1,0 @@
-//! The next step of a task may be made.
-#![tactic(auto)]

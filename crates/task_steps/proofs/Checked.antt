@@ -1,0 +1,155 @@
+-- How a turn with a check ends.
+use Rattle.std.proofs.Common.{◌≡◌, ℕ, List, [], ◌∷◌, length, Option, Some, None, refl, sym, ◌∙◌, ap, subst}
+use Rattle.std.specs.Prelude.{Result, Ok, Err, slice_get, unwrap_or}
+use Rattle.std.proofs.lemmas.Option.{get_or_from_slice_get, same_Some}
+use Rattle.inode_events.specs.Asked.{outcome}
+use Rattle.inode_events.specs.Past.{past}
+use Rattle.inode_events.specs.State.{metadata}
+use Rattle.inode_events.specs.declared.deed.Deed.{Deed}
+use Rattle.inode_events.specs.declared.deed.Deed.TheVariants as deed
+use Rattle.inode_events.specs.declared.told.Event.{Event}
+use Rattle.inode_meta.specs.declared.step.Who.{Who}
+use Rattle.call_steps.specs.Mind.{Step}
+use Rattle.call_steps.specs.Mind.{Checks}
+use Rattle.call_steps.specs.Steps.{given}
+use Rattle.policy_text.specs.RuleValue.{RuleValue}
+use Rattle.policy_text.specs.declared.access.Action.{Action}
+use Rattle.policy_text.specs.declared.rule.Func.{Func}
+use Rattle.run_model.specs.History.{Answer, hear, step_at, who_at}
+use Rattle.run_model.specs.Scene.{Program, Station, decided, rules_with}
+use Rattle.run_model.specs.Turns.{State, go_check, go_event, go_step}
+use Rattle.run_model.specs.declared.turn.Turn.TheVariants as turns
+use Rattle.task_steps.specs.declared.listed.Checks.{Checks as Asked}
+use Rattle.task_steps.specs.worlds.Frame.{Frame, Site, inode_in, mode_in, scene_of, station_of, super_at}
+use Rattle.task_steps.specs.worlds.Tasks.{HasPlayed, PassesValue, Tasked, action_by}
+use Rattle.task_steps.proofs.about_worlds.Blocking.{none_is_played}
+use Rattle.task_steps.proofs.about_worlds.Eventing.{check_is_played, get_map}
+use Rattle.task_steps.specs.worlds.Events.{EventOn}
+use Rattle.task_steps.specs.worlds.Plays.{HasHeard, IsStepFor, check_answer, task_after}
+use Rattle.task_steps.proofs.Going.{goes_event}
+use Rattle.task_steps.proofs.Reaching.{get_map_none, same_left, unmoved}
+use Rattle.task_steps.specs.Checking.{CheckIn, IsCheckedBy}
+use Rattle.task_steps.specs.Turning.{Goes, Reaches, Stops, Tells, answer_of, reached_by, turned_to}
+use Rattle.task_steps.specs.declared.answers.Answered.{Answered}
+
+module _ (frame : Frame) (t : Tasked) (i file : ℕ) (func : Func) (mask : ℕ) (old new : State)
+    (passes : PassesValue)
+    (st : step_at t.mind.program t.mind.thought.mind ≡ Some (Checks i file func mask)) where
+  abbrev p : Program
+  p = t.mind.program
+
+  abbrev who : Who
+  who = who_at t.number p t.mind.thought.mind
+
+  abbrev asked : Asked
+  asked = record { file = file; func = func; mask = mask }
+
+  abbrev rules : List RuleValue
+  rules = rules_with (scene_of frame []) old.added
+
+  -- the action of the check, if the inode has this journal
+  abbrev action_on : Site → List Event → Action
+  action_on s journal =
+      decided rules p.cred (super_at frame s.place) (metadata (past journal)) func mask
+
+  abbrev check_on : Site → List Event → Deed
+  check_on s journal = deed.Check file func (action_on s journal) (length rules)
+
+  -- the check was made, and the journal was this
+  module _ (s : Site) (there : slice_get frame.sites i ≡ Some s) (a : Answered)
+      (journal : List Event)
+      (e : EventOn frame i s who (check_on s journal) old new t.passes passes t.gathered t.gathered
+      (Some a.told)) (is : e.journal ≡ journal)
+      (by : IsCheckedBy (inode_in frame s) journal old.list rules p.cred (super_at frame s.place)
+      asked a) where
+    abbrev count : ℕ
+    count = length rules
+
+    same : check_answer (length e.journal) a.told (action_on s journal) count ≡ answer_of a count
+    same =
+        ap (λ (k : ℕ). check_answer k a.told (action_on s journal) count)
+        (ap length is ∙ sym by.place_is)
+        ∙ ap (λ (x : Option Action). record {
+          place = a.place;
+          told = a.told;
+          action = given x;
+          rules = count;
+        }) (sym by.action)
+
+    tells : Some a.told
+        ≡ outcome (inode_in frame s) old.list (check_on s journal) (past e.journal)
+    tells =
+        by.told
+        ∙ ap (λ (xs : List Event). outcome (inode_in frame s) old.list (check_on s journal)
+        (past xs)) (sym is)
+
+    goes : Goes frame t old (turned_to new
+        (hear (mode_in frame) p t.mind.thought (answer_of a count)) turns.Moved)
+    goes programs =
+        let scene = scene_of frame programs in
+        ap (go_step scene t.number p old t.mind.thought) st
+        ∙ ap (λ (x : Option Station).
+        go_check scene t.number p old t.mind.thought i x file func mask)
+        (get_map (station_of frame) frame.sites i s there)
+        ∙ ap (λ (xs : List Event). go_event scene t.number p old t.mind.thought i
+        (inode_in frame s) (check_on s xs) (action_on s xs) count)
+        (get_or_from_slice_get old.journals i e.journal [] e.journal_at ∙ is)
+        ∙ goes_event frame t i s (check_on s journal) old new passes t.gathered (Some a.told) e
+        there tells programs (action_on s journal) count
+        ∙ ap (λ (b : Answer). turned_to new (hear (mode_in frame) p t.mind.thought b) turns.Moved)
+        same
+
+    check_tells : passes.rules.seen ≡ old.added → Tells frame t old new passes t.gathered a
+    check_tells seen = record {
+      rules = count;
+      checked = ap (λ (x : Option Action). unwrap_or x t.mind.checked) by.action
+          ∙ sym (ap given by.action)
+          ∙ sym (ap (λ (z : Option Step). action_by z (answer_of a count) t.mind.checked) st);
+      plays = λ h mind x hd. subst (λ (b : Answer).
+          HasPlayed frame (task_after t mind passes t.gathered) (b ∷ h)) same
+          (check_is_played frame t h i s file func mask (action_on s journal) count a.told old new
+          passes t.gathered mind x st there e tells seen refl
+          (ap (action_on s) (sym is))
+          (subst (λ (b : Answer). HasHeard frame t b mind) (sym same) hd));
+      goes = goes;
+    }
+
+  -- on an inode that isn't there the turn is blocked
+  none_stops : slice_get frame.sites i ≡ None → new ≡ old → passes ≡ t.passes
+      → Stops frame t old new passes t.gathered turns.Blocked
+  none_stops there e f = record {
+    plays = same_left frame t passes t.gathered f refl;
+    goes = λ programs.
+        let scene = scene_of frame programs in
+        ap (go_step scene t.number p old t.mind.thought) st
+        ∙ ap (λ (x : Option Station).
+        go_check scene t.number p old t.mind.thought i x file func mask)
+        (get_map_none (station_of frame) frame.sites i there)
+        ∙ ap (λ (x : State). turned_to x t.mind.thought turns.Blocked) (sym e);
+  }
+
+  by_site : {E : Type 0} (r : Result (Option Answered) E) (o : Option Site)
+      → slice_get frame.sites i ≡ o
+      → CheckIn frame i o who p.cred asked old new t.passes passes t.gathered r
+      → Reaches frame t old new passes t.gathered (reached_by r)
+  by_site (Ok (Some a)) None there c = absurd (no_told a c.told) where
+    no_told : (b : Answered) → Some b.told ≡ None → ⊥
+    no_told b q = cc
+  by_site (Ok None) None there c = none_stops there c.state c.left
+  by_site (Err y) None there c =
+      record { plays = same_left frame t passes t.gathered c.left refl; state = c.state }
+  by_site (Ok (Some a)) (Some s) there c =
+      check_tells s there a c.journal c.event
+      (same_Some c.event.journal c.journal (sym c.event.journal_at ∙ c.journal_at)) c.told c.seen
+  by_site (Ok None) (Some s) there c = absurd c.told
+  by_site (Err y) (Some s) there c = record {
+    plays = λ h x. none_is_played frame t h i s (check_on s c.journal) old new passes t.gathered x
+        (subst (IsStepFor i (check_on s c.journal)) (sym st) refl) there c.event;
+    state = c.event.state ∙ unmoved frame i s who (check_on s c.journal) old;
+  }
+
+  pub check_reaches : {E : Type 0} (r : Result (Option Answered) E)
+      → CheckIn frame i (slice_get frame.sites i) who p.cred asked old new t.passes passes
+      t.gathered r
+      → Reaches frame t old new passes t.gathered (reached_by r)
+  check_reaches r c = by_site r (slice_get frame.sites i) refl c

@@ -1,0 +1,139 @@
+-- A deed on one inode is a turn of its task.
+use Rattle.std.proofs.Common.{◌≡◌, ℕ, List, [], ◌∷◌, length, Option, Some, None, refl, sym, ◌∙◌, ap, subst}
+use Rattle.std.specs.Prelude.{slice_get, unwrap_or}
+use Rattle.std.proofs.lemmas.Option.{get_or_from_slice_get}
+use Rattle.inode_events.specs.Asked.{outcome}
+use Rattle.inode_events.specs.Checks.{no_action}
+use Rattle.inode_events.specs.Past.{past}
+use Rattle.inode_events.specs.declared.deed.Deed.{Deed}
+use Rattle.inode_events.specs.declared.told.Event.{Event}
+use Rattle.inode_events.specs.declared.told.Told.{Told}
+use Rattle.call_steps.specs.Mind.{Step}
+use Rattle.call_steps.specs.Mind.{Does}
+use Rattle.call_steps.specs.Steps.{given}
+use Rattle.policy_text.specs.declared.access.Action.{Action}
+use Rattle.run_model.specs.History.{Answer, Thought, hear, plain_answer, step_at, who_at}
+use Rattle.run_model.specs.Scene.{Program, Station}
+use Rattle.run_model.specs.Turns.{State, go, go_does, go_event, go_step, hear_told, journal_at, state_on, turn_of}
+use Rattle.run_model.specs.declared.turn.Turn.TheVariants as turns
+use Rattle.task_steps.specs.Acting.{IsPlacedAt}
+use Rattle.task_steps.specs.Turning.{Fails, Stops, Tells, answer_of, turned_to}
+use Rattle.task_steps.specs.declared.answers.Answered.{Answered}
+use Rattle.task_steps.specs.worlds.Frame.{Frame, Site, inode_in, mode_in, scene_of, station_of}
+use Rattle.task_steps.specs.worlds.Tasks.{HasPlayed, PassesValue, Tasked, action_by}
+use Rattle.task_steps.specs.worlds.declared.gathered.Gathered.{Gathered}
+use Rattle.task_steps.proofs.about_worlds.Blocking.{none_is_played}
+use Rattle.task_steps.proofs.about_worlds.Eventing.{event_is_played, get_map}
+use Rattle.task_steps.specs.worlds.Events.{EventOn}
+use Rattle.task_steps.specs.worlds.Plays.{HasHeard, IsStepFor, task_after}
+
+module _ (frame : Frame) (t : Tasked) (i : ℕ) (s : Site) (d : Deed) (old new : State)
+    (passes : PassesValue) (g : Gathered) (o : Option Told)
+    (e : EventOn frame i s (who_at t.number t.mind.program t.mind.thought.mind) d old new t.passes
+    passes t.gathered g o)
+    (there : slice_get frame.sites i ≡ Some s)
+    (tells : o ≡ outcome (inode_in frame s) old.list d (past e.journal)) where
+  abbrev p : Program
+  p = t.mind.program
+
+  journal_is : journal_at old i ≡ e.journal
+  journal_is = get_or_from_slice_get old.journals i e.journal [] e.journal_at
+
+  outcome_is : outcome (inode_in frame s) old.list d (past (journal_at old i)) ≡ o
+  outcome_is =
+      ap (λ (xs : List Event). outcome (inode_in frame s) old.list d (past xs)) journal_is
+      ∙ sym tells
+
+  abbrev heard : Action → ℕ → Thought
+  heard action rules =
+      hear_told (mode_in frame) p t.mind.thought (length e.journal) action rules o
+
+  -- the turn of the task makes this event
+  pub goes_event : (programs : List Program) (action : Action) (rules : ℕ)
+      → go_event (scene_of frame programs) t.number p old t.mind.thought i (inode_in frame s) d
+      action rules ≡ turned_to new (heard action rules) (turn_of o)
+  goes_event programs action rules =
+      let who = who_at t.number p t.mind.thought.mind in
+      ap (λ (x : Option Told). turned_to (state_on old i (inode_in frame s) who d x)
+      (hear_told (mode_in frame) p t.mind.thought (length (journal_at old i)) action rules x)
+      (turn_of x)) outcome_is
+      ∙ ap (λ (k : ℕ). turned_to (state_on old i (inode_in frame s) who d o)
+      (hear_told (mode_in frame) p t.mind.thought k action rules o) (turn_of o))
+      (ap length journal_is)
+      ∙ ap (λ (x : State). turned_to x (heard action rules) (turn_of o)) (sym e.state)
+
+  -- the turn of a step that does this deed
+  goes_does : step_at p t.mind.thought.mind ≡ Some (Does i d) → (programs : List Program)
+      → go (scene_of frame programs) t.number p old t.mind.thought
+      ≡ turned_to new (heard no_action 0) (turn_of o)
+  goes_does st programs =
+      let scene = scene_of frame programs in
+      ap (go_step scene t.number p old t.mind.thought) st
+      ∙ ap (λ (x : Option Station). go_does scene t.number p old t.mind.thought i x d)
+      (get_map (station_of frame) frame.sites i s there)
+      ∙ goes_event programs no_action 0
+
+-- ---- a deed that was done, was blocked, or ran out of memory
+
+pub answer_same : (a : Answered) (place : ℕ) → a.place ≡ place → a.action ≡ None
+    → plain_answer place a.told ≡ answer_of a 0
+answer_same a place e f =
+    ap (λ (k : ℕ). plain_answer k a.told) (sym e)
+    ∙ ap (λ (x : Option Action). record {
+      place = a.place;
+      told = a.told;
+      action = given x;
+      rules = 0;
+    }) (sym f)
+
+pub does_tells : (frame : Frame) (t : Tasked) (i : ℕ) (s : Site) (d : Deed) (old new : State)
+    (passes : PassesValue) (g : Gathered) (a : Answered)
+    → step_at t.mind.program t.mind.thought.mind ≡ Some (Does i d)
+    → slice_get frame.sites i ≡ Some s
+    → (e : EventOn frame i s (who_at t.number t.mind.program t.mind.thought.mind) d old new
+    t.passes passes t.gathered g (Some a.told))
+    → Some a.told ≡ outcome (inode_in frame s) old.list d (past e.journal)
+    → IsPlacedAt (length e.journal) (Some a) → Tells frame t old new passes g a
+does_tells frame t i s d old new passes g a st there e tells at =
+    let same : plain_answer (length e.journal) a.told ≡ answer_of a 0 =
+    answer_same a (length e.journal) at.0 at.1 in
+    record {
+      rules = 0;
+      checked = ap (λ (x : Option Action). unwrap_or x t.mind.checked) at.1
+          ∙ sym (ap (λ (z : Option Step). action_by z (answer_of a 0) t.mind.checked) st);
+      plays = λ h mind x hd. subst (λ (b : Answer).
+          HasPlayed frame (task_after t mind passes g) (b ∷ h)) same
+          (event_is_played frame t h i s d a.told old new passes g mind x st there e tells
+          (subst (λ (b : Answer). HasHeard frame t b mind) (sym same) hd));
+      goes = λ programs. goes_does frame t i s d old new passes g (Some a.told) e there tells st
+          programs
+          ∙ ap (λ (b : Answer). turned_to new
+          (hear (mode_in frame) t.mind.program t.mind.thought b) turns.Moved) same;
+    }
+
+pub does_blocks : (frame : Frame) (t : Tasked) (i : ℕ) (s : Site) (d : Deed) (old new : State)
+    (passes : PassesValue) (g : Gathered)
+    → step_at t.mind.program t.mind.thought.mind ≡ Some (Does i d)
+    → slice_get frame.sites i ≡ Some s
+    → (e : EventOn frame i s (who_at t.number t.mind.program t.mind.thought.mind) d old new
+    t.passes passes t.gathered g None)
+    → None ≡ outcome (inode_in frame s) old.list d (past e.journal)
+    → Stops frame t old new passes g turns.Blocked
+does_blocks frame t i s d old new passes g st there e tells = record {
+  plays = λ h x. none_is_played frame t h i s d old new passes g x
+      (subst (IsStepFor i d) (sym st) (refl, refl)) there e;
+  goes = goes_does frame t i s d old new passes g None e there tells st;
+}
+
+pub does_fails : (frame : Frame) (t : Tasked) (i : ℕ) (s : Site) (d : Deed) (old new : State)
+    (passes : PassesValue) (g : Gathered)
+    → step_at t.mind.program t.mind.thought.mind ≡ Some (Does i d)
+    → slice_get frame.sites i ≡ Some s
+    → EventOn frame i s (who_at t.number t.mind.program t.mind.thought.mind) d old new
+    t.passes passes t.gathered g None
+    → new ≡ old → Fails frame t old new passes g
+does_fails frame t i s d old new passes g st there e same = record {
+  plays = λ h x. none_is_played frame t h i s d old new passes g x
+      (subst (IsStepFor i d) (sym st) (refl, refl)) there e;
+  state = same;
+}

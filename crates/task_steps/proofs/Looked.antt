@@ -1,0 +1,97 @@
+-- Before a check the inode's pass and the task's pass see the appended rules.
+use Rattle.std.proofs.Common.{◌≡◌, ◌≢◌, ℕ, ◌+◌, List, length, map, Some, refl, sym, ◌∙◌, ap, subst, inl, inr, length-append}
+use Rattle.std.specs.Prelude.{◌⊎◌, slice_get, slice_set}
+use Rattle.std.proofs.lemmas.List.{length-map}
+use Rattle.std.proofs.lemmas.Option.{slice_get_within}
+use mathlib.Core.List.{IsPrefix}
+use Rattle.grow_list.specs.Shown.{Grown, IsSameList, ListName, Passed}
+use Rattle.ima_templates.specs.declared.entry.Entry.{Entry}
+use Rattle.inode_events.specs.declared.settings.Settings.{Settings}
+use Rattle.inode_events.specs.declared.told.Event.{Event}
+use Rattle.policy_cell.specs.Policy.{PolicyValue, in_force, rules_in}
+use Rattle.policy_cell.specs.declared.cell.RuleEntry.{RuleEntry}
+use Rattle.policy_text.specs.RuleValue.{RuleValue}
+use Rattle.policy_text.specs.declared.access.Super.{Super}
+use Rattle.task_steps.proofs.laws_of_runs.Owned.{set_parts}
+use Rattle.task_steps.proofs.laws_of_runs.Risen.{law_rise_by_look}
+use Rattle.task_steps.proofs.Lists.{map_same}
+use Rattle.task_steps.specs.Parts.{AreParts, frame_by}
+use Rattle.task_steps.specs.worlds.Frame.{Frame, Site}
+use Rattle.task_steps.specs.worlds.World.{AreRulesOf, IsStation, StationValue, site_of}
+
+-- the number of rules in force is that of the script's and the appended ones
+pub force_count : (p : PolicyValue) → length (in_force p) ≡ length p.base + length p.appended.list
+force_count p =
+    length-append p.base (rules_in p.appended.list)
+    ∙ ap (λ (n : ℕ). length p.base + n) (length-map p.appended.list (λ (r : RuleEntry). r.rule))
+
+module _ (settings : Settings) (stations : List StationValue) (supers : List Super)
+    (book : Grown Entry) (sems : Grown Event) (rules rules2 : PolicyValue) (tasks i : ℕ)
+    (st : StationValue) (q : Passed RuleEntry)
+    (parts : AreParts (frame_by settings stations supers book sems rules tasks) stations book sems
+    rules) (there : slice_get stations i ≡ Some st)
+    (base : rules2.base ≡ rules.base) (list : IsSameList rules.appended rules2.appended)
+    (name : q.name ≡ st.rules.name) (number : q.number ≡ st.rules.number)
+    (mine : q.mine ≡ st.rules.mine) (more : IsPrefix st.rules.seen q.seen) where
+  abbrev F : Frame
+  F = frame_by settings stations supers book sems rules tasks
+
+  abbrev st2 : StationValue
+  st2 = record st { rules = q }
+
+  abbrev stations2 : List StationValue
+  stations2 = slice_set stations i st2
+
+  pub frame_looked : frame_by settings stations2 supers book sems rules2 tasks ≡ F
+  frame_looked =
+      ap (λ (xs : List Site). record F {
+        sites = xs;
+        base = rules2.base;
+        rules = rules2.appended.name;
+      }) (map_same site_of stations i st st2 there refl)
+      ∙ ap (λ (xs : List RuleValue). record F { base = xs; rules = rules2.appended.name }) base
+      ∙ ap (λ (x : ListName). record F { rules = x }) list.name
+
+  station_looked : IsStation F i st2
+  station_looked =
+      let old : IsStation F i st = parts.stations i st there in
+      record {
+        site = old.site;
+        settings = old.settings;
+        place = old.place;
+        callers = old.callers;
+        book = old.book;
+        booked = old.booked;
+        rules_name = name ∙ old.rules_name;
+        rules_number = number ∙ old.rules_number;
+        rules_mine = mine ∙ old.rules_mine;
+        rise = law_rise_by_look (length F.base) st.cell.list st.rules.seen q.seen more old.rise;
+      }
+
+  rules_looked : AreRulesOf F rules2
+  rules_looked = record {
+    name = list.name ∙ parts.rules.name;
+    base = base ∙ parts.rules.base;
+    callers = list.callers ∙ parts.rules.callers;
+    numbers = list.numbers ∙ parts.rules.numbers
+        ∙ ap (λ (xs : List RuleEntry). map (λ (r : RuleEntry). r.who.task) xs) (sym list.list);
+  }
+
+  pub parts_looked : AreParts (frame_by settings stations2 supers book sems rules2 tasks) stations2
+      book sems rules2
+  parts_looked =
+      subst (λ (x : Frame). AreParts x stations2 book sems rules2) (sym frame_looked)
+      (record {
+        stations = λ j s h.
+            at j s (set_parts stations i j st2 s h (slice_get_within stations i st there));
+        book = parts.book;
+        sems = parts.sems;
+        rules = rules_looked;
+      }) where
+        at : (j : ℕ) (s : StationValue)
+            → ((j ≡ i) × (s ≡ st2)) ⊎ ((i ≢ j) × (slice_get stations j ≡ Some s))
+            → IsStation F j s
+        at j s (inl x) =
+            subst (λ (k : ℕ). IsStation F k s) (sym x.0)
+            (subst (λ (z : StationValue). IsStation F i z) (sym x.1) station_looked)
+        at j s (inr x) = parts.stations j s x.1

@@ -1,0 +1,103 @@
+-- A look at one journal after another.
+use Rattle.std.proofs.Common.{◌≡◌, ◌≢◌, ℕ, zero, suc, ◌+◌, ◌<◌, ◌≤◌, List, [], ◌∷◌, length, get_or, Some, refl, sym, ◌∙◌, ap, subst, arith, inl, inr}
+use Rattle.std.specs.Prelude.{◌⊎◌, slice_get, slice_set}
+use Rattle.std.proofs.lemmas.List.{length-set}
+use Rattle.std.proofs.lemmas.Option.{slice_get_within}
+use Rattle.grow_list.specs.Shown.{Passed}
+use Rattle.inode_events.specs.declared.told.Event.{Event}
+use Rattle.task_steps.proofs.laws_of_runs.Owned.{set_parts}
+use Rattle.task_steps.specs.worlds.World.{StationValue}
+use Rattle.task_steps.specs.Looking.{HaveLooked, HaveLookedTo, IsKept, IsLooked, KeptAt, LookedAt}
+
+same_kept : (s : StationValue) → IsKept s s
+same_kept s = record {
+  cell = record { inode = refl; journal = refl; callers = refl; book = refl; booked = refl };
+  list = refl;
+  rules = refl;
+  place = refl;
+}
+
+-- before the first look
+pub looks_init : (stations : List StationValue) (passes : List (Passed Event))
+    → HaveLookedTo 0 stations stations passes passes
+looks_init stations passes = record {
+  kept = record {
+    even = refl;
+    each = λ i s h. record { before = s; at = h; kept = same_kept s };
+  };
+  even = refl;
+  below = λ i q l h. absurd (omega arith);
+  behind = λ i l. refl;
+  behind_stations = λ i l. refl;
+}
+
+set_behind : {A : Type 0} (xs : List A) (n i : ℕ) (x : A) → n < i
+    → slice_get (slice_set xs n x) i ≡ slice_get xs i
+set_behind [] n i x l = refl
+set_behind (y ∷ ys) zero zero x l = absurd (omega arith)
+set_behind (y ∷ ys) zero (suc i) x l = refl
+set_behind (y ∷ ys) (suc n) zero x l = absurd (omega arith)
+set_behind (y ∷ ys) (suc n) (suc i) x l = set_behind ys n i x (omega arith)
+
+-- after one more look
+pub looks_more : (n : ℕ) (stations stations2 : List StationValue) (old new : List (Passed Event))
+    (s s2 : StationValue) (q q2 : Passed Event)
+    → HaveLookedTo n stations stations2 old new
+    → slice_get stations2 n ≡ Some s → slice_get new n ≡ Some q → IsKept s s2 → IsLooked s q q2
+    → HaveLookedTo (n + 1) stations (slice_set stations2 n s2) old (slice_set new n q2)
+looks_more n stations stations2 old new s s2 q q2 h at there kept looked = record {
+  kept = record {
+    even = length-set stations2 n s2 ∙ h.kept.even;
+    each = λ i z e. kept_at i z
+        (set_parts stations2 n i s2 z e (slice_get_within stations2 n s at));
+  };
+  even = length-set new n q2 ∙ h.even;
+  below = λ i z l e. looked_at i z l (set_parts new n i q2 z e (slice_get_within new n q there));
+  behind = λ i l. set_behind new n i q2 (omega arith) ∙ h.behind i (omega arith);
+  behind_stations = λ i l.
+      set_behind stations2 n i s2 (omega arith) ∙ h.behind_stations i (omega arith);
+} where
+  was : slice_get stations n ≡ Some s
+  was = sym (h.behind_stations n (omega arith)) ∙ at
+
+  kept_at : (i : ℕ) (z : StationValue)
+      → ((i ≡ n) × (z ≡ s2)) ⊎ ((n ≢ i) × (slice_get stations2 i ≡ Some z))
+      → KeptAt stations i z
+  kept_at i z (inl x) = record {
+    before = s;
+    at = ap (slice_get stations) x.0 ∙ was;
+    kept = subst (IsKept s) (sym x.1) kept;
+  }
+  kept_at i z (inr x) = h.kept.each i z x.1
+
+  looked_at : (i : ℕ) (z : Passed Event) → i < n + 1
+      → ((i ≡ n) × (z ≡ q2)) ⊎ ((n ≢ i) × (slice_get new i ≡ Some z))
+      → LookedAt stations old i z
+  looked_at i z l (inl x) = record {
+    before = q;
+    at = ap (slice_get old) x.0 ∙ sym (h.behind n (omega arith)) ∙ there;
+    station = s;
+    station_at = ap (slice_get stations) x.0 ∙ was;
+    looked = subst (IsLooked s q) (sym x.1) looked;
+  }
+  looked_at i z l (inr x) = h.below i z (lower i l x.0) x.1 where
+    lower : (j : ℕ) → j < n + 1 → n ≢ j → j < n
+    lower j a b = omega arith
+
+-- after the last look
+pub looks_end : (n : ℕ) (stations stations2 : List StationValue) (old new : List (Passed Event))
+    → HaveLookedTo n stations stations2 old new → length new ≤ n
+    → HaveLooked stations old new
+looks_end n stations stations2 old new h l = record {
+  even = h.even;
+  each = λ i q e. h.below i q (within i q e) e;
+} where
+  within : (i : ℕ) (q : Passed Event) → slice_get new i ≡ Some q → i < n
+  within i q e = let k : i < length new = slice_get_within new i q e in omega arith
+
+-- an element that was read at an index is found there
+pub at_index : {A : Type 0} (xs : List A) (i : ℕ) (x d : A) → i < length xs → x ≡ get_or xs i d
+    → slice_get xs i ≡ Some x
+at_index [] i x d l e = absurd (omega arith)
+at_index (y ∷ ys) zero x d l e = ap Some (sym e)
+at_index (y ∷ ys) (suc i) x d l e = at_index ys i x d (omega arith) e

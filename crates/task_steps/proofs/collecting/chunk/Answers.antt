@@ -1,0 +1,24 @@
+use Rattle.std.proofs.Common.{[], Some, sym, subst}
+use Rattle.world_model.specs.inodes.Acts.{Acts}
+use Rattle.inode_events.specs.declared.deed.Deed.TheVariants as deed
+use Rattle.inode_events.specs.declared.told.Told.{Told}
+use Rattle.world_model.specs.Due.{HashesAfter}
+use Rattle.task_steps.proofs.Hashing.{piece_left}
+use Rattle.task_steps.proofs.collecting.chunk.Goals as goal
+
+pub returns-clause-acts : goal.returns-clause-acts
+returns-clause-acts c =
+    λ list. subst (λ (x : Told). Acts c.args.cell.now c.chunk.new.self list list c.args.pass.now
+    c.chunk.new.pass c.args.who (deed.Chunk c.args.file) (Some x)) (sym c.piece_told.ensures)
+    (c.in_ok-piece.ensures.acts list)
+
+pub returns-clause-hashes : goal.returns-clause-hashes
+returns-clause-hashes c =
+    subst (λ (x : Told). HashesAfter c.args.cell.now.inode c.chunk.new.self.list
+    c.gather.new.gathered (deed.Chunk c.args.file) x)
+    (sym c.piece_told.ensures)
+    (piece_left c.args.cell.now.inode c.args.cell.now.list c.args.gathered.now c.gather.new.gathered
+    c.in_ok-piece.page
+    c.requires.hashes c.in_ok-piece.ensures.page c.args.file c.args.who c.chunk.new.self.list
+    c.in_ok-piece.piece
+    (c.in_ok-piece.ensures.acts []).journal c.gather.ensures)

@@ -1,0 +1,51 @@
+//! A deed of a task on one inode of its world.
+
+ghost use Rattle.std.specs.Prelude.{◌≡◌, ◌+◌, IfOk, length};
+ghost use Rattle.inode_events.specs.Asked.{outcome};
+ghost use Rattle.inode_events.specs.Past.{past};
+ghost use Rattle.task_steps.specs.worlds.Ready.{HasLooked, IsReady};
+ghost use Rattle.task_steps.specs.minds.Steps.{deed_in};
+ghost use Rattle.task_steps.specs.Acting.{IsPlacedAt, StationDid, told_in, told_of};
+
+use crate::answers::{Answered, told_at};
+use crate::{Actor, does};
+use grow_list::Pass;
+use ima_templates::Entry;
+use inode_events::Event;
+use std::alloc::AllocError as OutOfMemory;
+use task_mind::Doing;
+use world_model::books::Book;
+use world_model::{Gathered, Station};
+
+/// Does the deed on the inode, through its task's passes of the journal and of the measurement
+/// list. `None` means that it is blocked.
+pub fn act_at(
+    station: &mut Station,
+    pass: &mut Pass<Event>,
+    book: &mut Book,
+    listed: &mut Pass<Entry>,
+    actor: &Actor<'_>,
+    doing: Doing<'_>,
+    gathered: &mut Gathered,
+) -> Result<Option<Answered>, OutOfMemory>
+    requires name { pass.old.name ≡ station.old.cell.journal }
+    requires number { pass.old.number ≡ actor.now.who.task + 1 }
+    requires book_name { station.old.cell.book ≡ book.old.name }
+    requires listed { listed.old.name ≡ book.old.name }
+    requires ready { HasLooked station.old.cell.inode pass.old.number pass.old.seen
+        station.old.cell.list pass.old.mine
+        → IsReady station.old.cell.inode pass.old.number station.old.cell.list gathered.old
+        actor.now.action actor.now.slot (deed_in doing) }
+    ensures did { StationDid station.old station.new book.old book.new pass.old pass.new
+        listed.old listed.new actor.now.who (deed_in doing.entry) gathered.old gathered.new
+        (told_in result) }
+    ensures told { IfOk result (λ o. told_of o ≡ outcome station.old.cell.inode book.old.list
+        (deed_in doing.entry) (past station.old.cell.list)) }
+    ensures place { IfOk result (λ o. IsPlacedAt (length station.old.cell.list) o) }
+{
+    let place = station.cell.len();
+    book.look(listed);
+    let told = does(&mut station.cell, pass, actor, doing, book, gathered);
+    book.look(listed);
+    told_at(place, told)
+}

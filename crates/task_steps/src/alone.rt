@@ -1,0 +1,46 @@
+//! A deed of a task on one inode of its world, for which the measurement list isn't lent.
+
+ghost use Rattle.std.specs.Prelude.{◌≡◌, ◌+◌, List, IfOk, length};
+ghost use Rattle.ima_templates.specs.declared.entry.Entry.{Entry as AnyEntry};
+ghost use Rattle.inode_events.specs.Asked.{outcome};
+ghost use Rattle.inode_events.specs.Past.{past};
+ghost use Rattle.task_steps.specs.Hashed.{IsAloneDeed};
+ghost use Rattle.task_steps.specs.worlds.Ready.{HasLooked, IsReady};
+ghost use Rattle.task_steps.specs.minds.Steps.{deed_in};
+ghost use Rattle.task_steps.specs.Acting.{IsPlacedAt, StationDidAlone, told_in, told_of};
+
+use crate::answers::{Answered, told_at};
+use crate::{Actor, does_alone};
+use grow_list::Pass;
+use inode_events::Event;
+use std::alloc::AllocError as OutOfMemory;
+use task_mind::Doing;
+use world_model::{Gathered, Station};
+
+/// Does a deed that doesn't consult the measurement list on the inode, through its task's pass of
+/// the journal. `None` means that it is blocked.
+pub fn act_alone_at(
+    station: &mut Station,
+    pass: &mut Pass<Event>,
+    actor: &Actor<'_>,
+    doing: Doing<'_>,
+    gathered: &mut Gathered,
+) -> Result<Option<Answered>, OutOfMemory>
+    requires name { pass.old.name ≡ station.old.cell.journal }
+    requires number { pass.old.number ≡ actor.now.who.task + 1 }
+    requires ready { HasLooked station.old.cell.inode pass.old.number pass.old.seen
+        station.old.cell.list pass.old.mine
+        → IsReady station.old.cell.inode pass.old.number station.old.cell.list gathered.old
+        actor.now.action actor.now.slot (deed_in doing) }
+    requires alone { IsAloneDeed (deed_in doing) }
+    ensures did { StationDidAlone station.old station.new pass.old pass.new actor.now.who
+        (deed_in doing.entry) gathered.old gathered.new (told_in result) }
+    ensures told { IfOk result (λ o. (list : List AnyEntry) → told_of o
+        ≡ outcome station.old.cell.inode list (deed_in doing.entry)
+        (past station.old.cell.list)) }
+    ensures place { IfOk result (λ o. IsPlacedAt (length station.old.cell.list) o) }
+{
+    let place = station.cell.len();
+    let told = does_alone(&mut station.cell, pass, actor, doing, gathered);
+    told_at(place, told)
+}

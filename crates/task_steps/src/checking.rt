@@ -1,0 +1,57 @@
+//! A check of a task on one inode of its world, by the rules in force.
+
+ghost use Rattle.inode_events.specs.declared.deed.Deed.TheVariants as Deed;
+ghost use Rattle.std.specs.Prelude.{◌≡◌, ◌+◌};
+ghost use Rattle.task_steps.specs.inodes.Acts.{MayBy};
+ghost use Rattle.inode_events.specs.Checks.{no_action};
+ghost use Rattle.inode_events.specs.Past.{past};
+ghost use Rattle.inode_events.specs.State.{metadata};
+ghost use Rattle.task_steps.specs.worlds.declared.gathered.Gathered.{Gathered as AnyGathered};
+ghost use Rattle.task_steps.specs.worlds.Ready.{HasLooked};
+ghost use Rattle.task_steps.specs.Acting.{StationDid, told_in};
+ghost use Rattle.task_steps.specs.Checking.{IsChecked, check_by};
+
+use crate::answers::{Answered, checked_at};
+use crate::{Actor, Checks, checks};
+use grow_list::Pass;
+use ima_templates::Entry;
+use inode_events::Event;
+use policy_text::Super;
+use run_model::matching::Index;
+use std::alloc::AllocError as OutOfMemory;
+use world_model::Station;
+use world_model::books::Book;
+
+/// Makes the check on the inode, which is on this file system, through its task's passes of the
+/// journal and of the measurement list.
+pub fn check_at(
+    station: &mut Station,
+    pass: &mut Pass<Event>,
+    book: &mut Book,
+    listed: &mut Pass<Entry>,
+    actor: &Actor<'_>,
+    asked: Checks,
+    rules: &Index,
+    place: &Super,
+) -> Result<Option<Answered>, OutOfMemory>
+    requires name { pass.old.name ≡ station.old.cell.journal }
+    requires number { pass.old.number ≡ actor.now.who.task + 1 }
+    requires book_name { station.old.cell.book ≡ book.old.name }
+    requires listed { listed.old.name ≡ book.old.name }
+    requires ready { HasLooked station.old.cell.inode pass.old.number pass.old.seen
+        station.old.cell.list pass.old.mine
+        → MayBy station.old.cell pass.old.number
+        (Deed.Check asked.file asked.func no_action 0) }
+    ensures did { (g : AnyGathered) → StationDid station.old station.new book.old book.new
+        pass.old pass.new listed.old listed.new actor.now.who
+        (check_by rules.now actor.now.cred.now place.now (metadata (past station.old.cell.list))
+        asked) g g (told_in result) }
+    ensures told { IsChecked station.old.cell.inode station.old.cell.list book.old.list rules.now
+        actor.now.cred.now place.now asked result }
+{
+    let at = station.cell.len();
+    book.look(listed);
+    let told = checks(&mut station.cell, pass, actor, asked, rules, place, book);
+    book.look(listed);
+    checked_at(at, told)
+}

@@ -1,0 +1,150 @@
+//! Deeds that begin, continue or end a collection and don't consult the measurement list.
+
+ghost use Rattle.inode_events.specs.declared.deed.Deed.TheVariants as Deed;
+ghost use Rattle.std.specs.Prelude.{◌≡◌, ℕ, ◌+◌, List, Some, IfOk, OnErr};
+ghost use Rattle.ima_templates.specs.declared.entry.Entry.{Entry as AnyEntry};
+ghost use Rattle.world_model.specs.inodes.Acts.{Acts, MayBy, Stays};
+ghost use Rattle.task_steps.specs.Hashed.{IsCollectingDeed};
+ghost use Rattle.world_model.specs.Due.{HashesTold};
+ghost use Rattle.world_model.specs.Tasks.{HashesBefore};
+ghost use Rattle.task_mind.specs.Steps.{deed_in};
+
+use crate::gathering::{gather, sums};
+use crate::told::{finished_told, piece_told};
+use grow_list::Pass;
+use inode_events::{Event, Told};
+use inode_hashing::Hashing;
+use inode_meta::Who;
+use std::alloc::AllocError as OutOfMemory;
+use task_mind::Doing;
+use world_model::Gathered;
+use world_model::inodes::{CloseTaken, InodeCell};
+
+// Reads and hashes the next piece of a take's collection.
+fn chunk(
+    cell: &mut InodeCell,
+    pass: &mut Pass<Event>,
+    who: Who,
+    file: u64,
+    gathered: &mut Gathered,
+) -> Result<Told, OutOfMemory>
+    requires name { pass.old.name ≡ cell.old.journal }
+    requires number { pass.old.number ≡ who.task + 1 }
+    requires may { MayBy cell.old pass.old.number (Deed.Chunk file) }
+    requires hashes { HashesBefore cell.old.inode cell.old.list gathered.old (Deed.Chunk file) }
+    ensures acts { IfOk result (λ t. (list : List AnyEntry) → Acts cell.old cell.new list list
+        pass.old pass.new who (Deed.Chunk file) (Some t)) }
+    ensures hashes { IfOk result (λ t. HashesTold cell.old.inode cell.new.list gathered.old
+        gathered.new (Deed.Chunk file) (Some t)) }
+    ensures err { OnErr result (Stays cell.old cell.new pass.old pass.new) }
+    ensures kept { OnErr result (gathered.new ≡ gathered.old) }
+{
+    let (piece, page) = cell.chunk(pass, who, file)?;
+    gather(gathered, piece, &page);
+    Ok(piece_told(piece))
+}
+
+// Reads and hashes the next piece of a close's collection.
+fn close_chunk(
+    cell: &mut InodeCell,
+    pass: &mut Pass<Event>,
+    who: Who,
+    file: u64,
+    gathered: &mut Gathered,
+) -> Result<Told, OutOfMemory>
+    requires name { pass.old.name ≡ cell.old.journal }
+    requires number { pass.old.number ≡ who.task + 1 }
+    requires may { MayBy cell.old pass.old.number (Deed.CloseChunk file) }
+    requires hashes { HashesBefore cell.old.inode cell.old.list gathered.old
+        (Deed.CloseChunk file) }
+    ensures acts { IfOk result (λ t. (list : List AnyEntry) → Acts cell.old cell.new list list
+        pass.old pass.new who (Deed.CloseChunk file) (Some t)) }
+    ensures hashes { IfOk result (λ t. HashesTold cell.old.inode cell.new.list gathered.old
+        gathered.new (Deed.CloseChunk file) (Some t)) }
+    ensures err { OnErr result (Stays cell.old cell.new pass.old pass.new) }
+    ensures kept { OnErr result (gathered.new ≡ gathered.old) }
+{
+    let (piece, page) = cell.close_chunk(pass, who, file)?;
+    gather(gathered, piece, &page);
+    Ok(piece_told(piece))
+}
+
+// Begins a writer's close. `None` means that it is blocked.
+fn close_take(
+    cell: &mut InodeCell,
+    pass: &mut Pass<Event>,
+    who: Who,
+    file: u64,
+    gathered: &mut Gathered,
+) -> Result<Option<Told>, OutOfMemory>
+    requires name { pass.old.name ≡ cell.old.journal }
+    requires number { pass.old.number ≡ who.task + 1 }
+    requires may { MayBy cell.old pass.old.number (Deed.CloseTake file) }
+    ensures acts { IfOk result (λ o. (list : List AnyEntry) → Acts cell.old cell.new list list
+        pass.old pass.new who (Deed.CloseTake file) o) }
+    ensures hashes { IfOk result (λ o. HashesTold cell.old.inode cell.new.list gathered.old
+        gathered.new (Deed.CloseTake file) o) }
+    ensures err { OnErr result (Stays cell.old cell.new pass.old pass.new) }
+    ensures kept { OnErr result (gathered.new ≡ gathered.old) }
+{
+    match cell.close_take(pass, who, file)? {
+        CloseTaken::Begun(algo) => {
+            *gathered = Gathered::Running(Hashing::begin(algo));
+            Ok(Some(Told::Begun))
+        }
+        CloseTaken::Dropped => Ok(Some(Told::Dropped)),
+        CloseTaken::Blocked => Ok(None),
+    }
+}
+
+// Ends a writer's close.
+fn close_finish(
+    cell: &mut InodeCell,
+    pass: &mut Pass<Event>,
+    who: Who,
+    file: u64,
+    gathered: &Gathered,
+) -> Result<Told, OutOfMemory>
+    requires name { pass.old.name ≡ cell.old.journal }
+    requires number { pass.old.number ≡ who.task + 1 }
+    requires may { MayBy cell.old pass.old.number (Deed.CloseFinish file) }
+    requires hashes { HashesBefore cell.old.inode cell.old.list gathered.now
+        (Deed.CloseFinish file) }
+    ensures acts { IfOk result (λ t. (list : List AnyEntry) → Acts cell.old cell.new list list
+        pass.old pass.new who (Deed.CloseFinish file) (Some t)) }
+    ensures err { OnErr result (Stays cell.old cell.new pass.old pass.new) }
+{
+    let Some(sums) = sums(gathered) else {
+        unreachable!()
+    };
+    Ok(finished_told(cell.close_finish(pass, who, file, sums)?))
+}
+
+/// Does a deed that begins, continues or ends a collection. `None` means that it is blocked.
+pub fn collect(
+    cell: &mut InodeCell,
+    pass: &mut Pass<Event>,
+    who: Who,
+    doing: Doing<'_>,
+    gathered: &mut Gathered,
+) -> Result<Option<Told>, OutOfMemory>
+    requires name { pass.old.name ≡ cell.old.journal }
+    requires number { pass.old.number ≡ who.task + 1 }
+    requires may { MayBy cell.old pass.old.number (deed_in doing) }
+    requires hashes { HashesBefore cell.old.inode cell.old.list gathered.old (deed_in doing) }
+    requires collects { IsCollectingDeed (deed_in doing) }
+    ensures acts { IfOk result (λ o. (list : List AnyEntry) → Acts cell.old cell.new list list
+        pass.old pass.new who (deed_in doing.entry) o) }
+    ensures hashes { IfOk result (λ o. HashesTold cell.old.inode cell.new.list gathered.old
+        gathered.new (deed_in doing.entry) o) }
+    ensures err { OnErr result (Stays cell.old cell.new pass.old pass.new) }
+    ensures kept { OnErr result (gathered.new ≡ gathered.old) }
+{
+    match doing {
+        Doing::Chunk(file) => Ok(Some(chunk(cell, pass, who, file, gathered)?)),
+        Doing::CloseTake(file) => close_take(cell, pass, who, file, gathered),
+        Doing::CloseChunk(file) => Ok(Some(close_chunk(cell, pass, who, file, gathered)?)),
+        Doing::CloseFinish(file) => Ok(Some(close_finish(cell, pass, who, file, gathered)?)),
+        _ => unreachable!(),
+    }
+}

@@ -1,0 +1,52 @@
+//! The hashing of a task's collection.
+
+ghost use Rattle.std.specs.Prelude.{◌≡◌, ◌++◌, Some};
+ghost use Rattle.hash_algos.specs.Digest.{digest_of};
+ghost use Rattle.hash_algos.specs.declared.algo.Algo.TheVariants.{Sha1};
+ghost use Rattle.inode_events.specs.Integrity.{Collection, digest_from};
+ghost use Rattle.task_steps.specs.Hashed.{HasGathered, sums_in};
+ghost use Rattle.world_model.specs.Tasks.{HasSummed, HasTakenIn};
+
+use hash_algos::Digest;
+use inode_events::pages::Page;
+use inode_hashing::Hashing;
+use std::mem;
+use world_model::Gathered;
+use world_model::inodes::Piece;
+
+// Hashes the piece, and computes the digests after the last one.
+fn hashed(mut hashing: Hashing, piece: Piece, page: &Page) -> Gathered
+    ensures { (c : Collection) → HasTakenIn (Gathered.Running hashing) c
+        → HasGathered piece result (record c { bytes = c.bytes ++ page.now }) }
+{
+    hashing.next_page(page);
+    match piece {
+        Piece::More => Gathered::Running(hashing),
+        Piece::Last => {
+            let (chosen, sha1) = hashing.finish();
+            Gathered::Sums(chosen, sha1)
+        }
+    }
+}
+
+/// Hashes the piece that the collection took.
+pub fn gather(gathered: &mut Gathered, piece: Piece, page: &Page)
+    ensures { (c : Collection) → HasTakenIn gathered.old c
+        → HasGathered piece gathered.new (record c { bytes = c.bytes ++ page.now }) }
+{
+    if let Gathered::Running(hashing) = mem::replace(gathered, Gathered::Nothing) {
+        *gathered = hashed(hashing, piece, page);
+    }
+}
+
+/// The digests of the collection; `None` if its last piece hasn't been taken.
+pub fn sums(gathered: &Gathered) -> Option<(Digest, Digest)>
+    ensures of { (c : Collection) → HasSummed gathered.now c
+        → result ≡ Some (digest_from c, digest_of Sha1 c.bytes) }
+    ensures value { result ≡ sums_in gathered.now }
+{
+    match gathered {
+        Gathered::Sums(chosen, sha1) => Some((*chosen, *sha1)),
+        _ => None,
+    }
+}

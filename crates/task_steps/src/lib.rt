@@ -1,0 +1,30 @@
+//! One step of a task on the lists of its world, and its effect on the run: a deed on one inode, or
+//! a check, which is borrowed together with whatever else it needs; its place in the lists; and the
+//! look at the lists before and after it.
+#![tactic(auto)]
+
+mod acting;
+mod alone;
+mod answers;
+mod checking;
+mod collecting;
+mod doing;
+mod gathering;
+mod listed;
+mod looking;
+mod plain;
+mod told;
+
+pub use acting::act_at;
+pub use alone::act_alone_at;
+pub use answers::{Answered, Reached, became};
+pub use checking::check_at;
+pub use doing::{Actor, checks, does, does_alone};
+pub use gathering::gather;
+pub use listed::Checks;
+pub use looking::look_at_inodes;
+pub use std::alloc::AllocError as OutOfMemory;
+pub use task_mind as minds;
+pub use told::piece_told;
+pub use world_model as worlds;
+pub use world_model::books;

@@ -1,0 +1,80 @@
+-- The final state of a world when its lists are closed.
+use Rattle.std.proofs.Common.{◌≡◌, ℕ, Bool, List, length, refl, ap, sym, ◌∙◌, subst, Some, None}
+use Rattle.std.specs.Prelude.{◌==◌, All, Option, false, map}
+use mathlib.Core.List.{map-map}
+use Rattle.run_model.specs.steps.declared.call.Call.{Call}
+use Rattle.run_model.specs.steps.declared.call.Call.TheVariants as call
+use Rattle.ima_templates.specs.IsEntry.{IsEntry}
+use Rattle.ima_templates.specs.declared.entry.Entry.{Entry}
+use Rattle.inode_events.specs.declared.told.Event.{Event}
+use Rattle.run_model.specs.rules.declared.cell.RuleEntry.{RuleEntry}
+use Rattle.run_model.specs.Ended.{waits_in_vain}
+use Rattle.run_model.specs.EndedValue.{EndedValue}
+use Rattle.run_model.specs.Scene.{Scene}
+use Rattle.run_model.specs.Turns.{Moment, State}
+use Rattle.world_close.specs.worlds.Frame.{Frame, scene_of}
+use Rattle.world_close.specs.worlds.Runs.{AreTasks, moment_of, programs_of, thought_of}
+use Rattle.world_close.specs.worlds.Tasks.{Tasked}
+use Rattle.world_close.specs.worlds.World.{StationValue}
+use Rattle.world_close.specs.minds.Value.{TaskValue, awaited_by}
+use Rattle.world_close.specs.Closed.{AreStations, WorldClosed}
+use Rattle.world_close.specs.Finished.{HaveMade, state_at}
+use Rattle.world_close.proofs.Finishing.{finished}
+use Rattle.world_close.proofs.Leaving.{closed_left}
+use Rattle.world_close.specs.Leaves.{left_by}
+use Rattle.world_close.specs.Settled.{HasEnded, HaveSameMinds, mind_of}
+
+-- ---- tasks
+
+-- the awaited semaphore, if there is one, has no post left
+abbrev pub vain : (ℕ → ℕ) → Option ℕ → Bool
+vain left_of None = false
+vain left_of (Some sem) = left_of sem == 0
+
+pub vain_is : (left_of : ℕ → ℕ) (c : Option Call)
+    → vain left_of (awaited_by c) ≡ waits_in_vain left_of c
+vain_is left_of None = refl
+vain_is left_of (Some (call.Wait sem)) = refl
+vain_is left_of (Some c) = refl
+
+-- ---- the world
+
+-- the final state, by the closed lists and the tasks
+pub closed_ended : (frame : Frame) (stations : List StationValue) (list : List Entry)
+    (signals : List Event) (added : List RuleEntry) (tasks : List Tasked) (e : EndedValue)
+    → AreStations frame stations → AreTasks frame tasks → length tasks ≡ frame.tasks
+    → HaveMade frame (state_at stations list signals added) tasks
+    → WorldClosed frame stations list signals added (map (λ (t : Tasked). t.passes) tasks)
+    → e ≡ left_by frame stations list signals added tasks
+    → HasEnded (scene_of frame (programs_of tasks))
+    (moment_of (state_at stations list signals added) tasks) e
+closed_ended frame stations list signals added tasks e are of count made closed is =
+    let done = finished frame stations list signals added tasks are of count made closed in
+    record {
+      ended = is ∙ closed_left frame stations list signals added tasks are done;
+      entries = subst (All IsEntry) (sym (ap (λ (x : EndedValue). x.list) is)) closed.entries;
+      finished = done;
+    }
+
+-- the final state doesn't change if the tasks have only looked at the lists
+pub ended_same : (frame frame2 : Frame) (state state2 : State) (old new : List Tasked)
+    (e : EndedValue) → frame2 ≡ frame → state2 ≡ state → HaveSameMinds old new
+    → HasEnded (scene_of frame2 (programs_of new)) (moment_of state2 new) e
+    → HasEnded (scene_of frame (programs_of old)) (moment_of state old) e
+ended_same frame frame2 state state2 old new e frames states same =
+    subst (λ (x : Scene × Moment). HasEnded x.0 x.1 e)
+    (λ i. (
+      scene_of (frames i) (programs i),
+      record { state = states i; thoughts = thoughts i },
+    )) where
+      programs : programs_of new ≡ programs_of old
+      programs =
+          sym (map-map (λ (m : TaskValue). m.program) mind_of new)
+          ∙ ap (map (λ (m : TaskValue). m.program)) same
+          ∙ map-map (λ (m : TaskValue). m.program) mind_of old
+
+      thoughts : map thought_of new ≡ map thought_of old
+      thoughts =
+          sym (map-map (λ (m : TaskValue). m.thought) mind_of new)
+          ∙ ap (map (λ (m : TaskValue). m.thought)) same
+          ∙ map-map (λ (m : TaskValue). m.thought) mind_of old

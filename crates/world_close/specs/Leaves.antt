@@ -1,0 +1,70 @@
+-- The final state of a world, by its closed lists and its tasks.
+use Rattle.std.specs.Prelude.{◌≡◌, ℕ, ◌&&◌, ◌||◌, not, Bool, List, length, map, slice_get}
+use Rattle.std.specs.List.{list_all, list_any}
+use Rattle.measure_book.specs.Replay.{banks_of}
+use Rattle.ima_templates.specs.declared.entry.Entry.{Entry}
+use Rattle.inode_events.specs.Past.{past}
+use Rattle.inode_events.specs.Semaphores.{left}
+use Rattle.inode_events.specs.declared.told.Event.{Event}
+use Rattle.run_model.specs.rules.declared.cell.RuleEntry.{RuleEntry}
+use Rattle.run_model.specs.Ended.{is_done, waits_in_vain}
+use Rattle.run_model.specs.EndedValue.{EndedTaskValue, EndedValue, appends, ended_of}
+use Rattle.run_model.specs.Turns.{run_at}
+use Rattle.world_close.specs.worlds.Frame.{Frame, scene_of}
+use Rattle.world_close.specs.worlds.Runs.{moment_of, programs_of}
+use Rattle.world_close.specs.worlds.Tasks.{Tasked}
+use Rattle.world_close.specs.worlds.World.{StationValue}
+use Rattle.world_close.specs.Closed.{AreStations, ended_station}
+use Rattle.world_close.specs.Finished.{IsFinished, state_at}
+
+-- ---- a task
+
+-- each of the task's calls is answered
+abbrev pub done_by : Tasked → Bool
+done_by t = is_done t.mind.program t.mind.thought
+
+abbrev pub task_left : Tasked → EndedTaskValue
+task_left t = record { done = done_by t; replies = t.mind.thought.replies }
+
+-- the task is done, or its next call waits for a semaphore with no post left
+abbrev pub rests : (ℕ → ℕ) → Tasked → Bool
+rests left_of t =
+    done_by t || waits_in_vain left_of
+    (slice_get t.mind.program.calls (length t.mind.thought.replies))
+
+-- the task's program can append a rule
+abbrev pub may_append : Tasked → Bool
+may_append t = list_any appends t.mind.program.calls
+
+-- ---- all tasks
+
+-- some task isn't done, and none can go on
+abbrev pub are_stuck : (ℕ → ℕ) → List Tasked → Bool
+are_stuck left_of tasks = not (list_all done_by tasks) && list_all (rests left_of) tasks
+
+-- ---- the world
+
+abbrev pub left_by : Frame → List StationValue → List Entry → List Event → List RuleEntry
+    → List Tasked → EndedValue
+left_by frame stations list signals added tasks = record {
+  inodes = map ended_station stations;
+  list = list;
+  banks = banks_of list;
+  tasks = map task_left tasks;
+  stuck = are_stuck (λ sem. left sem (past signals)) tasks;
+  template = frame.settings.template;
+  rules = added;
+  base = length frame.base;
+  grows = list_any may_append tasks;
+}
+
+-- the final state of the closed lists and the tasks is the final state of the run
+abbrev pub ClosedIsLeft : Type 0
+ClosedIsLeft =
+    (frame : Frame) (stations : List StationValue) (list : List Entry) (signals : List Event)
+    (added : List RuleEntry) (tasks : List Tasked) → AreStations frame stations
+    → IsFinished (scene_of frame (programs_of tasks))
+    (moment_of (state_at stations list signals added) tasks)
+    → left_by frame stations list signals added tasks
+    ≡ ended_of (scene_of frame (programs_of tasks))
+    (run_at (moment_of (state_at stations list signals added) tasks))

@@ -1,0 +1,36 @@
+-- Tasks that look at all lists of their world, one after another, and how their run ends.
+use Rattle.std.specs.Prelude.{◌≡◌, ℕ, ◌<◌, ◌||◌, All, Bool, List, map, Some, slice_get}
+use Rattle.ima_templates.specs.IsEntry.{IsEntry}
+use Rattle.run_model.specs.Ended.{all_done, is_stuck}
+use Rattle.run_model.specs.EndedValue.{EndedValue, ended_of}
+use Rattle.run_model.specs.Scene.{Scene}
+use Rattle.run_model.specs.Turns.{Moment, State, run_at}
+use Rattle.world_close.specs.worlds.Frame.{Frame}
+use Rattle.world_close.specs.worlds.Runs.{AreTasks, HasMade}
+use Rattle.world_close.specs.worlds.Tasks.{Tasked}
+use Rattle.world_close.specs.minds.Value.{TaskValue}
+use Rattle.world_close.specs.Finished.{IsFinished}
+
+abbrev pub mind_of : Tasked → TaskValue
+mind_of t = t.mind
+
+-- no task's knowledge of its own calls has changed
+abbrev pub HaveSameMinds : List Tasked → List Tasked → Type 0
+HaveSameMinds old new = map mind_of new ≡ map mind_of old
+
+-- the tasks below k have looked at all lists
+pub record HaveLooked (frame : Frame) (state : State) (k : ℕ) (old new : List Tasked)
+    : Type 0 where
+  pub made : (j : ℕ) (t : Tasked) → j < k → slice_get new j ≡ Some t → HasMade frame state t
+  pub tasks : AreTasks frame new
+  pub same : HaveSameMinds old new
+
+-- each task is done, or the run is stuck
+abbrev pub is_over : Scene → Moment → Bool
+is_over scene m = all_done scene.programs m.thoughts || is_stuck scene.programs m.thoughts
+
+-- the final state of the run at this moment
+pub record HasEnded (scene : Scene) (m : Moment) (e : EndedValue) : Type 0 where
+  pub ended : e ≡ ended_of scene (run_at m)
+  pub entries : All IsEntry e.list
+  pub finished : IsFinished scene m

@@ -1,3 +1,0 @@
-pub mod Leaves
-pub mod Settled
-pub use Rattle.world_close.specs as closes

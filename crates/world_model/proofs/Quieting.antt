@@ -1,0 +1,153 @@
+-- Steps that aren't events on an inode make the history longer, or leave it as it was.
+use Rattle.std.proofs.Common.{◌≡◌, ℕ, List, [], ◌++◌, length, Option, Some, None, refl, sym, ◌∙◌, ap, subst}
+use Rattle.std.specs.Prelude.{slice_get}
+use Rattle.std.proofs.lemmas.List.{append-nil}
+use Rattle.grow_list.proofs.Prefixes.{prefix_refl}
+use Rattle.grow_list.specs.Shown.{Passed}
+use Rattle.call_steps.specs.templates.declared.entry.Entry.{Entry}
+use Rattle.inode_meta.specs.declared.step.Who.{Who}
+use Rattle.inode_events.specs.declared.told.Event.{Event}
+use Rattle.call_steps.specs.Mind.{Mind, Step}
+use Rattle.call_steps.specs.Mind.{Nothing, Does, Checks, Signals, Appends}
+use Rattle.world_model.specs.laws_of_runs.Logs.{logged}
+use Rattle.world_model.specs.laws_of_runs.Steps.{Made, RisesWithin}
+use Rattle.run_model.specs.rules.declared.cell.RuleEntry.{RuleEntry}
+use Rattle.world_model.proofs.laws_of_runs.Checking.{law_fits_by_step}
+use Rattle.world_model.specs.laws_of_runs.Checks.{IsPlainStep, SeesMore, seen_by}
+use Rattle.run_model.specs.History.{Answer, Thought, event_in, step_at, who_at}
+use Rattle.world_model.specs.Frame.{Frame, mode_in, scene_of}
+use Rattle.world_model.specs.Tasks.{HashesFor, HasPlayed, PassesValue, Tasked}
+use Rattle.world_model.specs.Due.{HashesAfterStep}
+use Rattle.world_model.specs.Plays.{HasHeard, task_after, task_left}
+use Rattle.world_model.specs.Quiet.{IsQuiet, QuietIsLeft, QuietIsPlayed, QuietPasses}
+use Rattle.world_model.specs.Steps.{HasStepped, InodeStepped}
+use Rattle.world_model.proofs.Eventing.{adds_none}
+use Rattle.world_model.proofs.Next.{hashes_heard}
+use Rattle.world_model.proofs.Playing.{step_is_played}
+use Rattle.world_model.specs.minds.Value.{TaskValue}
+
+no_event : (o : Option Step) (j : ℕ) (who : Who) (a : Answer) → IsQuiet o → event_in j who o a ≡ []
+no_event (Some Nothing) j who a q = refl
+no_event (Some (Signals d)) j who a q = refl
+no_event (Some (Appends rule)) j who a q = refl
+no_event (Some (Does i d)) j who a q = absurd q
+no_event (Some (Checks i file func mask)) j who a q = absurd q
+no_event None j who a q = absurd q
+
+not_logged : (o : Option Step) (who : Who) (a : Answer) → IsQuiet o → logged who o a ≡ []
+not_logged (Some Nothing) who a q = refl
+not_logged (Some (Signals d)) who a q = refl
+not_logged (Some (Appends rule)) who a q = refl
+not_logged (Some (Does i d)) who a q = absurd q
+not_logged (Some (Checks i file func mask)) who a q = absurd q
+not_logged None who a q = absurd q
+
+module _ (frame : Frame) (t : Tasked) (a : Answer) (passes : PassesValue) (mind : TaskValue)
+    (quiet : IsQuiet (step_at t.mind.program t.mind.thought.mind))
+    (y : QuietPasses frame t passes a) (hd : HasHeard frame t a mind) where
+  abbrev who : Who
+  who = who_at t.number t.mind.program t.mind.thought.mind
+
+  abbrev due : Option Step
+  due = step_at t.mind.program t.mind.thought.mind
+
+  inodes_quiet : (j : ℕ) (q : Passed Event) → slice_get passes.inodes j ≡ Some q
+      → InodeStepped who due a j t.passes.inodes q
+  inodes_quiet j q g = record {
+    before = q;
+    at = ap (λ (xs : List (Passed Event)). slice_get xs j) (sym y.inodes) ∙ g;
+    name = refl;
+    number = refl;
+    mine = sym (append-nil q.mine)
+        ∙ ap (λ (xs : List (ℕ × Event)). q.mine ++ xs) (sym (no_event due j who a quiet));
+    placed = λ b. b;
+  }
+
+  sees_quiet : SeesMore (seen_by t.passes.inodes t.passes.rules)
+      (seen_by passes.inodes passes.rules)
+  sees_quiet =
+      subst (λ (xs : List (Passed Event)). SeesMore (seen_by t.passes.inodes t.passes.rules)
+      (seen_by xs passes.rules)) (sym y.inodes)
+      (record {
+        journals = λ i j g. record { longer = j; there = g; before = prefix_refl j };
+        added = y.rules_seen;
+      })
+
+  heard : (step : Step) → due ≡ Some step
+      → HashesAfterStep frame passes.inodes t.gathered step a.told
+      → HashesFor frame passes.inodes t.gathered (step_at t.mind.program mind.thought.mind)
+  heard step st k =
+      subst (λ (z : Thought).
+      HashesFor frame passes.inodes t.gathered (step_at t.mind.program z.mind)) (sym hd.thought)
+      (hashes_heard frame passes.inodes t.gathered t.mind.program (mode_in frame) t.mind.thought a
+      step st k)
+
+  -- a quiet step needs and leaves no hashing, whichever it is
+  hashes_quiet : (o : Option Step) → due ≡ o → IsQuiet o
+      → HashesFor frame passes.inodes t.gathered (step_at t.mind.program mind.thought.mind)
+  hashes_quiet (Some Nothing) st q = heard Nothing st tt
+  hashes_quiet (Some (Signals d)) st q = heard (Signals d) st tt
+  hashes_quiet (Some (Appends rule)) st q = heard (Appends rule) st tt
+  hashes_quiet (Some (Does i d)) st q = absurd q
+  hashes_quiet (Some (Checks i file func mask)) st q = absurd q
+  hashes_quiet None st q = absurd q
+
+  quiet_stepped : HasStepped frame t (task_after t mind passes t.gathered) a
+  quiet_stepped = record {
+    number = refl;
+    program = hd.program;
+    stands = hd.thought;
+    checked = hd.checked;
+    even = ap length y.inodes;
+    inodes = inodes_quiet;
+    sems = y.sems;
+    rules = y.rules;
+    book = adds_none t.passes.book passes.book y.book;
+    checks = λ programs h same fit. law_fits_by_step (scene_of frame programs) t.mind.program
+        (seen_by t.passes.inodes t.passes.rules) (seen_by passes.inodes passes.rules) h a
+        sees_quiet fit
+        (subst (λ (m : Mind). IsPlainStep (scene_of frame programs)
+        (seen_by passes.inodes passes.rules) (step_at t.mind.program m) a) (sym same)
+        (y.plain programs));
+    rises = λ steps r.
+        subst (λ (xs : List Made). RisesWithin (xs ++ steps) passes.book.seen)
+        (sym (not_logged due who a quiet))
+        (subst (λ (q : Passed Entry). RisesWithin steps q.seen) (sym y.book) r);
+    hashed = hashes_quiet due refl quiet;
+  }
+
+pub quiet_is_played : QuietIsPlayed
+quiet_is_played frame t h a passes mind x quiet y hd =
+    step_is_played frame t (task_after t mind passes t.gathered) h a x
+    (quiet_stepped frame t a passes mind quiet y hd)
+
+-- proof of `QuietIsLeft`
+pub quiet_is_left : QuietIsLeft
+quiet_is_left frame t h passes x l =
+    subst (λ (qs : List (Passed Event)). HasPlayed frame
+    (task_left t (record passes { inodes = qs }) t.gathered) h) (sym l.inodes)
+    (subst (λ (q : Passed Entry). HasPlayed frame
+    (task_left t (record passes { inodes = t.passes.inodes; book = q }) t.gathered) h) (sym l.book)
+    (subst (λ (q : Passed RuleEntry). HasPlayed frame
+    (task_left t (record passes { inodes = t.passes.inodes; book = t.passes.book; rules = q })
+    t.gathered) h) (sym l.rules)
+    (record {
+      calls = x.calls;
+      stands = x.stands;
+      checked = x.checked;
+      passes = record {
+        even = x.passes.even;
+        inodes = x.passes.inodes;
+        sems = (l.sems.name ∙ x.passes.sems.0, l.sems.number ∙ x.passes.sems.1);
+        book = x.passes.book;
+        rules = x.passes.rules;
+      };
+      events = x.events;
+      placed = x.placed;
+      signals = l.sems.mine ∙ append-nil t.passes.sems.mine ∙ x.signals;
+      rules = x.rules;
+      unlisted = x.unlisted;
+      checks = x.checks;
+      rises = x.rises;
+      hashed = x.hashed;
+    })))

@@ -1,0 +1,21 @@
+pub mod Frame
+pub mod World
+pub mod Tasks
+pub mod Runs
+pub mod Due
+pub mod Ready
+pub mod Steps
+pub mod Events
+pub mod Plays
+pub mod Looks
+pub mod Quiet
+pub mod WorldRuns
+pub mod TurnLaws
+pub use Rattle.inode_cell.specs.laws_of_journals
+pub use Rattle.run_laws.specs as laws_of_runs
+pub use Rattle.progress_laws.specs as laws_of_progress
+pub use Rattle.task_mind.specs as minds
+pub use Rattle.inode_cell.specs as inodes
+pub use Rattle.run_laws.specs.steps
+pub use Rattle.inode_cell.specs.states
+pub use Rattle.run_laws.specs.model

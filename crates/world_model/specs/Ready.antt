@@ -1,0 +1,67 @@
+-- When a step on an inode may be done, and what a look at the inode's journal tells about that.
+use Rattle.std.specs.Prelude.{◌≡◌, ℕ, ◌+◌, List, map, Option, Some, slice_get}
+use mathlib.Core.List.{IsPrefix}
+use Rattle.grow_list.specs.Entries.{entries_of}
+use Rattle.grow_list.specs.Shown.{Passed}
+use Rattle.inode_meta.specs.declared.appraisal.Slot.{Slot}
+use Rattle.policy_text.specs.ActionValue.{ActionValue}
+use Rattle.inode_events.specs.Callers.{caller_of}
+use Rattle.inode_events.specs.Checks.{last_check, no_action, slot_of}
+use Rattle.inode_events.specs.Inode.{Inode}
+use Rattle.inode_events.specs.Legal.{Legal, May}
+use Rattle.inode_events.specs.Past.{past}
+use Rattle.inode_events.specs.declared.deed.Deed.{Deed}
+use Rattle.inode_events.specs.declared.deed.Deed.TheVariants as deed
+use Rattle.inode_events.specs.declared.told.Event.{Event}
+use Rattle.call_steps.specs.Mind.{Step}
+use Rattle.call_steps.specs.Mind.{Does, Checks}
+use Rattle.world_model.specs.laws_of_journals.OwnLaws.{TellsByMine}
+use Rattle.world_model.specs.laws_of_journals.Own.{IsBy, IsOwned}
+use Rattle.run_model.specs.History.{Answer, step_at}
+use Rattle.world_model.specs.Frame.{Frame, Site, inode_in}
+use Rattle.world_model.specs.Tasks.{HashesBefore, HasPlayed, Tasked}
+use Rattle.world_model.specs.declared.gathered.Gathered.{Gathered}
+use Rattle.world_model.specs.Due.{slot_in}
+use Rattle.world_model.specs.minds.Value.{due_at}
+
+-- a take has the slot and the action of the last check of its file
+abbrev pub AsksBy : List Event → ActionValue → Slot → Deed → Type 0
+AsksBy list checked slot (deed.Take file) =
+    (slot ≡ slot_of (last_check file (past list)).func)
+    × (checked ≡ (last_check file (past list)).action)
+AsksBy list checked slot _ = Unit {0}
+
+-- the deed may be done by the caller of this number, who has hashed and checked what it needs
+pub record IsReady (inode : Inode) (number : ℕ) (list : List Event) (g : Gathered)
+    (checked : ActionValue) (slot : Slot) (d : Deed) : Type 0 where
+  pub may : May inode (past list) d
+  pub by : IsBy number d (past list)
+  pub hashes : HashesBefore inode list g d
+  pub asks : AsksBy list checked slot d
+
+-- what a look tells the pass of this number, which before had seen `seen` and added `mine`
+pub record HasLooked (inode : Inode) (number : ℕ) (seen list : List Event)
+    (mine : List (ℕ × Event)) : Type 0 where
+  pub before : IsPrefix seen list
+  pub own : entries_of number (map caller_of list) list ≡ mine
+  pub legal : Legal inode (past list)
+  pub owned : IsOwned (past list)
+  pub tells : TellsByMine inode number seen list mine
+
+-- the step does this deed on the inode of this number; the action of a check is still unknown
+abbrev pub IsStepOn : ℕ → Deed → Option Step → Type 0
+IsStepOn i d (Some (Does j e)) = (j ≡ i) × (e ≡ d)
+IsStepOn i d (Some (Checks j file func mask)) =
+    (j ≡ i) × (deed.Check file func no_action 0 ≡ d)
+IsStepOn i d _ = ⊥
+
+-- after a look the task's next step is ready
+abbrev pub ReadyByLook : Type 0
+ReadyByLook =
+    (frame : Frame) (t : Tasked) (h : List Answer) (i : ℕ) (s : Site) (q : Passed Event)
+    (list : List Event) (d : Deed) → HasPlayed frame t h
+    → slice_get frame.sites i ≡ Some s → slice_get t.passes.inodes i ≡ Some q
+    → HasLooked (inode_in frame s) (t.number + 1) q.seen list q.mine
+    → IsStepOn i d (step_at t.mind.program t.mind.thought.mind)
+    → IsReady (inode_in frame s) (t.number + 1) list t.gathered t.mind.checked
+    (slot_in (due_at t.mind.program t.mind.thought.mind)) d

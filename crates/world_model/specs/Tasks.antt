@@ -1,0 +1,152 @@
+-- The value of a task that contracts see, and its invariants with the constants of its world.
+use Rattle.std.specs.Prelude.{◌≡◌, ℕ, ◌+◌, ◌<◌, All, List, [], ◌∷◌, length, Option, Some, slice_get}
+use Rattle.grow_list.specs.Shown.{Passed}
+use Rattle.hash_algos.specs.Digest.{digest_of}
+use Rattle.hash_algos.specs.declared.algo.Algo.TheVariants.{Sha1}
+use Rattle.run_laws.specs.templates.declared.entry.Entry.{Entry}
+use Rattle.run_laws.specs.meta.declared.appraisal.Mode.{Mode}
+use Rattle.run_laws.specs.policy.ActionValue.{ActionValue}
+use Rattle.run_laws.specs.events.Checks.{no_action}
+use Rattle.run_laws.specs.events.Inode.{Inode}
+use Rattle.run_laws.specs.events.Integrity.{Collection, collecting, digest_from}
+use Rattle.run_laws.specs.events.Past.{past}
+use Rattle.run_laws.specs.events.declared.deed.Deed.{Deed}
+use Rattle.run_laws.specs.events.declared.deed.Deed.TheVariants as deed
+use Rattle.run_laws.specs.events.declared.told.Event.{Event}
+use Rattle.inode_hashing.specs.Hashing.{HasHashed}
+use Rattle.run_laws.specs.steps.Mind.{Step}
+use Rattle.run_laws.specs.steps.Mind.{Does, Checks}
+use Rattle.run_laws.specs.steps.declared.call.Call.{Call}
+use Rattle.run_laws.specs.Logs.{log}
+use Rattle.run_laws.specs.Steps.{RisesWithin}
+use Rattle.run_laws.specs.rules.declared.cell.RuleEntry.{RuleEntry}
+use Rattle.run_laws.specs.Checks.{ChecksFit, seen_by}
+use Rattle.run_laws.specs.model.History.{Answer, own, own_rules, own_signals, step_at, thought}
+use Rattle.run_laws.specs.model.Scene.{Program}
+use Rattle.progress_laws.specs.NextSteps.{IsFit}
+use Rattle.progress_laws.specs.Stations.{IsWithin}
+use Rattle.world_model.specs.Frame.{Frame, Site, inode_in, mode_in, scene_of}
+use Rattle.world_model.specs.declared.gathered.Gathered.{Gathered}
+use Rattle.world_model.specs.declared.gathered.Gathered.TheVariants as gathered
+use Rattle.task_mind.specs.Value.{TaskValue}
+
+-- ---- passes
+
+-- one pass for each inode's journal, and one each for the journal of the semaphores, the
+-- measurement list and the appended rules
+pub record PassesValue : Type 0 where
+  pub inodes : List (Passed Event)
+  pub sems : Passed Event
+  pub book : Passed Entry
+  pub rules : Passed RuleEntry
+
+-- The passes are those of task n: it is caller n + 1 in the journals, follows the inodes in the
+-- measurement list, and is caller n among those who append rules.
+pub record ArePassesOf (frame : Frame) (n : ℕ) (passes : PassesValue) : Type 0 where
+  pub even : length passes.inodes ≡ length frame.sites
+  pub inodes : (i : ℕ) (s : Site) (q : Passed Event) → slice_get frame.sites i ≡ Some s
+      → slice_get passes.inodes i ≡ Some q → (q.name ≡ s.journal) × (q.number ≡ n + 1)
+  pub sems : (passes.sems.name ≡ frame.signals) × (passes.sems.number ≡ n + 1)
+  pub book : (passes.book.name ≡ frame.book)
+      × (passes.book.number ≡ 1 + length frame.sites + n)
+  pub rules : (passes.rules.name ≡ frame.rules) × (passes.rules.number ≡ n)
+
+-- no pass has an entry of its own
+pub record AreUnused (passes : PassesValue) : Type 0 where
+  pub inodes : All (λ (q : Passed Event). q.mine ≡ []) passes.inodes
+  pub sems : passes.sems.mine ≡ []
+  pub book : passes.book.mine ≡ []
+  pub rules : passes.rules.mine ≡ []
+
+-- ---- what a task has hashed
+
+-- after these events a collection is open that satisfies P
+pub record Collects (inode : Inode) (events : List Event) (P : Collection → Type 0)
+    : Type 0 where
+  pub collection : Collection
+  pub is_open : collecting inode events ≡ Some collection
+  pub has : P collection
+
+-- exactly the bytes that the collection took are hashed
+abbrev pub HasTakenIn : Gathered → Collection → Type 0
+HasTakenIn (gathered.Running hashing) c = HasHashed hashing c.algo c.bytes
+HasTakenIn _ c = ⊥
+
+-- both digests of the collection's bytes are computed: by its own algorithm, and by SHA-1
+abbrev pub HasSummed : Gathered → Collection → Type 0
+HasSummed (gathered.Sums chosen sha1) c =
+    (chosen ≡ digest_from c) × (sha1 ≡ digest_of Sha1 c.bytes)
+HasSummed _ c = ⊥
+
+-- if the deed continues or ends a collection, the task has hashed exactly what that collection
+-- took, according to the journal as the task last saw it
+abbrev pub HashesBefore : Inode → List Event → Gathered → Deed → Type 0
+HashesBefore inode seen g (deed.Chunk file) = Collects inode (past seen) (HasTakenIn g)
+HashesBefore inode seen g (deed.CloseChunk file) = Collects inode (past seen) (HasTakenIn g)
+HashesBefore inode seen g (deed.Finish file) = Collects inode (past seen) (HasSummed g)
+HashesBefore inode seen g (deed.CloseFinish file) = Collects inode (past seen) (HasSummed g)
+HashesBefore inode seen g _ = Unit {0}
+
+-- what the task has hashed suits its next step, if that is a deed on an inode (see `HashesBefore`)
+abbrev pub HashesFor : Frame → List (Passed Event) → Gathered → Option Step → Type 0
+HashesFor frame passes g (Some (Does i d)) =
+    (s : Site) (q : Passed Event) → slice_get frame.sites i ≡ Some s
+    → slice_get passes i ≡ Some q → HashesBefore (inode_in frame s) q.seen g d
+HashesFor frame passes g _ = Unit {0}
+
+-- ---- the last check of a task
+
+abbrev pub action_by : Option Step → Answer → ActionValue → ActionValue
+action_by (Some (Checks inode file func mask)) a old = a.action
+action_by _ a old = old
+
+-- the action of the last check in the history
+abbrev pub last_action : Mode → Program → List Answer → ActionValue
+last_action mode p [] = no_action
+last_action mode p (a ∷ before) =
+    action_by (step_at p (thought mode p before).mind) a (last_action mode p before)
+
+-- ---- a task
+
+-- a task as contracts see it: its number, its knowledge of its own calls, its hashing, and its
+-- passes
+pub record Tasked : Type 0 where
+  pub number : ℕ
+  pub mind : TaskValue
+  pub gathered : Gathered
+  pub passes : PassesValue
+
+-- the calls are those of a script with this many inodes
+abbrev pub AreCallsOf : ℕ → List Call → Type 0
+AreCallsOf count calls =
+    (k : ℕ) (c : Call) → slice_get calls k ≡ Some c → IsFit c × IsWithin count c
+
+-- The task has made exactly the steps of the history: its thought results from them, and the own
+-- entries of its passes are those that the history adds to each list.
+pub record HasPlayed (frame : Frame) (t : Tasked) (h : List Answer) : Type 0 where
+  pub calls : AreCallsOf (length frame.sites) t.mind.program.calls
+  pub stands : thought (mode_in frame) t.mind.program h ≡ t.mind.thought
+  pub checked : t.mind.checked ≡ last_action (mode_in frame) t.mind.program h
+  pub passes : ArePassesOf frame t.number t.passes
+  pub events : (i : ℕ) (q : Passed Event) → slice_get t.passes.inodes i ≡ Some q
+      → q.mine ≡ own (mode_in frame) t.number t.mind.program i h
+  -- the task's events are at places that its passes have seen
+  pub placed : (i : ℕ) (q : Passed Event) → slice_get t.passes.inodes i ≡ Some q
+      → All (λ x. x.0 < length q.seen) q.mine
+  pub signals : t.passes.sems.mine
+      ≡ own_signals (mode_in frame) t.number t.mind.program h
+  pub rules : t.passes.rules.mine ≡ own_rules (mode_in frame) t.number t.mind.program h
+  -- the task adds nothing to the measurement list itself
+  pub unlisted : t.passes.book.mine ≡ []
+  -- the task's checks were decided by rules that it has seen
+  pub checks : (programs : List Program) → ChecksFit (scene_of frame programs) t.mind.program
+      (seen_by t.passes.inodes t.passes.rules) h
+  -- the places of the measurement list in the task's answers increase, within what it has seen
+  pub rises : RisesWithin (log (mode_in frame) t.number t.mind.program h) t.passes.book.seen
+  pub hashed : HashesFor frame t.passes.inodes t.gathered
+      (step_at t.mind.program t.mind.thought.mind)
+
+-- the task has made the steps of some history
+pub record IsTask (frame : Frame) (t : Tasked) : Type 0 where
+  pub history : List Answer
+  pub played : HasPlayed frame t history

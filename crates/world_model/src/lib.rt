@@ -1,0 +1,18 @@
+//! Worlds and their tasks as contracts see them: the constants of a world, which never change while
+//! tasks run; the values of worlds and tasks; the invariant between a task and the steps it has
+//! made, and how each look and each step keeps it; when a task's next step may be made; and what
+//! the turns of all tasks add up to: schedules, rounds, and rounds until none moves.
+//!
+//! The laws are stated in `specs/`, and are lemmas of `proofs/`.
+#![tactic(auto)]
+
+mod gathered;
+mod passes;
+mod station;
+
+pub use gathered::Gathered;
+pub use inode_cell as inodes;
+pub use inode_cell::books;
+pub use passes::Passes;
+pub use station::Station;
+pub use task_mind as minds;
