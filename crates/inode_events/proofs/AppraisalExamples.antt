@@ -9,7 +9,7 @@ use Rattle.inode_meta.specs.declared.appraisal.EvmStatus.TheVariants as status
 use Rattle.inode_meta.specs.declared.appraisal.Mode.TheVariants.{Enforce, Fix}
 use Rattle.label_values.specs.declared.verdict.Cause.TheVariants as cause
 use Rattle.label_values.specs.declared.verdict.Verdict.TheVariants.{Pass, Deny}
-use Rattle.policy_text.specs.declared.rule.Func.TheVariants.{FileCheck}
+use Rattle.policy_rules.specs.declared.rule.Func.TheVariants.{FileCheck}
 use Rattle.inode_events.specs.declared.deed.Deed.TheVariants as deed
 use Rattle.inode_events.specs.declared.deed.How.TheVariants as how
 use Rattle.inode_events.specs.declared.told.Told.TheVariants as told

@@ -4,7 +4,7 @@ use Rattle.std.specs.Prelude.{codes, replicate}
 use Rattle.ima_templates.specs.declared.entry.Placed.TheVariants.{Added, Already}
 use Rattle.inode_meta.specs.declared.appraisal.EvmStatus.TheVariants as status
 use Rattle.inode_meta.specs.declared.appraisal.Mode.TheVariants.{Off}
-use Rattle.policy_text.specs.declared.rule.Func.TheVariants.{FileCheck}
+use Rattle.policy_rules.specs.declared.rule.Func.TheVariants.{FileCheck}
 use Rattle.inode_events.specs.Checks.{no_action}
 use Rattle.inode_events.specs.declared.deed.Change.TheVariants as change
 use Rattle.inode_events.specs.declared.deed.Deed.TheVariants as deed

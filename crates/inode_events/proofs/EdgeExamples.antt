@@ -12,8 +12,8 @@ use Rattle.inode_meta.specs.declared.appraisal.Slot.TheVariants as slot
 use Rattle.label_values.specs.declared.verdict.Cause.TheVariants as cause
 use Rattle.label_values.specs.declared.verdict.Verdict.{Verdict}
 use Rattle.label_values.specs.declared.verdict.Verdict.TheVariants.{Deny, Pass}
-use Rattle.policy_text.specs.declared.rule.Func.{Func}
-use Rattle.policy_text.specs.declared.rule.Func.TheVariants.{BprmCheck, FileCheck, MmapCheck}
+use Rattle.policy_rules.specs.declared.rule.Func.{Func}
+use Rattle.policy_rules.specs.declared.rule.Func.TheVariants.{BprmCheck, FileCheck, MmapCheck}
 use Rattle.inode_events.specs.Checks.{no_action}
 use Rattle.inode_events.specs.Legal.{May}
 use Rattle.inode_events.specs.Listing.{signature_in}

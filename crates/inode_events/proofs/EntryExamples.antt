@@ -8,8 +8,8 @@ use Rattle.ima_templates.specs.declared.entry.Placed.TheVariants.{Added}
 use Rattle.inode_meta.specs.declared.appraisal.Mode.TheVariants.{Off}
 use Rattle.inode_meta.specs.declared.appraisal.Need.TheVariants.{Any}
 use Rattle.inode_meta.specs.declared.measurement.Template.TheVariants.{ImaNg, ImaSig}
-use Rattle.policy_text.specs.declared.access.Action.{Action}
-use Rattle.policy_text.specs.declared.rule.Func.TheVariants.{FileCheck}
+use Rattle.policy_rules.specs.declared.access.Action.{Action}
+use Rattle.policy_rules.specs.declared.rule.Func.TheVariants.{FileCheck}
 use Rattle.inode_events.specs.Asked.{asked, outcome}
 use Rattle.inode_events.specs.Inode.{Inode}
 use Rattle.inode_events.specs.Listing.{entries_added}

@@ -11,7 +11,7 @@ use Rattle.inode_meta.specs.declared.appraisal.Need.TheVariants.{Any}
 use Rattle.inode_meta.specs.declared.identity.Meta.{Meta}
 use Rattle.inode_meta.specs.declared.measurement.Template.TheVariants.{ImaNg}
 use Rattle.label_values.specs.declared.verdict.Verdict.{Verdict}
-use Rattle.policy_text.specs.declared.access.Action.{Action}
+use Rattle.policy_rules.specs.declared.access.Action.{Action}
 use Rattle.ima_templates.specs.xattrs.Attrs.{Pair}
 use Rattle.inode_events.specs.Files.{can_read, held, holds, is_writing}
 use Rattle.inode_events.specs.Inode.{Inode, nobody}

@@ -6,7 +6,7 @@ use Rattle.ima_templates.specs.declared.entry.Placed.TheVariants.{Added, Already
 use Rattle.inode_meta.specs.declared.appraisal.Mode.TheVariants.{Enforce, Off}
 use Rattle.label_values.specs.declared.verdict.Cause.TheVariants as cause
 use Rattle.label_values.specs.declared.verdict.Verdict.TheVariants.{Deny, Pass}
-use Rattle.policy_text.specs.declared.rule.Func.TheVariants.{FileCheck}
+use Rattle.policy_rules.specs.declared.rule.Func.TheVariants.{FileCheck}
 use Rattle.inode_events.specs.Checks.{no_action}
 use Rattle.inode_events.specs.declared.deed.Deed.TheVariants as deed
 use Rattle.inode_events.specs.declared.deed.How.TheVariants as how

@@ -5,7 +5,7 @@ use Rattle.hash_algos.specs.Digest.{digest_of}
 use Rattle.hash_algos.specs.declared.algo.Algo.TheVariants.{Sha256}
 use Rattle.ima_templates.specs.declared.entry.Placed.TheVariants.{Added, Already}
 use Rattle.inode_meta.specs.declared.appraisal.Mode.TheVariants.{Off}
-use Rattle.policy_text.specs.declared.rule.Func.TheVariants.{BprmCheck, FileCheck}
+use Rattle.policy_rules.specs.declared.rule.Func.TheVariants.{BprmCheck, FileCheck}
 use Rattle.inode_events.specs.Checks.{no_action}
 use Rattle.inode_events.specs.declared.deed.Deed.TheVariants as deed
 use Rattle.inode_events.specs.declared.deed.How.TheVariants as how

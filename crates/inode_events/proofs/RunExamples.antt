@@ -17,7 +17,7 @@ use Rattle.ima_templates.specs.declared.entry.Entry.{Entry}
 use Rattle.ima_templates.specs.declared.entry.Placed.{Placed}
 use Rattle.ima_templates.specs.declared.entry.Placed.TheVariants.{Added, Already}
 use Rattle.inode_meta.specs.declared.measurement.Template.TheVariants.{ImaNg}
-use Rattle.policy_text.specs.declared.rule.Func.TheVariants.{FileCheck}
+use Rattle.policy_rules.specs.declared.rule.Func.TheVariants.{FileCheck}
 use Rattle.inode_meta.specs.declared.step.Who.{Who}
 use Rattle.inode_events.specs.Inode.{Inode}
 use Rattle.inode_events.specs.Checks.{no_action}

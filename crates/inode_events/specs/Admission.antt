@@ -1,7 +1,7 @@
 -- The condition under which a grant reflects the file at the time of the grant.
 use Rattle.std.specs.Prelude.{ℕ, Bool, true, not, List, Option, Some, None, option_map}
 use Rattle.label_values.specs.Verdicts.{is_pass}
-use Rattle.policy_text.specs.declared.access.Action.{Action}
+use Rattle.policy_rules.specs.declared.access.Action.{Action}
 use Rattle.inode_events.specs.Inode.{Inode}
 use Rattle.inode_events.specs.Integrity.{Collection, Digests, collecting, in_force}
 use Rattle.inode_events.specs.State.{modified_since}

@@ -2,11 +2,11 @@
 use Rattle.std.specs.Prelude.{ℕ, ◌==◌, Bool, true, false, ◌&&◌, ◌||◌, not, List, [], ◌∷◌, if◌then◌else◌}
 use Rattle.inode_meta.specs.declared.appraisal.Mode.{Mode}
 use Rattle.inode_meta.specs.declared.appraisal.Mode.TheVariants as mode
-pub use Rattle.policy_text.specs.Accesses.{slot_of}
-pub use Rattle.policy_text.specs.ActionValue.{no_action}
-use Rattle.policy_text.specs.declared.access.Action.{Action}
-use Rattle.policy_text.specs.declared.rule.Func.{Func}
-use Rattle.policy_text.specs.declared.rule.Func.TheVariants as func
+pub use Rattle.policy_rules.specs.Accesses.{slot_of}
+pub use Rattle.policy_rules.specs.ActionValue.{no_action}
+use Rattle.policy_rules.specs.declared.access.Action.{Action}
+use Rattle.policy_rules.specs.declared.rule.Func.{Func}
+use Rattle.policy_rules.specs.declared.rule.Func.TheVariants as func
 use Rattle.inode_events.specs.Inode.{Inode}
 use Rattle.inode_events.specs.declared.deed.Deed.{Deed}
 use Rattle.inode_events.specs.declared.deed.Deed.TheVariants as deed

@@ -10,7 +10,7 @@ use Rattle.label_values.specs.Verdicts.{is_pass, judge, mend_for}
 use Rattle.label_values.specs.declared.verdict.Mend.{Mend}
 use Rattle.label_values.specs.declared.verdict.Mend.TheVariants as mend
 use Rattle.label_values.specs.declared.verdict.Verdict.{Verdict}
-use Rattle.policy_text.specs.declared.access.Action.{Action}
+use Rattle.policy_rules.specs.declared.access.Action.{Action}
 use Rattle.inode_events.specs.Checks.{Check, appraises, is_fix, last_check}
 use Rattle.inode_events.specs.Inode.{Inode}
 use Rattle.inode_events.specs.Integrity.{label, status}

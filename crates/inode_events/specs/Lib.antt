@@ -21,9 +21,9 @@ pub mod Merged
 pub mod EndedInode
 pub use Rattle.evm_verify.specs as evm
 pub use Rattle.inode_pages.specs as pages
-pub use Rattle.policy_text.specs as policy
+pub use Rattle.policy_rules.specs as policy
 pub use Rattle.ima_templates.specs as templates
 pub use Rattle.label_values.specs as labels
 pub use Rattle.inode_meta.specs as meta
 pub use Rattle.hash_algos.specs as hashes
-pub use Rattle.policy_text.specs.forms
+pub use Rattle.policy_rules.specs.forms

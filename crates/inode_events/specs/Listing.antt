@@ -8,7 +8,7 @@ use Rattle.ima_templates.specs.declared.entry.Placed.TheVariants.{Added, Already
 use Rattle.inode_meta.specs.declared.measurement.Template.{Template}
 use Rattle.inode_meta.specs.declared.step.Who.{Who}
 use Rattle.label_values.specs.Labels.{type_of}
-use Rattle.policy_text.specs.declared.access.Action.{Action}
+use Rattle.policy_rules.specs.declared.access.Action.{Action}
 use Rattle.inode_events.specs.Checks.{last_check}
 use Rattle.inode_events.specs.Inode.{Inode}
 use Rattle.inode_events.specs.Integrity.{Digests, collecting, in_force, digests_of, label}

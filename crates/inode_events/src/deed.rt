@@ -1,6 +1,6 @@
 use crate::boxed_bytes::BoxedBytes;
 use crate::boxed_value::BoxedValue;
-use policy_text::{Action, Func};
+use policy_rules::{Action, Func};
 
 /// How a file is opened, which determines the counts that it raises.
 #[derive(Clone, Copy, Debug, PartialEq, Eq)]

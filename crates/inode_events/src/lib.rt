@@ -26,7 +26,7 @@ pub use image::{BoxedImage, Image};
 pub use inode_meta as meta;
 pub use inode_pages as pages;
 pub use label_values as labels;
-pub use policy_text as policy;
+pub use policy_rules as policy;
 pub use settings::Settings;
 pub use std::alloc::AllocError as OutOfMemory;
 pub use told::{Event, Grant, Told};

@@ -1,5 +1,5 @@
 ghost use Rattle.std.specs.Prelude.{◌≡◌, IfOk, IsTrue};
-ghost use Rattle.policy_text.specs.RuleValue.{is_named_template};
+ghost use Rattle.policy_rules.specs.RuleValue.{is_named_template};
 
 use evm_verify::Evm;
 use hash_algos::Algo;

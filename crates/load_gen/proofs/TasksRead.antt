@@ -7,7 +7,7 @@ use Rattle.std.proofs.lemmas.Bool.{false≢true}
 use Rattle.std.proofs.lemmas.Bool.Decides.{nat_tests}
 use Rattle.std.proofs.lemmas.List.Folds.{list_all-append}
 use Rattle.inode_meta.specs.declared.identity.Cred.{Cred}
-use Rattle.call_steps.specs.policy.Grammar.{rule_of}
+use Rattle.script_words.specs.policy.Grammar.{rule_of}
 use Rattle.call_steps.specs.policy.RuleValue.{RuleValue}
 use Rattle.script_text.specs.Draft.{Draft}
 use Rattle.script_text.specs.Grammar.{with_head}

@@ -2,9 +2,9 @@
 use Rattle.std.proofs.Common.{◌≡◌, Bool, true, false, refl}
 use Rattle.std.proofs.lemmas.Bool.{false≢true}
 use Rattle.hash_algos.specs.declared.algo_set.AlgoSet.{AlgoSet}
-use Rattle.policy_text.specs.RuleValue.{has_algos}
-use Rattle.policy_text.specs.ValueTexts.{algos_text}
-use Rattle.policy_text.specs.Values.{algos_of}
+use Rattle.policy_rules.specs.RuleValue.{has_algos}
+use Rattle.policy_rules.specs.ValueTexts.{algos_text}
+use Rattle.policy_rules.specs.Values.{algos_of}
 use Rattle.policy_text.proofs.ValuesAgain.{Again}
 
 abbrev set : Bool → Bool → Bool → Bool → Bool → Bool → AlgoSet

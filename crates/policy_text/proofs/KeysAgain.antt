@@ -13,16 +13,16 @@ use Rattle.inode_meta.specs.declared.measurement.Template.TheVariants as templat
 use Rattle.text_forms.specs.FileSystems.{magic_text, uuid_text}
 use Rattle.text_forms.specs.Words.{is_word}
 use Rattle.text_forms.proofs.FileSystems.{magic_again, uuid_again}
-use Rattle.policy_text.specs.declared.key.Key.{Key}
-use Rattle.policy_text.specs.declared.key.Key.TheVariants as key
-use Rattle.policy_text.specs.declared.rule.Func.{Func}
-use Rattle.policy_text.specs.declared.rule.IdTest.{IdTest}
-use Rattle.policy_text.specs.declared.rule.MaskTest.{MaskTest}
+use Rattle.policy_rules.specs.declared.key.Key.{Key}
+use Rattle.policy_rules.specs.declared.key.Key.TheVariants as key
+use Rattle.policy_rules.specs.declared.rule.Func.{Func}
+use Rattle.policy_rules.specs.declared.rule.IdTest.{IdTest}
+use Rattle.policy_rules.specs.declared.rule.MaskTest.{MaskTest}
 use Rattle.policy_text.specs.Grammar.{plain_rule, with_token, with_tokens}
-use Rattle.policy_text.specs.Key.{keys, row, told}
-use Rattle.policy_text.specs.RuleValue.{RuleValue, IsRule, if_there, is_mask_bit, is_id, is_any, is_appraise, is_measure, has_algos, is_named_template}
+use Rattle.policy_rules.specs.Key.{keys, row, told}
+use Rattle.policy_rules.specs.RuleValue.{RuleValue, IsRule, if_there, is_mask_bit, is_id, is_any, is_appraise, is_measure, has_algos, is_named_template}
 use Rattle.policy_text.specs.Spelling.{is_visible_word, key_word, key_words}
-use Rattle.policy_text.specs.ValueTexts.{algos_text, func_word, id_text, mask_text}
+use Rattle.policy_rules.specs.ValueTexts.{algos_text, func_word, id_text, mask_text}
 use Rattle.policy_text.proofs.AlgosAgain.{algos_again}
 use Rattle.policy_text.proofs.Joined.{left, right}
 use Rattle.policy_text.proofs.ValuesAgain.{func_again, id_again, mask_again, number_again, sign_again}

@@ -2,9 +2,7 @@ pub mod AlgosAgain
 pub mod Commas
 pub mod FirstBad
 pub mod Joined
-pub mod KeyLoops
 pub mod KeysAgain
 pub mod PolicyAgain
-pub mod ReadValues
 pub mod RulesAgain
 pub mod ValuesAgain

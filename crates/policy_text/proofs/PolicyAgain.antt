@@ -6,8 +6,8 @@ use Rattle.std.proofs.lemmas.List.{append-nil}
 use Rattle.text_forms.specs.Lines.{lines, from_lines}
 use Rattle.text_forms.proofs.Tells.{line_split}
 use Rattle.policy_text.specs.Grammar.{fault_at, with_line, policy_of}
-use Rattle.policy_text.specs.Limits.{most_rules}
-use Rattle.policy_text.specs.RuleValue.{RuleValue, IsRule}
+use Rattle.policy_rules.specs.Limits.{most_rules}
+use Rattle.policy_rules.specs.RuleValue.{RuleValue, IsRule}
 use Rattle.policy_text.specs.Spelling.{rule_text, policy_text}
 use Rattle.policy_text.proofs.RulesAgain.{rule_again, rule_on_one_line, rule_stands}
 

@@ -8,13 +8,14 @@ use Rattle.text_forms.specs.Lines.{is_one_line}
 use Rattle.text_forms.specs.Tokens.{is_blank, is_filled, is_inked, tokens}
 use Rattle.text_forms.specs.Words.{words}
 use Rattle.text_forms.proofs.Visible.{all_weaker, flat_from_visible, inked_from_visible}
-use Rattle.policy_text.specs.declared.key.Key.{Key}
-use Rattle.policy_text.specs.declared.rule.Act.{Act}
-use Rattle.policy_text.specs.declared.rule.Act.TheVariants as act
+use Rattle.policy_rules.specs.declared.key.Key.{Key}
+use Rattle.policy_rules.specs.declared.rule.Act.{Act}
+use Rattle.policy_rules.specs.declared.rule.Act.TheVariants as act
 use Rattle.policy_text.specs.Grammar.{rule_of, rule_of_tokens, is_skipped}
-use Rattle.policy_text.specs.Key.{keys, row}
-use Rattle.policy_text.specs.RuleValue.{RuleValue, IsRule}
-use Rattle.policy_text.specs.Spelling.{act_word, is_visible_word, key_text, key_word, key_words, rule_text, rule_words}
+use Rattle.policy_rules.specs.Key.{keys, row}
+use Rattle.policy_rules.specs.RuleValue.{RuleValue, IsRule}
+use Rattle.policy_rules.specs.ValueTexts.{act_word}
+use Rattle.policy_text.specs.Spelling.{is_visible_word, key_text, key_word, key_words, rule_text, rule_words}
 use Rattle.policy_text.proofs.Joined.{all_joined, filled_kept, left, parts_joined, right}
 use Rattle.policy_text.proofs.KeysAgain.{keys_again}
 use Rattle.policy_text.proofs.ValuesAgain.{act_again}

@@ -10,17 +10,17 @@ use Rattle.inode_meta.specs.declared.measurement.Template.TheVariants as templat
 use Rattle.text_forms.specs.Numbers.{number_of}
 use Rattle.text_forms.specs.Words.{is_visible}
 use Rattle.text_forms.proofs.Visible.{number_of-digits, visible-digits}
-use Rattle.policy_text.specs.declared.rule.Act.{Act}
-use Rattle.policy_text.specs.declared.rule.Act.TheVariants as act
-use Rattle.policy_text.specs.declared.rule.Func.{Func}
-use Rattle.policy_text.specs.declared.rule.Func.TheVariants as func
-use Rattle.policy_text.specs.declared.rule.MaskTest.{MaskTest}
-use Rattle.policy_text.specs.declared.rule.IdTest.{IdTest}
-use Rattle.policy_text.specs.declared.rule.IdTest.TheVariants as id
-use Rattle.policy_text.specs.RuleValue.{is_id, is_mask_bit, is_named_template}
-use Rattle.policy_text.specs.Spelling.{act_word}
-use Rattle.policy_text.specs.ValueTexts.{func_word, id_text, mask_text}
-use Rattle.policy_text.specs.Values.{act_of, func_of, id_of, is_sign, mask_of, template_of}
+use Rattle.policy_rules.specs.declared.rule.Act.{Act}
+use Rattle.policy_rules.specs.declared.rule.Act.TheVariants as act
+use Rattle.policy_rules.specs.declared.rule.Func.{Func}
+use Rattle.policy_rules.specs.declared.rule.Func.TheVariants as func
+use Rattle.policy_rules.specs.declared.rule.MaskTest.{MaskTest}
+use Rattle.policy_rules.specs.declared.rule.IdTest.{IdTest}
+use Rattle.policy_rules.specs.declared.rule.IdTest.TheVariants as id
+use Rattle.policy_rules.specs.RuleValue.{is_id, is_mask_bit, is_named_template}
+use Rattle.policy_rules.specs.ValueTexts.{act_word}
+use Rattle.policy_rules.specs.ValueTexts.{func_word, id_text, mask_text}
+use Rattle.policy_rules.specs.Values.{act_of, func_of, id_of, is_sign, mask_of, template_of}
 
 -- the text is visible, and is read back as x
 abbrev pub Again : {A : Type 0} → (List ℕ → Option A) → List ℕ → A → Type 0

@@ -7,12 +7,12 @@ use Rattle.text_forms.specs.Tokens.{tokens}
 use Rattle.policy_text.specs.declared.fault.Fault.{Fault}
 use Rattle.policy_text.specs.declared.fault.RuleCause.{RuleCause}
 use Rattle.policy_text.specs.declared.fault.RuleCause.TheVariants as cause
-use Rattle.policy_text.specs.declared.key.Key.{Key}
-use Rattle.policy_text.specs.declared.rule.Act.{Act}
-use Rattle.policy_text.specs.Key.{is_unsupported_key, key_of, row}
-use Rattle.policy_text.specs.Limits.{most_rules}
-use Rattle.policy_text.specs.RuleValue.{RuleValue}
-use Rattle.policy_text.specs.Values.{act_of}
+use Rattle.policy_rules.specs.declared.key.Key.{Key}
+use Rattle.policy_rules.specs.declared.rule.Act.{Act}
+use Rattle.policy_rules.specs.Key.{is_unsupported_key, key_of, row}
+use Rattle.policy_rules.specs.Limits.{most_rules}
+use Rattle.policy_rules.specs.RuleValue.{RuleValue}
+use Rattle.policy_rules.specs.Values.{act_of}
 
 -- the rule that has this action, and neither conditions nor options
 abbrev pub plain_rule : Act → RuleValue

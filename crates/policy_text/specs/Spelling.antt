@@ -5,11 +5,10 @@ use Rattle.text_forms.specs.Tokens.{is_filled}
 use Rattle.text_forms.specs.Words.{is_visible}
 use Rattle.policy_text.specs.declared.fault.RuleCause.{RuleCause}
 use Rattle.policy_text.specs.declared.fault.RuleCause.TheVariants as cause
-use Rattle.policy_text.specs.declared.key.Key.{Key}
-use Rattle.policy_text.specs.declared.rule.Act.{Act}
-use Rattle.policy_text.specs.declared.rule.Act.TheVariants as act
-use Rattle.policy_text.specs.Key.{keys, row}
-use Rattle.policy_text.specs.RuleValue.{RuleValue}
+use Rattle.policy_rules.specs.declared.key.Key.{Key}
+use Rattle.policy_rules.specs.Key.{keys, row}
+use Rattle.policy_rules.specs.RuleValue.{RuleValue}
+use Rattle.policy_rules.specs.ValueTexts.{act_word}
 
 abbrev pub cause_word : RuleCause → List ℕ
 cause_word cause.BadAction = codes "bad-action"
@@ -19,16 +18,6 @@ cause_word cause.BadValue = codes "bad-value"
 cause_word cause.NotForAction = codes "not-for-action"
 cause_word cause.Unsupported = codes "unsupported"
 cause_word cause.TooMany = codes "too-many"
-
-abbrev pub act_word : Act → List ℕ
-act_word act.Measure = codes "measure"
-act_word act.DontMeasure = codes "dont_measure"
-act_word act.Appraise = codes "appraise"
-act_word act.DontAppraise = codes "dont_appraise"
-act_word act.Audit = codes "audit"
-act_word act.DontAudit = codes "dont_audit"
-act_word act.Hash = codes "hash"
-act_word act.DontHash = codes "dont_hash"
 
 -- the word for the key in a rule that has it
 abbrev pub key_word : Key → RuleValue → List ℕ

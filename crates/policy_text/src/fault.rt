@@ -2,6 +2,7 @@ ghost use Rattle.std.specs.Prelude.{◌≡◌};
 ghost use Rattle.policy_text.specs.declared.fault.LineErr.TheVariants as line;
 ghost use Rattle.policy_text.specs.declared.fault.PolicyErr.TheVariants.{OutOfMemory};
 ghost use Rattle.policy_text.specs.Gives.{err_at};
+ghost use Rattle.policy_text.specs.Spelling.{cause_word};
 
 use std::alloc::{AllocError as OutOfMemory, AllocFailed};
 
@@ -23,6 +24,23 @@ pub enum RuleCause {
     Unsupported,
     /// The line is a rule, but the policy already has 1,024.
     TooMany,
+}
+
+impl RuleCause {
+    /// The word of the cause in messages, for example `twice`.
+    pub fn word(self) -> &'static str
+        ensures { result.now ≡ cause_word self }
+    {
+        match self {
+            RuleCause::BadAction => "bad-action",
+            RuleCause::BadKey => "bad-key",
+            RuleCause::Twice => "twice",
+            RuleCause::BadValue => "bad-value",
+            RuleCause::NotForAction => "not-for-action",
+            RuleCause::Unsupported => "unsupported",
+            RuleCause::TooMany => "too-many",
+        }
+    }
 }
 
 /// The first bad line of a text, and its cause.

@@ -2,29 +2,22 @@
 //! rules (Documentation/ABI/testing/ima_policy).
 //!
 //! A policy consists of lines, and a rule is one line: an action, then conditions and options in
-//! any order. The grammar is in `specs/Grammar.antt`, independent of the parser and the printer.
+//! any order. The grammar is in `specs/Grammar.antt`, independent of the parser and the printer;
+//! what it says of a key stands in the key's row (`policy_rules`).
 #![tactic(auto)]
 
-mod access;
-mod condition;
 mod fault;
-mod key;
 mod line;
-mod policy;
 mod read;
-mod rule;
-mod values;
-mod words;
 mod write;
 
-pub use access::{Access, Action, MAY_APPEND, MAY_EXEC, MAY_READ, MAY_WRITE, Purpose, Super};
 pub use fault::{Fault, PolicyErr, RuleCause};
 pub use inode_meta as meta;
-pub use key::Key;
-pub use policy::{Policy, RULES};
+pub use policy_rules::{
+    Access, Act, Action, Func, IdTest, Key, MAY_APPEND, MAY_EXEC, MAY_READ, MAY_WRITE, MaskTest,
+    Policy, Purpose, RULES, Rule, Super, template_of,
+};
 pub use read::{parse, parse_rule};
-pub use rule::{Act, Func, IdTest, MaskTest, Rule};
 pub use std::alloc::AllocError as OutOfMemory;
-pub use values::template_of;
 pub use write::{print, print_rule};
 pub use xattr_store as xattrs;

@@ -7,8 +7,7 @@ ghost use Rattle.policy_text.specs.Grammar.{fault_at, policy_of, rule_of, with_l
 
 use crate::fault::{LineErr, PolicyErr, RuleCause};
 use crate::line::{is_skipped, rule_of};
-use crate::policy::{Policy, RULES};
-use crate::rule::Rule;
+use policy_rules::{Policy, RULES, Rule};
 use std::alloc::Global;
 
 /// Parses the rules of a text. Blank lines and comments are skipped, and the last line may lack its

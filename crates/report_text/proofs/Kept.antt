@@ -24,9 +24,9 @@ use Rattle.label_values.specs.declared.verdict.Verdict.{Verdict}
 use Rattle.label_values.specs.declared.verdict.Verdict.TheVariants.{Pass, Deny}
 use Rattle.ima_templates.specs.declared.entry.Placed.{Placed}
 use Rattle.ima_templates.specs.declared.entry.Placed.TheVariants.{Added, Already}
-use Rattle.policy_text.specs.RuleValue.{is_any}
-use Rattle.policy_text.specs.ValueTexts.{func_word}
-use Rattle.policy_text.specs.declared.rule.Func.{Func}
+use Rattle.policy_text.specs.rules.RuleValue.{is_any}
+use Rattle.policy_text.specs.rules.ValueTexts.{func_word}
+use Rattle.policy_text.specs.rules.declared.rule.Func.{Func}
 use Rattle.policy_text.proofs.ValuesAgain.{func_again}
 use Rattle.text_forms.specs.Words.{is_visible, is_clean, is_clean_byte, is_line}
 use Rattle.text_forms.proofs.Visible.{all_weaker, visible-digits}

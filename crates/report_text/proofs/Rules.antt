@@ -5,10 +5,10 @@ use Rattle.std.proofs.lemmas.Bool.{cases_Bool, false≢true}
 use Rattle.std.proofs.lemmas.List.Splits.{join_with_byte-slice_split}
 use Rattle.text_forms.specs.Words.{is_clean, is_clean_byte, is_line, words}
 use Rattle.policy_text.specs.Grammar.{rule_of, plain_rule}
-use Rattle.policy_text.specs.RuleValue.{IsRule, RuleValue}
+use Rattle.policy_text.specs.rules.RuleValue.{IsRule, RuleValue}
 use Rattle.policy_text.specs.Spelling.{rule_text}
 use Rattle.policy_text.specs.declared.fault.RuleCause.{RuleCause}
-use Rattle.policy_text.specs.declared.rule.Act.TheVariants as act
+use Rattle.policy_text.specs.rules.declared.rule.Act.TheVariants as act
 use Rattle.policy_text.proofs.RulesAgain.{rule_again, rule_on_one_line}
 use Rattle.policy_cell.specs.declared.cell.RuleEntry.{RuleEntry}
 use Rattle.report_text.specs.Words.{Line}

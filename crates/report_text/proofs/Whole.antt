@@ -29,7 +29,7 @@ use Rattle.call_steps.specs.declared.reply.Reply.{Reply}
 use Rattle.call_steps.specs.declared.reply.Reply.TheVariants as reply
 use Rattle.report_text.specs.Words.{Line, event_lines}
 use Rattle.policy_cell.specs.declared.cell.RuleEntry.{RuleEntry}
-use Rattle.policy_text.specs.RuleValue.{IsRule}
+use Rattle.policy_text.specs.rules.RuleValue.{IsRule}
 use Rattle.inode_events.specs.EndedInode.{EndedInodeValue as EndedInode}
 use Rattle.run_model.specs.EndedValue.{EndedValue as Ended, EndedTaskValue as EndedTask}
 use Rattle.report_text.specs.Report.{pcr_words, entry_words, pcr_lines_at, pcr_lines_to, pcr_lines, rule_lines, appended_lines, force_word, attr_line, inode_lines, all_inode_lines, reply_words, reply_lines, task_lines, all_task_lines, report_lines, report_of}

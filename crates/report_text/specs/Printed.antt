@@ -5,7 +5,7 @@ use Rattle.hash_algos.specs.declared.algo.Algo.TheVariants.{Sha256}
 use Rattle.hash_algos.specs.declared.digest.Digest.{Digest}
 use Rattle.inode_meta.specs.declared.appraisal.Need.TheVariants as need
 use Rattle.inode_meta.specs.declared.measurement.Template.{Template}
-use Rattle.policy_text.specs.declared.access.Action.{Action}
+use Rattle.policy_text.specs.rules.declared.access.Action.{Action}
 use Rattle.ima_templates.specs.declared.entry.Entry.{Entry}
 use Rattle.run_model.specs.EndedValue.{EndedValue as Ended}
 use Rattle.inode_events.specs.Inode.{nobody}

@@ -7,7 +7,7 @@ use Rattle.text_forms.specs.Words.{is_clean}
 use Rattle.hex.specs.Hex.{IsBytes}
 use Rattle.ima_templates.specs.IsEntry.{IsEntry}
 use Rattle.ima_templates.specs.declared.entry.Entry.{Entry}
-use Rattle.policy_text.specs.RuleValue.{IsRule}
+use Rattle.policy_text.specs.rules.RuleValue.{IsRule}
 use Rattle.xattr_store.specs.Attrs.{Pair}
 use Rattle.call_steps.specs.declared.reply.Reply.{Reply}
 use Rattle.call_steps.specs.declared.reply.Reply.TheVariants as reply

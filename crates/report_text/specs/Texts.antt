@@ -10,8 +10,8 @@ use Rattle.inode_meta.specs.declared.measurement.Template.{Template}
 use Rattle.label_values.specs.Verdicts.{cause_word}
 use Rattle.label_values.specs.declared.verdict.Verdict.{Verdict}
 use Rattle.label_values.specs.declared.verdict.Verdict.TheVariants.{Pass, Deny}
-use Rattle.policy_text.specs.RuleValue.{is_any}
-use Rattle.policy_text.specs.declared.access.Action.{Action}
+use Rattle.policy_text.specs.rules.RuleValue.{is_any}
+use Rattle.policy_text.specs.rules.declared.access.Action.{Action}
 use Rattle.report_text.specs.Words.{Line}
 
 -- a line with its newline

@@ -11,9 +11,9 @@ use Rattle.inode_meta.specs.Words.{evm_status_word, template_word}
 use Rattle.label_values.specs.Verdicts.{cause_word}
 use Rattle.label_values.specs.declared.verdict.Verdict.{Verdict}
 use Rattle.label_values.specs.declared.verdict.Verdict.TheVariants.{Pass, Deny}
-use Rattle.policy_text.specs.RuleValue.{is_any}
-use Rattle.policy_text.specs.ValueTexts.{func_word}
-use Rattle.policy_text.specs.declared.access.Action.{Action}
+use Rattle.policy_text.specs.rules.RuleValue.{is_any}
+use Rattle.policy_text.specs.rules.ValueTexts.{func_word}
+use Rattle.policy_text.specs.rules.declared.access.Action.{Action}
 use Rattle.inode_events.specs.declared.deed.Change.{Change}
 use Rattle.inode_events.specs.declared.deed.Change.TheVariants as change
 use Rattle.inode_events.specs.declared.deed.Deed.{Deed}

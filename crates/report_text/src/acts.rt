@@ -1,7 +1,7 @@
 // The actions of a check, and the number of rules that it saw.
 
 ghost use Rattle.std.specs.Prelude.{◌≡◌, ◌++◌, OnOk};
-ghost use Rattle.policy_text.specs.RuleValue.{is_any};
+ghost use Rattle.policy_text.specs.rules.RuleValue.{is_any};
 ghost use Rattle.report_text.specs.Texts.{acts_text, appraise_text, flag_text, measure_text, rules_text};
 
 use crate::push::push_number;

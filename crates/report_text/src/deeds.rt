@@ -2,7 +2,7 @@
 
 ghost use Rattle.std.specs.Prelude.{◌≡◌, [], ◌∷◌, ◌++◌, OnOk, codes};
 ghost use Rattle.std.specs.List.{join_with_byte};
-ghost use Rattle.policy_text.specs.ValueTexts.{func_word};
+ghost use Rattle.policy_text.specs.rules.ValueTexts.{func_word};
 ghost use Rattle.report_text.specs.Texts.{acts_text, rules_text};
 ghost use Rattle.report_text.specs.Words.{change_words, deed_words, how_words, length_word};
 

@@ -1,12 +1,12 @@
 -- The definitions applied to concrete rules and accesses.
 use Rattle.std.proofs.Common.{◌≡◌, ℕ, true, false, [], ◌∷◌, Some, None, refl}
-use Rattle.policy_text.specs.meta.declared.appraisal.Need.TheVariants as need
-use Rattle.policy_text.specs.RuleValue.{RuleValue}
-use Rattle.policy_text.specs.declared.access.Access.{Access}
-use Rattle.policy_text.specs.declared.rule.Act.{Act}
-use Rattle.policy_text.specs.declared.rule.Act.TheVariants as act
-use Rattle.policy_text.specs.declared.rule.Func.TheVariants as func
-use Rattle.policy_text.specs.declared.rule.IdTest.TheVariants.{Is, Above, Below}
+use Rattle.policy_rules.specs.meta.declared.appraisal.Need.TheVariants as need
+use Rattle.policy_rules.specs.RuleValue.{RuleValue}
+use Rattle.policy_rules.specs.declared.access.Access.{Access}
+use Rattle.policy_rules.specs.declared.rule.Act.{Act}
+use Rattle.policy_rules.specs.declared.rule.Act.TheVariants as act
+use Rattle.policy_rules.specs.declared.rule.Func.TheVariants as func
+use Rattle.policy_rules.specs.declared.rule.IdTest.TheVariants.{Is, Above, Below}
 use Rattle.rule_match.specs.Conditions.{rule_matches}
 use Rattle.rule_match.specs.Decision.{decide_of}
 

@@ -4,7 +4,7 @@ use Rattle.std.proofs.lemmas.Bool.{cases_eq}
 use Rattle.std.proofs.lemmas.Bool.Decides.{nat_tests}
 use Rattle.std.proofs.lemmas.Option.{none-some, same_Some}
 use Rattle.std.specs.Prelude.{nat_lt, slice_get}
-use Rattle.policy_text.specs.RuleValue.{RuleValue}
+use Rattle.policy_rules.specs.RuleValue.{RuleValue}
 use Rattle.rule_match.specs.Group.{same_group}
 use Rattle.rule_match.specs.Groups.{earlier_of, group_of, lines_after, lines_from}
 use Rattle.rule_match.specs.declared.group.Group.{Group}

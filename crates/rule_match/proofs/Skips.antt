@@ -1,10 +1,10 @@
 -- Rules that don't match don't affect the decision.
 use Rattle.std.proofs.Common.{◌≡◌, ℕ, ◌&&◌, ◌==◌, Bool, true, false, Option, Some, None, refl, ◌⊎◌, inl, inr, ⊎_elim}
 use Rattle.std.proofs.lemmas.Bool.{and_cases, and_left, and_right}
-use Rattle.policy_text.specs.RuleValue.{RuleValue, if_there}
-use Rattle.policy_text.specs.declared.access.Access.{Access}
-use Rattle.policy_text.specs.declared.rule.Func.{Func}
-use Rattle.policy_text.specs.Tests.{same_func}
+use Rattle.policy_rules.specs.RuleValue.{RuleValue, if_there}
+use Rattle.policy_rules.specs.declared.access.Access.{Access}
+use Rattle.policy_rules.specs.declared.rule.Func.{Func}
+use Rattle.policy_rules.specs.Tests.{same_func}
 use Rattle.rule_match.specs.Conditions.{rule_matches}
 use Rattle.rule_match.specs.Group.{same_group}
 use Rattle.rule_match.specs.Groups.{group_of, group_of_both, group_of_func, group_of_magic, group_of_neither}

@@ -5,8 +5,8 @@ use Rattle.std.proofs.lemmas.List.{drop-drop, length-drop, length-take, take_all
 use Rattle.std.proofs.lemmas.Option.{none-some, same_Some, slice_get_read, slice_get_within}
 use Rattle.std.specs.Option.{option_map_or}
 use Rattle.std.specs.Prelude.{slice_get}
-use Rattle.policy_text.specs.RuleValue.{RuleValue}
-use Rattle.policy_text.specs.declared.access.Access.{Access}
+use Rattle.policy_rules.specs.RuleValue.{RuleValue}
+use Rattle.policy_rules.specs.declared.access.Access.{Access}
 use Rattle.rule_match.specs.Conditions.{rule_matches}
 use Rattle.rule_match.specs.Deciders.{AreDeciders, after_line, is_complete}
 use Rattle.rule_match.specs.Groups.{StandsAt, earlier_of, earliest_of, group_of_both, group_of_func, group_of_magic, group_of_neither, lines_after, lines_from}

@@ -5,9 +5,9 @@ use Rattle.std.proofs.lemmas.Bool.{and_right}
 use Rattle.std.specs.List.{position_from}
 use Rattle.std.specs.Option.{option_and_then, option_or}
 use Rattle.std.specs.Prelude.{is_some, slice_get}
-use Rattle.policy_text.specs.ActionValue.{ActionValue}
-use Rattle.policy_text.specs.RuleValue.{RuleValue}
-use Rattle.policy_text.specs.declared.access.Access.{Access}
+use Rattle.policy_rules.specs.ActionValue.{ActionValue}
+use Rattle.policy_rules.specs.RuleValue.{RuleValue}
+use Rattle.policy_rules.specs.declared.access.Access.{Access}
 use Rattle.rule_match.specs.Conditions.{rule_matches}
 use Rattle.rule_match.specs.Decision.{action_of, carried_out, decide_of, decides, is_of, place_of_first}
 use Rattle.rule_match.specs.Deciders.{AreDeciders, after_line, carried_at, decided_with, is_complete}

@@ -2,9 +2,9 @@
 -- (Documentation/ABI/testing/ima_policy).
 use Rattle.std.specs.Prelude.{Bool}
 use Rattle.std.specs.List.{list_all}
-use Rattle.policy_text.specs.Key.{keys, row}
-use Rattle.policy_text.specs.RuleValue.{RuleValue}
-use Rattle.policy_text.specs.declared.access.Access.{Access}
+use Rattle.policy_rules.specs.Key.{keys, row}
+use Rattle.policy_rules.specs.RuleValue.{RuleValue}
+use Rattle.policy_rules.specs.declared.access.Access.{Access}
 
 -- a line without conditions matches every access
 abbrev pub rule_matches : RuleValue → Access → Bool

@@ -1,9 +1,9 @@
 -- The deciding lines, as far as a walk from the first line on has found them.
 use Rattle.std.specs.Prelude.{◌≡◌, ℕ, Bool, ◌&&◌, List, Option, Some, is_some, slice_get, if◌then◌else◌}
 use Rattle.std.specs.Option.{option_and_then, option_or}
-use Rattle.policy_text.specs.RuleValue.{RuleValue}
-use Rattle.policy_text.specs.declared.access.Access.{Access}
-use Rattle.policy_text.specs.declared.rule.Act.{Act}
+use Rattle.policy_rules.specs.RuleValue.{RuleValue}
+use Rattle.policy_rules.specs.declared.access.Access.{Access}
+use Rattle.policy_rules.specs.declared.rule.Act.{Act}
 use Rattle.rule_match.specs.Conditions.{rule_matches}
 use Rattle.rule_match.specs.Decision.{carried_out, is_of, place_of_first}
 use Rattle.rule_match.specs.declared.deciders.Deciders.{Deciders}

@@ -3,17 +3,17 @@
 use Rattle.std.specs.Prelude.{ℕ, Bool, true, false, ◌&&◌, List, Option, Some, None, is_some, unwrap_or, find, if◌then◌else◌}
 use Rattle.std.specs.List.{position_from}
 use Rattle.std.specs.Option.{option_and_then, option_map_or}
-use Rattle.policy_text.specs.meta.declared.identity.Cred.{Cred}
-use Rattle.policy_text.specs.meta.declared.identity.Meta.{Meta}
-use Rattle.policy_text.specs.meta.declared.appraisal.Need.TheVariants as need
-use Rattle.policy_text.specs.meta.Registers.{default_pcr}
-use Rattle.policy_text.specs.ActionValue.{ActionValue}
-use Rattle.policy_text.specs.RuleValue.{RuleValue}
-use Rattle.policy_text.specs.declared.access.Access.{Access}
-use Rattle.policy_text.specs.declared.access.Super.{Super}
-use Rattle.policy_text.specs.declared.rule.Act.{Act}
-use Rattle.policy_text.specs.declared.rule.Act.TheVariants as act
-use Rattle.policy_text.specs.declared.rule.Func.{Func}
+use Rattle.policy_rules.specs.meta.declared.identity.Cred.{Cred}
+use Rattle.policy_rules.specs.meta.declared.identity.Meta.{Meta}
+use Rattle.policy_rules.specs.meta.declared.appraisal.Need.TheVariants as need
+use Rattle.policy_rules.specs.meta.Registers.{default_pcr}
+use Rattle.policy_rules.specs.ActionValue.{ActionValue}
+use Rattle.policy_rules.specs.RuleValue.{RuleValue}
+use Rattle.policy_rules.specs.declared.access.Access.{Access}
+use Rattle.policy_rules.specs.declared.access.Super.{Super}
+use Rattle.policy_rules.specs.declared.rule.Act.{Act}
+use Rattle.policy_rules.specs.declared.rule.Act.TheVariants as act
+use Rattle.policy_rules.specs.declared.rule.Func.{Func}
 use Rattle.rule_match.specs.Conditions.{rule_matches}
 use Rattle.rule_match.specs.declared.family.Family.{Family}
 use Rattle.rule_match.specs.declared.family.Family.TheVariants.{Measuring, Appraising, Auditing, Hashing}

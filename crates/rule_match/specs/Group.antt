@@ -2,8 +2,8 @@
 use Rattle.std.specs.Prelude.{ℕ, Bool, ◌++◌}
 use Rattle.std.specs.Hash as fed
 use Rattle.std.specs.Option.{option_map}
-use Rattle.policy_text.specs.contracts.rule.Func.{the_type}
-use Rattle.policy_text.specs.declared.rule.Func.{Func}
+use Rattle.policy_rules.specs.contracts.rule.Func.{the_type}
+use Rattle.policy_rules.specs.declared.rule.Func.{Func}
 use Rattle.rule_match.specs.declared.group.Group.{Group}
 use Rattle.rule_match.specs.contracts.group.GroupPartialEq.TheImpl as group_eq
 use denote.Enum.Declared.{tag_of}

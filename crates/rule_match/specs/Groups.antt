@@ -1,8 +1,8 @@
 -- Rules grouped by `func=` and, within that, by `fsmagic=`. Rules without one of the two have
 -- groups of their own. Lines are counted from 0.
 use Rattle.std.specs.Prelude.{◌≡◌, ℕ, ◌+◌, nat_lt, ◌==◌, List, [], ◌∷◌, drop, Option, Some, None, slice_get, if◌then◌else◌}
-use Rattle.policy_text.specs.RuleValue.{RuleValue}
-use Rattle.policy_text.specs.declared.access.Access.{Access}
+use Rattle.policy_rules.specs.RuleValue.{RuleValue}
+use Rattle.policy_rules.specs.declared.access.Access.{Access}
 use Rattle.rule_match.specs.declared.group.Candidates.{Candidates}
 use Rattle.rule_match.specs.declared.group.Group.{Group}
 use Rattle.rule_match.specs.Group.{same_group}

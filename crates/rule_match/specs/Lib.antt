@@ -6,4 +6,4 @@ pub mod Groups
 pub mod Kept
 pub mod Indexed
 pub mod SameGroup
-pub use Rattle.policy_text.specs as policy
+pub use Rattle.policy_rules.specs as policy

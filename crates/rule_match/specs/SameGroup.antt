@@ -3,7 +3,7 @@ use Rattle.std.proofs.Common.{◌≡◌, ℕ, Bool, true, Option, Some, None, ap
 use Rattle.std.proofs.lemmas.Bool.Decides.{nat_tests}
 use Rattle.std.specs.Cmp.{first_so, second_so}
 use Rattle.std.specs.Option.{option_eq}
-use Rattle.policy_text.specs.contracts.rule.Func.{the_type}
+use Rattle.policy_rules.specs.contracts.rule.Func.{the_type}
 use Rattle.rule_match.specs.Group.{group_writes, same_group}
 use Rattle.rule_match.specs.declared.group.Group.{Group}
 use denote.Enum.Bare.{same_true, sameb}

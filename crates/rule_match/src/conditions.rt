@@ -1,9 +1,9 @@
 ghost use Rattle.std.specs.Prelude.{◌≡◌};
 ghost use Rattle.std.specs.List.{list_all};
-ghost use Rattle.policy_text.specs.Key.{row};
+ghost use Rattle.policy_rules.specs.Key.{row};
 ghost use Rattle.rule_match.specs.Conditions.{rule_matches};
 
-use policy_text::{Access, Key, Rule};
+use policy_rules::{Access, Key, Rule};
 
 /// Whether the rule matches the access: all its conditions hold. Options always hold, and so does
 /// the condition of a key that the rule doesn't have.

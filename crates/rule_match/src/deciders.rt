@@ -1,13 +1,13 @@
 ghost use Rattle.std.specs.Prelude.{◌≡◌, Option};
 ghost use Rattle.std.specs.Option.{option_copied};
-ghost use Rattle.policy_text.specs.RuleValue.{RuleValue};
+ghost use Rattle.policy_rules.specs.RuleValue.{RuleValue};
 ghost use Rattle.rule_match.specs.Decision.{action_of};
 ghost use Rattle.rule_match.specs.Deciders.{after_line, carried_at, decided_with, is_complete};
 
 use crate::conditions::matches;
 use crate::family::{Family, is_done};
-use policy_text::meta::DEFAULT_PCR;
-use policy_text::{Access, Act, Action, Rule};
+use policy_rules::meta::DEFAULT_PCR;
+use policy_rules::{Access, Act, Action, Rule};
 
 /// For each family, the index of the line that decides on an access, counted from 0, if one was
 /// found.

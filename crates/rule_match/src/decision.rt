@@ -2,7 +2,7 @@ ghost use Rattle.std.specs.Prelude.{◌≡◌};
 ghost use Rattle.rule_match.specs.Decision.{decide_of};
 
 use crate::deciders::Deciders;
-use policy_text::{Access, Action, Policy};
+use policy_rules::{Access, Action, Policy};
 
 /// The action that the policy requires for the access. In each family of actions (`measure` and
 /// `dont_measure`, and so on) the first line that matches decides. A family without a matching line

@@ -1,7 +1,7 @@
 ghost use Rattle.std.specs.Prelude.{◌≡◌};
 ghost use Rattle.rule_match.specs.Decision.{is_of, is_done};
 
-use policy_text::Act;
+use policy_rules::Act;
 
 /// A family of actions: to do a thing with an access, and not to do it.
 #[derive(Clone, Copy, Debug, PartialEq, Eq)]

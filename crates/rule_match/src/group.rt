@@ -3,7 +3,7 @@ ghost use Rattle.rule_match.specs.Group.{group_writes};
 ghost use Rattle.rule_match.specs.Groups.{group_of, earlier_of, earliest_of, lines_after};
 ghost use Rattle.rule_match.specs.SameGroup.{same_group-hashed};
 
-use policy_text::{Func, Rule};
+use policy_rules::{Func, Rule};
 use std::hash::{Hash, Hasher};
 
 /// The `func=` and the `fsmagic=` of a rule, either of which may be absent. Rules that agree in

@@ -9,7 +9,7 @@ ghost use Rattle.rule_match.specs.declared.group.Group.{Group as AnyGroup};
 use crate::deciders::Deciders;
 use crate::family::Family;
 use crate::group::{Candidates, Group};
-use policy_text::{Access, Action, Func, Policy, Rule};
+use policy_rules::{Access, Action, Func, Policy, Rule};
 use std::alloc::{AllocError as OutOfMemory, Global};
 use std::collections::HashMap;
 use std::marker::Model;
@@ -28,7 +28,7 @@ pub struct Index {
 
 impl Model for Index {
     ghost use Rattle.std.specs.Prelude.{List};
-    ghost use Rattle.policy_text.specs.RuleValue.{RuleValue};
+    ghost use Rattle.policy_rules.specs.RuleValue.{RuleValue};
 
     ghost Value = { List RuleValue };
 

@@ -15,6 +15,6 @@ pub use deciders::Deciders;
 pub use decision::decide;
 pub use family::Family;
 pub use index::Index;
-pub use policy_text as policy;
-pub use policy_text::meta;
+pub use policy_rules as policy;
+pub use policy_rules::meta;
 pub use std::alloc::AllocError as OutOfMemory;

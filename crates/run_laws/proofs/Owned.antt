@@ -8,8 +8,8 @@ use Rattle.std.proofs.lemmas.Option.{same_Some, slice_get_within, slice_get-get_
 use Rattle.grow_list.proofs.Counting.{entries-other, entries-same}
 use Rattle.grow_list.specs.Entries.{entries_of}
 use Rattle.inode_events.specs.meta.declared.step.Who.{Who}
-use Rattle.policy_text.specs.declared.access.Action.{Action}
-use Rattle.policy_text.specs.declared.rule.Func.{Func}
+use Rattle.policy_rules.specs.declared.access.Action.{Action}
+use Rattle.policy_rules.specs.declared.rule.Func.{Func}
 use Rattle.inode_events.specs.templates.declared.entry.Entry.{Entry}
 use Rattle.inode_events.specs.Asked.{entered, made, outcome}
 use Rattle.inode_events.specs.Callers.{caller_in, caller_of}

@@ -13,4 +13,4 @@ pub use Rattle.inode_events.specs.templates
 pub use Rattle.inode_events.specs as events
 pub use Rattle.inode_events.specs.meta
 pub use Rattle.run_model.specs.rules
-pub use Rattle.policy_text.specs as policy
+pub use Rattle.policy_rules.specs as policy

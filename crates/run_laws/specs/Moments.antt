@@ -1,7 +1,7 @@
 -- Turns on plain lists: their answers, and the checks of all tasks.
 use Rattle.std.specs.Prelude.{◌≡◌, ℕ, All, List, [], ◌∷◌, ◌++◌, length, Option, Some, None, slice_get}
-use Rattle.policy_text.specs.declared.access.Action.{Action}
-use Rattle.policy_text.specs.declared.rule.Func.{Func}
+use Rattle.policy_rules.specs.declared.access.Action.{Action}
+use Rattle.policy_rules.specs.declared.rule.Func.{Func}
 use Rattle.inode_events.specs.Asked.{outcome}
 use Rattle.inode_events.specs.Checks.{no_action}
 use Rattle.inode_events.specs.Past.{past}

@@ -8,8 +8,8 @@ use Rattle.std.proofs.lemmas.Bool.{cases_Bool, false≢true}
 use Rattle.std.proofs.lemmas.Bool.Decides.{nat_tests}
 use Rattle.std.proofs.lemmas.List.{append-nil}
 use Rattle.inode_events.specs.evm.Input.{five_names}
-use Rattle.policy_text.specs.Key.{starts}
-use Rattle.policy_text.specs.RuleValue.{if_there}
+use Rattle.policy_text.specs.rules.Key.{starts}
+use Rattle.policy_text.specs.rules.RuleValue.{if_there}
 use Rattle.text_forms.specs.Words.{is_word}
 use Rattle.script_text.specs.Draft.{Draft}
 use Rattle.script_text.specs.Forms.{AreNames, are_apart, are_bytes, is_among, is_format, is_key}

@@ -4,7 +4,7 @@ use Rattle.std.specs.Prelude.{decimal}
 use Rattle.std.specs.List.{AllByRecursion, flat_map}
 use Rattle.std.proofs.lemmas.List.{append-nil, take_more}
 use Rattle.std.proofs.lemmas.List.Concat.{flat_map-append}
-use Rattle.policy_text.specs.RuleValue.{RuleValue}
+use Rattle.policy_text.specs.rules.RuleValue.{RuleValue}
 use Rattle.policy_text.specs.Spelling.{rule_text, rule_words}
 use Rattle.script_text.proofs.Lasts.{each_behind}
 use Rattle.script_print.specs.Lines.{Line, behind_space, line_text, lines_text, spaced, words_text}

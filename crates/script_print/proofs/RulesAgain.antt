@@ -5,9 +5,10 @@ use Rattle.std.specs.List.{AllByRecursion, list_all}
 use Rattle.std.proofs.lemmas.Bool.Decides.{nat_tests}
 use Rattle.std.proofs.lemmas.List.{append-nil}
 use Rattle.policy_text.specs.Grammar as policy
-use Rattle.policy_text.specs.Key.{keys}
-use Rattle.policy_text.specs.RuleValue.{RuleValue}
-use Rattle.policy_text.specs.Spelling.{act_word, is_visible_word, key_words, rule_text, rule_words}
+use Rattle.policy_text.specs.rules.Key.{keys}
+use Rattle.policy_text.specs.rules.RuleValue.{RuleValue}
+use Rattle.policy_text.specs.rules.ValueTexts.{act_word}
+use Rattle.policy_text.specs.Spelling.{is_visible_word, key_words, rule_text, rule_words}
 use Rattle.text_forms.specs.Tokens.{is_filled}
 use Rattle.text_forms.proofs.Visible.{all_weaker}
 use Rattle.script_words.specs.Forms.{bad_rule, rule_of}

@@ -13,8 +13,8 @@ use Rattle.inode_meta.specs.declared.appraisal.Mode.{Mode}
 use Rattle.inode_meta.specs.declared.appraisal.Mode.TheVariants as mode
 use Rattle.inode_meta.specs.declared.measurement.Template.{Template}
 use Rattle.inode_meta.specs.declared.measurement.Template.TheVariants as template
-use Rattle.policy_text.specs.RuleValue.{is_named_template}
-use Rattle.policy_text.specs.Values.{template_of}
+use Rattle.policy_text.specs.rules.RuleValue.{is_named_template}
+use Rattle.policy_text.specs.rules.Values.{template_of}
 use Rattle.script_words.specs.Forms.{field}
 use Rattle.script_text.specs.Draft.{Draft, plain_script, start}
 use Rattle.script_text.specs.Forms.{IsDigestOf, are_bytes}

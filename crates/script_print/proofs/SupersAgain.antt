@@ -4,7 +4,7 @@ use Rattle.std.specs.Prelude.{codes}
 use Rattle.std.specs.List.{list_all}
 use Rattle.std.proofs.lemmas.Bool.Decides.{nat_tests}
 use Rattle.std.proofs.lemmas.List.{append-nil}
-use Rattle.policy_text.specs.declared.access.Super.{Super}
+use Rattle.policy_text.specs.rules.declared.access.Super.{Super}
 use Rattle.text_forms.specs.FileSystems.{magic_of, magic_text, uuid_of, uuid_text}
 use Rattle.text_forms.specs.Words.{is_visible, is_word}
 use Rattle.text_forms.proofs.FileSystems.{magic_again, uuid_again}

@@ -16,9 +16,9 @@ use Rattle.inode_events.specs.declared.image.Image.{Image}
 use Rattle.inode_meta.specs.Words.{mode_word, template_word}
 use Rattle.inode_meta.specs.declared.identity.Cred.{Cred}
 use Rattle.inode_meta.specs.declared.identity.Meta.{Meta}
-use Rattle.policy_text.specs.RuleValue.{RuleValue}
+use Rattle.policy_text.specs.rules.RuleValue.{RuleValue}
 use Rattle.policy_text.specs.Spelling.{rule_words}
-use Rattle.policy_text.specs.declared.access.Super.{Super}
+use Rattle.policy_text.specs.rules.declared.access.Super.{Super}
 use Rattle.text_forms.specs.FileSystems.{magic_text, uuid_text}
 use Rattle.xattr_store.specs.Attrs.{Pair}
 use Rattle.script_print.specs.Lines.{Line, lines_text}

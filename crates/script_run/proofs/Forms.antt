@@ -9,16 +9,16 @@ use Rattle.call_steps.specs.hashes.declared.algo.Algo.TheVariants.{Sha1}
 use Rattle.call_steps.specs.hashes.declared.digest.Digest.{Digest}
 use Rattle.ima_templates.specs.IsEntry.{IsEntry}
 use Rattle.ima_templates.specs.Path.{IsGraphic, IsMeasuredPath}
-use Rattle.policy_text.specs.meta.declared.measurement.Template.{Template}
-use Rattle.policy_text.specs.meta.declared.measurement.Template.TheVariants.{Ima, ImaNg, ImaSig, ImaBuf}
-use Rattle.policy_text.specs.declared.access.Super.{Super}
+use Rattle.policy_rules.specs.meta.declared.measurement.Template.{Template}
+use Rattle.policy_rules.specs.meta.declared.measurement.Template.TheVariants.{Ima, ImaNg, ImaSig, ImaBuf}
+use Rattle.policy_rules.specs.declared.access.Super.{Super}
 use Rattle.run_model.specs.Scene.{Station}
 use Rattle.script_text.specs.Forms.{IsDigestOf, IsFile, IsScript}
 use Rattle.script_text.specs.ScriptValue.{ScriptValue}
 use Rattle.script_text.specs.Settings.{boot_algo}
 use Rattle.script_text.specs.declared.blocks.FileBlock.{FileBlock}
 use Rattle.script_text.proofs.Holding.{left_true, right_true}
-use Rattle.policy_text.specs.forms.Words.{is_visible}
+use Rattle.policy_rules.specs.forms.Words.{is_visible}
 use Rattle.script_scene.specs.Scene.{IsForFiles, boot_by, scene_of, station_of}
 use Rattle.script_scene.proofs.Paths.{measured_path}
 use Rattle.shown_laws.specs.Places.{HasForms}

@@ -5,7 +5,7 @@ use Rattle.call_steps.specs.Forms.{is_call, is_set_value}
 use Rattle.call_steps.specs.declared.call.Call.{Call}
 use Rattle.call_steps.specs.declared.call.Call.TheVariants as call
 use Rattle.run_model.specs.events.declared.deed.Change.TheVariants as change
-use Rattle.policy_text.specs.declared.access.Super.{Super}
+use Rattle.policy_rules.specs.declared.access.Super.{Super}
 use Rattle.report_laws.specs.Law.{HasNames, IsNamedCall}
 use Rattle.report_text.proofs.Kept.{visible}
 use Rattle.report_text.specs.Ranges.{IsClean}
@@ -16,8 +16,8 @@ use Rattle.script_text.specs.declared.blocks.FileBlock.{FileBlock}
 use Rattle.script_text.specs.declared.blocks.TaskBlock.{TaskBlock}
 use Rattle.script_text.proofs.Holding.{left_true, right_true}
 use Rattle.script_scene.specs.Scene.{IsForFiles, program_of, scene_of, station_of}
-use Rattle.policy_text.specs.forms.Tokens.{is_filled}
-use Rattle.policy_text.specs.forms.Words.{is_clean, is_visible, is_word}
+use Rattle.policy_rules.specs.forms.Tokens.{is_filled}
+use Rattle.policy_rules.specs.forms.Words.{is_clean, is_visible, is_word}
 use Rattle.ima_templates.specs.xattrs.Attrs.{Pair}
 use Rattle.script_run.specs.Run.{AreRulesKept, KeepsRule}
 use Rattle.script_start.proofs.Fits.{at_most}

@@ -14,7 +14,7 @@ use Rattle.call_steps.specs.declared.call.Call.{Call}
 use Rattle.call_steps.specs.declared.call.Call.TheVariants as call
 use Rattle.call_steps.specs.declared.ending.Ending.{Ending}
 use Rattle.call_steps.specs.declared.ending.Ending.TheVariants as ending
-use Rattle.policy_text.specs.RuleValue.{IsRule}
+use Rattle.policy_rules.specs.RuleValue.{IsRule}
 use Rattle.report_laws.specs.Law.{IsSameRun}
 use Rattle.report_text.specs.Report.{report_of}
 use Rattle.script_scene.specs.Scene.{IsForFiles, scene_of}

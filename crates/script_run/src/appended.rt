@@ -1,10 +1,10 @@
 // What the types keep of the rules that the tasks of a script append.
 ghost use Rattle.std.specs.List.{AllByRecursion};
-ghost use Rattle.policy_text.specs.RuleValue.{IsRule};
+ghost use Rattle.policy_rules.specs.RuleValue.{IsRule};
 ghost use Rattle.script_run.specs.Run.{AreRulesKept, KeepsRule};
 
 use call_steps::Call;
-use policy_text::Rule;
+use policy_rules::Rule;
 use script_text::{Script, TaskBlock};
 
 fn rule_kept(rule: &Rule)

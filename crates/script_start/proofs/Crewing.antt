@@ -4,7 +4,7 @@ use Rattle.std.specs.Prelude.{slice_get}
 use Rattle.std.proofs.lemmas.List.{length-append}
 use Rattle.std.proofs.lemmas.Option.{none-some, same_Some, slice_get_within}
 use Rattle.call_steps.specs.declared.call.Call.{Call}
-use Rattle.policy_text.specs.meta.declared.identity.Cred.{Cred}
+use Rattle.policy_rules.specs.meta.declared.identity.Cred.{Cred}
 use Rattle.run_model.specs.History.{start}
 use Rattle.run_model.specs.Scene.{Program}
 use Rattle.script_text.specs.declared.blocks.TaskBlock.{TaskBlock}

@@ -10,7 +10,7 @@ use Rattle.call_steps.specs.declared.call.Call.{Call}
 use Rattle.call_steps.specs.declared.call.Call.TheVariants as call
 use Rattle.run_model.specs.events.Files.{is_writer}
 use Rattle.run_model.specs.events.declared.image.Image.{Image}
-use Rattle.policy_text.specs.declared.access.Super.{Super}
+use Rattle.policy_rules.specs.declared.access.Super.{Super}
 use Rattle.script_text.specs.Forms.{AreFiles, AreTasks, IsFile, IsOn, IsOnSome, IsScript, is_cred, is_line_call, is_spelled, is_task}
 use Rattle.script_text.specs.ScriptValue.{ScriptValue}
 use Rattle.script_text.specs.declared.blocks.FileBlock.{FileBlock}

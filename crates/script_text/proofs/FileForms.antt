@@ -13,10 +13,10 @@ use Rattle.hash_algos.specs.declared.algo.Algo.{Algo}
 use Rattle.call_steps.specs.events.declared.image.Image.{Image}
 use Rattle.inode_meta.specs.declared.measurement.Template.{Template}
 use Rattle.inode_meta.specs.declared.measurement.Template.TheVariants as template
-use Rattle.policy_text.specs.RuleValue.{is_named_template}
-use Rattle.policy_text.specs.Values.{template_of}
+use Rattle.policy_text.specs.rules.RuleValue.{is_named_template}
+use Rattle.policy_text.specs.rules.Values.{template_of}
 use Rattle.text_forms.specs.Tables.{look_up}
-use Rattle.policy_text.specs.declared.access.Super.{Super}
+use Rattle.policy_text.specs.rules.declared.access.Super.{Super}
 use Rattle.text_forms.specs.FileSystems.{magic_of, uuid_of, without_0x}
 use Rattle.text_forms.specs.Lines.{◌>>=◌}
 use Rattle.text_forms.specs.Numbers.{number_of}

@@ -9,7 +9,7 @@ use Rattle.std.proofs.lemmas.List.Sums.{sum_by_push}
 use Rattle.hash_algos.specs.Digest.{digest_of}
 use Rattle.call_steps.specs.events.declared.image.Image.{Image}
 use Rattle.label_values.specs.Labels.{label_of}
-use Rattle.policy_text.specs.declared.access.Super.{Super}
+use Rattle.policy_text.specs.rules.declared.access.Super.{Super}
 use Rattle.text_forms.specs.Tokens.{is_filled}
 use Rattle.text_forms.specs.Words.{is_word}
 use Rattle.xattr_store.specs.Attrs.{Pair, put}

@@ -16,9 +16,9 @@ use Rattle.hash_algos.specs.Algo.{algo_by_name}
 use Rattle.hash_algos.specs.Digest.{digest_of}
 use Rattle.call_steps.specs.events.declared.image.Image.{Image}
 use Rattle.label_values.specs.Labels.{label_of}
-use Rattle.policy_text.specs.RuleValue.{RuleValue, if_there, is_named_template}
-use Rattle.policy_text.specs.Values.{template_of}
-use Rattle.policy_text.specs.declared.access.Super.{Super}
+use Rattle.policy_text.specs.rules.RuleValue.{RuleValue, if_there, is_named_template}
+use Rattle.policy_text.specs.rules.Values.{template_of}
+use Rattle.policy_text.specs.rules.declared.access.Super.{Super}
 use Rattle.text_forms.specs.Lines.{◌>>=◌}
 use Rattle.text_forms.specs.Tokens.{is_filled}
 use Rattle.text_forms.specs.Words.{is_word}

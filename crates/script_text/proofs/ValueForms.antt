@@ -10,7 +10,7 @@ use Rattle.std.proofs.lemmas.Bool.Decides.{nat_tests}
 use Rattle.hex.specs.Hex.{IsBytes, decode_of}
 use Rattle.hex.specs.declared.error.FromHexError.{FromHexError}
 use Rattle.hex.proofs.HexLemmas.{decode_of-ok}
-use Rattle.policy_text.specs.Key.{starts}
+use Rattle.policy_text.specs.rules.Key.{starts}
 use Rattle.text_forms.specs.Numbers.{is_numeral, is_short, number_of, short_number_of}
 use Rattle.text_forms.specs.Options.{◌>>=◌}
 use Rattle.text_forms.specs.Words.{is_visible}

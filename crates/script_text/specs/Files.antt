@@ -7,7 +7,7 @@ use Rattle.hash_algos.specs.Digest.{digest_of}
 use Rattle.hash_algos.specs.declared.algo.Algo.{Algo}
 use Rattle.call_steps.specs.events.declared.image.Image.{Image}
 use Rattle.label_values.specs.Labels.{label_of}
-use Rattle.policy_text.specs.declared.access.Super.{Super}
+use Rattle.policy_text.specs.rules.declared.access.Super.{Super}
 use Rattle.text_forms.specs.Lines.{◌>>=◌}
 use Rattle.text_forms.specs.Numbers.{is_short_numeral}
 use Rattle.text_forms.specs.Paths.{is_path}

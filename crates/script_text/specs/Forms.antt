@@ -17,8 +17,8 @@ use Rattle.call_steps.specs.events.declared.deed.Change.TheVariants as change
 use Rattle.call_steps.specs.events.declared.image.Image.{Image}
 use Rattle.inode_meta.specs.declared.identity.Cred.{Cred}
 use Rattle.inode_meta.specs.declared.identity.Meta.{Meta}
-use Rattle.policy_text.specs.RuleValue.{if_there, is_named_template}
-use Rattle.policy_text.specs.declared.access.Super.{Super}
+use Rattle.policy_text.specs.rules.RuleValue.{if_there, is_named_template}
+use Rattle.policy_text.specs.rules.declared.access.Super.{Super}
 use Rattle.text_forms.specs.Paths.{is_path}
 use Rattle.text_forms.specs.Tokens.{is_filled}
 use Rattle.text_forms.specs.Words.{is_word}

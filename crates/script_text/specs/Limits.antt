@@ -1,7 +1,7 @@
 -- The limits on the parts of a script.
 use Rattle.std.specs.Prelude.{ℕ}
 use Rattle.inode_pages.specs.Content as content
-use Rattle.policy_text.specs.Limits as policy
+use Rattle.policy_text.specs.rules.Limits as policy
 use Rattle.xattr_store.specs.Attrs as attrs
 
 abbrev pub most_supers : ℕ

@@ -5,8 +5,8 @@ use Rattle.hash_algos.specs.DigestValue.{DigestValue}
 use Rattle.hash_algos.specs.declared.algo.Algo.{Algo}
 use Rattle.inode_meta.specs.declared.appraisal.Mode.{Mode}
 use Rattle.inode_meta.specs.declared.measurement.Template.{Template}
-use Rattle.policy_text.specs.RuleValue.{RuleValue}
-use Rattle.policy_text.specs.declared.access.Super.{Super}
+use Rattle.policy_text.specs.rules.RuleValue.{RuleValue}
+use Rattle.policy_text.specs.rules.declared.access.Super.{Super}
 use Rattle.script_text.specs.declared.blocks.FileBlock.{FileBlock}
 use Rattle.script_text.specs.declared.blocks.TaskBlock.{TaskBlock}
 

@@ -12,10 +12,10 @@ use Rattle.inode_meta.specs.declared.appraisal.Mode.{Mode}
 use Rattle.inode_meta.specs.declared.appraisal.Mode.TheVariants as mode
 use Rattle.inode_meta.specs.declared.measurement.Template.{Template}
 use Rattle.inode_meta.specs.declared.measurement.Template.TheVariants as template
-use Rattle.policy_text.specs.Key.{starts}
-use Rattle.policy_text.specs.Values.{template_of}
+use Rattle.policy_text.specs.rules.Key.{starts}
+use Rattle.policy_text.specs.rules.Values.{template_of}
 use Rattle.text_forms.specs.Tables.{look_up}
-use Rattle.policy_text.specs.declared.access.Super.{Super}
+use Rattle.policy_text.specs.rules.declared.access.Super.{Super}
 use Rattle.text_forms.specs.FileSystems.{magic_of, uuid_of}
 use Rattle.text_forms.specs.Lines.{◌>>=◌}
 use Rattle.text_forms.specs.Tokens.{is_filled}

@@ -8,7 +8,7 @@ use Rattle.call_steps.specs.declared.call.Call.TheVariants as call
 use Rattle.call_steps.specs.declared.ending.Ending.{Ending}
 use Rattle.call_steps.specs.declared.ending.Ending.TheVariants as ending
 use Rattle.inode_meta.specs.declared.identity.Cred.{Cred}
-use Rattle.policy_text.specs.RuleValue.{RuleValue}
+use Rattle.policy_text.specs.rules.RuleValue.{RuleValue}
 use Rattle.text_forms.specs.Lines.{◌>>=◌}
 use Rattle.text_forms.specs.Numbers.{is_short_numeral, short_number_of}
 use Rattle.script_words.specs.declared.fault.LineCause.{LineCause}

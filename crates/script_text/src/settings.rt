@@ -2,7 +2,7 @@
 
 ghost use Rattle.std.specs.Prelude.{◌≡◌, [], ◌∷◌, ◌++◌, ok_or, map, codes};
 ghost use Rattle.std.specs.Option.{option_copied};
-ghost use Rattle.policy_text.specs.Key.{starts};
+ghost use Rattle.policy_text.specs.rules.Key.{starts};
 ghost use Rattle.text_forms.specs.FileSystems.{magic_of, uuid_of};
 ghost use Rattle.script_words.specs.declared.fault.LineCause.TheVariants as cause;
 ghost use Rattle.script_words.specs.Forms.{behind_by};

@@ -1,8 +1,8 @@
 -- The forms of words: numbers with their ranges, and the text of a rule.
 use Rattle.std.specs.Prelude.{ℕ, ◌-◌, ◌==◌, List, length, drop, Option, Some, None, Result, Ok, Err, ok_or, if◌then◌else◌}
 use Rattle.inode_pages.specs.Content.{most_bytes}
-use Rattle.policy_text.specs.Key.{starts}
-use Rattle.policy_text.specs.RuleValue.{RuleValue}
+use Rattle.policy_text.specs.rules.Key.{starts}
+use Rattle.policy_text.specs.rules.RuleValue.{RuleValue}
 use Rattle.policy_text.specs.declared.fault.RuleCause.{RuleCause}
 use Rattle.policy_text.specs.Grammar as policy
 use Rattle.text_forms.specs.Lines.{◌>>=◌}

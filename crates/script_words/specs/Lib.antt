@@ -4,3 +4,4 @@ pub mod Gives
 pub mod Line
 pub mod Read
 pub mod Value
+pub use Rattle.policy_text.specs as policy

@@ -4,7 +4,7 @@ use Rattle.std.specs.Char.{digit_value, is_digit}
 use Rattle.std.specs.List.{list_all}
 use Rattle.std.specs.Result.{result_ok}
 use Rattle.hex.specs.Hex.{decode_of}
-use Rattle.policy_text.specs.Key.{starts}
+use Rattle.policy_text.specs.rules.Key.{starts}
 use Rattle.text_forms.specs.Options.{◌>>=◌}
 use Rattle.text_forms.specs.Numbers.{short_number_of}
 use Rattle.text_forms.specs.Words.{is_visible}

@@ -1,7 +1,7 @@
 // Events of inodes, and the answers of the calls that add them.
 
 ghost use Rattle.std.specs.Prelude.{IsTrue};
-ghost use Rattle.ima_top.specs.policy.RuleValue.{is_named_template};
+ghost use Rattle.ima_top.specs.policy.rules.RuleValue.{is_named_template};
 
 use ima_top::scripts::hashing::pages;
 use ima_top::scripts::{events, evm, hashes, labels, meta, policy, templates, xattrs};

@@ -2,7 +2,7 @@
 
 ghost use Rattle.std.specs.Prelude.{◌≡◌, ◌-◌, ◌<◌, ◌≤◌, ◌^◌, length};
 ghost use Rattle.ima_top.specs.worlds.model.growing.Shown.{HasEach};
-ghost use Rattle.ima_top.specs.policy.Limits.{most_rules};
+ghost use Rattle.ima_top.specs.policy.rules.Limits.{most_rules};
 
 use ima_top::reports::model::rules;
 use ima_top::scripts::{hashes, meta, policy, xattrs};

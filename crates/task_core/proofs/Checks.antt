@@ -15,8 +15,8 @@ use Rattle.inode_meta.specs.declared.identity.Cred.{Cred}
 use Rattle.inode_meta.specs.declared.step.Who.{Who}
 use Rattle.policy_cell.specs.Policy.{PolicyValue, in_force, rules_in}
 use Rattle.policy_cell.specs.declared.cell.RuleEntry.{RuleEntry}
-use Rattle.policy_text.specs.RuleValue.{RuleValue}
-use Rattle.policy_text.specs.declared.access.Super.{Super}
+use Rattle.policy_rules.specs.RuleValue.{RuleValue}
+use Rattle.policy_rules.specs.declared.access.Super.{Super}
 use Rattle.world_model.specs.laws_of_runs.Stations.{CountsAll}
 use Rattle.run_model.specs.Scene.{no_super, rules_with}
 use Rattle.run_model.specs.Turns.{State}

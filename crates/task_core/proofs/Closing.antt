@@ -11,7 +11,7 @@ use Rattle.inode_events.specs.Semaphores.{left}
 use Rattle.inode_events.specs.declared.settings.Settings.{Settings}
 use Rattle.inode_events.specs.declared.told.Event.{Event}
 use Rattle.policy_cell.specs.Policy.{PolicyValue, in_force}
-use Rattle.policy_text.specs.declared.access.Super.{Super}
+use Rattle.policy_rules.specs.declared.access.Super.{Super}
 use Rattle.run_model.specs.EndedValue.{EndedValue}
 use Rattle.run_model.specs.Turns.{State}
 use Rattle.world_model.specs.Frame.{Frame, scene_of}

@@ -15,9 +15,9 @@ use Rattle.inode_meta.specs.declared.identity.Cred.{Cred}
 use Rattle.inode_meta.specs.declared.step.Who.{Who}
 use Rattle.policy_cell.specs.Policy.{PolicyValue, in_force}
 use Rattle.policy_cell.specs.declared.cell.RuleEntry.{RuleEntry}
-use Rattle.policy_text.specs.ActionValue.{ActionValue}
-use Rattle.policy_text.specs.RuleValue.{RuleValue}
-use Rattle.policy_text.specs.declared.access.Super.{Super}
+use Rattle.policy_rules.specs.ActionValue.{ActionValue}
+use Rattle.policy_rules.specs.RuleValue.{RuleValue}
+use Rattle.policy_rules.specs.declared.access.Super.{Super}
 use Rattle.task_core.proofs.Checks.{RulesLooked, check_frame, check_idle, check_in, check_parts}
 use Rattle.task_core.proofs.Opens.{open_book, open_found, open_may, open_pass}
 use Rattle.world_locks.specs.acts.declared.listed.Checks.{Checks}

@@ -12,8 +12,8 @@ use Rattle.inode_events.specs.declared.settings.Settings.{Settings}
 use Rattle.inode_events.specs.declared.told.Event.{Event}
 use Rattle.policy_cell.specs.Policy.{PolicyValue}
 use Rattle.policy_cell.specs.declared.cell.RuleEntry.{RuleEntry}
-use Rattle.policy_text.specs.RuleValue.{RuleValue}
-use Rattle.policy_text.specs.declared.access.Super.{Super}
+use Rattle.policy_rules.specs.RuleValue.{RuleValue}
+use Rattle.policy_rules.specs.declared.access.Super.{Super}
 use Rattle.run_model.specs.Turns.{State}
 use Rattle.task_core.proofs.Seen.{PassSees, sees_alone}
 use Rattle.world_model.specs.Frame.{Frame, Site, boot_in, inode_in}

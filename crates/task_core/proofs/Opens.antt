@@ -16,8 +16,8 @@ use Rattle.inode_meta.specs.declared.appraisal.Slot.{Slot}
 use Rattle.inode_meta.specs.declared.step.Who.{Who}
 use Rattle.policy_cell.specs.Policy.{PolicyValue}
 use Rattle.policy_cell.specs.declared.cell.RuleEntry.{RuleEntry}
-use Rattle.policy_text.specs.ActionValue.{ActionValue}
-use Rattle.policy_text.specs.declared.access.Super.{Super}
+use Rattle.policy_rules.specs.ActionValue.{ActionValue}
+use Rattle.policy_rules.specs.declared.access.Super.{Super}
 use Rattle.world_model.specs.laws_of_runs.Stations.{CountsAll}
 use Rattle.world_model.specs.Frame.{Frame}
 use Rattle.world_model.specs.Tasks.{ArePassesOf, PassesValue}

@@ -9,8 +9,8 @@ use Rattle.inode_meta.specs.declared.identity.Cred.{Cred}
 use Rattle.inode_meta.specs.declared.step.Who.{Who}
 use Rattle.inode_meta.specs.declared.appraisal.Mode.{Mode}
 use Rattle.call_steps.specs.Steps.{given}
-use Rattle.policy_text.specs.ActionValue.{ActionValue}
-use Rattle.policy_text.specs.RuleValue.{RuleValue}
+use Rattle.policy_rules.specs.ActionValue.{ActionValue}
+use Rattle.policy_rules.specs.RuleValue.{RuleValue}
 use Rattle.run_model.specs.History.{Thought, hear, step_at, who_at}
 use Rattle.run_model.specs.Turns.{State, go, go_step}
 use Rattle.run_model.specs.declared.turn.Turn.{Turn}

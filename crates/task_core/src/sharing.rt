@@ -11,7 +11,7 @@ ghost use Rattle.world_model.specs.Tasks.{ArePassesOf};
 use crate::world::World;
 use inode_events::{Deed, Told};
 use inode_meta::Who;
-use policy_text::Rule;
+use policy_rules::Rule;
 use std::alloc::AllocError as OutOfMemory;
 use world_locks::acts::Answered;
 use world_model::Passes;

@@ -8,7 +8,7 @@ use crate::world::World;
 use ima_templates::Entry;
 use inode_events::xattrs::Bytes;
 use inode_events::{Image, Settings};
-use policy_text::{Policy, Super};
+use policy_rules::{Policy, Super};
 use std::alloc::{AllocError as OutOfMemory, Global};
 use world_model::Passes;
 use world_start::{Start, start_lists};

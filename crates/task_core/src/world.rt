@@ -1,7 +1,7 @@
 use grow_list::Pass;
 use inode_events::Settings;
 use policy_cell::{PolicyCell, RuleEntry};
-use policy_text::Super;
+use policy_rules::Super;
 use std::alloc::Global;
 use std::marker::Model;
 use world_close::semaphores::SemaphoreCell;

@@ -13,8 +13,8 @@ use Rattle.inode_events.specs.declared.deed.Deed.{Deed}
 use Rattle.inode_events.specs.declared.settings.Settings.{Settings}
 use Rattle.inode_events.specs.declared.told.Event.{Event}
 use Rattle.policy_cell.specs.Policy.{PolicyValue}
-use Rattle.policy_text.specs.ActionValue.{ActionValue}
-use Rattle.policy_text.specs.declared.access.Super.{Super}
+use Rattle.policy_rules.specs.ActionValue.{ActionValue}
+use Rattle.policy_rules.specs.declared.access.Super.{Super}
 use Rattle.task_steps.specs.laws_of_runs.Stations.{CountsAll}
 use Rattle.run_model.specs.Turns.{State}
 use Rattle.task_steps.specs.worlds.Frame.{Frame, inode_in}

@@ -12,9 +12,9 @@ use Rattle.inode_meta.specs.declared.step.Who.{Who}
 use Rattle.call_steps.specs.Mind.{Step}
 use Rattle.call_steps.specs.Mind.{Checks}
 use Rattle.call_steps.specs.Steps.{given}
-use Rattle.policy_text.specs.RuleValue.{RuleValue}
-use Rattle.policy_text.specs.declared.access.Action.{Action}
-use Rattle.policy_text.specs.declared.rule.Func.{Func}
+use Rattle.policy_rules.specs.RuleValue.{RuleValue}
+use Rattle.policy_rules.specs.declared.access.Action.{Action}
+use Rattle.policy_rules.specs.declared.rule.Func.{Func}
 use Rattle.run_model.specs.History.{Answer, hear, step_at, who_at}
 use Rattle.run_model.specs.Scene.{Program, Station, decided, rules_with}
 use Rattle.run_model.specs.Turns.{State, go_check, go_event, go_step}

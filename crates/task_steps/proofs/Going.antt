@@ -11,7 +11,7 @@ use Rattle.inode_events.specs.declared.told.Told.{Told}
 use Rattle.call_steps.specs.Mind.{Step}
 use Rattle.call_steps.specs.Mind.{Does}
 use Rattle.call_steps.specs.Steps.{given}
-use Rattle.policy_text.specs.declared.access.Action.{Action}
+use Rattle.policy_rules.specs.declared.access.Action.{Action}
 use Rattle.run_model.specs.History.{Answer, Thought, hear, plain_answer, step_at, who_at}
 use Rattle.run_model.specs.Scene.{Program, Station}
 use Rattle.run_model.specs.Turns.{State, go, go_does, go_event, go_step, hear_told, journal_at, state_on, turn_of}

@@ -18,7 +18,7 @@ use Rattle.inode_events.specs.declared.told.Event.{Event}
 use Rattle.inode_events.specs.declared.told.Told.{Told}
 use Rattle.policy_cell.specs.Policy.{PolicyValue}
 use Rattle.policy_cell.specs.declared.cell.RuleEntry.{RuleEntry}
-use Rattle.policy_text.specs.declared.access.Super.{Super}
+use Rattle.policy_rules.specs.declared.access.Super.{Super}
 use Rattle.task_steps.proofs.laws_of_runs.Owned.{set_parts}
 use Rattle.task_steps.proofs.laws_of_runs.Risen.{law_rise_by_outcome}
 use Rattle.task_steps.specs.laws_of_runs.Stations.{CountsAll, StationRules}

@@ -10,8 +10,8 @@ use Rattle.inode_events.specs.declared.settings.Settings.{Settings}
 use Rattle.inode_events.specs.declared.told.Event.{Event}
 use Rattle.policy_cell.specs.Policy.{PolicyValue, in_force, rules_in}
 use Rattle.policy_cell.specs.declared.cell.RuleEntry.{RuleEntry}
-use Rattle.policy_text.specs.RuleValue.{RuleValue}
-use Rattle.policy_text.specs.declared.access.Super.{Super}
+use Rattle.policy_rules.specs.RuleValue.{RuleValue}
+use Rattle.policy_rules.specs.declared.access.Super.{Super}
 use Rattle.task_steps.proofs.laws_of_runs.Owned.{set_parts}
 use Rattle.task_steps.proofs.laws_of_runs.Risen.{law_rise_by_look}
 use Rattle.task_steps.proofs.Lists.{map_same}

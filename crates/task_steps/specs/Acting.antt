@@ -10,7 +10,7 @@ use Rattle.inode_events.specs.Past.{past}
 use Rattle.inode_events.specs.declared.deed.Deed.{Deed}
 use Rattle.inode_events.specs.declared.told.Event.{Event}
 use Rattle.inode_events.specs.declared.told.Told.{Told}
-use Rattle.policy_text.specs.ActionValue.{ActionValue}
+use Rattle.policy_rules.specs.ActionValue.{ActionValue}
 use Rattle.run_model.specs.Turns.{State}
 use Rattle.task_steps.specs.declared.answers.Answered.{Answered}
 use Rattle.task_steps.specs.Leaving.{Leaves}

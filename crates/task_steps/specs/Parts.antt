@@ -5,7 +5,7 @@ use Rattle.ima_templates.specs.declared.entry.Entry.{Entry}
 use Rattle.inode_events.specs.declared.settings.Settings.{Settings}
 use Rattle.inode_events.specs.declared.told.Event.{Event}
 use Rattle.policy_cell.specs.Policy.{PolicyValue}
-use Rattle.policy_text.specs.declared.access.Super.{Super}
+use Rattle.policy_rules.specs.declared.access.Super.{Super}
 use Rattle.run_model.specs.Turns.{State}
 use Rattle.task_steps.specs.worlds.Frame.{Frame, boot_in}
 use Rattle.task_steps.specs.worlds.World.{AreRulesOf, AreSignalsOf, IsBookOf, IsStation, StationValue, journal_of, site_of}

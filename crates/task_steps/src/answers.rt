@@ -4,7 +4,7 @@ ghost use Rattle.task_steps.specs.Checking.{checked_in};
 ghost use Rattle.task_steps.specs.Turning.{reached_by};
 
 use inode_events::Told;
-use policy_text::Action;
+use policy_rules::Action;
 use std::alloc::AllocError as OutOfMemory;
 
 /// The answer to a step.

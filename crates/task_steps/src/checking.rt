@@ -16,7 +16,7 @@ use crate::{Actor, Checks, checks};
 use grow_list::Pass;
 use ima_templates::Entry;
 use inode_events::Event;
-use policy_text::Super;
+use policy_rules::Super;
 use run_model::matching::Index;
 use std::alloc::AllocError as OutOfMemory;
 use world_model::Station;

@@ -9,7 +9,7 @@ use Rattle.inode_meta.specs.declared.step.Who.{Who}
 use Rattle.inode_events.specs.declared.deed.Deed.{Deed}
 use Rattle.inode_events.specs.declared.told.Event.{Event}
 use Rattle.policy_cell.specs.declared.cell.RuleEntry.{RuleEntry}
-use Rattle.policy_text.specs.ActionValue.{ActionValue}
+use Rattle.policy_rules.specs.ActionValue.{ActionValue}
 use Rattle.task_steps.specs.declared.listed.Checks.{Checks}
 use Rattle.world_close.specs.worlds.Frame.{Frame}
 use Rattle.world_close.specs.worlds.Tasks.{ArePassesOf, PassesValue}

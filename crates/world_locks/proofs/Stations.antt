@@ -14,7 +14,7 @@ use Rattle.inode_events.specs.declared.settings.Settings.{Settings}
 use Rattle.inode_events.specs.declared.told.Event.{Event}
 use Rattle.inode_events.specs.declared.told.Told.{Told}
 use Rattle.policy_cell.specs.declared.cell.RuleEntry.{RuleEntry}
-use Rattle.policy_text.specs.ActionValue.{ActionValue}
+use Rattle.policy_rules.specs.ActionValue.{ActionValue}
 use Rattle.world_close.proofs.laws_of_runs.Risen.{law_rise_by_look, law_rise_by_outcome}
 use Rattle.world_close.specs.laws_of_runs.Stations.{CountsAll, StationRules}
 use Rattle.world_close.specs.worlds.Frame.{Frame, Site, inode_in}

@@ -15,7 +15,7 @@ use Rattle.inode_events.specs.declared.told.Event.{Event}
 use Rattle.inode_events.specs.declared.told.Told.TheVariants as told
 use Rattle.policy_cell.specs.Policy.{PolicyValue}
 use Rattle.policy_cell.specs.declared.cell.RuleEntry.{RuleEntry}
-use Rattle.policy_text.specs.ActionValue.{ActionValue}
+use Rattle.policy_rules.specs.ActionValue.{ActionValue}
 use Rattle.run_model.specs.Scene.{rules_with}
 use Rattle.task_steps.specs.declared.listed.Checks.{Checks}
 use Rattle.world_close.specs.worlds.Frame.{Frame, Site, inode_in, scene_of, super_at}

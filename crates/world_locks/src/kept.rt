@@ -11,7 +11,7 @@ use inode_cell::books::Book;
 use inode_events::{Deed, Event, Told};
 use inode_meta::Who;
 use policy_cell::{PolicyCell, RuleEntry};
-use policy_text::Rule;
+use policy_rules::Rule;
 use std::alloc::{AllocError as OutOfMemory, Global};
 use std::marker::{Model, PhantomData};
 use task_steps::Answered;

@@ -13,7 +13,7 @@ use crate::parts::Parts;
 use crate::station::KeptStation;
 use inode_events::Settings;
 use inode_meta::Mode;
-use policy_text::Super;
+use policy_rules::Super;
 use std::alloc::{AllocError as OutOfMemory, Global};
 use std::sync::{Mutex, MutexGuard, Wait};
 use world_close::worlds::Station;

@@ -2,7 +2,7 @@ use grow_list::Pass;
 use inode_cell::books::Book;
 use inode_events::Settings;
 use policy_cell::{PolicyCell, RuleEntry};
-use policy_text::Super;
+use policy_rules::Super;
 use std::alloc::Global;
 use world_close::semaphores::SemaphoreCell;
 use world_close::worlds::Station;

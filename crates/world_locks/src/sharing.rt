@@ -9,7 +9,7 @@ use crate::name::Name;
 use crate::order::Order;
 use inode_events::Deed;
 use inode_meta::Who;
-use policy_text::Rule;
+use policy_rules::Rule;
 use std::alloc::AllocError as OutOfMemory;
 use std::sync::Wait;
 use task_steps::Answered;

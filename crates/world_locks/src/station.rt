@@ -20,7 +20,7 @@ use ima_templates::Entry;
 use inode_events::Event;
 use inode_meta::Who;
 use policy_cell::RuleEntry;
-use policy_text::Super;
+use policy_rules::Super;
 use std::alloc::AllocError as OutOfMemory;
 use std::marker::{Model, PhantomData};
 use task_mind::Doing;

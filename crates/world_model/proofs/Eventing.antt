@@ -23,8 +23,8 @@ use Rattle.world_model.specs.laws_of_runs.Logs.{logged}
 use Rattle.world_model.specs.laws_of_runs.Steps.{Made, RisesWithin, made_of}
 use Rattle.world_model.proofs.laws_of_runs.Rising.{rises_event}
 use Rattle.run_model.specs.rules.declared.cell.RuleEntry.{RuleEntry}
-use Rattle.policy_text.specs.declared.access.Action.{Action}
-use Rattle.policy_text.specs.declared.rule.Func.{Func}
+use Rattle.policy_rules.specs.declared.access.Action.{Action}
+use Rattle.policy_rules.specs.declared.rule.Func.{Func}
 use Rattle.world_model.proofs.laws_of_runs.Checking.{law_fits_by_check, law_fits_by_step}
 use Rattle.world_model.proofs.laws_of_runs.Owned.{set_parts}
 use Rattle.world_model.proofs.laws_of_runs.Passing.{law_sees_by_look, law_stands_by_look}

@@ -6,7 +6,7 @@ use Rattle.std.proofs.lemmas.List.{reverse-append}
 use Rattle.grow_list.specs.Shown.{Passed}
 use Rattle.inode_meta.specs.declared.appraisal.Mode.{Mode}
 use Rattle.inode_meta.specs.declared.appraisal.Slot.{Slot}
-use Rattle.policy_text.specs.ActionValue.{ActionValue}
+use Rattle.policy_rules.specs.ActionValue.{ActionValue}
 use Rattle.inode_events.specs.Checks.{Check, last_check, no_action, slot_of}
 use Rattle.inode_events.specs.Inode.{Inode}
 use Rattle.inode_events.specs.Integrity.{Collection}

@@ -6,8 +6,8 @@ use Rattle.inode_meta.specs.declared.appraisal.Slot.{Slot}
 use Rattle.inode_events.specs.labels.declared.verdict.Cause.{Cause}
 use Rattle.inode_events.specs.labels.declared.verdict.Verdict.{Verdict}
 use Rattle.inode_events.specs.labels.declared.verdict.Verdict.TheVariants.{Deny}
-use Rattle.policy_text.specs.Accesses.{func_of_purpose, slot_of}
-use Rattle.policy_text.specs.declared.access.Action.{Action}
+use Rattle.policy_rules.specs.Accesses.{func_of_purpose, slot_of}
+use Rattle.policy_rules.specs.declared.access.Action.{Action}
 use Rattle.inode_events.specs.Files.{can_read, is_writer}
 use Rattle.inode_events.specs.declared.deed.How.{How}
 use Rattle.inode_events.specs.declared.told.Grant.{Grant}

@@ -4,7 +4,7 @@ use mathlib.Core.List.{IsPrefix}
 use Rattle.grow_list.specs.Entries.{entries_of}
 use Rattle.grow_list.specs.Shown.{Passed}
 use Rattle.inode_meta.specs.declared.appraisal.Slot.{Slot}
-use Rattle.policy_text.specs.ActionValue.{ActionValue}
+use Rattle.policy_rules.specs.ActionValue.{ActionValue}
 use Rattle.inode_events.specs.Callers.{caller_of}
 use Rattle.inode_events.specs.Checks.{last_check, no_action, slot_of}
 use Rattle.inode_events.specs.Inode.{Inode}

@@ -13,7 +13,7 @@ use Rattle.inode_events.specs.declared.told.Event.{Event}
 use Rattle.world_close.specs.states.Value.{birth_of}
 use Rattle.policy_cell.specs.Policy.{PolicyValue}
 use Rattle.policy_cell.specs.declared.cell.RuleEntry.{RuleEntry}
-use Rattle.policy_text.specs.declared.access.Super.{Super}
+use Rattle.policy_rules.specs.declared.access.Super.{Super}
 use Rattle.world_close.specs.laws_of_runs.Stations.{StationRules}
 use Rattle.world_close.proofs.laws_of_runs.Risen.{law_rise_at_first}
 use Rattle.world_close.specs.model.Turns.{newborn}

@@ -6,7 +6,7 @@ use grow_list::Pass;
 use ima_templates::Entry;
 use inode_events::Event;
 use policy_cell::{PolicyCell, RuleEntry};
-use policy_text::Policy;
+use policy_rules::Policy;
 use std::alloc::{AllocError as OutOfMemory, Global};
 use world_close::books::Book;
 use world_close::semaphores::SemaphoreCell;

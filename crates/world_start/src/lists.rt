@@ -16,7 +16,7 @@ use ima_templates::Entry;
 use inode_events::xattrs::Bytes;
 use inode_events::{Event, Image, Settings};
 use policy_cell::{PolicyCell, RuleEntry};
-use policy_text::{Policy, Super};
+use policy_rules::{Policy, Super};
 use std::alloc::{AllocError as OutOfMemory, Global};
 use world_close::books::Book;
 use world_close::semaphores::SemaphoreCell;

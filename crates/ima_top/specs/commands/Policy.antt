@@ -3,7 +3,7 @@ use Rattle.std.specs.Prelude.{◌≡◌, ℕ, List, ◌++◌, codes, Option, Som
 use Rattle.std.specs.Fmt.{decimal}
 use Rattle.policy_text.specs.declared.fault.Fault.{Fault}
 use Rattle.policy_text.specs.Grammar.{policy_of}
-use Rattle.policy_text.specs.RuleValue.{RuleValue}
+use Rattle.policy_text.specs.rules.RuleValue.{RuleValue}
 use Rattle.policy_text.specs.Spelling.{cause_word, policy_text}
 use Rattle.ima_top.specs.Line.{with_newline}
 

@@ -6,7 +6,7 @@ use Rattle.std.proofs.lemmas.List.FromFn.{length-enumerate_from}
 use Rattle.text_forms.specs.Lines.{lines}
 use Rattle.text_forms.proofs.Steps.{numbered_item, goes_on, is_done}
 use Rattle.policy_text.specs.Grammar.{fault_at, policy_of, with_line}
-use Rattle.policy_text.proofs.ReadValues.{stops_at}
+use Rattle.policy_text.proofs.FirstBad.{stops_at}
 use Rattle.policy_text.proofs.read.parse.Goals as goal
 
 pub loop-i-preserved : goal.loop-i-preserved

@@ -1,6 +1,6 @@
 use Rattle.std.proofs.Common.{◌≡◌, take}
 use Rattle.std.specs.List.{AllByRecursion}
-use Rattle.policy_text.specs.RuleValue.{IsRule}
+use Rattle.policy_rules.specs.RuleValue.{IsRule}
 use Rattle.policy_text.specs.Spelling.{policy_text}
 use Rattle.policy_text.proofs.write.print.Given as goal
 

@@ -1,8 +1,8 @@
 use Rattle.std.proofs.Common.{◌≡◌, arith}
-use Rattle.policy_text.specs.declared.key.Key.TheVariants as key
-use Rattle.policy_text.specs.Key.{keys}
+use Rattle.policy_rules.specs.declared.key.Key.TheVariants as key
+use Rattle.policy_rules.specs.Key.{keys}
 use Rattle.policy_text.specs.Spelling.{key_text}
-use Rattle.policy_text.proofs.KeyLoops.{printed_more, texts_more}
+use Rattle.policy_rules.proofs.KeyLoops.{printed_more, texts_more}
 use Rattle.policy_text.proofs.write.push_keys.Goals as goal
 
 pub loop-key-preserved : goal.loop-key-preserved

@@ -1,5 +1,5 @@
 use Rattle.std.proofs.Common.{◌≡◌, ◌++◌, flat_map, take}
-use Rattle.policy_text.specs.Key.{keys}
+use Rattle.policy_rules.specs.Key.{keys}
 use Rattle.policy_text.specs.Spelling.{key_text}
 use Rattle.policy_text.proofs.write.push_keys.Given as goal
 

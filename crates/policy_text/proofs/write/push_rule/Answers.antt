@@ -1,5 +1,5 @@
 use Rattle.std.proofs.Common.{◌≡◌, ◌++◌, ◌∙◌}
-use Rattle.policy_text.specs.Spelling.{act_word}
+use Rattle.policy_rules.specs.ValueTexts.{act_word}
 use Rattle.policy_text.proofs.RulesAgain.{rule_put}
 use Rattle.policy_text.proofs.write.push_rule.Goals as goal
 

@@ -1,6 +1,6 @@
 use Rattle.std.proofs.Common.{◌≡◌, ◌++◌, ◌∷◌, ◌∙◌, List, ℕ, ap, subst, sym}
 use Rattle.std.specs.Prelude.{OnOk, codes}
-use Rattle.policy_text.specs.RuleValue.{RuleValue}
+use Rattle.policy_text.specs.rules.RuleValue.{RuleValue}
 use Rattle.policy_text.specs.Spelling.{rule_words}
 use Rattle.call_steps.specs.declared.call.Call.{Call}
 use Rattle.script_print.specs.Lines.{words_text}

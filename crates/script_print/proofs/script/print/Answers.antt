@@ -1,6 +1,6 @@
 use Rattle.std.proofs.Common.{◌≡◌, ◌++◌, List, map, ap, ◌∙◌, subst}
 use Rattle.std.specs.List.{AllByRecursion, flat_map}
-use Rattle.policy_text.specs.RuleValue.{RuleValue}
+use Rattle.policy_text.specs.rules.RuleValue.{RuleValue}
 use Rattle.script_text.specs.Grammar.{script_of}
 use Rattle.script_text.specs.ScriptValue.{ScriptValue}
 use Rattle.script_text.specs.declared.blocks.TaskBlock.{TaskBlock}

@@ -1,7 +1,7 @@
 use Rattle.std.proofs.Common.{◌≡◌, ℕ, ◌<◌, All, List, length, map, sym, subst, rules}
 use Rattle.std.proofs.lemmas.List.Elements.{All-from_recursion}
 use Rattle.run_model.specs.events.declared.image.Image.{Image}
-use Rattle.policy_text.specs.declared.access.Super.{Super}
+use Rattle.policy_rules.specs.declared.access.Super.{Super}
 use Rattle.task_core.specs.starts.Started.{IsFile}
 use Rattle.script_scene.specs.Scene.{file_of, fs_of}
 use Rattle.script_start.proofs.Fits.{files_fit, places_fit}

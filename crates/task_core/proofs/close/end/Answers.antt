@@ -5,7 +5,7 @@ use Rattle.std.proofs.lemmas.List.{length-map}
 use Rattle.inode_events.specs.Past.{past}
 use Rattle.inode_events.specs.Semaphores.{left}
 use Rattle.policy_cell.specs.declared.cell.RuleEntry.{RuleEntry}
-use Rattle.policy_text.specs.RuleValue.{RuleValue}
+use Rattle.policy_rules.specs.RuleValue.{RuleValue}
 use Rattle.world_model.specs.Frame.{Frame}
 use Rattle.world_model.specs.Tasks.{PassesValue, Tasked}
 use Rattle.world_model.specs.World.{WorldValue}

@@ -3,7 +3,7 @@ use Rattle.std.specs.Prelude.{All, max}
 use Rattle.grow_list.specs.Shown.{Passed}
 use Rattle.ima_templates.specs.declared.entry.Entry.{Entry}
 use Rattle.policy_cell.specs.declared.cell.RuleEntry.{RuleEntry}
-use Rattle.policy_text.specs.RuleValue.{RuleValue}
+use Rattle.policy_rules.specs.RuleValue.{RuleValue}
 use Rattle.world_close.specs.worlds.Tasks.{PassesValue}
 use Rattle.task_steps.specs.Parts.{frame_by}
 use Rattle.world_start.specs.Start.{IsFrameOf}

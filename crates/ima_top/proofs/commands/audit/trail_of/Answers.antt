@@ -6,7 +6,7 @@ use Rattle.script_run.specs.model.EndedValue.{EndedValue}
 use Rattle.script_run.specs.scenes.Scene.{IsForFiles, scene_of}
 use Rattle.script_text.specs.Grammar.{script_of}
 use Rattle.script_text.specs.ScriptValue.{ScriptValue}
-use Rattle.policy_text.specs.RuleValue.{is_named_template}
+use Rattle.policy_text.specs.rules.RuleValue.{is_named_template}
 use Rattle.ima_top.specs.commands.Audit.{trail_of}
 use Rattle.ima_top.specs.commands.Ran.{IsLeftBy, IsTextOf}
 use Rattle.ima_top.proofs.Ran.{by_read, of_read}

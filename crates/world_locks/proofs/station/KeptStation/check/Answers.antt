@@ -2,7 +2,7 @@
 use Rattle.std.proofs.Common.{◌<◌, List, length, subst, sym}
 use Rattle.inode_events.specs.Checks.{no_action}
 use Rattle.inode_events.specs.declared.deed.Deed.TheVariants as deed
-use Rattle.policy_text.specs.declared.access.Super.{Super}
+use Rattle.policy_rules.specs.declared.access.Super.{Super}
 use Rattle.world_close.specs.worlds.World.{IsStation, StationValue}
 use Rattle.world_close.specs.worlds.declared.gathered.Gathered.TheVariants as gathered
 use Rattle.world_locks.proofs.Asking.{LooksAt, asked_book, asked_station, asks}

@@ -1,0 +1,2 @@
+pub mod KeyLoops
+pub mod AlgoNames

@@ -1,0 +1,169 @@
+ghost use Rattle.std.specs.Prelude.{◌≡◌, map, IfSome, IsTrue};
+ghost use Rattle.std.specs.Option.{option_map};
+ghost use Rattle.text_forms.specs.Tables.{look_up};
+ghost use Rattle.policy_rules.specs.RuleValue.{has_algos, is_id, is_mask_bit, is_named_template};
+ghost use Rattle.policy_rules.specs.Values.{act_of, algos_of, func_of, id_number_of, id_of, is_unsupported_template, is_unsupported_type, mask_bits_of, mask_of, template_of};
+
+use crate::rule::{Act, Func, IdTest, MaskTest};
+use hash_algos::{AlgoSet, by_name};
+use inode_meta::Template;
+use text_forms::number_of;
+
+// The actions by their names.
+const ACTS: [(&[u8], Act); 8] = [
+    (b"measure", Act::Measure),
+    (b"dont_measure", Act::DontMeasure),
+    (b"appraise", Act::Appraise),
+    (b"dont_appraise", Act::DontAppraise),
+    (b"audit", Act::Audit),
+    (b"dont_audit", Act::DontAudit),
+    (b"hash", Act::Hash),
+    (b"dont_hash", Act::DontHash),
+];
+
+// The hooks by their main names and their aliases.
+const FUNCS: [(&[u8], Func); 16] = [
+    (b"BPRM_CHECK", Func::BprmCheck),
+    (b"MMAP_CHECK", Func::MmapCheck),
+    (b"FILE_MMAP", Func::MmapCheck),
+    (b"FILE_CHECK", Func::FileCheck),
+    (b"PATH_CHECK", Func::FileCheck),
+    (b"CREDS_CHECK", Func::CredsCheck),
+    (b"MODULE_CHECK", Func::ModuleCheck),
+    (b"FIRMWARE_CHECK", Func::FirmwareCheck),
+    (b"KEXEC_KERNEL_CHECK", Func::KexecKernelCheck),
+    (b"KEXEC_INITRAMFS_CHECK", Func::KexecInitramfsCheck),
+    (b"KEXEC_CMDLINE", Func::KexecCmdline),
+    (b"KEY_CHECK", Func::KeyCheck),
+    (b"CRITICAL_DATA", Func::CriticalData),
+    (b"SETXATTR_CHECK", Func::SetxattrCheck),
+    (b"POLICY_CHECK", Func::PolicyCheck),
+    (b"MMAP_CHECK_REQPROT", Func::MmapCheckReqprot),
+];
+
+// The entry of a table under this word, if there is one.
+fn look_up<T: Copy>(mut table: &[(&[u8], T)], word: &[u8]) -> Option<T>
+    ensures { result ≡ look_up (map (λ e. (e.0.now, e.1)) table.entry.now) word.now }
+{
+    while let [entry, rest @ ..] = table {
+        if word == entry.0 {
+            return Some(entry.1);
+        }
+        table = rest;
+    }
+    None
+}
+
+/// The action with this name, such as `dont_measure`.
+pub fn act_of(word: &[u8]) -> Option<Act>
+    ensures { result ≡ act_of word.now }
+{
+    look_up(&ACTS, word)
+}
+
+/// The hook with this name, which may be its main name or an alias.
+pub fn func_of(word: &[u8]) -> Option<Func>
+    ensures { result ≡ func_of word.now }
+{
+    look_up(&FUNCS, word)
+}
+
+fn mask_bits_of(word: &[u8]) -> Option<u8>
+    ensures value { result ≡ mask_bits_of word.now }
+    ensures bit { IfSome result (λ bits. IsTrue (is_mask_bit bits)) }
+{
+    if word == b"MAY_EXEC".as_slice() {
+        Some(1)
+    } else if word == b"MAY_WRITE".as_slice() {
+        Some(2)
+    } else if word == b"MAY_READ".as_slice() {
+        Some(4)
+    } else if word == b"MAY_APPEND".as_slice() {
+        Some(8)
+    } else {
+        None
+    }
+}
+
+/// Parses the test of an access mask: the name of a bit, optionally after `^`.
+pub fn mask_of(text: &[u8]) -> Option<MaskTest>
+    ensures value { result ≡ mask_of text.now }
+    ensures bit { IfSome result (λ mask. IsTrue (is_mask_bit mask.bits)) }
+{
+    match text {
+        [b'^', word @ ..] => {
+            let bits = mask_bits_of(word)?;
+            Some(MaskTest { exact: false, bits })
+        }
+        _ => {
+            let bits = mask_bits_of(text)?;
+            Some(MaskTest { exact: true, bits })
+        }
+    }
+}
+
+/// Parses the test of a user or group ID: a sign and a number below 2^32 in decimal, with any
+/// leading zeros.
+pub fn id_of(text: &[u8]) -> Option<IdTest>
+    ensures value { result ≡ id_of text.now }
+    ensures id { IfSome result (λ test. IsTrue (is_id test)) }
+{
+    match text {
+        [b'=', digits @ ..] => Some(IdTest::Is(id_number_of(digits)?)),
+        [b'>', digits @ ..] => Some(IdTest::Above(id_number_of(digits)?)),
+        [b'<', digits @ ..] => Some(IdTest::Below(id_number_of(digits)?)),
+        _ => None,
+    }
+}
+
+fn id_number_of(digits: &[u8]) -> Option<u32>
+    ensures { result ≡ id_number_of digits.now }
+{
+    let number = number_of(digits, 10, u64::from(u32::MAX))?;
+    Some(number as u32)
+}
+
+/// Parses a list of algorithm names separated by commas, at least one.
+pub fn algos_of(text: &[u8]) -> Option<AlgoSet>
+    ensures value { result ≡ algos_of text.now }
+    ensures filled { IfSome result (λ s. IsTrue (has_algos s)) }
+{
+    let mut algos = AlgoSet::new();
+    for name in text.split(|b| *b == b',') {
+        algos.add(by_name(name)?);
+    }
+    Some(algos)
+}
+
+/// The template with this name, among those that a rule can name.
+pub fn template_of(word: &[u8]) -> Option<Template>
+    ensures value { result ≡ template_of word.now }
+    ensures named { IfSome result (λ t. IsTrue (is_named_template t)) }
+{
+    if word == b"ima".as_slice() {
+        Some(Template::Ima)
+    } else if word == b"ima-ng".as_slice() {
+        Some(Template::ImaNg)
+    } else if word == b"ima-sig".as_slice() {
+        Some(Template::ImaSig)
+    } else {
+        None
+    }
+}
+
+/// Whether the word is a kind of label that the kernel knows but that isn't supported here.
+pub fn is_unsupported_type(word: &[u8]) -> bool
+    ensures { result ≡ is_unsupported_type word.now }
+{
+    word == b"imasig|modsig".as_slice() || word == b"sigv3".as_slice()
+}
+
+/// Whether the word is a template that the kernel knows but that isn't supported here.
+pub fn is_unsupported_template(word: &[u8]) -> bool
+    ensures { result ≡ is_unsupported_template word.now }
+{
+    word == b"ima-ngv2".as_slice()
+        || word == b"ima-sigv2".as_slice()
+        || word == b"ima-modsig".as_slice()
+        || word == b"evm-sig".as_slice()
+}

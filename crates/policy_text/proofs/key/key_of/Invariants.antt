@@ -1,7 +1,0 @@
-use Rattle.std.proofs.Common.{◌≡◌, drop}
-use Rattle.policy_text.specs.Key.{key_among, key_of, keys}
-use Rattle.policy_text.proofs.key.key_of.Given as goal
-
--- the remaining keys decide
-abbrev pub invariant-loop-key : goal.invariant-loop-key
-invariant-loop-key l = key_among (drop l.key-index keys) l.token ≡ key_of l.token
