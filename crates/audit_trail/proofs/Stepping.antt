@@ -23,7 +23,7 @@ use Rattle.world_model.specs.model.events.labels.Labels.{collect_algo}
 use Rattle.world_model.specs.model.events.meta.declared.identity.Meta.{Meta}
 use Rattle.world_model.specs.model.events.meta.declared.step.Who.{Who}
 use Rattle.world_model.specs.model.events.templates.xattrs.Attrs.{Pair}
-use Rattle.world_model.specs.inodes.Changes.{changed_on}
+use Rattle.world_model.specs.inodes.answers.Changes.{changed_on}
 use Rattle.audit_trail.specs.Steps.{IsKeptOf, IsWellFormed, attrs_after, begun, closed_by, finished_after, gathered_after, left_after, mended_by, sets_content, taken_digest, taken_more}
 use Rattle.audit_trail.specs.Walk.{GoesOn, IsWalk, taken_of}
 use Rattle.audit_trail.specs.declared.walk.Walk.{Walk}

@@ -1,6 +1,6 @@
 -- What one event changes of an inode, as a walk over its journal carries it along.
 use Rattle.std.specs.Prelude.{◌≡◌, ℕ, ◌+◌, ◌<◌, Bool, true, false, List, [], ◌++◌, length, Option, Some, None, option_map}
-use Rattle.world_model.specs.inodes.Changes.{changed_on, fixed_on, labelled_on}
+use Rattle.world_model.specs.inodes.answers.Changes.{changed_on, fixed_on, labelled_on}
 use Rattle.world_model.specs.model.events.Integrity.{label_in}
 use Rattle.world_model.specs.model.events.Says.{is_too_long}
 use Rattle.world_model.specs.model.events.State.{changed}

@@ -3,7 +3,7 @@
 
 ghost use Rattle.std.specs.Prelude.{◌≡◌, option_map, OnOk};
 ghost use Rattle.audit_trail.specs.Steps.{IsKeptOf, IsWellFormed, attrs_after, closed_by, mended_by, taken_digest};
-ghost use Rattle.world_model.specs.inodes.Changes.{fixed_on, labelled_on};
+ghost use Rattle.world_model.specs.inodes.answers.Changes.{fixed_on, labelled_on};
 
 use crate::digests::digest_taken;
 use crate::taken::Taken;

@@ -11,7 +11,7 @@ use Rattle.inode_events.specs.Says.{unless_collecting}
 use Rattle.inode_state.proofs.laws_of_journals.Stages.{Collects}
 use Rattle.xattr_store.specs.Attrs.{Pair}
 use Rattle.inode_events.specs.Past.{past}
-use Rattle.inode_cell.specs.Changes.{labelled_on}
+use Rattle.inode_answers.specs.Changes.{labelled_on}
 use Rattle.inode_cell.specs.Sums.{HasSums}
 use Rattle.grow_list.specs.Shown.{Passed}
 use Rattle.ima_templates.specs.declared.entry.Entry.{Entry}

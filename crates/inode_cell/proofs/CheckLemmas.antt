@@ -12,9 +12,9 @@ use Rattle.inode_events.specs.declared.told.Event.{Event}
 use Rattle.inode_events.specs.declared.told.Told.{Told}
 use Rattle.inode_events.specs.policy.declared.access.Action.{Action}
 use Rattle.inode_events.specs.policy.declared.rule.Func.{Func}
-use Rattle.inode_cell.specs.Answers.{found_told}
+use Rattle.inode_answers.specs.Answers.{found_told}
 use Rattle.inode_cell.specs.Listing.{with_asked}
-use Rattle.inode_cell.specs.declared.answers.Found.{Found}
+use Rattle.inode_answers.specs.declared.answers.Found.{Found}
 
 -- the values that the cell gives a check are those that the journal defines
 pub record Reads (q : List Event) (file : ℕ) (w : Bool) (r ws : ℕ) (must : Bool) : Type 0 where

@@ -13,7 +13,7 @@ use Rattle.inode_events.specs.Grants.{grant_of}
 use Rattle.inode_events.specs.Inode.{Inode}
 use Rattle.inode_meta.specs.declared.identity.Meta.{Meta}
 use Rattle.xattr_store.specs.Attrs.{Pair}
-use Rattle.inode_cell.specs.Changes.{mended_on}
+use Rattle.inode_answers.specs.Changes.{mended_on}
 use Rattle.inode_events.specs.Integrity.{Collection, Digests, collecting, digest_from, digests_of, fixed_by, label}
 use Rattle.inode_events.specs.Legal.{EachFollows, May}
 use Rattle.inode_events.specs.Listing.{signature_in, template_for}

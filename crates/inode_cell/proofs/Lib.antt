@@ -3,7 +3,6 @@ pub mod Acting
 pub mod Guarding
 pub mod GrantLemmas
 pub mod CheckLemmas
-pub mod ReadLemmas
 pub use Rattle.inode_state.proofs.laws_of_journals
 pub use Rattle.inode_state.proofs as about_states
 pub use Rattle.rule_match.proofs as about_matching

@@ -19,7 +19,7 @@ use Rattle.inode_events.specs.declared.told.Told.{Told}
 use Rattle.inode_state.specs.Known.{IsKnown}
 use Rattle.inode_state.specs.declared.known.Known.{Known}
 use Rattle.inode_state.specs.laws_of_journals.Own.{IsBy}
-use Rattle.inode_cell.specs.Changes.{rewritten}
+use Rattle.inode_answers.specs.Changes.{rewritten}
 use Rattle.inode_cell.specs.Value.{CellValue, IsSameCell}
 
 -- a step that does the deed `d`: its outcome is the one that the journal and the measurement list

@@ -1,8 +1,6 @@
 pub mod Value
 pub mod Fields
 pub mod Acts
-pub mod Answers
-pub mod Changes
 pub mod Sums
 pub mod Pieces
 pub mod Listing
@@ -10,3 +8,4 @@ pub mod Granting
 pub mod Ending
 pub use Rattle.inode_state.specs.laws_of_journals
 pub use Rattle.inode_state.specs as states
+pub use Rattle.inode_answers.specs as answers

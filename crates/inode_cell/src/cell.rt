@@ -7,10 +7,10 @@ ghost use Rattle.inode_events.specs.Past.{past};
 ghost use Rattle.inode_events.specs.declared.deed.Deed.{Deed as AnyDeed};
 ghost use Rattle.inode_meta.specs.declared.step.Who.{Who as AnyWho};
 ghost use Rattle.inode_cell.specs.Acts.{Acts, IsChange, IsPlain, Stays};
-ghost use Rattle.inode_cell.specs.Changes.{IsRewriting};
+ghost use Rattle.inode_answers.specs.Changes.{IsRewriting};
 ghost use Rattle.inode_cell.specs.Value.{IsSameCell};
 
-use crate::attributes::rewrite;
+use crate::rewriting::rewrite;
 use grow_list::Pass;
 use hash_algos::Digest;
 use ima_templates::Entry;

@@ -6,64 +6,24 @@ ghost use Rattle.inode_events.specs.Legal.{May};
 ghost use Rattle.inode_events.specs.Listing.{violated};
 ghost use Rattle.inode_state.specs.laws_of_journals.Own.{IsBy};
 ghost use Rattle.inode_events.specs.Past.{past};
-ghost use Rattle.inode_events.specs.Says.{check_told, place_of};
+ghost use Rattle.inode_events.specs.Says.{place_of};
 ghost use Rattle.inode_events.specs.State.{metadata};
 ghost use Rattle.rule_match.specs.Decision.{access_of, decide_of};
 ghost use Rattle.inode_cell.specs.Acts.{Acts, MayBy, Stays};
-ghost use Rattle.inode_cell.specs.Answers.{found_told};
+ghost use Rattle.inode_answers.specs.Answers.{found_told};
 
-use crate::answers::Found;
 use crate::cell::InodeCell;
 use crate::listing::list_asked;
 use grow_list::Pass;
-use ima_templates::{Entry, Placed, violation};
+use ima_templates::{Entry, violation};
+use inode_answers::{Checked, Found, found, place_of};
 use inode_events::policy::{Access, Action, Func, Super};
-use inode_events::{Deed, Event, Told};
+use inode_events::{Deed, Event};
 use inode_meta::{Cred, Who};
 use inode_state::{Kind, Known, counts_as};
 use measure_book::Book;
 use rule_match::Index;
 use std::alloc::AllocError as OutOfMemory;
-
-/// The result of a check.
-#[derive(Drop)]
-pub struct Checked {
-    /// The rules' action for the access.
-    pub action: Action,
-    /// The violation that the check found, if any.
-    pub found: Found,
-}
-
-// The violation that a check finds. `place` is its place in the measurement list.
-fn found(writing: bool, measure: bool, readers: u64, writers: u64, must: bool, place: u64) -> Found
-    ensures { found_told result ≡ check_told writing measure readers writers must place }
-{
-    if writing && readers > 0 && must {
-        Found::ToMToU(place)
-    } else if !writing && measure && writers > 0 {
-        Found::OpenWriters(place)
-    } else {
-        Found::Quiet
-    }
-}
-
-fn told_by(found: Found) -> Told
-    ensures { result ≡ found_told found }
-{
-    match found {
-        Found::Quiet => Told::Quiet,
-        Found::OpenWriters(place) => Told::OpenWriters(place),
-        Found::ToMToU(place) => Told::ToMToU(place),
-    }
-}
-
-fn place_of(placed: Placed) -> u64
-    ensures { result ≡ place_of placed }
-{
-    match placed {
-        Placed::Added(place) | Placed::Already(place) => place,
-    }
-}
 
 impl InodeCell {
     // The entry that the check adds to the measurement list, if it found a violation.
@@ -176,7 +136,7 @@ impl InodeCell {
             action: *action,
             rules,
         };
-        let told = told_by(found);
+        let told = found.told();
         self.kept
             .enter(pass, Event { who, deed, told }, &Known::checking(writing));
         Ok(found)

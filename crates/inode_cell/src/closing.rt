@@ -3,15 +3,15 @@ ghost use Rattle.std.specs.Prelude.{◌≡◌, ◌==◌, ◌&&◌, ◌+◌, List
 ghost use Rattle.inode_events.specs.Files.{writers};
 ghost use Rattle.inode_events.specs.Marks.{is_label_due};
 ghost use Rattle.inode_events.specs.Past.{past};
-ghost use Rattle.inode_cell.specs.Answers.{CloseBeginsBy, close_taken_told, finished_told};
+ghost use Rattle.inode_answers.specs.Answers.{CloseBeginsBy, close_taken_told, finished_told};
 ghost use Rattle.inode_cell.specs.Sums.{HasSums};
 ghost use Rattle.ima_templates.specs.declared.entry.Entry.{Entry as AnyEntry};
 ghost use Rattle.inode_cell.specs.Acts.{Acts, MayBy, Stays};
 
-use crate::answers::CloseTaken;
 use crate::cell::InodeCell;
 use grow_list::Pass;
 use hash_algos::Digest;
+use inode_answers::CloseTaken;
 use inode_events::{Deed, Event, Told};
 use inode_meta::Who;
 use inode_state::Known;

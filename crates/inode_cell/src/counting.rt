@@ -6,25 +6,15 @@ ghost use Rattle.inode_events.specs.Past.{past};
 ghost use Rattle.inode_events.specs.Says.{count_told};
 ghost use Rattle.inode_events.specs.State.{present};
 ghost use Rattle.inode_cell.specs.Acts.{Acts, Stays};
-ghost use Rattle.inode_cell.specs.Answers.{IsPlaced, counted_told};
+ghost use Rattle.inode_answers.specs.Answers.{IsPlaced, counted_told};
 
-use crate::answers::Counted;
 use crate::cell::InodeCell;
 use grow_list::Pass;
-use inode_events::{Deed, Event, How, Told};
+use inode_answers::{Counted, creates};
+use inode_events::{Deed, Event, How};
 use inode_meta::Who;
 use inode_state::{Kind, Known, counts_as};
 use std::alloc::AllocError as OutOfMemory;
-
-// Whether the open creates an absent file.
-fn creates(how: How) -> bool
-    ensures { result ≡ creates how }
-{
-    match how {
-        How::Read { create } | How::Write { create, .. } => create,
-        How::Exec => false,
-    }
-}
 
 // The result of a count whose event would be at `place`.
 fn counted(how: How, is_there: bool, writers: u64, execs: u64, place: u64) -> Counted
@@ -39,16 +29,6 @@ fn counted(how: How, is_there: bool, writers: u64, execs: u64, place: u64) -> Co
         Counted::TextBusy
     } else {
         Counted::Held(place)
-    }
-}
-
-fn told_by(answer: Counted) -> Told
-    ensures { result ≡ counted_told answer }
-{
-    match answer {
-        Counted::Held(_) => Told::Held,
-        Counted::NotFound => Told::NotFound,
-        Counted::TextBusy => Told::TextBusy,
     }
 }
 
@@ -79,7 +59,7 @@ impl InodeCell {
             self.kept.len(),
         );
         let known = Known::nothing();
-        self.step(pass, who, Deed::Count { how }, told_by(answer), &known);
+        self.step(pass, who, Deed::Count { how }, answer.told(), &known);
         Ok(answer)
     }
 }

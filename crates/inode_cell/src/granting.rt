@@ -8,7 +8,7 @@ ghost use Rattle.inode_meta.specs.declared.step.Who.{Who as AnyWho};
 ghost use Rattle.inode_state.specs.Known.{IsKnown};
 ghost use Rattle.inode_cell.specs.Granting.{Collects, asked_in};
 ghost use Rattle.inode_cell.specs.Acts.{Acts, MayBy, Stays};
-ghost use Rattle.inode_cell.specs.Answers.{BeginsBy, taken_told};
+ghost use Rattle.inode_answers.specs.Answers.{BeginsBy, taken_told};
 ghost use Rattle.inode_cell.specs.Granting.{IsGranting, asked_stage, collected_stage, digests_in, sums_in_force};
 ghost use Rattle.inode_cell.specs.Sums.{HasSums};
 ghost use Rattle.inode_events.specs.Checks.{Check, appraises, last_check, slot_of};
@@ -17,18 +17,16 @@ ghost use Rattle.inode_events.specs.Integrity.{chosen_algo, collecting, in_force
 ghost use Rattle.inode_events.specs.Listing.{signature_in};
 ghost use Rattle.inode_events.specs.Past.{past};
 ghost use Rattle.inode_events.specs.Verdicts.{judged};
-ghost use Rattle.std.specs.Option.{option_copied};
 ghost use Rattle.inode_state.specs.Collecting.{IsAsked};
 ghost use Rattle.xattr_store.specs.Attrs.{most_value};
 
-use crate::answers::Taken;
-use crate::attributes::mend_on;
 use crate::cell::InodeCell;
 use crate::listing::list_asked;
 use grow_list::Pass;
 use hash_algos::{Algo, AlgoSet, Digest};
 use ima_appraise::{mend_for, verdict};
 use ima_templates::{Entry, Placed, build};
+use inode_answers::{Taken, admits, is_mend, mend_on, placed_if_measured, signature_in};
 use inode_events::policy::Action;
 use inode_events::{Deed, Event, Grant, Told};
 use inode_meta::{EvmStatus, Mode, Need, Slot, Who};
@@ -37,41 +35,6 @@ use label_values::{Mend, Verdict, read_label};
 use measure_book::Book;
 use std::alloc::AllocError as OutOfMemory;
 use xattr_store::IMA_NAME;
-
-// Whether the mode admits a file with this verdict.
-fn admits(mode: Mode, verdict: Option<Verdict>) -> bool
-    ensures { result ≡ admits mode verdict }
-{
-    match (mode, verdict) {
-        (Mode::Enforce, Some(verdict)) => matches!(verdict, Verdict::Pass),
-        _ => true,
-    }
-}
-
-fn is_mend(mend: Mend) -> bool
-    ensures { result ≡ is_mend mend }
-{
-    !matches!(mend, Mend::Nothing)
-}
-
-fn placed_if_measured(action: &Action, placed: Placed) -> Option<Placed>
-    ensures { result ≡ placed_if_measured action.now placed }
-{
-    if action.measure { Some(placed) } else { None }
-}
-
-// The label, if it is a signature; otherwise no bytes.
-fn signature_in(label: Option<&[u8]>) -> &[u8]
-    ensures { result.now ≡ signature_in (option_copied label.entry) }
-{
-    match label {
-        Some(bytes) => match bytes.first() {
-            Some(3 | 6) => bytes,
-            _ => &[],
-        },
-        None => &[],
-    }
-}
 
 // What was asked for the open collection, if a check asked for it.
 fn asked_in(collecting: &Option<Collecting>) -> Option<Asked>

@@ -1,8 +1,6 @@
 //! One inode. It does in constant time per step what the definitions do by searching its journal.
 #![tactic(auto)]
 
-mod answers;
-mod attributes;
 mod cell;
 mod checking;
 mod closing;
@@ -11,19 +9,18 @@ mod ending;
 mod facts;
 mod granting;
 mod listing;
-mod reading;
+mod rewriting;
 mod setting;
 mod writing;
 
-pub use answers::{CloseTaken, Counted, Found, Piece, Set, Taken, Wrote};
-pub use attributes::{change_on, label_on};
 pub use cell::InodeCell;
-pub use checking::Checked;
 pub use grow_list as growing;
 pub use ima_appraise as appraisals;
+pub use inode_answers::{
+    Checked, CloseTaken, Counted, Found, Got, Piece, Set, Taken, Wrote, change_on, label_on,
+};
 pub use inode_events::EndedInode;
 pub use inode_state as states;
 pub use measure_book as books;
 pub use rule_match as matching;
 pub use std::alloc::AllocError as OutOfMemory;
-pub use writing::Got;

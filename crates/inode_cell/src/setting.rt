@@ -4,85 +4,18 @@ ghost use Rattle.std.specs.Option.{option_copied};
 ghost use Rattle.ima_templates.specs.declared.entry.Entry.{Entry as AnyEntry};
 ghost use Rattle.inode_events.specs.Integrity.{collecting};
 ghost use Rattle.inode_events.specs.Past.{past};
-ghost use Rattle.inode_events.specs.Says.{is_no_label, is_too_long, set_attr_told, set_meta_told, status_told};
-ghost use Rattle.inode_events.specs.declared.told.Told.{Told as AnyTold};
+ghost use Rattle.inode_events.specs.Says.{is_no_label, is_too_long, set_attr_told, set_meta_told};
 ghost use Rattle.inode_cell.specs.Acts.{Acts, Stays};
-ghost use Rattle.inode_cell.specs.Answers.{set_told};
+ghost use Rattle.inode_answers.specs.Answers.{set_told};
 
-use crate::answers::Set;
 use crate::cell::InodeCell;
 use grow_list::Pass;
+use inode_answers::{Set, by_status, copied, is_no_label, is_too_long};
 use inode_events::{BoxedBytes, BoxedValue, Change, Deed, Event, Told};
 use inode_meta::{Cred, EvmStatus, Who};
 use inode_state::Known;
 use std::alloc::{AllocError as OutOfMemory, Global};
 use xattr_store::{Bytes, EVM_NAME, IMA_NAME, MAX_VALUE};
-
-// The highest type of a label that the kernel knows.
-const LAST_TYPE: u8 = 6;
-
-// The outcome of the event for a change that isn't blocked.
-fn told_by(answer: Set) -> Told
-    ensures { (t : AnyTold) → set_told answer ≡ Some t → result ≡ t }
-{
-    match answer {
-        Set::Done => Told::Done,
-        Set::Blocked => Told::Nothing,
-        Set::NotFound => Told::NotFound,
-        Set::EvmName => Told::EvmName,
-        Set::NotAdmin => Told::NotAdmin,
-        Set::TooLong => Told::TooLong,
-        Set::Invalid => Told::Invalid,
-        Set::NoData => Told::NoData,
-        Set::Status(status) => Told::Status(status),
-    }
-}
-
-fn by_status(answer: Result<(), EvmStatus>) -> Set
-    ensures { set_told result ≡ Some (status_told answer) }
-{
-    match answer {
-        Ok(()) => Set::Done,
-        Err(status) => Set::Status(status),
-    }
-}
-
-fn is_too_long(value: &Option<Bytes>) -> bool
-    ensures { result ≡ is_too_long value.now }
-{
-    match value {
-        None => false,
-        Some(bytes) => bytes.as_slice().len() > MAX_VALUE,
-    }
-}
-
-fn is_no_label_bytes(bytes: &[u8]) -> bool
-    ensures { result ≡ is_no_label (Some bytes.now) }
-{
-    match bytes {
-        [] => true,
-        [kind, ..] => *kind > LAST_TYPE,
-    }
-}
-
-fn is_no_label(value: &Option<Bytes>) -> bool
-    ensures { result ≡ is_no_label value.now }
-{
-    match value {
-        None => false,
-        Some(bytes) => is_no_label_bytes(bytes.as_slice()),
-    }
-}
-
-fn copied(alloc: Global, value: Option<&[u8]>) -> Result<BoxedValue, OutOfMemory>
-    ensures { IfOk result (λ copy. copy ≡ option_copied value.entry) }
-{
-    let copy = match value {
-        None => None,
-        Some(bytes) => Some(Bytes::from_slice(alloc, bytes)?),
-    };
-    BoxedValue::new(alloc, copy)
-}
 
 impl InodeCell {
     // The result of a change of an attribute if no collection is open: the first refusal that
@@ -149,13 +82,7 @@ impl InodeCell {
             }
             refusal => {
                 let known = Known::nothing();
-                self.step(
-                    pass,
-                    who,
-                    Deed::SetMeta { change },
-                    told_by(refusal),
-                    &known,
-                );
+                self.step(pass, who, Deed::SetMeta { change }, refusal.told(), &known);
                 Ok(refusal)
             }
         }
@@ -213,7 +140,7 @@ impl InodeCell {
             }
             refusal => {
                 let deed = Deed::SetAttr { name, value, admin };
-                self.step(pass, who, deed, told_by(refusal), &Known::nothing());
+                self.step(pass, who, deed, refusal.told(), &Known::nothing());
                 Ok(refusal)
             }
         }

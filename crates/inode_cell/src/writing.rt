@@ -1,5 +1,5 @@
 // Writes, truncations and reads, and the pieces that a collection takes.
-ghost use Rattle.std.specs.Prelude.{◌≡◌, ℕ, Option, ◌+◌, ◌*◌, nat_le, List, Some, length, IfOk, OnErr};
+ghost use Rattle.std.specs.Prelude.{◌≡◌, ℕ, ◌+◌, List, Some, length, IfOk, OnErr};
 ghost use Rattle.hash_algos.specs.Digest.{digest_of};
 ghost use Rattle.ima_templates.specs.declared.entry.Entry.{Entry as AnyEntry};
 ghost use Rattle.inode_events.specs.Integrity.{Collection as AnyCollection, collecting};
@@ -7,57 +7,21 @@ ghost use Rattle.inode_events.specs.Legal.{May};
 ghost use Rattle.inode_events.specs.Past.{past};
 ghost use Rattle.inode_events.specs.Says.{chunk_told};
 ghost use Rattle.inode_events.specs.State.{content};
-ghost use Rattle.inode_pages.specs.Content.{bytes_at, piece_at, piece_bytes};
+ghost use Rattle.inode_pages.specs.Content.{bytes_at, piece_at};
 ghost use Rattle.inode_cell.specs.Acts.{Acts, MayBy, Stays};
-ghost use Rattle.inode_cell.specs.Answers.{piece_told, wrote_told};
+ghost use Rattle.inode_answers.specs.Answers.{piece_told, wrote_told};
 ghost use Rattle.inode_cell.specs.Pieces.{IsPieceDeed};
 
-use crate::answers::{Piece, Wrote};
 use crate::cell::InodeCell;
-use crate::reading::hashed_at;
 use grow_list::Pass;
-use hash_algos::{Algo, Sha256Digest};
+use hash_algos::Algo;
+use inode_answers::{Got, Piece, Wrote, piece_of};
 use inode_events::{BoxedBytes, Deed, Event, Told};
+use inode_hashing::hashed_at;
 use inode_meta::Who;
-use inode_pages::{PAGE_SIZE, Page, PageErr};
+use inode_pages::{Page, PageErr};
 use inode_state::Known;
 use std::alloc::AllocError as OutOfMemory;
-
-// Whether the piece with this number, counted from 0, is the last of a content of this size.
-fn is_last(size: u64, piece: u64) -> bool
-    ensures { result ≡ nat_le size (piece_bytes * (piece + 1)) }
-{
-    size.saturating_sub(1) / PAGE_SIZE as u64 <= piece
-}
-
-fn piece_of(size: u64, piece: u64) -> Piece
-    ensures { (o : Option AnyCollection) (c : AnyCollection) (bytes : List ℕ) → o ≡ Some c
-        → piece ≡ c.pieces → size ≡ length bytes → chunk_told bytes o ≡ Some (piece_told result) }
-{
-    if is_last(size, piece) {
-        Piece::Last
-    } else {
-        Piece::More
-    }
-}
-
-fn told_by_piece(piece: Piece) -> Told
-    ensures { result ≡ piece_told piece }
-{
-    match piece {
-        Piece::More => Told::More,
-        Piece::Last => Told::Last,
-    }
-}
-
-/// The result of a read.
-#[derive(Drop)]
-pub struct Got {
-    /// The number of bytes that were read.
-    pub n: u32,
-    /// The SHA-256 of those bytes.
-    pub digest: Sha256Digest,
-}
 
 impl InodeCell {
     // The next piece of the open collection, for a deed that takes it.
@@ -97,7 +61,7 @@ impl InodeCell {
     {
         self.reserve()?;
         let (piece, page) = self.next_piece(&deed)?;
-        self.step(pass, who, deed, told_by_piece(piece), &Known::nothing());
+        self.step(pass, who, deed, piece.told(), &Known::nothing());
         Ok((piece, page))
     }
 

@@ -6,3 +6,4 @@ pub mod Changes
 pub mod Filling
 pub mod Reading
 pub mod Walking
+pub mod Pages

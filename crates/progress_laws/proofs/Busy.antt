@@ -169,7 +169,7 @@ mk k r step gi gf how =
     record { due = record { ask = k; reply = r }; step = step; inode = gi; file = gf; how = how }
 
 -- the stage of file f in journal i after a step
-abbrev after_step : Inode → ℕ → ℕ → Step → Answer → Stage → Stage
+abbrev pub after_step : Inode → ℕ → ℕ → Step → Answer → Stage → Stage
 after_step inode i f (Does j d) a l = cond (j == i) (next_stage inode f a.place d a.told l) l
 after_step inode i f (Checks j file func mask) a l =
     cond (j == i) (next_stage inode f a.place (deed.Check file func a.action a.rules) a.told l) l
@@ -275,6 +275,11 @@ busy_step inode mode p m c at ask.Plain r step gi gf how i f place u action rule
 
 -- ---- along a history
 
+-- nothing added to a history
+pub same_more : {A : Type 0} (F : List (ℕ × Event) → A) (xs : List (ℕ × Event))
+    → F (reverse (xs ++ [])) ≡ F (reverse xs)
+same_more F xs = ap (λ (l : List (ℕ × Event)). F (reverse l)) (append-nil xs)
+
 lived_more : (inode : Inode) (i f j : ℕ) (xs : List (ℕ × Event)) (x : ℕ × Event)
     → stage_in inode f (reverse (xs ++ cond (j == i) (x ∷ []) []))
     ≡ cond (j == i) (next_stage inode f x.0 x.1.deed x.1.told (stage_in inode f (reverse xs)))
@@ -284,21 +289,18 @@ lived_more inode i f j xs x = at (j == i) where
       ≡ cond b (next_stage inode f x.0 x.1.deed x.1.told (stage_in inode f (reverse xs)))
       (stage_in inode f (reverse xs))
   at true = ap (stage_in inode f) (reverse-append xs (x ∷ []))
-  at false = ap (λ (l : List (ℕ × Event)). stage_in inode f (reverse l)) (append-nil xs)
+  at false = same_more (stage_in inode f) xs
 
-same_more : (inode : Inode) (f : ℕ) (xs : List (ℕ × Event))
-    → stage_in inode f (reverse (xs ++ [])) ≡ stage_in inode f (reverse xs)
-same_more inode f xs = ap (λ (l : List (ℕ × Event)). stage_in inode f (reverse l)) (append-nil xs)
-
-life_step : (inode : Inode) (i f : ℕ) (who : Who) (s : Step) (a : Answer) (xs : List (ℕ × Event))
+-- the state of a file after a step
+pub life_step : (inode : Inode) (i f : ℕ) (who : Who) (s : Step) (a : Answer) (xs : List (ℕ × Event))
     → stage_in inode f (reverse (xs ++ event_in i who (Some s) a))
     ≡ after_step inode i f s a (stage_in inode f (reverse xs))
-life_step inode i f who Nothing a xs = same_more inode f xs
+life_step inode i f who Nothing a xs = same_more (stage_in inode f) xs
 life_step inode i f who (Does j d) a xs = lived_more inode i f j xs (a.place, event who d a.told)
 life_step inode i f who (Checks j file func mask) a xs =
     lived_more inode i f j xs (a.place, event who (deed.Check file func a.action a.rules) a.told)
-life_step inode i f who (Signals d) a xs = same_more inode f xs
-life_step inode i f who (Appends rule) a xs = same_more inode f xs
+life_step inode i f who (Signals d) a xs = same_more (stage_in inode f) xs
+life_step inode i f who (Appends rule) a xs = same_more (stage_in inode f) xs
 
 all_right : {A : Type 0} (P : A → Type 0) (xs ys : List A) → All P (xs ++ ys) → All P ys
 all_right P xs ys h =

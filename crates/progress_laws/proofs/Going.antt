@@ -29,23 +29,18 @@ use Rattle.call_steps.specs.declared.reply.Reply.TheVariants as reply
 use Rattle.run_model.specs.History.{Answer, Thought, call_at, event, event_in, hear_in, own, step_in, thought, who_at}
 use Rattle.run_model.specs.Scene.{Program}
 use Rattle.progress_laws.specs.NextSteps.{IsFit}
+use Rattle.progress_laws.proofs.Busy.{after_step, life_step, same_more}
 use Rattle.progress_laws.proofs.Ready.{Each, IsAttr, IsWrite, NextTo, Ready, Strong, each_left, each_map, left, mk}
 use Rattle.progress_laws.proofs.Rows.{attr_row, check_row, chunk_row, close_chunk_row, close_finish_row, close_row, close_take_row, counted_ready, finish_row, read_row, take_row, told_fits, trunc_row, write_row}
 use Rattle.progress_laws.proofs.Begun.{begins}
 use Rattle.progress_laws.proofs.Owning.{AreGood, how_in, how_with}
-use Rattle.inode_events.specs.Stage.{Stage, next_stage, stage_in}
+use Rattle.inode_events.specs.Stage.{Stage, stage_in}
 use Rattle.call_steps.specs.declared.due.Next.{Next}
 use Rattle.call_steps.specs.declared.due.Next.TheVariants.{On, Over}
 
 -- ---- one step
 
--- the stage of file f in journal i after a step, and how the file was opened
-abbrev pub after_step : Inode → ℕ → ℕ → Step → Answer → Stage → Stage
-after_step inode i f (Does j d) a l = cond (j == i) (next_stage inode f a.place d a.told l) l
-after_step inode i f (Checks j file func mask) a l =
-    cond (j == i) (next_stage inode f a.place (deed.Check file func a.action a.rules) a.told l) l
-after_step inode i f _ a l = l
-
+-- how file f of journal i was opened, after a step
 abbrev pub how_on : ℕ → ℕ → ℕ → Deed → ℕ → Told → Option How → Option How
 how_on i f j (deed.Count how) place told.Held w = cond (j == i) (cond (place == f) (Some how) w) w
 how_on i f j d place t w = w
@@ -232,31 +227,6 @@ lives inode xs f = stage_in inode f (reverse xs)
 
 abbrev hows_in : List (ℕ × Event) → ℕ → Option How
 hows_in xs f = how_in f (reverse xs)
-
-same_more : {A : Type 0} (F : List (ℕ × Event) → A) (xs : List (ℕ × Event))
-    → F (reverse (xs ++ [])) ≡ F (reverse xs)
-same_more F xs = ap (λ (l : List (ℕ × Event)). F (reverse l)) (append-nil xs)
-
-lived_more : (inode : Inode) (i f j : ℕ) (xs : List (ℕ × Event)) (x : ℕ × Event)
-    → stage_in inode f (reverse (xs ++ cond (j == i) (x ∷ []) []))
-    ≡ cond (j == i) (next_stage inode f x.0 x.1.deed x.1.told (stage_in inode f (reverse xs)))
-    (stage_in inode f (reverse xs))
-lived_more inode i f j xs x = at (j == i) where
-  at : (b : Bool) → stage_in inode f (reverse (xs ++ cond b (x ∷ []) []))
-      ≡ cond b (next_stage inode f x.0 x.1.deed x.1.told (stage_in inode f (reverse xs)))
-      (stage_in inode f (reverse xs))
-  at true = ap (stage_in inode f) (reverse-append xs (x ∷ []))
-  at false = same_more (stage_in inode f) xs
-
-life_step : (inode : Inode) (i f : ℕ) (who : Who) (s : Step) (a : Answer) (xs : List (ℕ × Event))
-    → stage_in inode f (reverse (xs ++ event_in i who (Some s) a))
-    ≡ after_step inode i f s a (stage_in inode f (reverse xs))
-life_step inode i f who Nothing a xs = same_more (stage_in inode f) xs
-life_step inode i f who (Does j d) a xs = lived_more inode i f j xs (a.place, event who d a.told)
-life_step inode i f who (Checks j file func mask) a xs =
-    lived_more inode i f j xs (a.place, event who (deed.Check file func a.action a.rules) a.told)
-life_step inode i f who (Signals d) a xs = same_more (stage_in inode f) xs
-life_step inode i f who (Appends rule) a xs = same_more (stage_in inode f) xs
 
 how_more : (i f j : ℕ) (xs : List (ℕ × Event)) (x : ℕ × Event)
     → how_in f (reverse (xs ++ cond (j == i) (x ∷ []) []))

@@ -5,10 +5,10 @@ use Rattle.hash_algos.specs.Digest.{digest_of}
 use Rattle.hash_algos.specs.declared.algo.Algo.{Algo}
 use Rattle.hash_algos.specs.declared.algo.Algo.TheVariants.{Sha1}
 use Rattle.hash_algos.specs.declared.digest.Digest.{Digest}
-use Rattle.world_model.specs.inodes.Answers.{piece_told}
+use Rattle.world_model.specs.inodes.answers.Answers.{piece_told}
 use Rattle.world_model.specs.inodes.Sums.{HasSums}
-use Rattle.world_model.specs.inodes.declared.answers.Piece.{Piece}
-use Rattle.world_model.specs.inodes.declared.answers.Piece.TheVariants as piece
+use Rattle.world_model.specs.inodes.answers.declared.answers.Piece.{Piece}
+use Rattle.world_model.specs.inodes.answers.declared.answers.Piece.TheVariants as piece
 use Rattle.inode_events.specs.Asked.{made}
 use Rattle.inode_events.specs.Inode.{Inode}
 use Rattle.inode_events.specs.Integrity.{Collection, chosen_algo, collected_more, collecting, collection_of, digest_from}

@@ -1,8 +1,8 @@
 -- How a deed changes what its task has hashed.
 use Rattle.std.specs.Prelude.{Bool, true, false, Option, None, Some}
 use Rattle.hash_algos.specs.DigestValue.{DigestValue}
-use Rattle.world_model.specs.inodes.declared.answers.Piece.{Piece}
-use Rattle.world_model.specs.inodes.declared.answers.Piece.TheVariants as piece
+use Rattle.world_model.specs.inodes.answers.declared.answers.Piece.{Piece}
+use Rattle.world_model.specs.inodes.answers.declared.answers.Piece.TheVariants as piece
 use Rattle.inode_events.specs.Integrity.{Collection}
 use Rattle.inode_events.specs.declared.deed.Deed.{Deed}
 use Rattle.inode_events.specs.declared.deed.Deed.TheVariants as deed

@@ -1,7 +1,7 @@
 //! The outcomes (`Told`) for the answers of an inode.
 
 ghost use Rattle.std.specs.Prelude.{◌≡◌};
-ghost use Rattle.world_model.specs.inodes.Answers.{counted_told, finished_told, found_told, piece_told, set_told, wrote_told};
+ghost use Rattle.world_model.specs.inodes.answers.Answers.{counted_told, finished_told, found_told, piece_told, set_told, wrote_told};
 
 use inode_events::Told;
 use world_model::inodes::{Counted, Found, Piece, Set, Wrote};

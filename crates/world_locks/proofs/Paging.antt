@@ -6,9 +6,9 @@ use Rattle.grow_list.proofs.Prefixes.{prefix_refl}
 use Rattle.grow_list.specs.Shown.{Grown, Passed}
 use Rattle.ima_templates.specs.declared.entry.Entry.{Entry}
 use Rattle.inode_cell.specs.Acts.{MayBy}
-use Rattle.inode_cell.specs.Answers.{piece_told}
+use Rattle.inode_cell.specs.answers.Answers.{piece_told}
 use Rattle.inode_cell.specs.Value.{CellValue}
-use Rattle.inode_cell.specs.declared.answers.Piece.{Piece}
+use Rattle.inode_cell.specs.answers.declared.answers.Piece.{Piece}
 use Rattle.inode_events.specs.Asked.{made, outcome}
 use Rattle.inode_events.specs.Inode.{Inode}
 use Rattle.inode_events.specs.Integrity.{Collection, collecting}

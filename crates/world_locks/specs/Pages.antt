@@ -2,8 +2,8 @@
 use Rattle.std.specs.Prelude.{◌≡◌, ℕ, ◌+◌, length, List, Option, Some, IfOk, Result, Ok, Err, slice_get}
 use Rattle.grow_list.specs.Shown.{Passed}
 use Rattle.ima_templates.specs.declared.entry.Entry.{Entry}
-use Rattle.inode_cell.specs.Answers.{piece_told}
-use Rattle.inode_cell.specs.declared.answers.Piece.{Piece}
+use Rattle.inode_cell.specs.answers.Answers.{piece_told}
+use Rattle.inode_cell.specs.answers.declared.answers.Piece.{Piece}
 use Rattle.inode_events.specs.Asked.{outcome}
 use Rattle.inode_events.specs.Integrity.{Collection, collecting}
 use Rattle.inode_events.specs.Legal.{May}

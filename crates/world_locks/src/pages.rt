@@ -5,7 +5,7 @@ ghost use Rattle.inode_events.specs.declared.deed.Deed.TheVariants as Deed;
 ghost use Rattle.std.specs.Prelude.{◌≡◌, ◌+◌, List, Some, IfOk, OnErr, length};
 ghost use Rattle.ima_templates.specs.declared.entry.Entry.{Entry as AnyEntry};
 ghost use Rattle.inode_cell.specs.Acts.{Acts, MayBy, Stays};
-ghost use Rattle.inode_cell.specs.Answers.{piece_told};
+ghost use Rattle.inode_cell.specs.answers.Answers.{piece_told};
 ghost use Rattle.inode_events.specs.Asked.{outcome};
 ghost use Rattle.inode_events.specs.Integrity.{Collection as AnyCollection, collecting};
 ghost use Rattle.inode_events.specs.Past.{past};

@@ -1,6 +1,6 @@
 use Rattle.std.proofs.Common.{ℕ, List, ◌≡◌, subst}
 use Rattle.std.specs.Prelude.{IfOk}
-use Rattle.audit_trail.proofs.Pages.{page_is}
+use Rattle.inode_pages.proofs.Pages.{page_is}
 use Rattle.audit_trail.proofs.taken.page_at.Goals as goal
 
 pub returns-in-Some : goal.returns-in-Some

@@ -1,8 +1,8 @@
 use Rattle.std.proofs.Common.{[], subst}
 use Rattle.world_model.specs.inodes.Acts.{Acts}
 use Rattle.inode_events.specs.declared.deed.Deed.TheVariants as deed
-use Rattle.world_model.specs.inodes.Answers.{CloseBeginsBy, close_taken_told}
-use Rattle.world_model.specs.inodes.declared.answers.CloseTaken.{CloseTaken}
+use Rattle.world_model.specs.inodes.answers.Answers.{CloseBeginsBy, close_taken_told}
+use Rattle.world_model.specs.inodes.answers.declared.answers.CloseTaken.{CloseTaken}
 use Rattle.task_steps.proofs.Hashing.{close_left}
 use Rattle.task_steps.proofs.collecting.close_take.Goals as goal
 

@@ -1,8 +1,8 @@
 use Rattle.std.proofs.Common.{subst}
 use Rattle.world_model.specs.inodes.Acts.{Acts}
 use Rattle.inode_events.specs.declared.deed.Deed.TheVariants as deed
-use Rattle.world_model.specs.inodes.Answers.{BeginsBy, taken_told}
-use Rattle.world_model.specs.inodes.declared.answers.Taken.{Taken}
+use Rattle.world_model.specs.inodes.answers.Answers.{BeginsBy, taken_told}
+use Rattle.world_model.specs.inodes.answers.declared.answers.Taken.{Taken}
 use Rattle.inode_events.specs.Integrity.{chosen_algo}
 use Rattle.inode_events.specs.Past.{past}
 use Rattle.task_steps.proofs.Hashing.{take_left}

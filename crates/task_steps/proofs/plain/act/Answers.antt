@@ -6,7 +6,7 @@ use Rattle.std.specs.Prelude.{IfOk}
 use Rattle.ima_templates.specs.declared.entry.Entry.{Entry}
 use Rattle.task_mind.specs.Steps.{deed_in}
 use Rattle.task_mind.specs.declared.step.Doing.{Doing}
-use Rattle.world_model.specs.inodes.Answers.{wrote_told as answered}
+use Rattle.world_model.specs.inodes.answers.Answers.{wrote_told as answered}
 use Rattle.task_mind.specs.declared.step.Doing.TheVariants as doing
 use Rattle.inode_events.specs.declared.told.Told.TheVariants as told
 use Rattle.task_steps.proofs.plain.act.Goals as goal

@@ -2,7 +2,7 @@ use Rattle.std.proofs.Common.{ℕ, List, Option, Some, sym, ◌∙◌, ap, subst
 use Rattle.world_model.specs.inodes.Acts.{Acts}
 use Rattle.inode_events.specs.declared.deed.Deed.TheVariants as deed
 use Rattle.inode_events.specs.declared.told.Told.{Told}
-use Rattle.world_model.specs.inodes.Answers.{set_told as answered}
+use Rattle.world_model.specs.inodes.answers.Answers.{set_told as answered}
 use Rattle.std.specs.Option.{option_copied}
 use Rattle.task_steps.proofs.plain.set_attr.Goals.{in-Some, in-None}
 use Rattle.task_steps.proofs.plain.set_attr.Goals as goal

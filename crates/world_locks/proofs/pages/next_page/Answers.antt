@@ -3,7 +3,7 @@ use Rattle.std.proofs.Common.{List, Some, sym, subst}
 use Rattle.std.specs.Prelude.{IfOk}
 use Rattle.ima_templates.specs.declared.entry.Entry.{Entry}
 use Rattle.inode_cell.specs.Acts.{Acts}
-use Rattle.inode_cell.specs.Answers.{piece_told}
+use Rattle.inode_cell.specs.answers.Answers.{piece_told}
 use Rattle.task_mind.specs.Steps.{deed_in}
 use Rattle.task_mind.specs.declared.step.Doing.{Doing}
 use Rattle.world_locks.proofs.pages.next_page.Goals as goal

@@ -1,7 +1,7 @@
 -- After the look the deed may be done, and its effect is one on the cell before the look.
 use Rattle.std.proofs.Common.{ℕ, List}
-use Rattle.inode_cell.specs.Answers.{piece_told}
-use Rattle.inode_cell.specs.declared.answers.Piece.{Piece}
+use Rattle.inode_cell.specs.answers.Answers.{piece_told}
+use Rattle.inode_cell.specs.answers.declared.answers.Piece.{Piece}
 use Rattle.task_mind.specs.Steps.{deed_in}
 use Rattle.world_locks.proofs.Alone.{CellLooked, has_looked, leaves_alone, may_behind, told_alone}
 use Rattle.world_locks.proofs.pages.take_page.Goals as goal

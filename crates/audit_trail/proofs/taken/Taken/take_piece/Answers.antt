@@ -2,7 +2,7 @@ use Rattle.std.proofs.Common.{◌≡◌, ℕ, ◌+◌, List, ◌++◌, length, �
 use Rattle.std.specs.List.{concat}
 use Rattle.std.proofs.lemmas.List.{length_push}
 use Rattle.world_model.specs.model.events.pages.Content.{piece_at}
-use Rattle.audit_trail.proofs.Pages.{concat_push}
+use Rattle.inode_pages.proofs.Pages.{concat_push}
 use Rattle.audit_trail.specs.Steps.{taken_more}
 use Rattle.audit_trail.proofs.taken.Taken.take_piece.Goals as goal
 

@@ -12,7 +12,7 @@ use Rattle.inode_events.specs.declared.told.Event.{Event}
 use Rattle.inode_events.specs.declared.told.Grant.{Grant}
 use Rattle.inode_events.specs.declared.told.Told.TheVariants as told
 use Rattle.inode_state.specs.laws_of_journals.Booked.{Books}
-use Rattle.inode_cell.specs.Changes.{mended_on}
+use Rattle.inode_answers.specs.Changes.{mended_on}
 use Rattle.inode_cell.specs.Fields.{value_of}
 use Rattle.inode_cell.specs.Granting.{IsGranting, digests_in}
 use Rattle.inode_cell.specs.Value.{CellValue}

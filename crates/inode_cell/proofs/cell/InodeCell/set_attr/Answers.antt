@@ -2,7 +2,7 @@ use Rattle.std.proofs.Common.{ℕ, List, sym, subst, ◌∙◌}
 use Rattle.inode_events.specs.declared.deed.Deed.TheVariants as deed
 use Rattle.inode_events.specs.Past.{past}
 use Rattle.inode_events.specs.Integrity.{collecting}
-use Rattle.inode_cell.specs.Answers.{set_told}
+use Rattle.inode_answers.specs.Answers.{set_told}
 use Rattle.inode_cell.proofs.Acting.{blocked}
 use Rattle.std.proofs.Common.{Option}
 use Rattle.std.specs.Prelude.{IfOk}

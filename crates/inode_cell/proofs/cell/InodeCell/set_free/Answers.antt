@@ -3,7 +3,7 @@ use Rattle.inode_events.specs.declared.deed.Deed.TheVariants as deed
 use Rattle.inode_events.specs.declared.told.Told.{Told}
 use Rattle.inode_events.specs.declared.told.Told.TheVariants as told
 use Rattle.inode_events.specs.Past.{past}
-use Rattle.inode_cell.specs.Answers.{set_told}
+use Rattle.inode_answers.specs.Answers.{set_told}
 use Rattle.inode_cell.proofs.Acting.{acts_from, acts_refused}
 use Rattle.inode_events.specs.Says.{set_attr_told}
 use Rattle.inode_cell.proofs.cell.InodeCell.set_free.Goals as goal
@@ -27,10 +27,10 @@ returns-in_default c =
       acts = λ list.
           acts_refused c.args.self.now c.reserve.new.self c.step.new.self list list c.args.pass.now
           c.step.new.pass c.args.who (deed.SetAttr c.args.name c.args.value c.args.admin)
-          c.told_by.result (set_attr_told c.reserve.new.self.inode c.args.name c.args.value
+          c.told.result (set_attr_told c.reserve.new.self.inode c.args.name c.args.value
           c.args.admin (past c.reserve.new.self.list)) (set_told c.attr_answer.result)
           c.in_ok-reserve.ensures.list c.in_ok-reserve.ensures.same
-          (c.told_by.ensures (set_attr_told c.reserve.new.self.inode c.args.name c.args.value
+          (c.told.ensures (set_attr_told c.reserve.new.self.inode c.args.name c.args.value
           c.args.admin (past c.reserve.new.self.list)) answer)
           answer
           (c.step.ensures list);

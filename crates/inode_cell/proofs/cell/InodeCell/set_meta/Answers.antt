@@ -3,7 +3,7 @@ use Rattle.inode_events.specs.declared.deed.Deed.TheVariants as deed
 use Rattle.inode_events.specs.declared.told.Told.TheVariants as told
 use Rattle.inode_events.specs.Past.{past}
 use Rattle.inode_events.specs.Integrity.{collecting}
-use Rattle.inode_cell.specs.Answers.{set_told}
+use Rattle.inode_answers.specs.Answers.{set_told}
 use Rattle.inode_cell.proofs.Acting.{acts_from, acts_refused, blocked}
 use Rattle.inode_events.specs.Says.{set_meta_told}
 use Rattle.inode_cell.proofs.cell.InodeCell.set_meta.Goals as goal
@@ -27,9 +27,9 @@ returns-in_default c = record {
   acts = λ list.
       acts_refused c.args.self.now c.reserve.new.self c.step.new.self list list c.args.pass.now
       c.step.new.pass c.args.who (deed.SetMeta c.args.change)
-      c.told_by.result (set_meta_told c.reserve.new.self.inode (past c.reserve.new.self.list))
+      c.told.result (set_meta_told c.reserve.new.self.inode (past c.reserve.new.self.list))
       (set_told c.meta_answer.result) c.in_ok-reserve.ensures.list c.in_ok-reserve.ensures.same
-      (c.told_by.ensures (set_meta_told c.reserve.new.self.inode (past c.reserve.new.self.list))
+      (c.told.ensures (set_meta_told c.reserve.new.self.inode (past c.reserve.new.self.list))
       c.meta_answer.ensures) c.meta_answer.ensures (c.step.ensures list);
   err = tt;
 }

@@ -4,7 +4,7 @@ use Rattle.std.specs.Option.{option_copied}
 use Rattle.ima_templates.specs.declared.entry.Placed.TheVariants.{Added}
 use Rattle.inode_events.specs.Past.{past}
 use Rattle.inode_cell.specs.Acts.{IsChange}
-use Rattle.inode_cell.specs.Changes.{rewritten}
+use Rattle.inode_answers.specs.Changes.{rewritten}
 use Rattle.inode_cell.specs.Value.{CellValue}
 use Rattle.inode_cell.proofs.Steps.{books_quiet, holds_on, outcome_quiet, placed_back}
 use Rattle.inode_cell.proofs.cell.InodeCell.step_with.Goals as goal

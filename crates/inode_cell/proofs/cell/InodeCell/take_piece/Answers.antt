@@ -1,5 +1,5 @@
 use Rattle.std.proofs.Common.{Some, ap}
-use Rattle.inode_cell.specs.Answers.{piece_told}
+use Rattle.inode_answers.specs.Answers.{piece_told}
 use Rattle.inode_cell.proofs.Acting.{acts_ok, may_from}
 use Rattle.inode_cell.proofs.cell.InodeCell.take_piece.Goals as goal
 
@@ -7,8 +7,8 @@ pub returns-clause-acts : goal.returns-clause-acts
 returns-clause-acts c = λ list.
     acts_ok c.args.self.now c.reserve.new.self c.step.new.self list list c.args.pass.now
     c.step.new.pass c.args.who c.args.deed
-    c.told_by_piece.result (Some (piece_told c.in_ok-piece.piece)) c.in_ok-reserve.ensures.list
-    c.in_ok-reserve.ensures.same (ap Some c.told_by_piece.ensures) (c.step.ensures list)
+    c.told.result (Some (piece_told c.in_ok-piece.piece)) c.in_ok-reserve.ensures.list
+    c.in_ok-reserve.ensures.same (ap Some c.told.ensures) (c.step.ensures list)
 
 pub next_piece-requires-clause-may : goal.next_piece-requires-clause-may
 next_piece-requires-clause-may c =

@@ -2,7 +2,7 @@ use Rattle.std.proofs.Common.{◌≡◌, ℕ, ◌+◌, List, ◌++◌, length, �
 use Rattle.std.specs.List.{concat}
 use Rattle.std.proofs.lemmas.List.{length_push}
 use Rattle.inode_events.specs.pages.Content.{piece_at}
-use Rattle.order_sights.proofs.Pages.{concat_push}
+use Rattle.inode_pages.proofs.Pages.{concat_push}
 use Rattle.order_sights.specs.Taken.{taken_more}
 use Rattle.order_sights.proofs.taken.Taken.take_piece.Goals as goal
 

@@ -2,8 +2,8 @@
 use Rattle.std.proofs.Common.{ℕ, List, [], refl, subst, sym}
 use Rattle.std.specs.Prelude.{Result}
 use Rattle.std.specs.declared.alloc.AllocError.{AllocError}
-use Rattle.inode_cell.specs.Answers.{piece_told}
-use Rattle.inode_cell.specs.declared.answers.Piece.{Piece}
+use Rattle.inode_cell.specs.answers.Answers.{piece_told}
+use Rattle.inode_cell.specs.answers.declared.answers.Piece.{Piece}
 use Rattle.task_steps.specs.Leaving.{told_by}
 use Rattle.world_close.specs.worlds.World.{IsStation, StationValue}
 use Rattle.task_mind.specs.Steps.{deed_in}

@@ -1,6 +1,6 @@
 use Rattle.std.proofs.Common.{[], ◌∙◌, ap}
 use Rattle.hash_algos.specs.DigestValue.{DigestValue}
-use Rattle.inode_cell.proofs.reading.hashed_at.Goals as goal
+use Rattle.inode_hashing.proofs.reading.hashed_at.Goals as goal
 
 pub of-requires : goal.of-requires
 of-requires c =

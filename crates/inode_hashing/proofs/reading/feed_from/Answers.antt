@@ -2,8 +2,8 @@ use Rattle.std.proofs.Common.{◌≡◌, ℕ, ◌+◌, ◌++◌, List, take, ari
 use Rattle.std.proofs.lemmas.List.{length-take}
 use Rattle.hash_algos.specs.Running.{HasTaken}
 use Rattle.inode_pages.specs.Content.{bytes_at}
-use Rattle.inode_cell.proofs.ReadLemmas.{bytes_at-add, part_filled}
-use Rattle.inode_cell.proofs.reading.feed_from.Goals as goal
+use Rattle.inode_hashing.proofs.ReadLemmas.{bytes_at-add, part_filled}
+use Rattle.inode_hashing.proofs.reading.feed_from.Goals as goal
 
 pub loop-done-preserved : goal.loop-done-preserved
 loop-done-preserved c =

@@ -1,7 +1,7 @@
 use Rattle.std.proofs.Common.{◌≡◌, ℕ, ◌-◌, ◌≤◌, List, ◌++◌}
 use Rattle.hash_algos.specs.Running.{HasTaken, running_algo}
 use Rattle.inode_pages.specs.Content.{bytes_at}
-use Rattle.inode_cell.proofs.reading.feed_from.Given as goal
+use Rattle.inode_hashing.proofs.reading.feed_from.Given as goal
 
 abbrev pub decreases-loop-done : goal.decreases-loop-done
 decreases-loop-done l = l.count - l.done

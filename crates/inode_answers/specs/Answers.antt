@@ -3,20 +3,20 @@ use Rattle.std.specs.Prelude.{◌≡◌, ℕ, Option, Some, None, Bool, true, fa
 use Rattle.hash_algos.specs.declared.algo.Algo.{Algo}
 use Rattle.inode_events.specs.declared.told.Told.{Told}
 use Rattle.inode_events.specs.declared.told.Told.TheVariants as told
-use Rattle.inode_cell.specs.declared.answers.CloseTaken.{CloseTaken}
-use Rattle.inode_cell.specs.declared.answers.CloseTaken.TheVariants as close_taken
-use Rattle.inode_cell.specs.declared.answers.Counted.{Counted}
-use Rattle.inode_cell.specs.declared.answers.Counted.TheVariants as counted
-use Rattle.inode_cell.specs.declared.answers.Found.{Found}
-use Rattle.inode_cell.specs.declared.answers.Found.TheVariants as found
-use Rattle.inode_cell.specs.declared.answers.Piece.{Piece}
-use Rattle.inode_cell.specs.declared.answers.Piece.TheVariants as piece
-use Rattle.inode_cell.specs.declared.answers.Set.{Set}
-use Rattle.inode_cell.specs.declared.answers.Set.TheVariants as set
-use Rattle.inode_cell.specs.declared.answers.Taken.{Taken}
-use Rattle.inode_cell.specs.declared.answers.Taken.TheVariants as taken
-use Rattle.inode_cell.specs.declared.answers.Wrote.{Wrote}
-use Rattle.inode_cell.specs.declared.answers.Wrote.TheVariants as wrote
+use Rattle.inode_answers.specs.declared.answers.CloseTaken.{CloseTaken}
+use Rattle.inode_answers.specs.declared.answers.CloseTaken.TheVariants as close_taken
+use Rattle.inode_answers.specs.declared.answers.Counted.{Counted}
+use Rattle.inode_answers.specs.declared.answers.Counted.TheVariants as counted
+use Rattle.inode_answers.specs.declared.answers.Found.{Found}
+use Rattle.inode_answers.specs.declared.answers.Found.TheVariants as found
+use Rattle.inode_answers.specs.declared.answers.Piece.{Piece}
+use Rattle.inode_answers.specs.declared.answers.Piece.TheVariants as piece
+use Rattle.inode_answers.specs.declared.answers.Set.{Set}
+use Rattle.inode_answers.specs.declared.answers.Set.TheVariants as set
+use Rattle.inode_answers.specs.declared.answers.Taken.{Taken}
+use Rattle.inode_answers.specs.declared.answers.Taken.TheVariants as taken
+use Rattle.inode_answers.specs.declared.answers.Wrote.{Wrote}
+use Rattle.inode_answers.specs.declared.answers.Wrote.TheVariants as wrote
 
 abbrev pub counted_told : Counted → Told
 counted_told (counted.Held place) = told.Held

@@ -1,0 +1,16 @@
+//! The parts of an inode's calls that need no journal: their results with the outcomes that the
+//! events tell, what a state makes of a call, and the changes of attributes with the HMAC that they
+//! renew.
+#![tactic(auto)]
+
+mod answers;
+mod attributes;
+mod outcomes;
+mod values;
+
+pub use answers::{Checked, CloseTaken, Counted, Found, Got, Piece, Set, Taken, Wrote, by_status};
+pub use attributes::{change_on, label_on, mend_on};
+pub use inode_events as events;
+pub use outcomes::{admits, creates, found, is_mend, piece_of, place_of, placed_if_measured};
+pub use std::alloc::AllocError as OutOfMemory;
+pub use values::{copied, is_no_label, is_too_long, signature_in};
