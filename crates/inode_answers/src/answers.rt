@@ -1,12 +1,7 @@
-// The results of the calls on an inode, and the outcomes that their events tell.
-ghost use Rattle.std.specs.Prelude.{◌≡◌, Some};
-ghost use Rattle.inode_answers.specs.Answers.{counted_told, found_told, piece_told, set_told};
-ghost use Rattle.inode_events.specs.Says.{status_told};
-ghost use Rattle.inode_events.specs.declared.told.Told.{Told as AnyTold};
-
+// The results of the calls on an inode.
 use hash_algos::{Algo, Sha256Digest};
+use inode_events::Grant;
 use inode_events::policy::Action;
-use inode_events::{Grant, Told};
 use inode_meta::EvmStatus;
 
 /// The result of counting a file.
@@ -112,71 +107,4 @@ pub struct Got {
     pub n: u32,
     /// The SHA-256 of those bytes.
     pub digest: Sha256Digest,
-}
-
-impl Counted {
-    /// What the event of the count tells.
-    pub fn told(self) -> Told
-        ensures { result ≡ counted_told self }
-    {
-        match self {
-            Counted::Held(_) => Told::Held,
-            Counted::NotFound => Told::NotFound,
-            Counted::TextBusy => Told::TextBusy,
-        }
-    }
-}
-
-impl Set {
-    /// What the event of the change tells, if the change isn't blocked.
-    pub fn told(self) -> Told
-        ensures { (t : AnyTold) → set_told self ≡ Some t → result ≡ t }
-    {
-        match self {
-            Set::Done => Told::Done,
-            Set::Blocked => Told::Nothing,
-            Set::NotFound => Told::NotFound,
-            Set::EvmName => Told::EvmName,
-            Set::NotAdmin => Told::NotAdmin,
-            Set::TooLong => Told::TooLong,
-            Set::Invalid => Told::Invalid,
-            Set::NoData => Told::NoData,
-            Set::Status(status) => Told::Status(status),
-        }
-    }
-}
-
-/// The result of a change, by what EVM says of it.
-pub fn by_status(answer: Result<(), EvmStatus>) -> Set
-    ensures { set_told result ≡ Some (status_told answer) }
-{
-    match answer {
-        Ok(()) => Set::Done,
-        Err(status) => Set::Status(status),
-    }
-}
-
-impl Piece {
-    /// What the event of the piece tells.
-    pub fn told(self) -> Told
-        ensures { result ≡ piece_told self }
-    {
-        match self {
-            Piece::More => Told::More,
-            Piece::Last => Told::Last,
-        }
-    }
-}
-
-impl Found {
-    /// What the event of the check tells.
-    pub fn told(self) -> Told
-        ensures { result ≡ found_told self }
-    {
-        match self {
-            Found::Quiet => Told::Quiet,
-            Found::OpenWriters(place) => Told::OpenWriters(place),
-            Found::ToMToU(place) => Told::ToMToU(place),
-        }
-    }
 }

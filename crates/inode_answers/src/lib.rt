@@ -6,11 +6,16 @@
 mod answers;
 mod attributes;
 mod outcomes;
+mod told;
 mod values;
 
-pub use answers::{Checked, CloseTaken, Counted, Found, Got, Piece, Set, Taken, Wrote, by_status};
+pub use answers::{Checked, CloseTaken, Counted, Found, Got, Piece, Set, Taken, Wrote};
 pub use attributes::{change_on, label_on, mend_on};
 pub use inode_events as events;
 pub use outcomes::{admits, creates, found, is_mend, piece_of, place_of, placed_if_measured};
 pub use std::alloc::AllocError as OutOfMemory;
+pub use told::{
+    by_status, counted_told, finished_told, found_told, piece_told, set_outcome, set_told,
+    wrote_told,
+};
 pub use values::{copied, is_no_label, is_too_long, signature_in};

@@ -16,7 +16,7 @@ use crate::cell::InodeCell;
 use crate::listing::list_asked;
 use grow_list::Pass;
 use ima_templates::{Entry, violation};
-use inode_answers::{Checked, Found, found, place_of};
+use inode_answers::{Checked, Found, found, found_told, place_of};
 use inode_events::policy::{Access, Action, Func, Super};
 use inode_events::{Deed, Event};
 use inode_meta::{Cred, Who};
@@ -122,21 +122,15 @@ impl InodeCell {
         self.reserve()?;
         book.reserve()?;
         let placed = list_asked(book, &mut self.book, entry);
-        let found = found(
-            writing,
-            action.measure,
-            readers,
-            writers,
-            must,
-            place_of(placed),
-        );
+        let place = place_of(placed);
+        let found = found(writing, action.measure, readers, writers, must, place);
         let deed = Deed::Check {
             file,
             func,
             action: *action,
             rules,
         };
-        let told = found.told();
+        let told = found_told(found);
         self.kept
             .enter(pass, Event { who, deed, told }, &Known::checking(writing));
         Ok(found)

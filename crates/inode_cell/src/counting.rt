@@ -10,7 +10,7 @@ ghost use Rattle.inode_answers.specs.Answers.{IsPlaced, counted_told};
 
 use crate::cell::InodeCell;
 use grow_list::Pass;
-use inode_answers::{Counted, creates};
+use inode_answers::{Counted, counted_told, creates};
 use inode_events::{Deed, Event, How};
 use inode_meta::Who;
 use inode_state::{Kind, Known, counts_as};
@@ -59,7 +59,7 @@ impl InodeCell {
             self.kept.len(),
         );
         let known = Known::nothing();
-        self.step(pass, who, Deed::Count { how }, answer.told(), &known);
+        self.step(pass, who, Deed::Count { how }, counted_told(answer), &known);
         Ok(answer)
     }
 }

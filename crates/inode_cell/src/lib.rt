@@ -16,6 +16,7 @@ mod writing;
 pub use cell::InodeCell;
 pub use grow_list as growing;
 pub use ima_appraise as appraisals;
+pub use inode_answers as answers;
 pub use inode_answers::{
     Checked, CloseTaken, Counted, Found, Got, Piece, Set, Taken, Wrote, change_on, label_on,
 };

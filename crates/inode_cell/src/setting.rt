@@ -10,7 +10,7 @@ ghost use Rattle.inode_answers.specs.Answers.{set_told};
 
 use crate::cell::InodeCell;
 use grow_list::Pass;
-use inode_answers::{Set, by_status, copied, is_no_label, is_too_long};
+use inode_answers::{Set, by_status, copied, is_no_label, is_too_long, set_outcome};
 use inode_events::{BoxedBytes, BoxedValue, Change, Deed, Event, Told};
 use inode_meta::{Cred, EvmStatus, Who};
 use inode_state::Known;
@@ -82,7 +82,13 @@ impl InodeCell {
             }
             refusal => {
                 let known = Known::nothing();
-                self.step(pass, who, Deed::SetMeta { change }, refusal.told(), &known);
+                self.step(
+                    pass,
+                    who,
+                    Deed::SetMeta { change },
+                    set_outcome(refusal),
+                    &known,
+                );
                 Ok(refusal)
             }
         }
@@ -140,7 +146,7 @@ impl InodeCell {
             }
             refusal => {
                 let deed = Deed::SetAttr { name, value, admin };
-                self.step(pass, who, deed, refusal.told(), &Known::nothing());
+                self.step(pass, who, deed, set_outcome(refusal), &Known::nothing());
                 Ok(refusal)
             }
         }

@@ -15,7 +15,7 @@ ghost use Rattle.inode_cell.specs.Pieces.{IsPieceDeed};
 use crate::cell::InodeCell;
 use grow_list::Pass;
 use hash_algos::Algo;
-use inode_answers::{Got, Piece, Wrote, piece_of};
+use inode_answers::{Got, Piece, Wrote, piece_of, piece_told};
 use inode_events::{BoxedBytes, Deed, Event, Told};
 use inode_hashing::hashed_at;
 use inode_meta::Who;
@@ -61,7 +61,7 @@ impl InodeCell {
     {
         self.reserve()?;
         let (piece, page) = self.next_piece(&deed)?;
-        self.step(pass, who, deed, piece.told(), &Known::nothing());
+        self.step(pass, who, deed, piece_told(piece), &Known::nothing());
         Ok((piece, page))
     }
 

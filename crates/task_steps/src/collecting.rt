@@ -10,7 +10,6 @@ ghost use Rattle.world_model.specs.Tasks.{HashesBefore};
 ghost use Rattle.task_mind.specs.Steps.{deed_in};
 
 use crate::gathering::{gather, sums};
-use crate::told::{finished_told, piece_told};
 use grow_list::Pass;
 use inode_events::{Event, Told};
 use inode_hashing::Hashing;
@@ -18,6 +17,7 @@ use inode_meta::Who;
 use std::alloc::AllocError as OutOfMemory;
 use task_mind::Doing;
 use world_model::Gathered;
+use world_model::inodes::answers::{finished_told, piece_told};
 use world_model::inodes::{CloseTaken, InodeCell};
 
 // Reads and hashes the next piece of a take's collection.

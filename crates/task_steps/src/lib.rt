@@ -13,7 +13,6 @@ mod gathering;
 mod listed;
 mod looking;
 mod plain;
-mod told;
 
 pub use acting::act_at;
 pub use alone::act_alone_at;
@@ -25,6 +24,5 @@ pub use listed::Checks;
 pub use looking::look_at_inodes;
 pub use std::alloc::AllocError as OutOfMemory;
 pub use task_mind as minds;
-pub use told::piece_told;
 pub use world_model as worlds;
 pub use world_model::books;

@@ -12,7 +12,6 @@ ghost use Rattle.world_model.specs.Tasks.{HashesBefore};
 ghost use Rattle.world_model.specs.Ready.{AsksBy};
 
 use crate::gathering::sums;
-use crate::told::found_told;
 use grow_list::Pass;
 use inode_events::policy::{Action, Func, Super};
 use inode_events::{Event, Told};
@@ -22,6 +21,7 @@ use std::alloc::AllocError as OutOfMemory;
 use task_mind::matching::Index;
 use world_model::Gathered;
 use world_model::books::Book;
+use world_model::inodes::answers::found_told;
 use world_model::inodes::{InodeCell, Taken};
 
 /// A take: grants the file if a digest is in force, else begins a collection. `None` means that it

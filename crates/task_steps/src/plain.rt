@@ -7,13 +7,13 @@ ghost use Rattle.world_model.specs.inodes.Acts.{Acts, MayBy, Stays};
 ghost use Rattle.task_steps.specs.Hashed.{IsPlainDeed};
 ghost use Rattle.task_mind.specs.Steps.{deed_in};
 
-use crate::told::{counted_told, set_told, wrote_told};
 use grow_list::Pass;
 use inode_events::{BoxedBytes, BoxedValue, Event, Told};
 use inode_meta::{Cred, Who};
 use std::alloc::AllocError as OutOfMemory;
 use task_mind::Doing;
 use world_model::inodes::InodeCell;
+use world_model::inodes::answers::{counted_told, set_told, wrote_told};
 
 // Sets or removes an attribute.
 fn set_attr(

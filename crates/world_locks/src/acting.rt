@@ -14,10 +14,11 @@ ghost use Rattle.world_locks.specs.Pages.{IsPageDeed};
 use crate::locks::Locks;
 use crate::name::Name;
 use crate::order::Order;
+use inode_cell::answers::piece_told;
 use std::alloc::AllocError as OutOfMemory;
 use std::sync::Wait;
 use task_mind::Doing;
-use task_steps::{Actor, Answered, Checks, gather, piece_told};
+use task_steps::{Actor, Answered, Checks, gather};
 use world_close::worlds::{Gathered, Passes};
 
 impl<N: Name> Locks<N> {

@@ -35,7 +35,7 @@ enter-requires-clause-told c =
     let st = c.state-state.ensures.kept in
     let l = c.reserve-2.new.self.list in
     let e = c.in_ok-entry.entry in
-    let t : Told = c.told-told.result in
+    let t : Told = c.found_told-told.result in
     let s = c.state-state.result.now in
     let how : is_gone (stage c.self.inside.kept.inode file (past c.self.inside.kept.list)) ≡ false
     → c.how_at.result ≡ held file (past c.self.inside.kept.list) = c.how_at.ensures in
@@ -71,9 +71,9 @@ enter-requires-clause-told c =
     let told_is : outcome i0 l d p ≡ Some t =
     check_tells i0 p file c.args.func action c.args.rules l e c.counts_as-writing.result
     s.counts.readers s.counts.writers s.marks.must c.found-found.result
-    c.list_asked-placed.result c.place_of.result t
-    reads entry_is c.list_asked-placed.ensures.placed c.place_of.ensures c.found-found.ensures
-    c.told-told.ensures in
+    c.list_asked-placed.result c.place_of-place.result t
+    reads entry_is c.list_asked-placed.ensures.placed c.place_of-place.ensures c.found-found.ensures
+    c.found_told-told.ensures in
     placed_back i0 p (placed_for l (asked i0 d p)) d t told_is
 
 pub invariant_of-self : goal.invariant_of-self
@@ -87,7 +87,7 @@ invariant_of-self c =
     let st = c.state-state.ensures.kept in
     let l = c.reserve-2.new.self.list in
     let e = c.in_ok-entry.entry in
-    let t : Told = c.told-told.result in
+    let t : Told = c.found_told-told.result in
     let s = c.state-state.result.now in
     let how : is_gone (stage c.self.inside.kept.inode file (past c.self.inside.kept.list)) ≡ false
     → c.how_at.result ≡ held file (past c.self.inside.kept.list) = c.how_at.ensures in
@@ -123,9 +123,9 @@ invariant_of-self c =
     let told_is : outcome i0 l d p ≡ Some t =
     check_tells i0 p file c.args.func action c.args.rules l e c.counts_as-writing.result
     s.counts.readers s.counts.writers s.marks.must c.found-found.result
-    c.list_asked-placed.result c.place_of.result t
-    reads entry_is c.list_asked-placed.ensures.placed c.place_of.ensures c.found-found.ensures
-    c.told-told.ensures in
+    c.list_asked-placed.result c.place_of-place.result t
+    reads entry_is c.list_asked-placed.ensures.placed c.place_of-place.ensures c.found-found.ensures
+    c.found_told-told.ensures in
     let h = c.self-2.invariant in
     let b = c.self-2.inside.book in
     rw c.enter.ensures.inode
@@ -148,7 +148,7 @@ returns-clause-acts c =
     let st = c.state-state.ensures.kept in
     let l = c.reserve-2.new.self.list in
     let e = c.in_ok-entry.entry in
-    let t : Told = c.told-told.result in
+    let t : Told = c.found_told-told.result in
     let s = c.state-state.result.now in
     let how : is_gone (stage c.self.inside.kept.inode file (past c.self.inside.kept.list)) ≡ false
     → c.how_at.result ≡ held file (past c.self.inside.kept.list) = c.how_at.ensures in
@@ -184,9 +184,9 @@ returns-clause-acts c =
     let told_is : outcome i0 l d p ≡ Some t =
     check_tells i0 p file c.args.func action c.args.rules l e c.counts_as-writing.result
     s.counts.readers s.counts.writers s.marks.must c.found-found.result
-    c.list_asked-placed.result c.place_of.result t
-    reads entry_is c.list_asked-placed.ensures.placed c.place_of.ensures c.found-found.ensures
-    c.told-told.ensures in
+    c.list_asked-placed.result c.place_of-place.result t
+    reads entry_is c.list_asked-placed.ensures.placed c.place_of-place.ensures c.found-found.ensures
+    c.found_told-told.ensures in
     let old = c.args.self.now in
     let mid : CellValue = value_of c.self-2.inside in
     let book = c.args.book.now.list in
@@ -230,4 +230,4 @@ returns-clause-acts c =
     c.enter.new.pass c.args.who (deed.Check file c.args.func a c.args.rules) (Some (found_told
     c.found-found.result))) c.action.view_is
     (subst (λ (x : Told). Acts old new book c.list_asked-placed.new.book.list c.args.pass.now
-    c.enter.new.pass c.args.who d (Some x)) c.told-told.ensures outer)
+    c.enter.new.pass c.args.who d (Some x)) c.found_told-told.ensures outer)

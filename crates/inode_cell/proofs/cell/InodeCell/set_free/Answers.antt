@@ -27,10 +27,10 @@ returns-in_default c =
       acts = λ list.
           acts_refused c.args.self.now c.reserve.new.self c.step.new.self list list c.args.pass.now
           c.step.new.pass c.args.who (deed.SetAttr c.args.name c.args.value c.args.admin)
-          c.told.result (set_attr_told c.reserve.new.self.inode c.args.name c.args.value
+          c.set_outcome.result (set_attr_told c.reserve.new.self.inode c.args.name c.args.value
           c.args.admin (past c.reserve.new.self.list)) (set_told c.attr_answer.result)
           c.in_ok-reserve.ensures.list c.in_ok-reserve.ensures.same
-          (c.told.ensures (set_attr_told c.reserve.new.self.inode c.args.name c.args.value
+          (c.set_outcome.ensures (set_attr_told c.reserve.new.self.inode c.args.name c.args.value
           c.args.admin (past c.reserve.new.self.list)) answer)
           answer
           (c.step.ensures list);

@@ -27,9 +27,9 @@ returns-in_default c = record {
   acts = λ list.
       acts_refused c.args.self.now c.reserve.new.self c.step.new.self list list c.args.pass.now
       c.step.new.pass c.args.who (deed.SetMeta c.args.change)
-      c.told.result (set_meta_told c.reserve.new.self.inode (past c.reserve.new.self.list))
+      c.set_outcome.result (set_meta_told c.reserve.new.self.inode (past c.reserve.new.self.list))
       (set_told c.meta_answer.result) c.in_ok-reserve.ensures.list c.in_ok-reserve.ensures.same
-      (c.told.ensures (set_meta_told c.reserve.new.self.inode (past c.reserve.new.self.list))
+      (c.set_outcome.ensures (set_meta_told c.reserve.new.self.inode (past c.reserve.new.self.list))
       c.meta_answer.ensures) c.meta_answer.ensures (c.step.ensures list);
   err = tt;
 }

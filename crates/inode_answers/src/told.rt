@@ -1,10 +1,13 @@
-//! The outcomes (`Told`) for the answers of an inode.
+// The outcomes that the events of an inode tell, by the results of its calls.
 
-ghost use Rattle.std.specs.Prelude.{◌≡◌};
-ghost use Rattle.world_model.specs.inodes.answers.Answers.{counted_told, finished_told, found_told, piece_told, set_told, wrote_told};
+ghost use Rattle.std.specs.Prelude.{◌≡◌, Some};
+ghost use Rattle.inode_answers.specs.Answers.{counted_told, finished_told, found_told, piece_told, set_told, wrote_told};
+ghost use Rattle.inode_events.specs.Says.{status_told};
+ghost use Rattle.inode_events.specs.declared.told.Told.{Told as AnyTold};
 
+use crate::answers::{Counted, Found, Piece, Set, Wrote};
 use inode_events::Told;
-use world_model::inodes::{Counted, Found, Piece, Set, Wrote};
+use inode_meta::EvmStatus;
 
 /// The outcome of counting the opens of a file.
 pub fn counted_told(answer: Counted) -> Told
@@ -14,6 +17,23 @@ pub fn counted_told(answer: Counted) -> Told
         Counted::Held(_) => Told::Held,
         Counted::NotFound => Told::NotFound,
         Counted::TextBusy => Told::TextBusy,
+    }
+}
+
+/// The outcome of a change of attributes or metadata that isn't blocked.
+pub fn set_outcome(answer: Set) -> Told
+    ensures { (t : AnyTold) → set_told answer ≡ Some t → result ≡ t }
+{
+    match answer {
+        Set::Done => Told::Done,
+        Set::Blocked => Told::Nothing,
+        Set::NotFound => Told::NotFound,
+        Set::EvmName => Told::EvmName,
+        Set::NotAdmin => Told::NotAdmin,
+        Set::TooLong => Told::TooLong,
+        Set::Invalid => Told::Invalid,
+        Set::NoData => Told::NoData,
+        Set::Status(status) => Told::Status(status),
     }
 }
 
@@ -32,6 +52,16 @@ pub fn set_told(answer: Set) -> Option<Told>
         Set::NoData => Told::NoData,
         Set::Status(status) => Told::Status(status),
     })
+}
+
+/// The result of a change, by what EVM says of it.
+pub fn by_status(answer: Result<(), EvmStatus>) -> Set
+    ensures { set_told result ≡ Some (status_told answer) }
+{
+    match answer {
+        Ok(()) => Set::Done,
+        Err(status) => Set::Status(status),
+    }
 }
 
 /// The outcome of a write or truncation.
