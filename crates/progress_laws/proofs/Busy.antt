@@ -331,7 +331,7 @@ busy_call : (inode : Inode) (mode : Mode) (p : Program) (t : Thought) (a : Answe
     → is_collecting (stage_in inode f (reverse (xs ++ event_in i who (step_in p o t.mind) a)))
     ≡ true → GoesAt p (hear_in mode p o t a).mind i f
 busy_call inode mode p t a who i f xs None at ih fits h =
-    ih (sym (ap is_collecting (same_more inode f xs)) ∙ h)
+    ih (sym (ap is_collecting (same_more (stage_in inode f) xs)) ∙ h)
 busy_call inode mode p t a who i f xs (Some c) at ih fits h =
     let g : Progress = progress_of p.cred.admin c t.mind in
     busy_step inode mode p t.mind c at (progress_of p.cred.admin c t.mind).due.ask

@@ -12,13 +12,13 @@ ghost use Rattle.world_locks.specs.acts.Checking.{CheckIn};
 use crate::world::World;
 use std::alloc::AllocError as OutOfMemory;
 use task_mind::Doing;
-use world_locks::acts::{Actor, Answered, Checks, act_at, check_at};
+use world_locks::acts::{Actor, Answered, Checks, apply_at, check_at};
 use world_model::{Gathered, Passes};
 
 impl World {
     /// Does the deed on the inode of this number, through the task's passes. `None` means that it
     /// is blocked.
-    pub(crate) fn does(
+    pub(crate) fn apply(
         &mut self,
         i: u32,
         passes: &mut Passes,
@@ -39,7 +39,7 @@ impl World {
         if i as usize >= self.stations.len() {
             return Ok(None);
         }
-        act_at(
+        apply_at(
             &mut self.stations[i as usize],
             &mut passes.inodes[i as usize],
             &mut self.book,
@@ -52,7 +52,7 @@ impl World {
 
     /// Checks the inode of this number by all rules in force, through the task's passes. `None`
     /// means that it is blocked because there is no such inode.
-    pub(crate) fn checks(
+    pub(crate) fn check(
         &mut self,
         i: u32,
         passes: &mut Passes,

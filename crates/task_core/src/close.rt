@@ -29,7 +29,7 @@ use world_model::Passes;
 
 /// Lets each task look at all lists of the world. Afterwards the entries of its number in each list
 /// are exactly those that it has made.
-pub fn settle(world: &mut World, tasks: &mut Vec<Task>)
+pub fn look_all(world: &mut World, tasks: &mut Vec<Task>)
     requires { AreTasks world.old.frame tasks.old.items }
     ensures frame { world.new.frame ≡ world.old.frame }
     ensures state { world.new.state ≡ world.old.state }
@@ -171,7 +171,7 @@ impl World {
     {
         let mut world = self;
         let mut tasks = tasks;
-        settle(&mut world, &mut tasks);
+        look_all(&mut world, &mut tasks);
         let ended = end(world, tasks)?;
         Ok(ended)
     }

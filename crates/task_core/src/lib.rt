@@ -13,7 +13,7 @@ mod task;
 mod turning;
 mod world;
 
-pub use close::settle;
+pub use close::look_all;
 pub use live::Live;
 pub use run_model::{Ended, EndedTask, Turn};
 pub use std::alloc::AllocError as OutOfMemory;

@@ -17,7 +17,7 @@ use std::alloc::AllocError as OutOfMemory;
 use std::sync::Wait;
 use task_mind::{Step, TaskMind};
 use world_locks::Name;
-use world_locks::acts::{Actor, Answered, Checks, Reached, became};
+use world_locks::acts::{Actor, Answered, Checks, Reached, reached_by};
 use world_model::{Gathered, Passes};
 
 impl<N: Name> Live<N> {
@@ -59,7 +59,7 @@ impl<N: Name> Live<N> {
                 action: None,
             })),
             Some(Step::Does { inode, doing }) => {
-                became(locks.does(rt, inode, passes, &actor, doing, gathered))
+                reached_by(locks.lock_and_apply(rt, inode, passes, &actor, doing, gathered))
             }
             Some(
                 Step::Checks {
@@ -68,10 +68,26 @@ impl<N: Name> Live<N> {
                     func,
                     mask,
                 },
-            ) => became(locks.checks(rt, inode, passes, &actor, Checks { file, func, mask })),
-            Some(Step::Posts(sem)) => became(locks.signals(rt, passes, who, Deed::Post(sem))),
-            Some(Step::Waits(sem)) => became(locks.signals(rt, passes, who, Deed::Wait(sem))),
-            Some(Step::Appends(rule)) => match locks.appends(rt, passes, who, rule) {
+            ) => reached_by(locks.lock_and_check(
+                rt,
+                inode,
+                passes,
+                &actor,
+                Checks { file, func, mask },
+            )),
+            Some(Step::Posts(sem)) => reached_by(locks.lock_and_signal(
+                rt,
+                passes,
+                who,
+                Deed::Post(sem),
+            )),
+            Some(Step::Waits(sem)) => reached_by(locks.lock_and_signal(
+                rt,
+                passes,
+                who,
+                Deed::Wait(sem),
+            )),
+            Some(Step::Appends(rule)) => match locks.lock_and_append(rt, passes, who, rule) {
                 Ok(answered) => Ok(Reached::Told(answered)),
                 Err(err) => Err(err),
             },

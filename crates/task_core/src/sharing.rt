@@ -18,7 +18,7 @@ use world_model::Passes;
 
 impl World {
     /// Posts to a semaphore or waits for one. `None` means that it is blocked.
-    pub(crate) fn signals(
+    pub(crate) fn signal(
         &mut self,
         passes: &mut Passes,
         who: Who,
@@ -44,7 +44,7 @@ impl World {
     }
 
     /// Appends a copy of the rule to those in force.
-    pub(crate) fn appends(
+    pub(crate) fn append(
         &mut self,
         passes: &mut Passes,
         who: Who,

@@ -17,7 +17,7 @@ use inode_meta::Slot;
 use run_model::Turn;
 use std::alloc::AllocError as OutOfMemory;
 use task_mind::{Step, TaskMind};
-use world_locks::acts::{Actor, Answered, Checks, Reached, became};
+use world_locks::acts::{Actor, Answered, Checks, Reached, reached_by};
 use world_model::{Gathered, Passes};
 
 // The slot of a take, if one is due.
@@ -68,7 +68,7 @@ impl World {
                 action: None,
             })),
             Some(Step::Does { inode, doing }) => {
-                became(self.does(inode, passes, &actor, doing, gathered))
+                reached_by(self.apply(inode, passes, &actor, doing, gathered))
             }
             Some(
                 Step::Checks {
@@ -77,10 +77,10 @@ impl World {
                     func,
                     mask,
                 },
-            ) => became(self.checks(inode, passes, &actor, Checks { file, func, mask })),
-            Some(Step::Posts(sem)) => became(self.signals(passes, who, Deed::Post(sem))),
-            Some(Step::Waits(sem)) => became(self.signals(passes, who, Deed::Wait(sem))),
-            Some(Step::Appends(rule)) => match self.appends(passes, who, rule) {
+            ) => reached_by(self.check(inode, passes, &actor, Checks { file, func, mask })),
+            Some(Step::Posts(sem)) => reached_by(self.signal(passes, who, Deed::Post(sem))),
+            Some(Step::Waits(sem)) => reached_by(self.signal(passes, who, Deed::Wait(sem))),
+            Some(Step::Appends(rule)) => match self.append(passes, who, rule) {
                 Ok(answered) => Ok(Reached::Told(answered)),
                 Err(err) => Err(err),
             },

@@ -13,7 +13,7 @@ use ima_io::Gate;
 use std::alloc::AllocError as OutOfMemory;
 use std::sync::Wait;
 use std::thread::Threads;
-use task_core::{Name, Task, World, settle};
+use task_core::{Name, Task, World, look_all};
 
 // Shares the world, runs the tasks in parts, and takes the world back.
 fn run_shared<N: Name, G: Gate + Sync, R: Threads + Wait + Sync>(
@@ -58,7 +58,7 @@ pub fn run_threads<N: Name, G: Gate + Sync, R: Threads + Wait + Sync>(
     ensures tasks { AreStill world.frame tasks.old.items tasks.new.items }
 {
     let mut after = run_shared::<N, G, R>(rt, world, tasks, n, gate)?;
-    settle(&mut after, tasks);
+    look_all(&mut after, tasks);
     run_rounds(&mut after, tasks, gate)?;
     Ok(after)
 }

@@ -8,7 +8,7 @@ ghost use Rattle.task_steps.specs.minds.Steps.{deed_in};
 ghost use Rattle.task_steps.specs.Acting.{IsPlacedAt, StationDid, told_in, told_of};
 
 use crate::answers::{Answered, told_at};
-use crate::{Actor, does};
+use crate::{Actor, look_and_apply};
 use grow_list::Pass;
 use ima_templates::Entry;
 use inode_events::Event;
@@ -19,7 +19,7 @@ use world_model::{Gathered, Station};
 
 /// Does the deed on the inode, through its task's passes of the journal and of the measurement
 /// list. `None` means that it is blocked.
-pub fn act_at(
+pub fn apply_at(
     station: &mut Station,
     pass: &mut Pass<Event>,
     book: &mut Book,
@@ -45,7 +45,7 @@ pub fn act_at(
 {
     let place = station.cell.len();
     book.look(listed);
-    let told = does(&mut station.cell, pass, actor, doing, book, gathered);
+    let told = look_and_apply(&mut station.cell, pass, actor, doing, book, gathered);
     book.look(listed);
     told_at(place, told)
 }

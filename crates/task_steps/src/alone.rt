@@ -10,7 +10,7 @@ ghost use Rattle.task_steps.specs.minds.Steps.{deed_in};
 ghost use Rattle.task_steps.specs.Acting.{IsPlacedAt, StationDidAlone, told_in, told_of};
 
 use crate::answers::{Answered, told_at};
-use crate::{Actor, does_alone};
+use crate::{Actor, look_and_apply_alone};
 use grow_list::Pass;
 use inode_events::Event;
 use std::alloc::AllocError as OutOfMemory;
@@ -19,7 +19,7 @@ use world_model::{Gathered, Station};
 
 /// Does a deed that doesn't consult the measurement list on the inode, through its task's pass of
 /// the journal. `None` means that it is blocked.
-pub fn act_alone_at(
+pub fn apply_alone_at(
     station: &mut Station,
     pass: &mut Pass<Event>,
     actor: &Actor<'_>,
@@ -41,6 +41,6 @@ pub fn act_alone_at(
     ensures place { IfOk result (λ o. IsPlacedAt (length station.old.cell.list) o) }
 {
     let place = station.cell.len();
-    let told = does_alone(&mut station.cell, pass, actor, doing, gathered);
+    let told = look_and_apply_alone(&mut station.cell, pass, actor, doing, gathered);
     told_at(place, told)
 }

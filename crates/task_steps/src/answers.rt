@@ -65,7 +65,7 @@ pub fn checked_at(
 }
 
 /// How the turn ended; a step that was blocked has no answer.
-pub fn became(answered: Result<Option<Answered>, OutOfMemory>) -> Result<Reached, OutOfMemory>
+pub fn reached_by(answered: Result<Option<Answered>, OutOfMemory>) -> Result<Reached, OutOfMemory>
     ensures { result ≡ reached_by answered }
 {
     match answered {

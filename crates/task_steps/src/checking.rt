@@ -12,7 +12,7 @@ ghost use Rattle.task_steps.specs.Acting.{StationDid, told_in};
 ghost use Rattle.task_steps.specs.Checking.{IsChecked, check_by};
 
 use crate::answers::{Answered, checked_at};
-use crate::{Actor, Checks, checks};
+use crate::{Actor, Checks, look_and_check};
 use grow_list::Pass;
 use ima_templates::Entry;
 use inode_events::Event;
@@ -51,7 +51,7 @@ pub fn check_at(
 {
     let at = station.cell.len();
     book.look(listed);
-    let told = checks(&mut station.cell, pass, actor, asked, rules, place, book);
+    let told = look_and_check(&mut station.cell, pass, actor, asked, rules, place, book);
     book.look(listed);
     checked_at(at, told)
 }

@@ -18,7 +18,7 @@ ghost use Rattle.task_mind.specs.Steps.{deed_in};
 
 use crate::collecting::collect;
 use crate::listed::{self, Checks};
-use crate::plain::act;
+use crate::plain::apply_plain;
 use grow_list::Pass;
 use inode_events::policy::{Action, Super};
 use inode_events::{Event, Told};
@@ -44,7 +44,7 @@ pub struct Actor<'a> {
 }
 
 // Does a deed that is ready and doesn't consult the measurement list.
-fn perform_alone(
+fn dispatch_alone(
     cell: &mut InodeCell,
     pass: &mut Pass<Event>,
     actor: &Actor<'_>,
@@ -67,7 +67,7 @@ fn perform_alone(
     if goes_on(&doing) {
         collect(cell, pass, actor.who, doing, gathered)
     } else {
-        act(cell, pass, actor.who, doing, actor.cred)
+        apply_plain(cell, pass, actor.who, doing, actor.cred)
     }
 }
 
@@ -83,7 +83,7 @@ fn goes_on(doing: &Doing<'_>) -> bool
 }
 
 // Does a deed that is ready.
-fn perform(
+fn dispatch(
     cell: &mut InodeCell,
     pass: &mut Pass<Event>,
     actor: &Actor<'_>,
@@ -123,12 +123,12 @@ fn perform(
             Ok(told) => Ok(Some(told)),
             Err(err) => Err(err),
         },
-        _ => perform_alone(cell, pass, actor, doing, gathered),
+        _ => dispatch_alone(cell, pass, actor, doing, gathered),
     }
 }
 
 /// Looks at the journal, then does the deed. `None` means that it is blocked.
-pub fn does(
+pub fn look_and_apply(
     cell: &mut InodeCell,
     pass: &mut Pass<Event>,
     actor: &Actor<'_>,
@@ -154,12 +154,12 @@ pub fn does(
     ensures book { (book.new.name ≡ book.old.name) × (book.new.callers ≡ book.old.callers) }
 {
     cell.look(pass);
-    perform(cell, pass, actor, doing, book, gathered)
+    dispatch(cell, pass, actor, doing, book, gathered)
 }
 
 /// Looks at the journal, then does a deed that doesn't consult the measurement list, whatever that
 /// list holds. `None` means that it is blocked.
-pub fn does_alone(
+pub fn look_and_apply_alone(
     cell: &mut InodeCell,
     pass: &mut Pass<Event>,
     actor: &Actor<'_>,
@@ -183,11 +183,11 @@ pub fn does_alone(
         (deed_in doing.entry) (told_in result) }
 {
     cell.look(pass);
-    perform_alone(cell, pass, actor, doing, gathered)
+    dispatch_alone(cell, pass, actor, doing, gathered)
 }
 
 // Makes a check that is ready.
-fn ask(
+fn dispatch_check(
     cell: &mut InodeCell,
     pass: &mut Pass<Event>,
     actor: &Actor<'_>,
@@ -217,7 +217,7 @@ fn ask(
 }
 
 /// Looks at the journal, then checks by these rules. Returns the outcome and the action.
-pub fn checks(
+pub fn look_and_check(
     cell: &mut InodeCell,
     pass: &mut Pass<Event>,
     actor: &Actor<'_>,
@@ -246,5 +246,5 @@ pub fn checks(
     ensures book { (book.new.name ≡ book.old.name) × (book.new.callers ≡ book.old.callers) }
 {
     cell.look(pass);
-    ask(cell, pass, actor, asked, rules, place, book)
+    dispatch_check(cell, pass, actor, asked, rules, place, book)
 }

@@ -14,11 +14,11 @@ mod listed;
 mod looking;
 mod plain;
 
-pub use acting::act_at;
-pub use alone::act_alone_at;
-pub use answers::{Answered, Reached, became};
+pub use acting::apply_at;
+pub use alone::apply_alone_at;
+pub use answers::{Answered, Reached, reached_by};
 pub use checking::check_at;
-pub use doing::{Actor, checks, does, does_alone};
+pub use doing::{Actor, look_and_apply, look_and_apply_alone, look_and_check};
 pub use gathering::gather;
 pub use listed::Checks;
 pub use looking::look_at_inodes;

@@ -38,7 +38,7 @@ fn set_attr(
 }
 
 /// Does the deed. `None` means that it is blocked.
-pub fn act(
+pub fn apply_plain(
     cell: &mut InodeCell,
     pass: &mut Pass<Event>,
     who: Who,

@@ -24,7 +24,7 @@ use world_close::worlds::{Gathered, Passes};
 impl<N: Name> Locks<N> {
     /// Does the deed on the inode of this number, through the task's passes. `None` means that it
     /// is blocked.
-    pub fn does<R: Wait>(
+    pub fn lock_and_apply<R: Wait>(
         &self,
         rt: &R,
         i: u32,
@@ -43,16 +43,16 @@ impl<N: Name> Locks<N> {
             return Ok(None);
         }
         match doing {
-            Doing::Take(_) => self.acts(rt, i, passes, actor, doing, gathered),
-            Doing::Finish(_) => { self.acts(rt, i, passes, actor, doing, gathered) }
-            Doing::Chunk(_) => self.hashes(rt, i, passes, actor, doing, gathered),
-            Doing::CloseChunk(_) => { self.hashes(rt, i, passes, actor, doing, gathered) }
-            _ => self.acts_alone(rt, i, passes, actor, doing, gathered),
+            Doing::Take(_) => self.apply_with_list(rt, i, passes, actor, doing, gathered),
+            Doing::Finish(_) => { self.apply_with_list(rt, i, passes, actor, doing, gathered) }
+            Doing::Chunk(_) => self.apply_page(rt, i, passes, actor, doing, gathered),
+            Doing::CloseChunk(_) => { self.apply_page(rt, i, passes, actor, doing, gathered) }
+            _ => self.apply_without_list(rt, i, passes, actor, doing, gathered),
         }
     }
 
     // Does a deed that may add to the measurement list, which is locked too.
-    fn acts<R: Wait>(
+    fn apply_with_list<R: Wait>(
         &self,
         rt: &R,
         i: u32,
@@ -72,7 +72,7 @@ impl<N: Name> Locks<N> {
         let mut order = Order::new();
         let mut station = self.take(rt, &mut order, i);
         let mut list = self.take_book(rt, &mut order);
-        station.act(
+        station.apply(
             &mut passes.inodes[i as usize],
             &mut list,
             &mut passes.book,
@@ -83,7 +83,7 @@ impl<N: Name> Locks<N> {
     }
 
     // Does a deed that doesn't consult the measurement list, under the inode's lock alone.
-    fn acts_alone<R: Wait>(
+    fn apply_without_list<R: Wait>(
         &self,
         rt: &R,
         i: u32,
@@ -102,11 +102,11 @@ impl<N: Name> Locks<N> {
     {
         let mut order = Order::new();
         self.take(rt, &mut order, i)
-            .act_alone(&mut passes.inodes[i as usize], actor, doing, gathered)
+            .apply_alone(&mut passes.inodes[i as usize], actor, doing, gathered)
     }
 
     // Takes a page of a collection, and hashes it after the lock is released.
-    fn hashes<R: Wait>(
+    fn apply_page<R: Wait>(
         &self,
         rt: &R,
         i: u32,
@@ -138,7 +138,7 @@ impl<N: Name> Locks<N> {
 
     /// Checks the inode of this number by all rules in force, through the task's passes. `None`
     /// means that it is blocked because there is no such inode.
-    pub fn checks<R: Wait>(
+    pub fn lock_and_check<R: Wait>(
         &self,
         rt: &R,
         i: u32,

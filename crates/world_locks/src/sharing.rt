@@ -17,7 +17,7 @@ use world_close::worlds::Passes;
 
 impl<N: Name> Locks<N> {
     /// Posts to a semaphore or waits for one. `None` means that it is blocked.
-    pub fn signals<R: Wait>(
+    pub fn lock_and_signal<R: Wait>(
         &self,
         rt: &R,
         passes: &mut Passes,
@@ -33,7 +33,7 @@ impl<N: Name> Locks<N> {
     }
 
     /// Appends a copy of the rule to those in force.
-    pub fn appends<R: Wait>(
+    pub fn lock_and_append<R: Wait>(
         &self,
         rt: &R,
         passes: &mut Passes,

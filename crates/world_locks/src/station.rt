@@ -24,7 +24,7 @@ use policy_rules::Super;
 use std::alloc::AllocError as OutOfMemory;
 use std::marker::{Model, PhantomData};
 use task_mind::Doing;
-use task_steps::{Actor, Answered, Checks, act_alone_at, act_at, check_at};
+use task_steps::{Actor, Answered, Checks, apply_alone_at, apply_at, check_at};
 use world_close::worlds::{Gathered, Station};
 
 /// An inode with its number, and the invariant that it belongs to the constants that `N` names.
@@ -80,7 +80,7 @@ impl<N: Name> KeptStation<N> {
 
     /// Does a deed that may add to the measurement list, through the task's passes of the journal
     /// and of that list. `None` means that it is blocked.
-    pub fn act(
+    pub fn apply(
         &mut self,
         pass: &mut Pass<Event>,
         book: &mut KeptBook<N>,
@@ -98,7 +98,7 @@ impl<N: Name> KeptStation<N> {
         ensures met { DeedMet N.frame self.old.number pass.old pass.new listed.old listed.new
             actor.now.who (deed_in doing.entry) gathered.old gathered.new result }
     {
-        act_at(
+        apply_at(
             &mut self.station,
             pass,
             &mut book.book,
@@ -112,7 +112,7 @@ impl<N: Name> KeptStation<N> {
     /// Does a deed that doesn't consult the measurement list, through the task's pass of the
     /// journal. To each pass of that list it is as if the list were the one that the pass has seen.
     /// `None` means that it is blocked.
-    pub fn act_alone(
+    pub fn apply_alone(
         &mut self,
         pass: &mut Pass<Event>,
         actor: &Actor<'_>,
@@ -128,7 +128,7 @@ impl<N: Name> KeptStation<N> {
             pass.new listed listed actor.now.who (deed_in doing.entry) gathered.old gathered.new
             result }
     {
-        act_alone_at(&mut self.station, pass, actor, doing, gathered)
+        apply_alone_at(&mut self.station, pass, actor, doing, gathered)
     }
 
     /// Takes the next page of the collection that the deed continues.

@@ -10,63 +10,63 @@ use Rattle.task_runner.proofs.Going.{runs_still}
 use Rattle.task_runner.proofs.Stopping.{none_stirs, settled_runs}
 use Rattle.task_runner.proofs.threads.run_threads.Goals as goal
 
-pub settle-requires : goal.settle-requires
-settle-requires g c = c.in_ok-after.ensures.still.each
+pub look_all-requires : goal.look_all-requires
+look_all-requires g c = c.in_ok-after.ensures.still.each
 
 pub run_rounds-requires : goal.run_rounds-requires
 run_rounds-requires g c =
-    subst (λ (f : Frame). AreTasks f c.settle.new.tasks.items) (sym c.settle.ensures.frame)
-    c.settle.ensures.tasks
+    subst (λ (f : Frame). AreTasks f c.look_all.new.tasks.items) (sym c.look_all.ensures.frame)
+    c.look_all.ensures.tasks
 
 pub returns-in_err-run_rounds-clause-tasks : goal.returns-in_err-run_rounds-clause-tasks
 returns-in_err-run_rounds-clause-tasks g c =
     let old = c.args.tasks.now.items in
-    let looked = still_more c.args.world c.in_ok-after.after c.settle.new.world old
-    c.run_shared.new.tasks.items c.settle.new.tasks.items c.in_ok-after.ensures.still
-    (settled_runs c.in_ok-after.after c.settle.new.world c.run_shared.new.tasks.items
-    c.settle.new.tasks.items c.settle.ensures.frame c.settle.ensures.tasks c.settle.ensures.same) in
+    let looked = still_more c.args.world c.in_ok-after.after c.look_all.new.world old
+    c.run_shared.new.tasks.items c.look_all.new.tasks.items c.in_ok-after.ensures.still
+    (settled_runs c.in_ok-after.after c.look_all.new.world c.run_shared.new.tasks.items
+    c.look_all.new.tasks.items c.look_all.ensures.frame c.look_all.ensures.tasks c.look_all.ensures.same) in
     runs_still c.args.world c.run_rounds.new.world old c.run_rounds.new.tasks.items
-    (still_more c.args.world c.settle.new.world c.run_rounds.new.world old
-    c.settle.new.tasks.items c.run_rounds.new.tasks.items looked c.run_rounds.ensures.still)
+    (still_more c.args.world c.look_all.new.world c.run_rounds.new.world old
+    c.look_all.new.tasks.items c.run_rounds.new.tasks.items looked c.run_rounds.ensures.still)
 
 pub returns-clause-still : goal.returns-clause-still
 returns-clause-still g c =
     let old = c.args.tasks.now.items in
-    let looked = still_more c.args.world c.in_ok-after.after c.settle.new.world old
-    c.run_shared.new.tasks.items c.settle.new.tasks.items c.in_ok-after.ensures.still
-    (settled_runs c.in_ok-after.after c.settle.new.world c.run_shared.new.tasks.items
-    c.settle.new.tasks.items c.settle.ensures.frame c.settle.ensures.tasks c.settle.ensures.same) in
-    still_more c.args.world c.settle.new.world c.run_rounds.new.world old
-    c.settle.new.tasks.items c.run_rounds.new.tasks.items looked c.run_rounds.ensures.still
+    let looked = still_more c.args.world c.in_ok-after.after c.look_all.new.world old
+    c.run_shared.new.tasks.items c.look_all.new.tasks.items c.in_ok-after.ensures.still
+    (settled_runs c.in_ok-after.after c.look_all.new.world c.run_shared.new.tasks.items
+    c.look_all.new.tasks.items c.look_all.ensures.frame c.look_all.ensures.tasks c.look_all.ensures.same) in
+    still_more c.args.world c.look_all.new.world c.run_rounds.new.world old
+    c.look_all.new.tasks.items c.run_rounds.new.tasks.items looked c.run_rounds.ensures.still
 
 pub returns-clause-stops : goal.returns-clause-stops
 returns-clause-stops g c =
     let old = c.args.tasks.now.items in
-    let looked = still_more c.args.world c.in_ok-after.after c.settle.new.world old
-    c.run_shared.new.tasks.items c.settle.new.tasks.items c.in_ok-after.ensures.still
-    (settled_runs c.in_ok-after.after c.settle.new.world c.run_shared.new.tasks.items
-    c.settle.new.tasks.items c.settle.ensures.frame c.settle.ensures.tasks c.settle.ensures.same) in
-    none_stirs c.args.world c.settle.new.world old c.settle.new.tasks.items
+    let looked = still_more c.args.world c.in_ok-after.after c.look_all.new.world old
+    c.run_shared.new.tasks.items c.look_all.new.tasks.items c.in_ok-after.ensures.still
+    (settled_runs c.in_ok-after.after c.look_all.new.world c.run_shared.new.tasks.items
+    c.look_all.new.tasks.items c.look_all.ensures.frame c.look_all.ensures.tasks c.look_all.ensures.same) in
+    none_stirs c.args.world c.look_all.new.world old c.look_all.new.tasks.items
     (moment_in c.run_rounds.new.world c.run_rounds.new.tasks.items) looked
     c.in_ok-run_rounds.ensures.stops
 
 pub returns-clause-parts : goal.returns-clause-parts
 returns-clause-parts g c =
     let old = c.args.tasks.now.items in
-    let looked = still_more c.args.world c.in_ok-after.after c.settle.new.world old
-    c.run_shared.new.tasks.items c.settle.new.tasks.items c.in_ok-after.ensures.still
-    (settled_runs c.in_ok-after.after c.settle.new.world c.run_shared.new.tasks.items
-    c.settle.new.tasks.items c.settle.ensures.frame c.settle.ensures.tasks c.settle.ensures.same) in
+    let looked = still_more c.args.world c.in_ok-after.after c.look_all.new.world old
+    c.run_shared.new.tasks.items c.look_all.new.tasks.items c.in_ok-after.ensures.still
+    (settled_runs c.in_ok-after.after c.look_all.new.world c.run_shared.new.tasks.items
+    c.look_all.new.tasks.items c.look_all.ensures.frame c.look_all.ensures.tasks c.look_all.ensures.same) in
     record {
       mid = c.run_shared.new.tasks.items;
       parts = c.in_ok-after.ensures.parts;
-      back = c.settle.new.world;
-      looked = c.settle.new.tasks.items;
-      minds = c.settle.ensures.same;
+      back = c.look_all.new.world;
+      looked = c.look_all.new.tasks.items;
+      minds = c.look_all.ensures.same;
       rounds = subst (λ (x : Scene). RoundsTo x
-          (moment_in c.settle.new.world c.settle.new.tasks.items)
+          (moment_in c.look_all.new.world c.look_all.new.tasks.items)
           (moment_in c.run_rounds.new.world c.run_rounds.new.tasks.items))
-          (scene_same c.args.world c.settle.new.world old c.settle.new.tasks.items looked)
+          (scene_same c.args.world c.look_all.new.world old c.look_all.new.tasks.items looked)
           c.in_ok-run_rounds.ensures.run;
     }
 

@@ -10,8 +10,8 @@ use Rattle.task_core.proofs.SharedSteps.{appends_failed, appends_told, checks_me
 use Rattle.task_core.proofs.Turns.{checks_ready, does_ready, due_is, passes_ready}
 use Rattle.task_core.proofs.live.Live.reach.Goals as goal
 
-pub does-requires-clause-passes : goal.does-requires-clause-passes
-does-requires-clause-passes g c =
+pub lock_and_apply-requires-clause-passes : goal.lock_and_apply-requires-clause-passes
+lock_and_apply-requires-clause-passes g c =
     let t : Tasked =
     record {
       number = c.args.number;
@@ -21,8 +21,8 @@ does-requires-clause-passes g c =
     } in
     λ κs out. passes_ready g.N.Name.frame t c.requires c.who-who.result c.who-who.ensures
 
-pub does-requires-clause-ready : goal.does-requires-clause-ready
-does-requires-clause-ready g c =
+pub lock_and_apply-requires-clause-ready : goal.lock_and_apply-requires-clause-ready
+lock_and_apply-requires-clause-ready g c =
     let t : Tasked =
     record {
       number = c.args.number;
@@ -38,8 +38,8 @@ does-requires-clause-ready g c =
     c.checked.ensures
     c.slot_due.ensures st
 
-pub checks-requires-clause-passes : goal.checks-requires-clause-passes
-checks-requires-clause-passes g c =
+pub lock_and_check-requires-clause-passes : goal.lock_and_check-requires-clause-passes
+lock_and_check-requires-clause-passes g c =
     let t : Tasked =
     record {
       number = c.args.number;
@@ -49,8 +49,8 @@ checks-requires-clause-passes g c =
     } in
     λ κs out. passes_ready g.N.Name.frame t c.requires c.who-who.result c.who-who.ensures
 
-pub checks-requires-clause-ready : goal.checks-requires-clause-ready
-checks-requires-clause-ready g c =
+pub lock_and_check-requires-clause-ready : goal.lock_and_check-requires-clause-ready
+lock_and_check-requires-clause-ready g c =
     let t : Tasked =
     record {
       number = c.args.number;
@@ -67,8 +67,8 @@ checks-requires-clause-ready g c =
     c.in-Some-Checks.mask c.who-who.ensures c.checked.ensures
     c.slot_due.ensures st
 
-pub signals-requires-after_bounds : goal.signals-requires-after_bounds
-signals-requires-after_bounds g c =
+pub lock_and_signal-requires-after_bounds : goal.lock_and_signal-requires-after_bounds
+lock_and_signal-requires-after_bounds g c =
     let t : Tasked =
     record {
       number = c.args.number;
@@ -78,8 +78,8 @@ signals-requires-after_bounds g c =
     } in
     λ κs out. passes_ready g.N.Name.frame t c.requires c.who-who.result c.who-who.ensures
 
-pub signals-requires-in-Some-Waits-after_bounds : goal.signals-requires-in-Some-Waits-after_bounds
-signals-requires-in-Some-Waits-after_bounds g c =
+pub lock_and_signal-requires-in-Some-Waits-after_bounds : goal.lock_and_signal-requires-in-Some-Waits-after_bounds
+lock_and_signal-requires-in-Some-Waits-after_bounds g c =
     let t : Tasked =
     record {
       number = c.args.number;
@@ -89,8 +89,8 @@ signals-requires-in-Some-Waits-after_bounds g c =
     } in
     λ κs out. passes_ready g.N.Name.frame t c.requires c.who-who.result c.who-who.ensures
 
-pub appends-requires-after_bounds : goal.appends-requires-after_bounds
-appends-requires-after_bounds g c =
+pub lock_and_append-requires-after_bounds : goal.lock_and_append-requires-after_bounds
+lock_and_append-requires-after_bounds g c =
     let t : Tasked =
     record {
       number = c.args.number;
@@ -138,11 +138,11 @@ returns-in-Some-Does g c =
     let st = due_is (step_at t.mind.program t.mind.thought.mind) c.in-Some-Does.field-0
     (step.Does c.in-Some-Does.inode c.in-Some-Does.doing) c.in-Some-Does.field-0-is
     c.in-Some-Does.ensures in
-    does_met g.N.Name.frame t c.does.new.passes c.who-who.result c.who-who.ensures
+    does_met g.N.Name.frame t c.lock_and_apply.new.passes c.who-who.result c.who-who.ensures
     c.in-Some-Does.inode
     (deed_in c.in-Some-Does.doing)
-    c.does.new.gathered c.does.result c.became.result st c.does.ensures
-    c.became.ensures
+    c.lock_and_apply.new.gathered c.lock_and_apply.result c.reached_by.result st c.lock_and_apply.ensures
+    c.reached_by.ensures
 
 pub returns-in-Some-Checks : goal.returns-in-Some-Checks
 returns-in-Some-Checks g c =
@@ -157,7 +157,7 @@ returns-in-Some-Checks g c =
     (step.Checks c.in-Some-Checks.inode c.in-Some-Checks.file c.in-Some-Checks.func
     c.in-Some-Checks.mask) c.in-Some-Checks.field-0-is
     c.in-Some-Checks.ensures in
-    checks_met g.N.Name.frame t c.checks.new.passes c.who-who.result c.who-who.ensures
+    checks_met g.N.Name.frame t c.lock_and_check.new.passes c.who-who.result c.who-who.ensures
     c.in-Some-Checks.inode
     (record {
       file = c.in-Some-Checks.file;
@@ -165,8 +165,8 @@ returns-in-Some-Checks g c =
       mask =
           c.in-Some-Checks.mask;
     }) c.cred.result.now
-    c.checks.result c.became-in-Some-Checks.result st c.cred.ensures c.checks.ensures
-    c.became-in-Some-Checks.ensures
+    c.lock_and_check.result c.reached_by-in-Some-Checks.result st c.cred.ensures c.lock_and_check.ensures
+    c.reached_by-in-Some-Checks.ensures
 
 pub returns-in-Some-Posts : goal.returns-in-Some-Posts
 returns-in-Some-Posts g c =
@@ -180,11 +180,11 @@ returns-in-Some-Posts g c =
     let st = due_is (step_at t.mind.program t.mind.thought.mind) c.in-Some-Posts.field-0
     (step.Posts c.in-Some-Posts.sem) c.in-Some-Posts.field-0-is
     c.in-Some-Posts.ensures in
-    signals_met g.N.Name.frame t c.signals.new.passes c.who-who.result c.who-who.ensures
+    signals_met g.N.Name.frame t c.lock_and_signal.new.passes c.who-who.result c.who-who.ensures
     (deed.Post c.in-Some-Posts.sem)
-    c.signals.result
-    c.became-in-Some-Posts.result st c.signals.ensures
-    c.became-in-Some-Posts.ensures
+    c.lock_and_signal.result
+    c.reached_by-in-Some-Posts.result st c.lock_and_signal.ensures
+    c.reached_by-in-Some-Posts.ensures
 
 pub returns-in-Some-Waits : goal.returns-in-Some-Waits
 returns-in-Some-Waits g c =
@@ -199,10 +199,10 @@ returns-in-Some-Waits g c =
     (step.Waits c.in-Some-Waits.sem) c.in-Some-Waits.field-0-is
     c.in-Some-Waits.ensures in
     signals_met g.N.Name.frame t
-    c.signals-in-Some-Waits.new.passes c.who-who.result c.who-who.ensures
-    (deed.Wait c.in-Some-Waits.sem) c.signals-in-Some-Waits.result
-    c.became-in-Some-Waits.result st c.signals-in-Some-Waits.ensures
-    c.became-in-Some-Waits.ensures
+    c.lock_and_signal-in-Some-Waits.new.passes c.who-who.result c.who-who.ensures
+    (deed.Wait c.in-Some-Waits.sem) c.lock_and_signal-in-Some-Waits.result
+    c.reached_by-in-Some-Waits.result st c.lock_and_signal-in-Some-Waits.ensures
+    c.reached_by-in-Some-Waits.ensures
 
 pub returns-in-Ok : goal.returns-in-Ok
 returns-in-Ok g c =
@@ -217,7 +217,7 @@ returns-in-Ok g c =
     (step.Appends c.in-Some-Appends.rule) c.in-Some-Appends.field-0-is
     c.in-Some-Appends.ensures in
     appends_told g.N.Name.frame t
-    c.appends.new.passes c.who-who.result c.who-who.ensures c.in-Some-Appends.rule.now
+    c.lock_and_append.new.passes c.who-who.result c.who-who.ensures c.in-Some-Appends.rule.now
     c.in-Ok.answered st
     c.in-Ok.ensures.appends
 
@@ -231,4 +231,4 @@ returns-in-Err g c =
       passes = c.args.passes.now;
     } in
     appends_failed g.N.Name.frame t
-    c.appends.new.passes c.who-who.result c.who-who.ensures c.in-Err.err c.in-Err.ensures.err
+    c.lock_and_append.new.passes c.who-who.result c.who-who.ensures c.in-Err.err c.in-Err.ensures.err

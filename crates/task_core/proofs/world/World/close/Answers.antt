@@ -16,17 +16,17 @@ use Rattle.task_core.proofs.world.World.close.Goals as goal
 -- the requires, in order: frame, count, tasks, made
 pub end-requires : goal.end-requires
 end-requires c =
-    let e = c.settle.ensures in (
+    let e = c.look_all.ensures in (
       refl,
       (
-        sym (length-map c.settle.new.tasks.items mind_of)
+        sym (length-map c.look_all.new.tasks.items mind_of)
             ∙ ap (λ (l : List TaskValue). length l) e.same
             ∙ length-map c.args.tasks.items mind_of
             ∙ c.requires.count
             ∙ ap (λ (f : Frame). f.tasks) (sym e.frame),
         (
-          subst (λ (f : Frame). AreTasks f c.settle.new.tasks.items) (sym e.frame) e.tasks,
-          subst (λ (x : Frame × State). HaveMade x.0 x.1 c.settle.new.tasks.items)
+          subst (λ (f : Frame). AreTasks f c.look_all.new.tasks.items) (sym e.frame) e.tasks,
+          subst (λ (x : Frame × State). HaveMade x.0 x.1 c.look_all.new.tasks.items)
               (λ i. (sym e.frame i, sym e.state i)) e.made,
         ),
       ),
@@ -34,23 +34,23 @@ end-requires c =
 
 pub returns-clause-ended : goal.returns-clause-ended
 returns-clause-ended c =
-    let e = c.settle.ensures in
-    (ended_same c.args.self.frame c.settle.new.world.frame c.args.self.state
-    c.settle.new.world.state c.args.tasks.items c.settle.new.tasks.items c.in_ok-ended.ended
+    let e = c.look_all.ensures in
+    (ended_same c.args.self.frame c.look_all.new.world.frame c.args.self.state
+    c.look_all.new.world.state c.args.tasks.items c.look_all.new.tasks.items c.in_ok-ended.ended
     e.frame e.state e.same c.in_ok-ended.ensures).ended
 
 pub returns-clause-finished : goal.returns-clause-finished
 returns-clause-finished c =
-    let e = c.settle.ensures in
-    (ended_same c.args.self.frame c.settle.new.world.frame c.args.self.state
-    c.settle.new.world.state c.args.tasks.items c.settle.new.tasks.items c.in_ok-ended.ended
+    let e = c.look_all.ensures in
+    (ended_same c.args.self.frame c.look_all.new.world.frame c.args.self.state
+    c.look_all.new.world.state c.args.tasks.items c.look_all.new.tasks.items c.in_ok-ended.ended
     e.frame e.state e.same c.in_ok-ended.ensures).finished
 
 pub returns-clause-ends : goal.returns-clause-ends
 returns-clause-ends c =
-    let e = c.settle.ensures in
-    let f = (ended_same c.args.self.frame c.settle.new.world.frame c.args.self.state
-    c.settle.new.world.state c.args.tasks.items c.settle.new.tasks.items c.in_ok-ended.ended
+    let e = c.look_all.ensures in
+    let f = (ended_same c.args.self.frame c.look_all.new.world.frame c.args.self.state
+    c.look_all.new.world.state c.args.tasks.items c.look_all.new.tasks.items c.in_ok-ended.ended
     e.frame e.state e.same c.in_ok-ended.ensures).finished in
     λ still. finished_ends (scene_in c.args.self c.args.tasks.items)
     (moment_in c.args.self c.args.tasks.items) f
@@ -59,9 +59,9 @@ returns-clause-ends c =
 
 pub returns-clause-shown : goal.returns-clause-shown
 returns-clause-shown c =
-    let e = c.settle.ensures in
-    let f = (ended_same c.args.self.frame c.settle.new.world.frame c.args.self.state
-    c.settle.new.world.state c.args.tasks.items c.settle.new.tasks.items c.in_ok-ended.ended
+    let e = c.look_all.ensures in
+    let f = (ended_same c.args.self.frame c.look_all.new.world.frame c.args.self.state
+    c.look_all.new.world.state c.args.tasks.items c.look_all.new.tasks.items c.in_ok-ended.ended
     e.frame e.state e.same c.in_ok-ended.ensures).finished in
     λ ending through. finished_shown (scene_in c.args.self c.args.tasks.items)
     (moment_in c.args.self c.args.tasks.items) ending f through

@@ -10,8 +10,8 @@ use Rattle.world_locks.proofs.about_acts.Sharing.{nothing_tells}
 use Rattle.task_core.proofs.Turns.{appends_fail, appends_turn, check_turn, checks_ready, does_ready, does_turn, due_is, signals_turn}
 use Rattle.task_core.proofs.world.World.reach.Goals as goal
 
-pub does-requires-clause-ready : goal.does-requires-clause-ready
-does-requires-clause-ready c =
+pub apply-requires-clause-ready : goal.apply-requires-clause-ready
+apply-requires-clause-ready c =
     let t : Tasked =
     record {
       number = c.args.number;
@@ -27,8 +27,8 @@ does-requires-clause-ready c =
     c.checked.ensures
     c.slot_due.ensures st
 
-pub checks-requires-clause-ready : goal.checks-requires-clause-ready
-checks-requires-clause-ready c =
+pub check-requires-clause-ready : goal.check-requires-clause-ready
+check-requires-clause-ready c =
     let t : Tasked =
     record {
       number = c.args.number;
@@ -70,11 +70,11 @@ returns-in-Some-Does-clause-reaches c =
     let st = due_is (step_at t.mind.program t.mind.thought.mind) c.in-Some-Does.field-0
     (step.Does c.in-Some-Does.inode c.in-Some-Does.doing) c.in-Some-Does.field-0-is
     c.in-Some-Does.ensures in
-    does_turn c.args.self.now.frame t c.args.self.now.state c.does.new.self.state
-    c.does.new.passes c.who-who.result c.who-who.ensures c.in-Some-Does.inode
+    does_turn c.args.self.now.frame t c.args.self.now.state c.apply.new.self.state
+    c.apply.new.passes c.who-who.result c.who-who.ensures c.in-Some-Does.inode
     (deed_in c.in-Some-Does.doing)
-    c.does.new.gathered c.does.result c.became.result st c.does.ensures.event c.does.ensures.told
-    c.became.ensures
+    c.apply.new.gathered c.apply.result c.reached_by.result st c.apply.ensures.event c.apply.ensures.told
+    c.reached_by.ensures
 
 pub returns-in-Some-Checks-clause-reaches : goal.returns-in-Some-Checks-clause-reaches
 returns-in-Some-Checks-clause-reaches c =
@@ -88,16 +88,16 @@ returns-in-Some-Checks-clause-reaches c =
     let st = due_is (step_at t.mind.program t.mind.thought.mind) c.in-Some-Checks.field-0
     (step.Checks c.in-Some-Checks.inode c.in-Some-Checks.file c.in-Some-Checks.func
     c.in-Some-Checks.mask) c.in-Some-Checks.field-0-is c.in-Some-Checks.ensures in
-    check_turn c.args.self.now.frame t c.args.self.now.state c.checks.new.self.state
-    c.checks.new.passes c.who-who.result c.who-who.ensures c.in-Some-Checks.inode
+    check_turn c.args.self.now.frame t c.args.self.now.state c.check.new.self.state
+    c.check.new.passes c.who-who.result c.who-who.ensures c.in-Some-Checks.inode
     (record {
       file = c.in-Some-Checks.file;
       func = c.in-Some-Checks.func;
       mask =
           c.in-Some-Checks.mask;
     }) c.cred.result.now
-    c.checks.result c.became-in-Some-Checks.result st c.cred.ensures c.checks.ensures.check
-    c.became-in-Some-Checks.ensures
+    c.check.result c.reached_by-in-Some-Checks.result st c.cred.ensures c.check.ensures.check
+    c.reached_by-in-Some-Checks.ensures
 
 pub returns-in-Some-Posts-clause-reaches : goal.returns-in-Some-Posts-clause-reaches
 returns-in-Some-Posts-clause-reaches c =
@@ -110,11 +110,11 @@ returns-in-Some-Posts-clause-reaches c =
     } in
     let st = due_is (step_at t.mind.program t.mind.thought.mind) c.in-Some-Posts.field-0
     (step.Posts c.in-Some-Posts.sem) c.in-Some-Posts.field-0-is c.in-Some-Posts.ensures in
-    signals_turn c.args.self.now.frame t c.args.self.now.state c.signals.new.self.state
-    c.signals.new.passes c.who-who.result c.who-who.ensures (deed.Post c.in-Some-Posts.sem)
-    c.signals.result
-    c.became-in-Some-Posts.result st c.signals.ensures.signals c.signals.ensures.told
-    c.became-in-Some-Posts.ensures
+    signals_turn c.args.self.now.frame t c.args.self.now.state c.signal.new.self.state
+    c.signal.new.passes c.who-who.result c.who-who.ensures (deed.Post c.in-Some-Posts.sem)
+    c.signal.result
+    c.reached_by-in-Some-Posts.result st c.signal.ensures.signals c.signal.ensures.told
+    c.reached_by-in-Some-Posts.ensures
 
 pub returns-in-Some-Waits-clause-reaches : goal.returns-in-Some-Waits-clause-reaches
 returns-in-Some-Waits-clause-reaches c =
@@ -128,11 +128,11 @@ returns-in-Some-Waits-clause-reaches c =
     let st = due_is (step_at t.mind.program t.mind.thought.mind) c.in-Some-Waits.field-0
     (step.Waits c.in-Some-Waits.sem) c.in-Some-Waits.field-0-is c.in-Some-Waits.ensures in
     signals_turn c.args.self.now.frame t c.args.self.now.state
-    c.signals-in-Some-Waits.new.self.state
-    c.signals-in-Some-Waits.new.passes c.who-who.result c.who-who.ensures
-    (deed.Wait c.in-Some-Waits.sem) c.signals-in-Some-Waits.result
-    c.became-in-Some-Waits.result st c.signals-in-Some-Waits.ensures.signals
-    c.signals-in-Some-Waits.ensures.told c.became-in-Some-Waits.ensures
+    c.signal-in-Some-Waits.new.self.state
+    c.signal-in-Some-Waits.new.passes c.who-who.result c.who-who.ensures
+    (deed.Wait c.in-Some-Waits.sem) c.signal-in-Some-Waits.result
+    c.reached_by-in-Some-Waits.result st c.signal-in-Some-Waits.ensures.signals
+    c.signal-in-Some-Waits.ensures.told c.reached_by-in-Some-Waits.ensures
 
 pub returns-in-Ok-clause-reaches : goal.returns-in-Ok-clause-reaches
 returns-in-Ok-clause-reaches c =
@@ -145,8 +145,8 @@ returns-in-Ok-clause-reaches c =
     } in
     let st = due_is (step_at t.mind.program t.mind.thought.mind) c.in-Some-Appends.field-0
     (step.Appends c.in-Some-Appends.rule) c.in-Some-Appends.field-0-is c.in-Some-Appends.ensures in
-    appends_turn c.args.self.now.frame t c.args.self.now.state c.appends.new.self.state
-    c.appends.new.passes c.who-who.result c.who-who.ensures c.in-Some-Appends.rule.now
+    appends_turn c.args.self.now.frame t c.args.self.now.state c.append.new.self.state
+    c.append.new.passes c.who-who.result c.who-who.ensures c.in-Some-Appends.rule.now
     c.in-Ok.answered st
     c.in-Ok.ensures.appends c.in-Ok.ensures.told
 
@@ -159,5 +159,5 @@ returns-in-Err-clause-reaches c =
       gathered = c.args.gathered.now;
       passes = c.args.passes.now;
     } in
-    appends_fail c.args.self.now.frame t c.args.self.now.state c.appends.new.self.state
-    c.appends.new.passes c.who-who.result c.who-who.ensures c.in-Err.ensures.err
+    appends_fail c.args.self.now.frame t c.args.self.now.state c.append.new.self.state
+    c.append.new.passes c.who-who.result c.who-who.ensures c.in-Err.ensures.err

@@ -1,0 +1,24 @@
+-- The rules have one more, or are as they were.
+use Rattle.std.proofs.Common.{◌≡◌, ◌∙◌, ap}
+use Rattle.task_core.proofs.Shares.{with_rule, with_same_rules}
+use Rattle.world_model.specs.Tasks.{PassesValue}
+use Rattle.task_core.proofs.world.World.append.Goals as goal
+
+pub invariant_of-self : goal.invariant_of-self
+invariant_of-self c =
+    let w = c.self.inside in
+    let x = with_same_rules w.settings w.stations.items w.supers.items w.book w.sems w.rules w.tasks
+    w.idle.items c.self.invariant.parts c.self.invariant.idle c.append.new.self
+    c.append.ensures.kept.0 c.in_err-append.ensures.err.0 in
+    record { parts = x.0; idle = x.1 }
+
+pub invariant_of-self-2 : goal.invariant_of-self-2
+invariant_of-self-2 c =
+    let w = c.self.inside in
+    let number : c.passes.inside.rules.number ≡ c.args.who.task =
+    ap (λ (q : PassesValue). q.rules.number) c.passes.view_is ∙ c.requires.rules.1 in
+    let x = with_rule w.settings w.stations.items w.supers.items w.book w.sems w.rules w.tasks
+    w.idle.items c.self.invariant.parts c.self.invariant.idle c.append.new.self
+    (record { who = c.args.who; rule = c.args.rule.now }) c.passes.inside.rules.number
+    c.append.ensures.kept c.in_ok-append.ensures.list c.in_ok-append.ensures.numbers number in
+    record { parts = x.0; idle = x.1 }

@@ -1,0 +1,222 @@
+-- A check on the inode of the number, which is there, after two looks at the appended rules.
+use Rattle.std.proofs.Common.{◌<◌, length, refl, arith}
+use Rattle.inode_events.specs.Checks.{no_action}
+use Rattle.inode_events.specs.declared.deed.Deed.TheVariants as deed
+use Rattle.task_core.proofs.Checks.{RulesLooked}
+use Rattle.task_core.proofs.Inspects.{inspect_book, inspect_found, inspect_may, inspect_place, inspect_rules, inspected_check, inspected_frame, inspected_idle, inspected_parts}
+use Rattle.task_core.proofs.world.World.check.Goals as goal
+
+pub look-requires : goal.look-requires
+look-requires c =
+    let w = c.self.inside in
+    let s = c.station.inside in
+    let within : c.args.i < length w.stations.items = omega (arith, c.len.ensures) in
+    inspect_rules w.settings w.stations.items w.supers.items w.book w.sems w.rules w.tasks
+    c.self.invariant.parts c.args.i s.cell s.rules s.place c.index_mut-station.result.now
+    c.station.view_is within c.index_mut-station.ensures.value
+
+pub index-place-requires : goal.index-place-requires
+index-place-requires c =
+    let w = c.self.inside in
+    let s = c.station.inside in
+    let within : c.args.i < length w.stations.items = omega (arith, c.len.ensures) in
+    let h : s.place < length w.supers.items =
+    inspect_place w.settings w.stations.items w.supers.items w.book w.sems w.rules w.tasks
+    c.self.invariant.parts c.args.i s.cell s.rules s.place c.index_mut-station.result.now
+    c.station.view_is within c.index_mut-station.ensures.value in
+    omega (arith, w.supers.ok)
+
+pub check_at-requires-clause-name : goal.check_at-requires-clause-name
+check_at-requires-clause-name c =
+    let w = c.self.inside in
+    let s = c.station.inside in
+    let within : c.args.i < length w.stations.items = omega (arith, c.len.ensures) in
+    let p = c.passes.inside in
+    (inspect_found w.settings w.stations.items w.supers.items w.book w.sems w.rules w.tasks
+    c.self.invariant.parts c.args.i s.cell s.rules s.place c.index_mut-station.result.now
+    c.station.view_is within c.index_mut-station.ensures.value
+    c.args.self.now c.self.view_is p.inodes.items p.sems p.book p.rules c.args.passes.now
+    c.passes.view_is c.args.actor.now.who.task c.requires.passes c.index_mut.result.now
+    c.index_mut.ensures.value).0
+
+pub check_at-requires-clause-number : goal.check_at-requires-clause-number
+check_at-requires-clause-number c =
+    let w = c.self.inside in
+    let s = c.station.inside in
+    let within : c.args.i < length w.stations.items = omega (arith, c.len.ensures) in
+    let p = c.passes.inside in
+    (inspect_found w.settings w.stations.items w.supers.items w.book w.sems w.rules w.tasks
+    c.self.invariant.parts c.args.i s.cell s.rules s.place c.index_mut-station.result.now
+    c.station.view_is within c.index_mut-station.ensures.value
+    c.args.self.now c.self.view_is p.inodes.items p.sems p.book p.rules c.args.passes.now
+    c.passes.view_is c.args.actor.now.who.task c.requires.passes c.index_mut.result.now
+    c.index_mut.ensures.value).1
+
+pub check_at-requires-clause-book_name : goal.check_at-requires-clause-book_name
+check_at-requires-clause-book_name c =
+    let w = c.self.inside in
+    let s = c.station.inside in
+    let within : c.args.i < length w.stations.items = omega (arith, c.len.ensures) in
+    let p = c.passes.inside in
+    inspect_book w.settings w.stations.items w.supers.items w.book w.sems w.rules w.tasks
+    c.self.invariant.parts c.args.i s.cell s.rules s.place c.index_mut-station.result.now
+    c.station.view_is within c.index_mut-station.ensures.value
+    c.args.self.now c.self.view_is p.inodes.items p.sems p.book p.rules c.args.passes.now
+    c.passes.view_is c.args.actor.now.who.task c.requires.passes c.index_mut.result.now
+    c.index_mut.ensures.value
+
+pub check_at-requires-clause-ready : goal.check_at-requires-clause-ready
+check_at-requires-clause-ready c =
+    let w = c.self.inside in
+    let s = c.station.inside in
+    let within : c.args.i < length w.stations.items = omega (arith, c.len.ensures) in
+    let p = c.passes.inside in
+    inspect_may w.settings w.stations.items w.supers.items w.book w.sems w.rules w.tasks
+    c.self.invariant.parts c.args.i s.cell s.rules s.place c.index_mut-station.result.now
+    c.station.view_is within c.index_mut-station.ensures.value
+    c.args.self.now c.self.view_is p.inodes.items p.sems p.book p.rules c.args.passes.now
+    c.passes.view_is c.args.actor.now.who.task c.requires.passes c.index_mut.result.now
+    c.index_mut.ensures.value
+    c.args.actor.now.action c.args.actor.now.slot
+    (deed.Check c.args.asked.file c.args.asked.func no_action 0) c.requires.ready
+
+pub invariant_of-self : goal.invariant_of-self
+invariant_of-self c =
+    let w = c.self.inside in
+    let s = c.station.inside in
+    let within : c.args.i < length w.stations.items = omega (arith, c.len.ensures) in
+    let p = c.passes.inside in
+    let first : RulesLooked w.rules c.look.new.self s.rules c.look.new.pass =
+    record {
+      base = c.look.ensures.base;
+      look = record {
+        same = c.look.ensures.list;
+        before = c.look.ensures.before;
+        seen = c.look.ensures.seen;
+        mine = c.look.ensures.mine;
+        own = c.look.ensures.own;
+        pass = c.look.ensures.same_pass;
+      };
+    } in
+    let second : RulesLooked c.look.new.self c.look-2.new.self p.rules c.look-2.new.pass =
+    record {
+      base = c.look-2.ensures.base;
+      look = record {
+        same = c.look-2.ensures.list;
+        before = c.look-2.ensures.before;
+        seen = c.look-2.ensures.seen;
+        mine = c.look-2.ensures.mine;
+        own = c.look-2.ensures.own;
+        pass = c.look-2.ensures.same_pass;
+      };
+    } in
+    record {
+      parts = inspected_parts w.settings w.stations.items w.supers.items w.book w.sems w.rules
+          w.tasks
+          c.self.invariant.parts c.args.i s.cell s.rules s.place c.index_mut-station.result.now
+          c.station.view_is within c.index_mut-station.ensures.value
+          c.args.self.now c.self.view_is p.inodes.items p.sems p.book p.rules c.args.passes.now
+          c.passes.view_is c.args.actor.now.who.task c.requires.passes c.index_mut.result.now
+          c.index_mut.ensures.value
+          c.look.new.self c.look-2.new.self c.look.new.pass c.look-2.new.pass first second
+          c.check_at.new.station c.check_at.new.book c.check_at.new.pass c.check_at.new.listed
+          c.args.actor.now.who refl c.args.actor.now.cred.now c.args.asked c.index-place.result.now
+          c.rules.result.now c.check_at.result c.rules.ensures c.index-place.ensures
+          c.check_at.ensures.did c.check_at.ensures.told;
+      idle = inspected_idle w.settings w.stations.items w.supers.items w.book w.sems w.rules w.tasks
+          c.self.invariant.parts c.args.i s.cell s.rules s.place c.index_mut-station.result.now
+          c.station.view_is within c.index_mut-station.ensures.value
+          c.args.self.now c.self.view_is p.inodes.items p.sems p.book p.rules c.args.passes.now
+          c.passes.view_is c.args.actor.now.who.task c.requires.passes c.index_mut.result.now
+          c.index_mut.ensures.value
+          c.look.new.self c.look-2.new.self c.look.new.pass c.look-2.new.pass first second
+          c.check_at.new.station c.check_at.new.book c.check_at.new.pass c.check_at.new.listed
+          c.args.actor.now.who refl c.args.actor.now.cred.now c.args.asked c.index-place.result.now
+          c.rules.result.now c.check_at.result c.rules.ensures c.index-place.ensures
+          c.check_at.ensures.did c.check_at.ensures.told
+          w.idle.items c.self.invariant.idle;
+    }
+
+pub returns-clause-frame : goal.returns-clause-frame
+returns-clause-frame c =
+    let w = c.self.inside in
+    let s = c.station.inside in
+    let within : c.args.i < length w.stations.items = omega (arith, c.len.ensures) in
+    let p = c.passes.inside in
+    let first : RulesLooked w.rules c.look.new.self s.rules c.look.new.pass =
+    record {
+      base = c.look.ensures.base;
+      look = record {
+        same = c.look.ensures.list;
+        before = c.look.ensures.before;
+        seen = c.look.ensures.seen;
+        mine = c.look.ensures.mine;
+        own = c.look.ensures.own;
+        pass = c.look.ensures.same_pass;
+      };
+    } in
+    let second : RulesLooked c.look.new.self c.look-2.new.self p.rules c.look-2.new.pass =
+    record {
+      base = c.look-2.ensures.base;
+      look = record {
+        same = c.look-2.ensures.list;
+        before = c.look-2.ensures.before;
+        seen = c.look-2.ensures.seen;
+        mine = c.look-2.ensures.mine;
+        own = c.look-2.ensures.own;
+        pass = c.look-2.ensures.same_pass;
+      };
+    } in
+    inspected_frame w.settings w.stations.items w.supers.items w.book w.sems w.rules w.tasks
+    c.self.invariant.parts c.args.i s.cell s.rules s.place c.index_mut-station.result.now
+    c.station.view_is within c.index_mut-station.ensures.value
+    c.args.self.now c.self.view_is p.inodes.items p.sems p.book p.rules c.args.passes.now
+    c.passes.view_is c.args.actor.now.who.task c.requires.passes c.index_mut.result.now
+    c.index_mut.ensures.value
+    c.look.new.self c.look-2.new.self c.look.new.pass c.look-2.new.pass first second
+    c.check_at.new.station c.check_at.new.book c.check_at.new.pass c.check_at.new.listed
+    c.args.actor.now.who refl c.args.actor.now.cred.now c.args.asked c.index-place.result.now
+    c.rules.result.now c.check_at.result c.rules.ensures c.index-place.ensures
+    c.check_at.ensures.did c.check_at.ensures.told
+
+pub returns-clause-check : goal.returns-clause-check
+returns-clause-check c =
+    let w = c.self.inside in
+    let s = c.station.inside in
+    let within : c.args.i < length w.stations.items = omega (arith, c.len.ensures) in
+    let p = c.passes.inside in
+    let first : RulesLooked w.rules c.look.new.self s.rules c.look.new.pass =
+    record {
+      base = c.look.ensures.base;
+      look = record {
+        same = c.look.ensures.list;
+        before = c.look.ensures.before;
+        seen = c.look.ensures.seen;
+        mine = c.look.ensures.mine;
+        own = c.look.ensures.own;
+        pass = c.look.ensures.same_pass;
+      };
+    } in
+    let second : RulesLooked c.look.new.self c.look-2.new.self p.rules c.look-2.new.pass =
+    record {
+      base = c.look-2.ensures.base;
+      look = record {
+        same = c.look-2.ensures.list;
+        before = c.look-2.ensures.before;
+        seen = c.look-2.ensures.seen;
+        mine = c.look-2.ensures.mine;
+        own = c.look-2.ensures.own;
+        pass = c.look-2.ensures.same_pass;
+      };
+    } in
+    inspected_check w.settings w.stations.items w.supers.items w.book w.sems w.rules w.tasks
+    c.self.invariant.parts c.args.i s.cell s.rules s.place c.index_mut-station.result.now
+    c.station.view_is within c.index_mut-station.ensures.value
+    c.args.self.now c.self.view_is p.inodes.items p.sems p.book p.rules c.args.passes.now
+    c.passes.view_is c.args.actor.now.who.task c.requires.passes c.index_mut.result.now
+    c.index_mut.ensures.value
+    c.look.new.self c.look-2.new.self c.look.new.pass c.look-2.new.pass first second
+    c.check_at.new.station c.check_at.new.book c.check_at.new.pass c.check_at.new.listed
+    c.args.actor.now.who refl c.args.actor.now.cred.now c.args.asked c.index-place.result.now
+    c.rules.result.now c.check_at.result c.rules.ensures c.index-place.ensures
+    c.check_at.ensures.did c.check_at.ensures.told

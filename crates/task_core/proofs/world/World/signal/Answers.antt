@@ -1,0 +1,21 @@
+-- The semaphores keep their name and their callers.
+use Rattle.std.proofs.Common.{◌∙◌}
+use Rattle.task_core.proofs.Shares.{with_sems}
+use Rattle.task_core.proofs.world.World.signal.Goals as goal
+
+pub invariant_of-self : goal.invariant_of-self
+invariant_of-self c =
+    let w = c.self.inside in
+    let x = with_sems w.settings w.stations.items w.supers.items w.book w.sems w.rules w.tasks
+    w.idle.items c.self.invariant.parts c.self.invariant.idle c.reserve.new.self
+    c.reserve.ensures.list.name c.reserve.ensures.list.callers in
+    record { parts = x.0; idle = x.1 }
+
+pub invariant_of-self-2 : goal.invariant_of-self-2
+invariant_of-self-2 c =
+    let w = c.self.inside in
+    let x = with_sems w.settings w.stations.items w.supers.items w.book w.sems w.rules w.tasks
+    w.idle.items c.self.invariant.parts c.self.invariant.idle c.signal.new.self
+    (c.signal.ensures.kept.0 ∙ c.reserve.ensures.list.name)
+    (c.signal.ensures.kept.1 ∙ c.reserve.ensures.list.callers) in
+    record { parts = x.0; idle = x.1 }

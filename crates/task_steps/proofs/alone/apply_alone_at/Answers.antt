@@ -1,0 +1,35 @@
+-- The deed changes the inode's cell alone, and the answer gives its outcome.
+use Rattle.std.proofs.Common.{Option, refl, sym, ◌∙◌, ap, subst}
+use Rattle.std.specs.Prelude.{Result}
+use Rattle.std.specs.declared.alloc.AllocError.{AllocError}
+use Rattle.inode_events.specs.declared.told.Told.{Told}
+use Rattle.task_steps.specs.Leaving as deeds
+use Rattle.task_steps.specs.worlds.World.{StationValue}
+use Rattle.task_steps.specs.minds.Steps.{deed_in}
+use Rattle.task_steps.proofs.Acted.{answered_told}
+use Rattle.task_steps.specs.Acting.{StationDidAlone, told_in}
+use Rattle.task_steps.specs.declared.answers.Answered.{Answered}
+use Rattle.task_steps.proofs.alone.apply_alone_at.Goals as goal
+
+pub returns-clause-did : goal.returns-clause-did
+returns-clause-did c =
+    let s = c.station.inside in
+    let st : StationValue = record { cell = s.cell; rules = s.rules; place = s.place } in
+    let st2 : StationValue = record st { cell = c.look_and_apply_alone-told.new.cell } in
+    let did : StationDidAlone st st2 c.args.pass.now c.look_and_apply_alone-told.new.pass
+    c.args.actor.now.who (deed_in c.args.doing) c.args.gathered.now c.look_and_apply_alone-told.new.gathered
+    (deeds.told_in c.look_and_apply_alone-told.result) =
+    record {
+      looked = c.look_and_apply_alone-told.ensures.looked;
+      leaves = c.look_and_apply_alone-told.ensures.leaves;
+      rules = refl;
+      place = refl;
+      hashes = c.look_and_apply_alone-told.ensures.hashes;
+    } in
+    subst (λ (x : StationValue). StationDidAlone x st2 c.args.pass.now c.look_and_apply_alone-told.new.pass
+    c.args.actor.now.who (deed_in c.args.doing) c.args.gathered.now c.look_and_apply_alone-told.new.gathered
+    (told_in c.told_at.result)) c.station.view_is
+    (subst (λ (o : Option Told). StationDidAlone st st2 c.args.pass.now c.look_and_apply_alone-told.new.pass
+    c.args.actor.now.who (deed_in c.args.doing) c.args.gathered.now c.look_and_apply_alone-told.new.gathered
+    o) (sym (ap (λ (r : Result (Option Answered) AllocError). told_in r) c.told_at.ensures
+    ∙ answered_told c.len-place.result c.look_and_apply_alone-told.result)) did)
