@@ -19,7 +19,7 @@ use Rattle.buffer_measure.specs.Alone.{Outcome, alone_next, outcome_alone, run_a
 use Rattle.buffer_measure.specs.Answers.{IsAnswer, Rises, added_in, answer_of}
 use Rattle.buffer_measure.specs.Entries.{boot_entry, entry_for}
 use Rattle.buffer_measure.specs.Run.{AreAnswers, IsRunOf, RunValue}
-use Rattle.buffer_measure.specs.Text.{Buffer, BufferValue, CallerValue}
+use Rattle.buffer_text.specs.Text.{Buffer, BufferValue, CallerValue}
 use Rattle.buffer_measure.specs.Wanted.{wanted}
 use Rattle.buffer_measure.specs.declared.answer.Answer.{Answer}
 use Rattle.buffer_measure.specs.declared.answer.Answer.TheVariants.{Skipped, Added, Already}

@@ -16,7 +16,7 @@ use Rattle.script_text.specs.steps.templates.declared.entry.Entry.{Entry}
 use Rattle.script_text.proofs.Lasts.{each_weaker}
 use Rattle.buffer_measure.specs.Answers.{IsAnswer, Rises, added, added_in, answer_of, named, named_in}
 use Rattle.buffer_measure.specs.Entries.{entry_for}
-use Rattle.buffer_measure.specs.Text.{Buffer}
+use Rattle.buffer_text.specs.Text.{Buffer}
 use Rattle.buffer_measure.specs.Answered.{HaveAnswers, IsAdded, IsAnswered}
 use Rattle.buffer_measure.specs.declared.answer.Answer.{Answer}
 use Rattle.buffer_measure.specs.declared.answer.Answer.TheVariants.{Skipped, Added, Already}

@@ -18,8 +18,8 @@ use Rattle.script_text.specs.steps.hashes.declared.digest.Digest.{Digest}
 use Rattle.script_text.specs.steps.templates.EntryValue.{all_fields}
 use Rattle.script_text.specs.steps.templates.IsEntry.{IsEntry}
 use Rattle.script_text.specs.steps.templates.Path.{IsGraphic, IsMeasuredPath}
-use Rattle.buffer_measure.specs.Forms.{IsBufferText, is_buffer, is_caller, lines_of}
-use Rattle.buffer_measure.specs.Text.{Buffer, BufferValue, CallerValue}
+use Rattle.buffer_text.specs.Forms.{IsBufferText, is_buffer, is_caller, lines_of}
+use Rattle.buffer_text.specs.Text.{Buffer, BufferValue, CallerValue}
 use Rattle.buffer_measure.proofs.Lists.{all_at}
 
 -- ---- the form of a buffer

@@ -18,7 +18,7 @@ use Rattle.script_text.specs.steps.templates.declared.entry.Entry.{Entry}
 use Rattle.buffer_measure.specs.Answers.{IsAnswer, Rises, added_in}
 use Rattle.buffer_measure.specs.Kept.{AreDone, Constants, IsBookOf, IsDone, answers_in, pass_of}
 use Rattle.buffer_measure.specs.Run.{AreAnswers, IsRunOf}
-use Rattle.buffer_measure.specs.Text.{Buffer, CallerValue}
+use Rattle.buffer_text.specs.Text.{Buffer, CallerValue}
 use Rattle.buffer_measure.specs.Answered.{HaveAnswers}
 use Rattle.buffer_measure.specs.Wanted.{wanted}
 use Rattle.buffer_measure.specs.declared.answer.Answer.{Answer}

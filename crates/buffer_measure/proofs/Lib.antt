@@ -3,7 +3,6 @@ pub mod Answering
 pub mod Callers
 pub mod Closing
 pub mod Starting
-pub mod Kept
 pub mod Printing
 pub mod Parting
 pub mod Alone

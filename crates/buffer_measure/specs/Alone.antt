@@ -8,7 +8,7 @@ use Rattle.script_text.specs.steps.templates.declared.entry.Entry.{Entry}
 use Rattle.buffer_measure.specs.Answers.{answer_of}
 use Rattle.buffer_measure.specs.Entries.{boot_entry, entry_for}
 use Rattle.buffer_measure.specs.Run.{IsRunOf, RunValue}
-use Rattle.buffer_measure.specs.Text.{Buffer, BufferValue, CallerValue}
+use Rattle.buffer_text.specs.Text.{Buffer, BufferValue, CallerValue}
 use Rattle.buffer_measure.specs.Wanted.{wanted}
 use Rattle.buffer_measure.specs.declared.answer.Answer.{Answer}
 use Rattle.buffer_measure.specs.declared.answer.Answer.TheVariants.{Skipped}

@@ -7,7 +7,7 @@ use Rattle.script_text.specs.steps.hashes.declared.algo.Algo.{Algo}
 use Rattle.script_text.specs.steps.hashes.declared.algo.Algo.TheVariants.{Sha1}
 use Rattle.script_text.specs.steps.templates.Entries.{entry_of}
 use Rattle.script_text.specs.steps.templates.declared.entry.Entry.{Entry}
-use Rattle.buffer_measure.specs.Text.{Buffer}
+use Rattle.buffer_text.specs.Text.{Buffer}
 
 -- the first entry: a boot aggregate of zeros by the text's algorithm
 abbrev pub boot_entry : Algo → Entry

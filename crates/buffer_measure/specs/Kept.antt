@@ -4,10 +4,10 @@ use Rattle.report_text.specs.model.growing.Shown.{Grown, ListName, Passed, fresh
 use Rattle.script_text.specs.steps.hashes.declared.algo.Algo.{Algo}
 use Rattle.script_text.specs.steps.policy.RuleValue.{RuleValue}
 use Rattle.script_text.specs.steps.templates.declared.entry.Entry.{Entry}
-use Rattle.buffer_measure.specs.Draft.{no_buffers}
+use Rattle.buffer_text.specs.Draft.{no_buffers}
 use Rattle.buffer_measure.specs.Entries.{boot_entry}
-use Rattle.buffer_measure.specs.Forms.{IsBufferText}
-use Rattle.buffer_measure.specs.Text.{BufferValue, CallerValue}
+use Rattle.buffer_text.specs.Forms.{IsBufferText}
+use Rattle.buffer_text.specs.Text.{BufferValue, CallerValue}
 use Rattle.buffer_measure.specs.Answered.{HaveAnswers}
 use Rattle.buffer_measure.specs.Wanted.{wanted}
 use Rattle.buffer_measure.specs.declared.answer.Answer.{Answer}

@@ -1,12 +1,3 @@
-pub mod Text
-pub mod Bytes
-pub mod Limits
-pub mod Draft
-pub mod Heads
-pub mod Grammar
-pub mod Forms
-pub mod TextInside
-pub mod DraftInside
 pub mod Wanted
 pub mod Entries
 pub mod Answers
@@ -16,3 +7,4 @@ pub mod Kept
 pub mod Print
 pub mod Parts
 pub mod Alone
+pub use Rattle.buffer_text.specs as texts

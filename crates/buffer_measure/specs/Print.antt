@@ -6,9 +6,9 @@ use Rattle.report_text.specs.Words.{Line}
 use Rattle.script_text.specs.events.forms.Words.{text_of}
 use Rattle.measure_book.specs.registers.declared.banks.Banks.{Banks}
 use Rattle.script_text.specs.steps.templates.declared.entry.Entry.{Entry}
-use Rattle.buffer_measure.specs.Forms.{IsBufferText}
+use Rattle.buffer_text.specs.Forms.{IsBufferText}
 use Rattle.buffer_measure.specs.Run.{IsRunOf, RunValue}
-use Rattle.buffer_measure.specs.Text.{BufferValue}
+use Rattle.buffer_text.specs.Text.{BufferValue}
 use Rattle.buffer_measure.specs.declared.answer.Answer.{Answer}
 use Rattle.buffer_measure.specs.declared.answer.Answer.TheVariants.{Skipped, Added, Already}
 

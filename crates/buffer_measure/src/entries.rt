@@ -2,9 +2,9 @@
 
 ghost use Rattle.std.specs.Prelude.{◌≡◌, ◌<◌, true, IfOk};
 ghost use Rattle.buffer_measure.specs.Entries.{boot_entry, entry_for};
-ghost use Rattle.buffer_measure.specs.Forms.{is_buffer};
+ghost use Rattle.buffer_text.specs.Forms.{is_buffer};
 
-use crate::bytes::BufferBytes;
+use buffer_text::BufferBytes;
 use script_text::hashes::{Algo, Digest, digest_of};
 use script_text::meta::{DEFAULT_PCR, Template};
 use script_text::templates::{Entry, build, restore};

@@ -2,14 +2,14 @@
 
 ghost use Rattle.std.specs.Prelude.{◌<◌, ◌≤◌, IfOk, length};
 ghost use Rattle.buffer_measure.specs.Kept.{AreDone, AreReady, HasStarted, IsBookOf, IsShared};
-ghost use Rattle.buffer_measure.specs.Limits.{most_callers};
+ghost use Rattle.buffer_text.specs.Limits.{most_callers};
 ghost use Rattle.buffer_measure.specs.Run.{IsRunOf};
 
 use crate::book::{KeptBook, Name};
 use crate::entries::boot_entry;
 use crate::run::BufferRun;
-use crate::text::{BufferCaller, BufferText};
 use crate::workers::{Worker, parted, run_callers, workers_of};
+use buffer_text::{BufferCaller, BufferText};
 use measure_book::Book;
 use report_text::outer::Gate;
 use script_text::hashes::Algo;

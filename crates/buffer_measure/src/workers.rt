@@ -2,17 +2,16 @@
 
 ghost use Rattle.std.specs.Prelude.{◌≡◌, ◌+◌, ◌<◌, ◌^◌, true, Some, All, IfOk, IfSome, length, map};
 ghost use Rattle.report_text.specs.model.growing.Shown.{fresh};
-ghost use Rattle.buffer_measure.specs.Forms.{is_buffer};
+ghost use Rattle.buffer_text.specs.Forms.{is_buffer};
 ghost use Rattle.buffer_measure.specs.Kept.{AreDone, AreReady, IsDone, IsReady, IsShared, answers_in, caller_of, pass_of};
 ghost use Rattle.buffer_measure.specs.Answered.{HaveAnswers, IsAnswered, IsSamePass};
 
 use crate::answer::Answer;
 use crate::answers::Answers;
 use crate::book::{KeptBook, Name};
-use crate::bytes::{BufferBytes, VALUE};
 use crate::entries::entry_for;
 use crate::rules::wanted;
-use crate::text::BufferCaller;
+use buffer_text::{BufferBytes, BufferCaller, VALUE};
 use measure_book::Pass;
 use report_text::outer::{Gate, Who};
 use script_text::hashes::Algo;

@@ -9,7 +9,7 @@ use Rattle.report_text.specs.model.events.meta.declared.measurement.Template.{Te
 use Rattle.report_text.specs.model.events.policy.RuleValue.{is_any}
 use Rattle.report_text.specs.model.events.meta.declared.appraisal.Need.{Need}
 use Rattle.report_text.specs.model.events.meta.declared.appraisal.Need.TheVariants as need
-use Rattle.report_read.specs.Deeds.{acts_in, deed_by, deed_in, ruled}
+use Rattle.report_words.specs.Deeds.{acts_in, deed_by, deed_in, ruled}
 use Rattle.report_read.specs.ReadBack.{IsSmallDeed}
 use Rattle.report_read.specs.Short.{short_deed}
 use Rattle.report_read.proofs.WordsBack.{func_is, mode_back, no_number, number_back, pcr_back, template_is}

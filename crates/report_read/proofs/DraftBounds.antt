@@ -7,11 +7,11 @@ use borrow.Author.Tests.{eqb-false, eqb-true}
 use Rattle.report_text.specs.model.events.forms.Options.{◌>>=◌}
 use Rattle.report_read.specs.declared.draft.Stage.{Stage}
 use Rattle.report_read.specs.declared.draft.Stage.TheVariants as stage
-use Rattle.report_read.specs.declared.event.Event.{Event}
-use Rattle.report_read.specs.declared.event.Span.{Span}
+use Rattle.report_words.specs.declared.event.Event.{Event}
+use Rattle.report_words.specs.declared.event.Span.{Span}
 use Rattle.report_read.specs.Draft as draft
 use Rattle.report_read.specs.Draft.{Draft, with_words}
-use Rattle.report_read.specs.Forms.{Words, counted}
+use Rattle.report_words.specs.Forms.{Words, counted}
 use Rattle.report_read.specs.Lines.{event_of, inode_of, is_attr, is_end, is_entry, is_force, is_version, list_of, register_of, reply_of, rule_of, run_of, task_of}
 use Rattle.report_read.specs.Report.{InodeValue, ReportValue}
 

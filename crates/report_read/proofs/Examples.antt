@@ -1,17 +1,17 @@
 -- Lines of reports and whole reports, each with what is read of it.
 use Rattle.std.proofs.Common.{◌≡◌, ℕ, true, false, List, codes, Option, Some, None, Err, refl}
 use Rattle.report_text.specs.model.events.meta.declared.step.Who.{Who}
-use Rattle.report_read.specs.declared.event.Deed.TheVariants as deed
-use Rattle.report_read.specs.declared.event.Event.{Event}
-use Rattle.report_read.specs.declared.event.Kind.TheVariants as kind
-use Rattle.report_read.specs.declared.event.Outcome.TheVariants as outcome
-use Rattle.report_read.specs.declared.event.Placed.TheVariants as placed
-use Rattle.report_read.specs.declared.event.Verdict.TheVariants as verdict
-use Rattle.report_read.specs.Deeds.{deed_by, deed_in}
+use Rattle.report_words.specs.declared.event.Deed.TheVariants as deed
+use Rattle.report_words.specs.declared.event.Event.{Event}
+use Rattle.report_words.specs.declared.event.Kind.TheVariants as kind
+use Rattle.report_words.specs.declared.event.Outcome.TheVariants as outcome
+use Rattle.report_words.specs.declared.event.Placed.TheVariants as placed
+use Rattle.report_words.specs.declared.event.Verdict.TheVariants as verdict
+use Rattle.report_words.specs.Deeds.{deed_by, deed_in}
 use Rattle.report_read.specs.Draft.{no_span, with_words}
-use Rattle.report_read.specs.Forms.{first_words, who_of}
+use Rattle.report_words.specs.Forms.{first_words}
 use Rattle.report_read.specs.Lines.{birth_event, event_of, is_attr, is_force, reply_of, rule_of, task_of}
-use Rattle.report_read.specs.Outcomes.{outcome_of}
+use Rattle.report_words.specs.Outcomes.{outcome_of}
 use Rattle.report_read.specs.Read.{reports_of}
 
 -- ---- events
@@ -104,9 +104,8 @@ others : (reply_of (first_words (codes "0 ok")) ≡ Some (0, true))
     × (is_force (first_words (codes "force none")) ≡ true)
     × (is_force (first_words (codes "force md5:00")) ≡ false)
     × (is_attr (first_words (codes "end ")) ≡ true) × (is_attr (first_words (codes "end")) ≡ false)
-    × (who_of (codes "0.12.3") ≡ Some (step 0 12 3)) × (who_of (codes "0.12") ≡ None)
 unfolding reply_of
-others = (refl, refl, refl, refl, refl, refl, refl, refl, refl, refl, refl, refl, refl)
+others = (refl, refl, refl, refl, refl, refl, refl, refl, refl, refl, refl)
 
 -- ---- whole reports
 

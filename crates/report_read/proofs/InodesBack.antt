@@ -19,7 +19,7 @@ use Rattle.report_text.specs.model.events.meta.declared.measurement.Template.{Te
 use Rattle.report_text.specs.model.events.templates.xattrs.Attrs.{Pair}
 use Rattle.report_read.specs.declared.draft.Stage.{Stage}
 use Rattle.report_read.specs.declared.draft.Stage.TheVariants as stage
-use Rattle.report_read.specs.declared.event.Span.{Span}
+use Rattle.report_words.specs.declared.event.Span.{Span}
 use Rattle.report_read.specs.declared.report.InodeHead.{InodeHead}
 use Rattle.report_read.specs.Draft.{Draft, events_left, names_left, with_words}
 use Rattle.report_read.specs.Lines.{head_at, inode_of, is_attr, is_force, is_force_word}

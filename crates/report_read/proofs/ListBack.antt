@@ -13,7 +13,7 @@ use Rattle.report_text.specs.model.registers.declared.banks.Banks.{Banks}
 use Rattle.report_text.specs.model.events.templates.declared.entry.Entry.{Entry}
 use Rattle.report_read.specs.declared.draft.Stage.{Stage}
 use Rattle.report_read.specs.declared.draft.Stage.TheVariants as stage
-use Rattle.report_read.specs.declared.event.Span.{Span}
+use Rattle.report_words.specs.declared.event.Span.{Span}
 use Rattle.report_read.specs.declared.report.RunEnd.{RunEnd}
 use Rattle.report_read.specs.declared.report.RunEnd.TheVariants as run
 use Rattle.report_read.specs.Draft.{Draft, entries_left, rises, start, with_words}

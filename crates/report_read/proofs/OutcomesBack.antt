@@ -40,7 +40,7 @@ use Rattle.report_text.specs.model.events.templates.declared.entry.Placed.TheVar
 use Rattle.report_text.specs.model.events.templates.xattrs.Attrs.{Pair, value}
 use Rattle.report_read.specs.ReadBack.{IsSmallPlaced, IsSmallTold}
 use Rattle.report_read.specs.Short.{short_deed, short_entry, short_grant, short_placed, short_told, short_verdict}
-use Rattle.report_read.specs.Outcomes.{admitted_in, check_outcome, grant_of, labelled_of, outcome_of, placed_in, verdict_in}
+use Rattle.report_words.specs.Outcomes.{admitted_in, check_outcome, grant_of, labelled_of, outcome_of, placed_in, verdict_in}
 use Rattle.report_read.proofs.WordsBack.{cause_is, number_back}
 
 -- ---- grants

@@ -3,8 +3,8 @@ use Rattle.std.proofs.Common.{◌≡◌, ℕ, ◌+◌, ◌==◌, Bool, true, fal
 use Rattle.std.specs.Prelude.{ok_or, option_map}
 use Rattle.report_text.specs.model.events.forms.Lines.{◌>>=◌, lines}
 use Rattle.report_text.specs.model.events.forms.Tokens.{is_filled}
-use Rattle.script_words.specs.Line.{cut}
-use Rattle.script_words.proofs.Reading.{some_line}
+use Rattle.report_words.specs.script_lines.Line.{cut}
+use Rattle.report_words.proofs.about_lines.Reading.{some_line}
 use Rattle.report_read.specs.declared.fault.LineErr.{LineErr}
 use Rattle.report_read.specs.declared.fault.LineErr.TheVariants as err
 use Rattle.report_read.specs.Draft.{Draft}

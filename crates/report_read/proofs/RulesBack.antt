@@ -16,7 +16,7 @@ use Rattle.report_text.specs.model.events.policy.Key.{keys}
 use Rattle.report_text.specs.model.rules.declared.cell.RuleEntry.{RuleEntry}
 use Rattle.report_read.specs.declared.draft.Stage.{Stage}
 use Rattle.report_read.specs.declared.draft.Stage.TheVariants as stage
-use Rattle.report_read.specs.declared.event.Span.{Span}
+use Rattle.report_words.specs.declared.event.Span.{Span}
 use Rattle.report_read.specs.Draft.{Draft, follows, rules_left, with_words}
 use Rattle.report_read.specs.Lines.{first_is_filled, rule_of}
 use Rattle.report_read.specs.ReadBack.{IsShownRule}

@@ -10,7 +10,7 @@ use Rattle.report_text.specs.model.events.forms.Tokens.{is_filled}
 use Rattle.report_read.specs.declared.draft.Stage.{Stage}
 use Rattle.report_read.specs.declared.draft.Stage.TheVariants as stage
 use Rattle.report_read.specs.Draft.{Draft, is_last, is_over, start}
-use Rattle.report_read.specs.Forms.{first_words}
+use Rattle.report_words.specs.Forms.{first_words}
 use Rattle.report_read.specs.Read.{read_from, span_at, with_line}
 use Rattle.report_read.specs.Report.{HasShortJournals, InodeValue, ReportValue}
 use Rattle.report_read.proofs.DraftBounds.{Bounded, HasShort, left_of, one_more}

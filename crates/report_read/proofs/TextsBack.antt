@@ -13,8 +13,8 @@ use Rattle.report_text.specs.model.events.forms.Words.{text_of}
 use Rattle.report_text.specs.model.events.meta.declared.measurement.Template.{Template}
 use Rattle.report_text.specs.model.events.templates.declared.entry.Entry.{Entry}
 use Rattle.report_text.specs.model.steps.declared.reply.Reply as model
-use Rattle.report_read.specs.declared.event.Event.{Event}
-use Rattle.report_read.specs.declared.event.Span.{Span}
+use Rattle.report_words.specs.declared.event.Event.{Event}
+use Rattle.report_words.specs.declared.event.Span.{Span}
 use Rattle.report_read.specs.declared.report.Reply.{Reply}
 use Rattle.report_read.specs.ReadBack.{text_at}
 use Rattle.report_read.specs.Report.{InodeValue, TaskValue}

@@ -22,11 +22,11 @@ use Rattle.report_text.specs.model.events.meta.declared.step.Who.{Who}
 use Rattle.report_text.specs.model.events.policy.ValueTexts.{func_word}
 use Rattle.report_text.specs.model.events.policy.declared.rule.Func.{Func}
 use Rattle.report_text.specs.model.events.policy.declared.rule.Func.TheVariants as func
-use Rattle.script_words.specs.Forms.{mode_of}
-use Rattle.script_words.specs.Line.{cut}
-use Rattle.report_read.specs.Deeds.{is_func, is_mode, is_template}
-use Rattle.report_read.specs.Forms.{is_pcr, number, who_of}
-use Rattle.report_read.specs.Outcomes.{is_cause}
+use Rattle.report_words.specs.script_lines.Forms.{mode_of}
+use Rattle.report_words.specs.script_lines.Line.{cut}
+use Rattle.report_words.specs.Deeds.{is_func, is_mode, is_template}
+use Rattle.report_words.specs.Forms.{is_pcr, number, who_of}
+use Rattle.report_words.specs.Outcomes.{is_cause}
 
 -- ---- numbers
 

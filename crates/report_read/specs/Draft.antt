@@ -3,19 +3,19 @@ use Rattle.std.specs.Prelude.{ℕ, ◌+◌, ◌-◌, ◌==◌, Bool, true, false
 use Rattle.report_text.specs.model.events.forms.Options.{◌>>=◌}
 use Rattle.report_read.specs.declared.draft.Stage.{Stage}
 use Rattle.report_read.specs.declared.draft.Stage.TheVariants as stage
-use Rattle.report_read.specs.declared.event.Deed.{Deed}
-use Rattle.report_read.specs.declared.event.Deed.TheVariants as deed
-use Rattle.report_read.specs.declared.event.Event.{Event}
-use Rattle.report_read.specs.declared.event.Outcome.{Outcome}
-use Rattle.report_read.specs.declared.event.Outcome.TheVariants as outcome
-use Rattle.report_read.specs.declared.event.Placed.{Placed}
-use Rattle.report_read.specs.declared.event.Placed.TheVariants as placed
-use Rattle.report_read.specs.declared.event.Span.{Span}
+use Rattle.report_words.specs.declared.event.Deed.{Deed}
+use Rattle.report_words.specs.declared.event.Deed.TheVariants as deed
+use Rattle.report_words.specs.declared.event.Event.{Event}
+use Rattle.report_words.specs.declared.event.Outcome.{Outcome}
+use Rattle.report_words.specs.declared.event.Outcome.TheVariants as outcome
+use Rattle.report_words.specs.declared.event.Placed.{Placed}
+use Rattle.report_words.specs.declared.event.Placed.TheVariants as placed
+use Rattle.report_words.specs.declared.event.Span.{Span}
 use Rattle.report_read.specs.declared.report.InodeHead.{InodeHead}
 use Rattle.report_read.specs.declared.report.Reply.{Reply}
 use Rattle.report_read.specs.declared.report.RunEnd.{RunEnd}
 use Rattle.report_read.specs.declared.report.RunEnd.TheVariants as run
-use Rattle.report_read.specs.Forms.{Words, after, counted, number_in}
+use Rattle.report_words.specs.Forms.{Words, after, counted, number_in}
 use Rattle.report_read.specs.Lines.{event_of, inode_of, is_attr, is_end, is_entry, is_force, is_version, list_of, register_of, reply_of, rule_of, run_of, task_of}
 use Rattle.report_read.specs.Report.{InodeValue, ReportValue, TaskValue}
 

@@ -1,7 +1,4 @@
 pub mod Makes
-pub mod Forms
-pub mod Deeds
-pub mod Outcomes
 pub mod Report
 pub mod Lines
 pub mod Draft
@@ -10,3 +7,4 @@ pub mod Read
 pub mod Short
 pub mod ReadBack
 pub use Rattle.report_text.specs as reports
+pub use Rattle.report_words.specs as words

@@ -7,18 +7,18 @@ use Rattle.report_text.specs.model.events.forms.Tokens.{is_filled}
 use Rattle.report_text.specs.model.events.meta.declared.measurement.Template.{Template}
 use Rattle.report_text.specs.model.events.meta.declared.measurement.Template.TheVariants as template
 use Rattle.report_text.specs.model.events.meta.declared.step.Who.{Who}
-use Rattle.report_read.specs.declared.event.Deed.{Deed}
-use Rattle.report_read.specs.declared.event.Deed.TheVariants as deed
-use Rattle.report_read.specs.declared.event.Event.{Event}
-use Rattle.report_read.specs.declared.event.Outcome.{Outcome}
-use Rattle.report_read.specs.declared.event.Outcome.TheVariants as outcome
-use Rattle.report_read.specs.declared.event.Span.{Span}
+use Rattle.report_words.specs.declared.event.Deed.{Deed}
+use Rattle.report_words.specs.declared.event.Deed.TheVariants as deed
+use Rattle.report_words.specs.declared.event.Event.{Event}
+use Rattle.report_words.specs.declared.event.Outcome.{Outcome}
+use Rattle.report_words.specs.declared.event.Outcome.TheVariants as outcome
+use Rattle.report_words.specs.declared.event.Span.{Span}
 use Rattle.report_read.specs.declared.report.InodeHead.{InodeHead}
 use Rattle.report_read.specs.declared.report.RunEnd.{RunEnd}
 use Rattle.report_read.specs.declared.report.RunEnd.TheVariants as run
-use Rattle.report_read.specs.Deeds.{deed_in}
-use Rattle.report_read.specs.Forms.{Words, after, after_by, counted, is_among, is_any, is_digest, is_hex, is_named_digest, is_whole, is_wide_pcr, number_in, only_by, step_at, who_in}
-use Rattle.report_read.specs.Outcomes.{is_cause, is_set_status, outcome_of}
+use Rattle.report_words.specs.Deeds.{deed_in}
+use Rattle.report_words.specs.Forms.{Words, after, after_by, counted, is_among, is_any, is_digest, is_hex, is_named_digest, is_whole, is_wide_pcr, number_in, only_by, step_at, who_in}
+use Rattle.report_words.specs.Outcomes.{is_cause, is_set_status, outcome_of}
 
 -- `WORD N`, and the words after it
 abbrev pub named_number : List ℕ → Words → Option (ℕ × Words)

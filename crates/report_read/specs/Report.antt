@@ -1,7 +1,7 @@
 -- A report as it is read, with ranges of the text for its lines.
 use Rattle.std.specs.Prelude.{ℕ, ◌^◌, ◌<◌, Bool, List, length, All}
-use Rattle.report_read.specs.declared.event.Event.{Event}
-use Rattle.report_read.specs.declared.event.Span.{Span}
+use Rattle.report_words.specs.declared.event.Event.{Event}
+use Rattle.report_words.specs.declared.event.Span.{Span}
 use Rattle.report_read.specs.declared.report.InodeHead.{InodeHead}
 use Rattle.report_read.specs.declared.report.Reply.{Reply}
 use Rattle.report_read.specs.declared.report.RunEnd.{RunEnd}

@@ -12,18 +12,18 @@ use Rattle.report_text.specs.model.events.labels.declared.verdict.Verdict as mod
 use Rattle.report_text.specs.model.events.labels.declared.verdict.Verdict.TheVariants as verdict
 use Rattle.report_text.specs.model.events.templates.declared.entry.Placed as model_placed
 use Rattle.report_text.specs.model.events.templates.declared.entry.Placed.TheVariants as placed
-use Rattle.report_read.specs.declared.event.Deed.{Deed}
-use Rattle.report_read.specs.declared.event.Deed.TheVariants as read_deed
-use Rattle.report_read.specs.declared.event.Event.{Event}
-use Rattle.report_read.specs.declared.event.Grant.{Grant}
-use Rattle.report_read.specs.declared.event.Kind.TheVariants as kind
-use Rattle.report_read.specs.declared.event.Outcome.{Outcome}
-use Rattle.report_read.specs.declared.event.Outcome.TheVariants as outcome
-use Rattle.report_read.specs.declared.event.Placed.{Placed}
-use Rattle.report_read.specs.declared.event.Placed.TheVariants as read_placed
-use Rattle.report_read.specs.declared.event.Span.{Span}
-use Rattle.report_read.specs.declared.event.Verdict.{Verdict}
-use Rattle.report_read.specs.declared.event.Verdict.TheVariants as read_verdict
+use Rattle.report_words.specs.declared.event.Deed.{Deed}
+use Rattle.report_words.specs.declared.event.Deed.TheVariants as read_deed
+use Rattle.report_words.specs.declared.event.Event.{Event}
+use Rattle.report_words.specs.declared.event.Grant.{Grant}
+use Rattle.report_words.specs.declared.event.Kind.TheVariants as kind
+use Rattle.report_words.specs.declared.event.Outcome.{Outcome}
+use Rattle.report_words.specs.declared.event.Outcome.TheVariants as outcome
+use Rattle.report_words.specs.declared.event.Placed.{Placed}
+use Rattle.report_words.specs.declared.event.Placed.TheVariants as read_placed
+use Rattle.report_words.specs.declared.event.Span.{Span}
+use Rattle.report_words.specs.declared.event.Verdict.{Verdict}
+use Rattle.report_words.specs.declared.event.Verdict.TheVariants as read_verdict
 
 abbrev pub short_count : How → Deed
 short_count (how.Read create) = read_deed.Count kind.Read create

@@ -7,11 +7,10 @@ ghost use Rattle.report_read.specs.Read.{reports_of, with_line, read_from};
 ghost use Rattle.report_read.specs.Report.{HasShortJournals};
 
 use crate::draft::Draft;
-use crate::event::Span;
 use crate::fault::{LineErr, ReadErr};
-use crate::forms::first_words;
 use crate::report::Report;
-use script_words::cut;
+use report_words::script_lines::cut;
+use report_words::{Span, first_words};
 use std::alloc::Global;
 
 /// Reads a text of reports, one after another: one, and `more` after it.

@@ -4,10 +4,8 @@ ghost use Rattle.std.specs.Prelude.{◌≡◌, map, OnOk};
 ghost use Rattle.report_read.specs.Draft as spec;
 ghost use Rattle.report_read.specs.Makes.{Makes};
 
-use crate::event::{Event, Span};
 use crate::fault::LineErr;
 use crate::fits::fits;
-use crate::forms::counted;
 use crate::lines::{
     event_of, inode_of, is_attr, is_end, is_entry, is_force, is_version, list_of, register_of,
     rule_of, run_of, task_of,
@@ -17,6 +15,7 @@ use crate::report::{Inode, InodeHead, Reply, Report, RunEnd, Task};
 use crate::stages::{
     begins, begins_with_number, entries_left, follows, names_left, next_stage, rises, rules_left,
 };
+use report_words::{Event, Span, counted};
 use std::alloc::{AllocError as OutOfMemory, Global};
 use std::marker::Model;
 use std::mem;

@@ -3,7 +3,7 @@
 ghost use Rattle.std.specs.Prelude.{◌≡◌, slice_get};
 ghost use Rattle.report_read.specs.Draft as spec;
 
-use crate::event::{Deed, Event, Outcome, Placed};
+use report_words::{Deed, Event, Outcome, Placed};
 
 /// Whether the file was opened by an earlier event of the journal, and the entry is in the list.
 pub(crate) fn fits(entries: usize, before: &[Event], event: Event) -> bool

@@ -1,19 +1,16 @@
 // The other lines of a report, by their words.
 
 ghost use Rattle.std.specs.Prelude.{◌≡◌, map, option_map};
-ghost use Rattle.report_read.specs.Forms.{after_by};
+ghost use Rattle.report_words.specs.Forms.{after_by};
 ghost use Rattle.report_read.specs.Lines as spec;
 
-use crate::deeds::deed_in;
-use crate::event::{Deed, Event, Outcome, Span};
-use crate::forms::{
-    after, after_any, after_digest, after_hex, after_named_digest, after_wide_pcr, counted,
-    is_named_digest, is_whole, number_in, who_in,
-};
-use crate::outcomes::outcome_of;
 use crate::report::{InodeHead, RunEnd};
-use crate::tables::look_up;
 use report_text::model::meta::{Template, Who};
+use report_words::{
+    Deed, Event, Outcome, Span, after, after_any, after_digest, after_hex, after_named_digest,
+    after_wide_pcr, counted, deed_in, is_named_digest, is_whole, look_up, number_in, outcome_of,
+    who_in,
+};
 
 const ENDS: [(&[u8], RunEnd); 3] = [
     (b"done", RunEnd::Done),

@@ -1,13 +1,11 @@
 // The lines of replies, by their words.
 
 ghost use Rattle.std.specs.Prelude.{◌≡◌, map};
-ghost use Rattle.report_read.specs.Forms.{only_by};
+ghost use Rattle.report_words.specs.Forms.{only_by};
 ghost use Rattle.report_read.specs.Lines as spec;
-ghost use Rattle.report_read.specs.Outcomes.{is_cause};
+ghost use Rattle.report_words.specs.Outcomes.{is_cause};
 
-use crate::forms::{after, after_digest, is_whole, number_in};
-use crate::outcomes::{is_cause, is_set_status};
-use crate::tables::is_among;
+use report_words::{after, after_digest, is_among, is_cause, is_set_status, is_whole, number_in};
 
 const ERRORS: [&[u8]; 7] = [
     b"EBADF", b"ENOENT", b"ETXTBSY", b"EFBIG", b"E2BIG", b"EINVAL", b"ENODATA",

@@ -1,6 +1,6 @@
 // Reports.
 
-use crate::event::{Event, Span};
+use report_words::{Event, Span};
 use std::marker::Model;
 
 /// How a run ended.

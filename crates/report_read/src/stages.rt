@@ -4,7 +4,7 @@ ghost use Rattle.std.specs.Prelude.{◌≡◌, map};
 ghost use Rattle.report_read.specs.Draft as spec;
 
 use crate::draft::Stage;
-use crate::forms::{after, number_in};
+use report_words::{after, number_in};
 
 pub(crate) fn begins(word: &[u8], words: &[&[u8]]) -> bool
     ensures { result ≡ spec.begins word.now (map (λ w. w.now) words.now) }

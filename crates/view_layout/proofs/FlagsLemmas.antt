@@ -1,20 +1,20 @@
 -- The flags of a drawing stand in the order of their beginnings.
 use Rattle.std.proofs.Common.{◌≡◌, ℕ, zero, suc, ◌+◌, ◌<◌, ◌≤◌, List, [], ◌∷◌, ◌++◌, map, take, Option, Some, None, refl, arith}
 use Rattle.std.specs.List.{flat_map}
-use Rattle.report_read.specs.declared.event.Event.{Event}
-use Rattle.view_layout.specs.declared.column.Column.{Column}
+use Rattle.view_journal.specs.reading.words.declared.event.Event.{Event}
+use Rattle.view_journal.specs.declared.column.Column.{Column}
 use Rattle.view_layout.specs.declared.flags.Noted.{Noted}
-use Rattle.view_layout.specs.declared.kinds.Note.{Note}
-use Rattle.view_layout.specs.declared.walk.State.{State}
-use Rattle.view_layout.specs.declared.window.Window.{Window}
-use Rattle.view_layout.specs.Columns.{column_at, columns_from, hashing_after}
+use Rattle.view_journal.specs.declared.kinds.Note.{Note}
+use Rattle.view_journal.specs.declared.walk.State.{State}
+use Rattle.view_journal.specs.declared.window.Window.{Window}
+use Rattle.view_journal.specs.Columns.{column_at, columns_from, hashing_after}
 use Rattle.view_layout.specs.Flags.{flag_extents, noted, noted_at}
-use Rattle.view_layout.specs.Frame.{AreInOrder, BeginAfter, column_of}
-use Rattle.view_layout.specs.Notes.{notes}
+use Rattle.view_journal.specs.Frame.{AreInOrder, BeginAfter, column_of}
+use Rattle.view_journal.specs.Notes.{notes}
 use Rattle.view_layout.specs.Promises.{FlagsAreInOrder}
-use Rattle.view_layout.specs.Walk.{states_of}
-use Rattle.view_layout.specs.Windows.{AreWindows}
-use Rattle.view_layout.proofs.ColumnsLemmas.{columns_differ}
+use Rattle.view_journal.specs.Walk.{states_of}
+use Rattle.view_journal.specs.Windows.{AreWindows}
+use Rattle.view_journal.proofs.ColumnsLemmas.{columns_differ}
 
 -- ---- columns
 

@@ -1,34 +1,31 @@
 -- The drawing of a journal, as a list of items.
-use Rattle.std.specs.Prelude.{ℕ, ◌+◌, ◌-◌, ◌%◌, ◌==◌, nat_le, nat_lt, max, min, Bool, true, false, not, ◌&&◌, List, [], ◌∷◌, ◌++◌, length, Option, Some, None, if◌then◌else◌}
+use Rattle.std.specs.Prelude.{ℕ, ◌+◌, ◌-◌, ◌%◌, ◌==◌, nat_le, nat_lt, max, min, Bool, false, not, ◌&&◌, List, [], ◌∷◌, ◌++◌, length, Option, Some, None, if◌then◌else◌}
 use Rattle.std.specs.List.{flat_map, list_any}
-use Rattle.report_read.specs.declared.event.Deed.{Deed}
-use Rattle.report_read.specs.declared.event.Deed.TheVariants as deed
-use Rattle.report_read.specs.declared.event.Event.{Event}
-use Rattle.report_read.specs.declared.event.Outcome.{Outcome}
-use Rattle.report_read.specs.declared.event.Outcome.TheVariants as outcome
-use Rattle.view_layout.specs.declared.bars.Bar.{Bar}
-use Rattle.view_layout.specs.declared.column.Column.{Column}
+use Rattle.view_journal.specs.reading.words.declared.event.Event.{Event}
+use Rattle.view_journal.specs.declared.bars.Bar.{Bar}
+use Rattle.view_journal.specs.declared.column.Column.{Column}
 use Rattle.view_layout.specs.declared.flags.Flag.{Flag}
-use Rattle.view_layout.specs.declared.items.Guide.{Guide}
-use Rattle.view_layout.specs.declared.items.Guide.TheVariants as guide
-use Rattle.view_layout.specs.declared.items.Item.{Item}
-use Rattle.view_layout.specs.declared.items.Item.TheVariants as item
-use Rattle.view_layout.specs.declared.items.Look.{Look}
-use Rattle.view_layout.specs.declared.items.Look.TheVariants as look
-use Rattle.view_layout.specs.declared.items.Strip.{Strip}
-use Rattle.view_layout.specs.declared.items.Strip.TheVariants as strip
-use Rattle.view_layout.specs.declared.kinds.Freshness.{Freshness}
-use Rattle.view_layout.specs.declared.kinds.Freshness.TheVariants as fresh
+use Rattle.view_journal.specs.declared.items.Guide.{Guide}
+use Rattle.view_journal.specs.declared.items.Guide.TheVariants as guide
+use Rattle.view_journal.specs.declared.items.Item.{Item}
+use Rattle.view_journal.specs.declared.items.Item.TheVariants as item
+use Rattle.view_journal.specs.declared.items.Look.{Look}
+use Rattle.view_journal.specs.declared.items.Look.TheVariants as look
+use Rattle.view_journal.specs.declared.items.Strip.{Strip}
+use Rattle.view_journal.specs.declared.items.Strip.TheVariants as strip
+use Rattle.view_journal.specs.declared.kinds.Freshness.{Freshness}
+use Rattle.view_journal.specs.declared.kinds.Freshness.TheVariants as fresh
 use Rattle.view_layout.specs.declared.lanes.Lane.{Lane}
 use Rattle.view_layout.specs.declared.lanes.Seat.{Seat}
-use Rattle.view_layout.specs.declared.walk.State.{State}
-use Rattle.view_layout.specs.declared.window.Window.{Window}
-use Rattle.view_layout.specs.Bars.{shown_bars}
-use Rattle.view_layout.specs.Columns.{columns_of}
+use Rattle.view_journal.specs.declared.walk.State.{State}
+use Rattle.view_journal.specs.declared.window.Window.{Window}
+use Rattle.view_journal.specs.Bars.{shown_bars}
+use Rattle.view_journal.specs.Columns.{columns_of}
 use Rattle.view_layout.specs.Flags.{flag_width, flags_of, guide_of}
-use Rattle.view_layout.specs.Frame.{column, margin, middle}
+use Rattle.view_journal.specs.Frame.{column, margin, middle}
 use Rattle.view_layout.specs.Lanes.{bottom_from, lanes_from, lanes_top, row_top, seat_of, seats_from, tasks_of}
-use Rattle.view_layout.specs.Notes.{mark_of}
+use Rattle.view_journal.specs.Notes.{mark_of}
+use Rattle.view_journal.specs.State.{is_write}
 
 -- ---- what stands behind the events
 
@@ -117,12 +114,6 @@ strips_items columns =
     ++ (execs_items columns ++ strip_items strip.Content columns))
 
 -- ---- the guides
-
--- a write or a truncation that was done
-abbrev pub is_write : Deed → Outcome → Bool
-is_write (deed.Write file from len) outcome.Done = true
-is_write (deed.Trunc file len) outcome.Done = true
-is_write _ _ = false
 
 abbrev pub write_items : ℕ → Column → List Item
 write_items bottom c =

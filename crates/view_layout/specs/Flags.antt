@@ -1,17 +1,17 @@
 -- Flags above the strips: of the notes of drawn events.
 use Rattle.std.specs.Prelude.{ℕ, ◌+◌, ◌*◌, nat_lt, List, [], ◌∷◌, map, take, Option, Some, None, if◌then◌else◌}
 use Rattle.std.specs.List.{flat_map}
-use Rattle.report_read.specs.declared.event.Event.{Event}
-use Rattle.view_layout.specs.declared.column.Column.{Column}
+use Rattle.view_journal.specs.reading.words.declared.event.Event.{Event}
+use Rattle.view_journal.specs.declared.column.Column.{Column}
 use Rattle.view_layout.specs.declared.flags.Flag.{Flag}
 use Rattle.view_layout.specs.declared.flags.Noted.{Noted}
-use Rattle.view_layout.specs.declared.frame.Extent.{Extent}
-use Rattle.view_layout.specs.declared.items.Guide.{Guide}
-use Rattle.view_layout.specs.declared.items.Guide.TheVariants as guide
-use Rattle.view_layout.specs.declared.kinds.Note.{Note}
-use Rattle.view_layout.specs.declared.kinds.Note.TheVariants as note
-use Rattle.view_layout.specs.Frame.{rows}
-use Rattle.view_layout.specs.Notes.{notes}
+use Rattle.view_journal.specs.declared.frame.Extent.{Extent}
+use Rattle.view_journal.specs.declared.items.Guide.{Guide}
+use Rattle.view_journal.specs.declared.items.Guide.TheVariants as guide
+use Rattle.view_journal.specs.declared.kinds.Note.{Note}
+use Rattle.view_journal.specs.declared.kinds.Note.TheVariants as note
+use Rattle.view_journal.specs.Frame.{rows}
+use Rattle.view_journal.specs.Notes.{notes}
 
 -- a drawing has at most as many flags
 abbrev pub most_flags : ℕ

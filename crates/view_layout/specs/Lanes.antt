@@ -1,14 +1,14 @@
 -- The lanes of tasks: which, and where their bars stand.
 use Rattle.std.specs.Prelude.{ℕ, suc, ◌+◌, ◌*◌, ◌==◌, nat_lt, max, ◌&&◌, List, [], ◌∷◌, ◌++◌, Option, Some, None, if◌then◌else◌}
-use Rattle.report_read.specs.declared.event.Deed.{Deed}
-use Rattle.report_read.specs.declared.event.Deed.TheVariants as deed
-use Rattle.report_read.specs.declared.event.Event.{Event}
-use Rattle.view_layout.specs.declared.bars.Bar.{Bar}
-use Rattle.view_layout.specs.declared.column.Column.{Column}
+use Rattle.view_journal.specs.reading.words.declared.event.Deed.{Deed}
+use Rattle.view_journal.specs.reading.words.declared.event.Deed.TheVariants as deed
+use Rattle.view_journal.specs.reading.words.declared.event.Event.{Event}
+use Rattle.view_journal.specs.declared.bars.Bar.{Bar}
+use Rattle.view_journal.specs.declared.column.Column.{Column}
 use Rattle.view_layout.specs.declared.lanes.Lane.{Lane}
 use Rattle.view_layout.specs.declared.lanes.Seat.{Seat}
-use Rattle.view_layout.specs.Bars.{lane, own}
-use Rattle.view_layout.specs.Frame.{rows}
+use Rattle.view_journal.specs.Bars.{lane, own}
+use Rattle.view_journal.specs.Frame.{rows}
 
 -- ---- the tasks
 

@@ -1,16 +1,6 @@
-pub mod Files
-pub mod State
-pub mod Walk
-pub mod WalkView
-pub mod Notes
-pub mod Windows
-pub mod Frame
-pub mod Bars
-pub mod Columns
 pub mod Lanes
 pub mod Flags
 pub mod Drawing
 pub mod SketchView
-pub mod Sentences
 pub mod Promises
-pub use Rattle.report_read.specs as reading
+pub use Rattle.view_journal.specs as journals

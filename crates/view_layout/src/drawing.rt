@@ -4,19 +4,16 @@ ghost use Rattle.std.specs.Prelude.{◌≡◌, ◌++◌, ◌+◌, ◌<◌, ◌^�
 ghost use Rattle.view_layout.specs.Drawing as spec;
 ghost use Rattle.view_layout.specs.SketchView.{parts_in, sketch_in};
 
-use crate::bars::shown_bars;
-use crate::column::{Column, columns};
 use crate::events::{push_axes, push_flag_items, push_gaps, push_hashing, push_marks};
 use crate::flags::{Flag, flags};
-use crate::items::Item;
 use crate::lanes::{Lane, Seat, push_lanes, tasks};
 use crate::scenery::{
     push_bars, push_differing, push_guides, push_lane_items, push_parting, push_writes,
 };
 use crate::strips::push_strips;
-use crate::window::Window;
-use report_read::Event;
 use std::alloc::{AllocError as OutOfMemory, Global};
+use view_journal::reading::Event;
+use view_journal::{Column, Item, Window, columns, shown_bars};
 
 /// The parts of which a drawing is made.
 #[derive(Drop)]

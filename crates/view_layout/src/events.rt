@@ -4,14 +4,12 @@ ghost use Rattle.std.specs.Prelude.{◌≡◌, ◌++◌, OnOk};
 ghost use Rattle.std.specs.List.{flat_map};
 ghost use Rattle.view_layout.specs.Drawing as spec;
 
-use crate::column::Column;
 use crate::flags::{Flag, flag_width};
-use crate::items::{Area, Item, Look};
 use crate::lanes::{Lane, Seat, row_top, seat_of};
-use crate::notes::mark_of;
 use crate::scenery::end_of;
 use crate::strips::{middle, right_edge};
 use std::alloc::AllocError as OutOfMemory;
+use view_journal::{Area, Column, Item, Look, mark_of};
 
 /// Appends the collections that go on after these events.
 pub fn push_hashing(

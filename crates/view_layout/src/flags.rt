@@ -3,13 +3,9 @@
 ghost use Rattle.std.specs.Prelude.{◌≡◌, ◌≤◌, ◌<◌, ◌++◌, length, map, All, IfOk, OnOk};
 ghost use Rattle.view_layout.specs.Flags as spec;
 
-use crate::column::Column;
-use crate::frame::{Extent, rows};
-use crate::items::Guide;
-use crate::kinds::Note;
-use crate::notes::push_notes;
-use report_read::Event;
 use std::alloc::{AllocError as OutOfMemory, Global};
+use view_journal::reading::Event;
+use view_journal::{Column, Extent, Guide, Note, push_notes, rows};
 
 /// A note of an event whose column begins at x.
 #[derive(Clone, Copy)]

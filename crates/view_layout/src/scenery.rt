@@ -4,14 +4,11 @@ ghost use Rattle.std.specs.Prelude.{◌≡◌, ◌++◌, ◌==◌, ◌<◌, ◌^
 ghost use Rattle.std.specs.List.{flat_map, list_any};
 ghost use Rattle.view_layout.specs.Drawing as spec;
 
-use crate::bars::Bar;
-use crate::column::Column;
 use crate::flags::{Flag, guide_of};
-use crate::items::{Area, Guide, Item, Look};
 use crate::lanes::{Lane, Seat};
 use crate::strips::{middle, right_edge};
-use report_read::{Deed, Outcome};
 use std::alloc::AllocError as OutOfMemory;
+use view_journal::{Area, Bar, Column, Guide, Item, Look, is_write};
 
 /// Appends the lanes and their names.
 pub fn push_lane_items(
@@ -190,17 +187,6 @@ fn push_write(items: &mut Vec<Item>, bottom: u32, column: Column) -> Result<(), 
         down: u64::from(bottom),
     })?;
     Ok(())
-}
-
-/// Whether the event is a write or a truncation that was done.
-pub fn is_write(deed: Deed, outcome: Outcome) -> bool
-    ensures { result ≡ spec.is_write deed outcome }
-{
-    match (deed, outcome) {
-        (Deed::Write { .. }, Outcome::Done) => true,
-        (Deed::Trunc { .. }, Outcome::Done) => true,
-        _ => false,
-    }
 }
 
 /// Appends the guides of flags.

@@ -3,13 +3,10 @@
 ghost use Rattle.std.specs.Prelude.{◌≡◌, ◌+◌, ◌++◌, ◌<◌, ◌^◌, OnOk};
 ghost use Rattle.std.specs.List.{list_any};
 ghost use Rattle.view_layout.specs.Drawing as spec;
-ghost use Rattle.view_layout.specs.Frame.{middle};
+ghost use Rattle.view_journal.specs.Frame.{middle};
 
-use crate::column::Column;
-use crate::items::{Item, Strip};
-use crate::kinds::Freshness;
-use crate::walk::State;
 use std::alloc::AllocError as OutOfMemory;
+use view_journal::{Column, Freshness, Item, State, Strip};
 
 /// Appends the strips.
 pub fn push_strips(items: &mut Vec<Item>, columns: &[Column]) -> Result<(), OutOfMemory>

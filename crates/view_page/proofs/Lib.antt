@@ -1,5 +1,6 @@
 pub mod Outcomes
 pub mod Safe
 pub mod PiecesSafe
-pub mod Marks
-pub use Rattle.view_layout.proofs as about_layouts
+pub mod Joined
+pub mod Drawings
+pub use Rattle.view_journal.proofs as about_journals

@@ -4,7 +4,7 @@ use Rattle.std.specs.Prelude.{nat_lt}
 use Rattle.std.specs.List.{list_all}
 use Rattle.std.proofs.lemmas.Bool.{cases_Bool, ltb-true}
 use Rattle.std.proofs.lemmas.List.Folds.{list_all-append}
-use Rattle.view_layout.specs.reading.reports.Numerals.{numeral, numeral_in}
+use Rattle.view_journal.specs.reading.reports.Numerals.{numeral, numeral_in}
 use Rattle.view_page.specs.Escape.{is_safe}
 use Rattle.view_page.specs.Pieces.{bytes_of, is_own, outcome_in, text_at, word_at}
 use Rattle.view_page.specs.declared.pieces.Piece.{Piece}

@@ -1,21 +1,21 @@
 -- The program's own bytes of a drawing.
 use Rattle.std.specs.Prelude.{ℕ, List, [], ◌∷◌, ◌++◌, codes}
-use Rattle.view_layout.specs.declared.kinds.Freshness.{Freshness}
-use Rattle.view_layout.specs.declared.kinds.Freshness.TheVariants as fresh
-use Rattle.view_layout.specs.declared.items.Guide.{Guide}
-use Rattle.view_layout.specs.declared.items.Guide.TheVariants as guide
-use Rattle.view_layout.specs.declared.items.Look.{Look}
-use Rattle.view_layout.specs.declared.items.Look.TheVariants as look
-use Rattle.view_layout.specs.declared.kinds.Mark.{Mark}
-use Rattle.view_layout.specs.declared.kinds.Mark.TheVariants as mark
-use Rattle.view_layout.specs.declared.kinds.Note.{Note}
-use Rattle.view_layout.specs.declared.kinds.Note.TheVariants as note
-use Rattle.view_layout.specs.declared.items.Strip.{Strip}
-use Rattle.view_layout.specs.declared.items.Strip.TheVariants as strip
-use Rattle.view_layout.specs.reading.declared.event.Deed.{Deed}
-use Rattle.view_layout.specs.reading.declared.event.Deed.TheVariants as deed
-use Rattle.view_layout.specs.reading.declared.event.Kind.{Kind}
-use Rattle.view_layout.specs.reading.declared.event.Kind.TheVariants as kind
+use Rattle.view_journal.specs.declared.kinds.Freshness.{Freshness}
+use Rattle.view_journal.specs.declared.kinds.Freshness.TheVariants as fresh
+use Rattle.view_journal.specs.declared.items.Guide.{Guide}
+use Rattle.view_journal.specs.declared.items.Guide.TheVariants as guide
+use Rattle.view_journal.specs.declared.items.Look.{Look}
+use Rattle.view_journal.specs.declared.items.Look.TheVariants as look
+use Rattle.view_journal.specs.declared.kinds.Mark.{Mark}
+use Rattle.view_journal.specs.declared.kinds.Mark.TheVariants as mark
+use Rattle.view_journal.specs.declared.kinds.Note.{Note}
+use Rattle.view_journal.specs.declared.kinds.Note.TheVariants as note
+use Rattle.view_journal.specs.declared.items.Strip.{Strip}
+use Rattle.view_journal.specs.declared.items.Strip.TheVariants as strip
+use Rattle.view_journal.specs.reading.words.declared.event.Deed.{Deed}
+use Rattle.view_journal.specs.reading.words.declared.event.Deed.TheVariants as deed
+use Rattle.view_journal.specs.reading.words.declared.event.Kind.{Kind}
+use Rattle.view_journal.specs.reading.words.declared.event.Kind.TheVariants as kind
 use Rattle.view_page.specs.declared.own.Own.{Own}
 use Rattle.view_page.specs.declared.own.Own.TheVariants as own
 use Rattle.view_page.specs.declared.own.Side.{Side}

@@ -2,9 +2,9 @@
 use Rattle.std.specs.Prelude.{ℕ, suc, ◌-◌, ◌==◌, nat_eq, Bool, true, false, List, [], ◌∷◌, take, drop, codes, if◌then◌else◌}
 use Rattle.std.specs.Cmp.Lexicographic.{pointwise}
 use Rattle.std.specs.List.{flat_map}
-use Rattle.view_layout.specs.declared.kinds.Mark.{Mark}
-use Rattle.view_layout.specs.reading.declared.event.Span.{Span}
-use Rattle.view_layout.specs.reading.reports.Numerals.{numeral}
+use Rattle.view_journal.specs.declared.kinds.Mark.{Mark}
+use Rattle.view_journal.specs.reading.words.declared.event.Span.{Span}
+use Rattle.view_journal.specs.reading.reports.Numerals.{numeral}
 use Rattle.view_page.specs.Escape.{escaped}
 use Rattle.view_page.specs.Own.{own_bytes}
 use Rattle.view_page.specs.declared.own.Own.TheVariants as own

@@ -2,7 +2,6 @@
 
 ghost use Rattle.std.specs.Prelude.{◌≡◌, ℕ, List, IsTrue, false};
 ghost use Rattle.std.specs.List.{list_all};
-ghost use Rattle.view_page.specs.Drawing.{EachEventHasOneMark};
 ghost use Rattle.view_page.specs.Escape.{escaped, is_safe};
 ghost use Rattle.view_page.specs.Pieces.{bytes_of, is_own};
 ghost use Rattle.view_page.specs.declared.pieces.Piece.{Piece};
@@ -17,9 +16,4 @@ pub fn texts_stay_texts()
 pub fn only_own_pieces_make_tags()
     ensures { (text : List ℕ) (piece : Piece) → is_own piece ≡ false
         → IsTrue (list_all is_safe (bytes_of text piece)) }
-{}
-
-/// Each event that is drawn has one mark, in the order of the columns, and there are no others.
-pub fn each_event_has_one_mark()
-    ensures { EachEventHasOneMark }
 {}

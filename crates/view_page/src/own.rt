@@ -7,8 +7,8 @@ use crate::escape::push_all;
 use crate::rules::push_rules;
 use crate::shape::push_shape;
 use std::alloc::AllocError as OutOfMemory;
-use view_layout::reading::{Deed, Kind};
-use view_layout::{Freshness, Guide, Look, Mark, Note, Strip};
+use view_journal::reading::{Deed, Kind};
+use view_journal::{Freshness, Guide, Look, Mark, Note, Strip};
 
 /// To which of two reports of a page a drawing belongs: its identifiers begin with nothing, `a-` or
 /// `b-`.

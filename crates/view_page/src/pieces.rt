@@ -6,8 +6,8 @@ ghost use Rattle.view_page.specs.Pieces as spec;
 use crate::escape::push_text;
 use crate::own::{Own, push_own};
 use std::alloc::AllocError as OutOfMemory;
-use view_layout::reading::Span;
-use view_layout::reading::reports::push_number;
+use view_journal::reading::Span;
+use view_journal::reading::reports::push_number;
 
 /// A piece of a page.
 #[derive(Clone, Copy)]

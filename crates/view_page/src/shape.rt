@@ -5,7 +5,7 @@ ghost use Rattle.view_page.specs.Own as spec;
 
 use crate::escape::push_all;
 use std::alloc::AllocError as OutOfMemory;
-use view_layout::Mark;
+use view_journal::Mark;
 
 /// Appends the shape of a mark, around the point 0,0.
 pub fn push_shape(out: &mut Vec<u8>, mark: Mark) -> Result<(), OutOfMemory>

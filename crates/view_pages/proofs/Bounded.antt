@@ -3,13 +3,13 @@ use Rattle.std.proofs.Common.{◌≡◌, ℕ, ◌+◌, ◌-◌, ◌<◌, ◌≤�
 use Rattle.std.specs.Prelude.{nat_le, sum_by}
 use Rattle.std.proofs.lemmas.Bool.{leb-true}
 use Rattle.std.proofs.lemmas.List.Sums.{sum_by-append, sum_by-cons}
-use Rattle.view_page.specs.layout.Windows.{width}
-use Rattle.view_page.specs.layout.declared.window.Window.{Window}
-use Rattle.view_page.specs.layout.reading.Report.{InodeValue}
-use Rattle.view_page.specs.layout.reading.declared.event.Event.{Event}
-use Rattle.view_pages.specs.Frame.{sum_up_to}
-use Rattle.view_pages.specs.Plan.{fitting, journal_at, most_places, places_from, places_of, planned, room_after, shown_from, shown_of, windows_of}
-use Rattle.view_pages.specs.declared.plan.Shown.{Shown}
+use Rattle.view_page.specs.journals.Windows.{width}
+use Rattle.view_page.specs.journals.declared.window.Window.{Window}
+use Rattle.view_page.specs.journals.reading.Report.{InodeValue}
+use Rattle.view_page.specs.journals.reading.words.declared.event.Event.{Event}
+use Rattle.view_plan.specs.Sums.{sum_up_to}
+use Rattle.view_plan.specs.Plan.{fitting, journal_at, most_places, places_from, places_of, planned, room_after, shown_from, shown_of, windows_of}
+use Rattle.view_plan.specs.declared.plan.Shown.{Shown}
 
 abbrev places : Shown → ℕ
 places s = width s.window

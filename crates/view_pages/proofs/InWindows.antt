@@ -2,10 +2,10 @@
 use Rattle.std.proofs.Common.{◌≡◌, ◌==◌, Bool, true, false, ◌||◌, List, [], ◌∷◌, refl, inl, inr}
 use Rattle.std.specs.List.{list_any}
 use Rattle.std.proofs.lemmas.Bool.{cases_Bool}
-use Rattle.view_pages.specs.Plan.{is_drawn, windows_in}
+use Rattle.view_plan.specs.Plan.{is_drawn, windows_in}
 use Rattle.view_pages.specs.Promises.{has_place}
-use Rattle.view_pages.specs.declared.plan.Shown.{Shown}
-use Rattle.view_pages.specs.declared.slots.At.{At}
+use Rattle.view_plan.specs.declared.plan.Shown.{Shown}
+use Rattle.view_plan.specs.declared.slots.At.{At}
 
 -- one of two tests, of which the second follows
 either : (b x y : Bool) → (x ≡ true → y ≡ true) → (b || x) ≡ true → (b || y) ≡ true

@@ -1,13 +1,6 @@
-pub mod Joined
-pub mod Firsts
-pub mod Drawings
 pub mod InWindows
 pub mod Ordered
 pub mod Bounded
 pub mod Links
 pub mod Tags
-pub mod Walks
-pub mod TalesSteps
-pub mod HoldersSteps
-pub mod BucketsSteps
 pub mod PairsSteps

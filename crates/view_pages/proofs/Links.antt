@@ -4,25 +4,25 @@ use Rattle.std.specs.Prelude.{replicate, slice_get, slice_set, take}
 use Rattle.std.specs.List.{list_any}
 use Rattle.std.proofs.lemmas.Bool.{eqb-true}
 use Rattle.std.proofs.lemmas.Option.{cond_some, same_Some}
-use Rattle.view_page.specs.layout.Notes.{flag_notes, notes_by, placed_notes, verdict_notes}
-use Rattle.view_page.specs.layout.Sentences.{adds, adds_by}
-use Rattle.view_page.specs.layout.declared.kinds.Note.{Note}
-use Rattle.view_page.specs.layout.declared.kinds.Note.TheVariants as note
-use Rattle.view_page.specs.layout.reading.Report.{InodeValue}
-use Rattle.view_page.specs.layout.reading.declared.event.Deed.{Deed}
-use Rattle.view_page.specs.layout.reading.declared.event.Deed.TheVariants as deed
-use Rattle.view_page.specs.layout.reading.declared.event.Event.{Event}
-use Rattle.view_page.specs.layout.reading.declared.event.Outcome.{Outcome}
-use Rattle.view_page.specs.layout.reading.declared.event.Outcome.TheVariants as outcome
-use Rattle.view_page.specs.layout.reading.declared.event.Placed.{Placed}
-use Rattle.view_page.specs.layout.reading.declared.event.Placed.TheVariants as placed
-use Rattle.view_pages.specs.Calls.{firsts}
+use Rattle.view_page.specs.journals.Notes.{flag_notes, notes_by, placed_notes, verdict_notes}
+use Rattle.view_page.specs.journals.Sentences.{adds, adds_by}
+use Rattle.view_page.specs.journals.declared.kinds.Note.{Note}
+use Rattle.view_page.specs.journals.declared.kinds.Note.TheVariants as note
+use Rattle.view_page.specs.journals.reading.Report.{InodeValue}
+use Rattle.view_page.specs.journals.reading.words.declared.event.Deed.{Deed}
+use Rattle.view_page.specs.journals.reading.words.declared.event.Deed.TheVariants as deed
+use Rattle.view_page.specs.journals.reading.words.declared.event.Event.{Event}
+use Rattle.view_page.specs.journals.reading.words.declared.event.Outcome.{Outcome}
+use Rattle.view_page.specs.journals.reading.words.declared.event.Outcome.TheVariants as outcome
+use Rattle.view_page.specs.journals.reading.words.declared.event.Placed.{Placed}
+use Rattle.view_page.specs.journals.reading.words.declared.event.Placed.TheVariants as placed
+use Rattle.view_tables.specs.Calls.{firsts}
 use Rattle.view_pages.specs.Page.{added}
 use Rattle.view_pages.specs.Promises.{IsOfCall, LeadsTo}
-use Rattle.view_pages.specs.Slots.{added_entry, after_events, after_inodes, after_journal, at, call_of, filled, kept, most, placed_entry, put, slot}
-use Rattle.view_pages.specs.declared.slots.Asked.{Asked}
-use Rattle.view_pages.specs.declared.slots.Asked.TheVariants as asked
-use Rattle.view_pages.specs.declared.slots.At.{At}
+use Rattle.view_plan.specs.Slots.{added_entry, after_events, after_inodes, after_journal, at, call_of, filled, kept, most, placed_entry, put, slot}
+use Rattle.view_plan.specs.declared.slots.Asked.{Asked}
+use Rattle.view_plan.specs.declared.slots.Asked.TheVariants as asked
+use Rattle.view_plan.specs.declared.slots.At.{At}
 
 -- ---- which entry an event added
 

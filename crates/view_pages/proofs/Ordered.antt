@@ -3,9 +3,9 @@ use Rattle.std.proofs.Common.{◌≡◌, ℕ, ◌+◌, ◌==◌, ◌<◌, ◌≤
 use Rattle.std.specs.Prelude.{◌&&◌, count_by, not}
 use Rattle.std.proofs.lemmas.Bool.{cases_Bool, eqb-false, eqb-true}
 use Rattle.std.proofs.lemmas.List.Sums.{sum_by-append, sum_by-cons}
-use Rattle.view_page.specs.layout.reading.Report.{InodeValue}
-use Rattle.view_pages.specs.Order.{graded, has, is_graded, order}
-use Rattle.view_pages.specs.declared.order.Grade.TheVariants as grade
+use Rattle.view_page.specs.journals.reading.Report.{InodeValue}
+use Rattle.view_plan.specs.Order.{graded, has, is_graded, order}
+use Rattle.view_plan.specs.declared.order.Grade.TheVariants as grade
 
 -- how often a number stands in a list
 abbrev times : ℕ → List ℕ → ℕ

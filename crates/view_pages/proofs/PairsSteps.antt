@@ -1,10 +1,10 @@
 -- The inodes of two reports, one after the other.
 use Rattle.std.proofs.Common.{◌≡◌, ℕ, ◌+◌, ◌<◌, List, ◌∷◌, ◌++◌, drop, get_or, length, sym, ap, ◌∙◌}
 use Rattle.std.proofs.lemmas.List.{at_drop_more}
-use Rattle.view_page.specs.layout.reading.Report.{InodeValue}
-use Rattle.view_pages.specs.Alike.{parted}
+use Rattle.view_page.specs.journals.reading.Report.{InodeValue}
+use Rattle.view_sentences.specs.Alike.{parted}
 use Rattle.view_pages.specs.Pair.{number_by, numbers_from, pair_by, pairs_from, room_after}
-use Rattle.view_pages.specs.declared.part.Part.{Part}
+use Rattle.view_page.specs.declared.part.Part.{Part}
 
 -- two inodes, and those that are left
 here : List ℕ → ℕ → ℕ → List InodeValue → List InodeValue → InodeValue → InodeValue → List Part

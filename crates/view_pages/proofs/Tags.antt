@@ -4,10 +4,10 @@ use Rattle.std.specs.List.{list_all}
 use Rattle.view_page.specs.Escape.{is_safe}
 use Rattle.view_page.specs.declared.pieces.Piece.TheVariants as piece
 use Rattle.view_page.proofs.PiecesSafe.{only_own_pieces_make_tags}
-use Rattle.view_pages.specs.Parts.{bytes_of}
+use Rattle.view_page.specs.Parts.{bytes_of}
 use Rattle.view_pages.specs.Promises.{is_own}
-use Rattle.view_pages.specs.declared.part.Part.{Part}
-use Rattle.view_pages.specs.declared.part.Part.TheVariants as part
+use Rattle.view_page.specs.declared.part.Part.{Part}
+use Rattle.view_page.specs.declared.part.Part.TheVariants as part
 
 pub tags_are_own : (text : List ℕ) (p : Part) → is_own p ≡ false
     → list_all is_safe (bytes_of text p) ≡ true

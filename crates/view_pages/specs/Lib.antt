@@ -1,22 +1,7 @@
-pub mod Html
-pub mod Look
-pub mod Told
-pub mod Parts
-pub mod Frame
-pub mod Order
-pub mod Plan
-pub mod Words
-pub mod Alike
-pub mod Holders
-pub mod Sentences
-pub mod Overview
 pub mod Section
 pub mod Sections
-pub mod Slots
-pub mod Entries
-pub mod Tables
-pub mod Calls
 pub mod Page
 pub mod Pair
 pub mod Promises
-pub use Rattle.view_page.specs as drawn
+pub use Rattle.view_drawing.specs as drawn
+pub use Rattle.view_page.specs.journals

@@ -2,28 +2,28 @@
 use Rattle.std.specs.Prelude.{ℕ, List, [], ◌∷◌, ◌++◌, length, replicate, take, Option, Some, None}
 use Rattle.view_page.specs.declared.own.Side.{Side}
 use Rattle.view_page.specs.declared.own.Side.TheVariants as side
-use Rattle.view_page.specs.layout.declared.window.Window.{Window}
-use Rattle.view_page.specs.layout.reading.Report.{InodeValue, ReportValue, TaskValue}
-use Rattle.view_page.specs.layout.reading.declared.event.Event.{Event}
-use Rattle.view_page.specs.layout.reading.declared.event.Span.{Span}
-use Rattle.view_pages.specs.Calls.{calls}
-use Rattle.view_pages.specs.Entries.{entries}
-use Rattle.view_pages.specs.Frame.{head, tiles}
-use Rattle.view_pages.specs.Order.{order}
-use Rattle.view_pages.specs.Parts.{more}
-use Rattle.view_pages.specs.Plan.{beyond, most_sections, planned, windows_of}
+use Rattle.view_page.specs.journals.declared.window.Window.{Window}
+use Rattle.view_page.specs.journals.reading.Report.{InodeValue, ReportValue, TaskValue}
+use Rattle.view_page.specs.journals.reading.words.declared.event.Event.{Event}
+use Rattle.view_page.specs.journals.reading.words.declared.event.Span.{Span}
+use Rattle.view_tables.specs.Calls.{calls}
+use Rattle.view_tables.specs.Entries.{entries}
+use Rattle.view_tables.specs.Frame.{head, tiles}
+use Rattle.view_plan.specs.Order.{order}
+use Rattle.view_page.specs.Parts.{more}
+use Rattle.view_plan.specs.Plan.{beyond, most_sections, planned, windows_of}
 use Rattle.view_pages.specs.Section.{section_of, view_of}
 use Rattle.view_pages.specs.Sections.{sections}
-use Rattle.view_pages.specs.Slots.{filled}
-use Rattle.view_pages.specs.Tables.{registers, rules}
-use Rattle.view_pages.specs.declared.html.Frame.TheVariants as frame
-use Rattle.view_pages.specs.declared.html.Section.TheVariants as section
-use Rattle.view_pages.specs.declared.part.Part.{Part}
-use Rattle.view_pages.specs.declared.part.Part.TheVariants as part
-use Rattle.view_pages.specs.declared.plan.Shown.{Shown}
+use Rattle.view_plan.specs.Slots.{filled}
+use Rattle.view_tables.specs.Tables.{registers, rules}
+use Rattle.view_page.specs.declared.html.Frame.TheVariants as frame
+use Rattle.view_page.specs.declared.html.Section.TheVariants as section
+use Rattle.view_page.specs.declared.part.Part.{Part}
+use Rattle.view_page.specs.declared.part.Part.TheVariants as part
+use Rattle.view_plan.specs.declared.plan.Shown.{Shown}
 use Rattle.view_pages.specs.declared.section.Detail.TheVariants as detail
-use Rattle.view_pages.specs.declared.slots.Asked.TheVariants as asked
-use Rattle.view_pages.specs.declared.slots.At.{At}
+use Rattle.view_plan.specs.declared.slots.Asked.TheVariants as asked
+use Rattle.view_plan.specs.declared.slots.At.{At}
 
 -- for each of so many entries, the event that added it
 abbrev pub added : ℕ → List InodeValue → List (Option At)

@@ -1,25 +1,25 @@
 -- The page of two reports of one script: the inodes whose journals differ, first above second.
 use Rattle.std.specs.Prelude.{ℕ, ◌+◌, ◌-◌, nat_lt, max, min, List, [], ◌∷◌, ◌++◌, length, take, Option, Some, None, if◌then◌else◌}
-use Rattle.view_page.specs.declared.inode.View.{View}
+use Rattle.view_page.specs.declared.view.View.{View}
 use Rattle.view_page.specs.declared.own.Side.{Side}
 use Rattle.view_page.specs.declared.own.Side.TheVariants as side
-use Rattle.view_page.specs.layout.Windows.{windows}
-use Rattle.view_page.specs.layout.declared.window.Window.{Window}
-use Rattle.view_page.specs.layout.reading.Report.{InodeValue, ReportValue}
-use Rattle.view_page.specs.layout.reading.declared.event.Event.{Event}
-use Rattle.view_page.specs.layout.reading.declared.event.Span.{Span}
-use Rattle.view_page.specs.layout.reading.declared.report.InodeHead.{InodeHead}
-use Rattle.view_pages.specs.Alike.{differing, parted}
-use Rattle.view_pages.specs.Frame.{head, tiles}
+use Rattle.view_page.specs.journals.Windows.{windows}
+use Rattle.view_page.specs.journals.declared.window.Window.{Window}
+use Rattle.view_page.specs.journals.reading.Report.{InodeValue, ReportValue}
+use Rattle.view_page.specs.journals.reading.words.declared.event.Event.{Event}
+use Rattle.view_page.specs.journals.reading.words.declared.event.Span.{Span}
+use Rattle.view_page.specs.journals.reading.declared.report.InodeHead.{InodeHead}
+use Rattle.view_sentences.specs.Alike.{differing, parted}
+use Rattle.view_tables.specs.Frame.{head, tiles}
 use Rattle.view_pages.specs.Page.{tables}
-use Rattle.view_pages.specs.Parts.{more}
-use Rattle.view_pages.specs.Plan.{most_drawn, planned}
+use Rattle.view_page.specs.Parts.{more}
+use Rattle.view_plan.specs.Plan.{most_drawn, planned}
 use Rattle.view_pages.specs.Section.{at_end, drawing, heading, marked, not_drawn}
-use Rattle.view_pages.specs.Sentences.{sentences}
-use Rattle.view_pages.specs.declared.html.Frame.TheVariants as frame
-use Rattle.view_pages.specs.declared.html.Section.TheVariants as section
-use Rattle.view_pages.specs.declared.part.Part.{Part}
-use Rattle.view_pages.specs.declared.part.Part.TheVariants as part
+use Rattle.view_sentences.specs.Sentences.{sentences}
+use Rattle.view_page.specs.declared.html.Frame.TheVariants as frame
+use Rattle.view_page.specs.declared.html.Section.TheVariants as section
+use Rattle.view_page.specs.declared.part.Part.{Part}
+use Rattle.view_page.specs.declared.part.Part.TheVariants as part
 
 -- ---- one side
 

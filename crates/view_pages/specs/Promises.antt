@@ -3,20 +3,20 @@ use Rattle.std.specs.Prelude.{◌≡◌, ℕ, ◌==◌, ◌<◌, ◌≤◌, nat_
 use Rattle.std.specs.List.{list_all, list_any}
 use Rattle.view_page.specs.Escape.{is_safe}
 use Rattle.view_page.specs.Pieces.{is_own as is_own_piece}
-use Rattle.view_page.specs.layout.Sentences.{adds}
-use Rattle.view_page.specs.layout.Windows.{width}
-use Rattle.view_page.specs.layout.declared.window.Window.{Window}
-use Rattle.view_page.specs.layout.reading.Report.{InodeValue}
-use Rattle.view_page.specs.layout.reading.declared.event.Event.{Event}
-use Rattle.view_pages.specs.Calls.{firsts}
-use Rattle.view_pages.specs.Order.{order}
+use Rattle.view_page.specs.journals.Sentences.{adds}
+use Rattle.view_page.specs.journals.Windows.{width}
+use Rattle.view_page.specs.journals.declared.window.Window.{Window}
+use Rattle.view_page.specs.journals.reading.Report.{InodeValue}
+use Rattle.view_page.specs.journals.reading.words.declared.event.Event.{Event}
+use Rattle.view_tables.specs.Calls.{firsts}
+use Rattle.view_plan.specs.Order.{order}
 use Rattle.view_pages.specs.Page.{added}
-use Rattle.view_pages.specs.Parts.{bytes_of}
-use Rattle.view_pages.specs.Plan.{is_drawn, most_places, planned, windows_in}
-use Rattle.view_pages.specs.declared.part.Part.{Part}
-use Rattle.view_pages.specs.declared.part.Part.TheVariants as part
-use Rattle.view_pages.specs.declared.plan.Shown.{Shown}
-use Rattle.view_pages.specs.declared.slots.At.{At}
+use Rattle.view_page.specs.Parts.{bytes_of}
+use Rattle.view_plan.specs.Plan.{is_drawn, most_places, planned, windows_in}
+use Rattle.view_page.specs.declared.part.Part.{Part}
+use Rattle.view_page.specs.declared.part.Part.TheVariants as part
+use Rattle.view_plan.specs.declared.plan.Shown.{Shown}
+use Rattle.view_plan.specs.declared.slots.At.{At}
 
 -- ---- tags
 

@@ -1,24 +1,24 @@
 -- The section of an inode in a page.
 use Rattle.std.specs.Prelude.{ℕ, ◌-◌, ◌==◌, nat_lt, List, [], ◌∷◌, ◌++◌, length, map, take, None, if◌then◌else◌}
 use Rattle.std.specs.List.{flat_map}
-use Rattle.view_page.specs.Drawing.{inode_pieces}
+use Rattle.view_drawing.specs.Drawing.{inode_pieces}
 use Rattle.view_page.specs.declared.own.Side.{Side}
-use Rattle.view_page.specs.declared.inode.View.{View}
-use Rattle.view_page.specs.layout.declared.window.Window.{Window}
-use Rattle.view_page.specs.layout.reading.Report.{InodeValue}
-use Rattle.view_page.specs.layout.reading.declared.event.Event.{Event}
-use Rattle.view_page.specs.layout.reading.declared.event.Span.{Span}
-use Rattle.view_page.specs.layout.reading.declared.report.InodeHead.{InodeHead}
-use Rattle.view_pages.specs.Order.{count}
-use Rattle.view_pages.specs.Overview.{overview_of}
-use Rattle.view_pages.specs.Parts.{by_count, more}
-use Rattle.view_pages.specs.Plan.{most_drawn}
-use Rattle.view_pages.specs.Sentences.{sentences}
-use Rattle.view_pages.specs.Words.{after_word, cut, first_word}
-use Rattle.view_pages.specs.declared.html.Section.TheVariants as section
-use Rattle.view_pages.specs.declared.order.Grade.TheVariants as grade
-use Rattle.view_pages.specs.declared.part.Part.{Part}
-use Rattle.view_pages.specs.declared.part.Part.TheVariants as part
+use Rattle.view_page.specs.declared.view.View.{View}
+use Rattle.view_page.specs.journals.declared.window.Window.{Window}
+use Rattle.view_page.specs.journals.reading.Report.{InodeValue}
+use Rattle.view_page.specs.journals.reading.words.declared.event.Event.{Event}
+use Rattle.view_page.specs.journals.reading.words.declared.event.Span.{Span}
+use Rattle.view_page.specs.journals.reading.declared.report.InodeHead.{InodeHead}
+use Rattle.view_plan.specs.Order.{count}
+use Rattle.view_overview.specs.Overview.{overview_of}
+use Rattle.view_page.specs.Parts.{by_count, more}
+use Rattle.view_plan.specs.Plan.{most_drawn}
+use Rattle.view_sentences.specs.Sentences.{sentences}
+use Rattle.view_page.specs.Words.{after_word, cut, first_word, path}
+use Rattle.view_page.specs.declared.html.Section.TheVariants as section
+use Rattle.view_plan.specs.declared.order.Grade.TheVariants as grade
+use Rattle.view_page.specs.declared.part.Part.{Part}
+use Rattle.view_page.specs.declared.part.Part.TheVariants as part
 use Rattle.view_pages.specs.declared.section.Detail.{Detail}
 use Rattle.view_pages.specs.declared.section.Detail.TheVariants as detail
 
@@ -26,10 +26,6 @@ use Rattle.view_pages.specs.declared.section.Detail.TheVariants as detail
 abbrev pub titled : ℕ → Span → List Part
 titled most span =
     part.Text (cut 1024 span) ∷ part.Section section.Shown ∷ part.Text (cut most span) ∷ []
-
--- the path, the third word of an inode's line
-abbrev pub path : List ℕ → InodeHead → Span
-path text head = first_word text (after_word text (after_word text head.line))
 
 -- ---- the heading
 

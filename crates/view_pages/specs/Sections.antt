@@ -1,14 +1,14 @@
 -- The sections of a page, one for each inode that it shows.
 use Rattle.std.specs.Prelude.{ℕ, List, [], ◌++◌, drop, slice_get, take, Option, Some, None}
 use Rattle.std.specs.List.{flat_map}
-use Rattle.view_page.specs.declared.inode.View.{View}
+use Rattle.view_page.specs.declared.view.View.{View}
 use Rattle.view_page.specs.declared.own.Side.{Side}
-use Rattle.view_page.specs.layout.declared.window.Window.{Window}
-use Rattle.view_page.specs.layout.reading.Report.{InodeValue}
-use Rattle.view_pages.specs.Plan.{windows_in}
+use Rattle.view_page.specs.journals.declared.window.Window.{Window}
+use Rattle.view_page.specs.journals.reading.Report.{InodeValue}
+use Rattle.view_plan.specs.Plan.{windows_in}
 use Rattle.view_pages.specs.Section.{section_of, view_of}
-use Rattle.view_pages.specs.declared.part.Part.{Part}
-use Rattle.view_pages.specs.declared.plan.Shown.{Shown}
+use Rattle.view_page.specs.declared.part.Part.{Part}
+use Rattle.view_plan.specs.declared.plan.Shown.{Shown}
 use Rattle.view_pages.specs.declared.section.Detail.{Detail}
 use Rattle.view_pages.specs.declared.section.Detail.TheVariants as detail
 

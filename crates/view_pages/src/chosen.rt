@@ -1,12 +1,12 @@
 // Which inodes of two reports have a line, and which are drawn.
 
 ghost use Rattle.std.specs.Prelude.{◌≡◌, ◌++◌, [], ◌∷◌, ◌≤◌, length, if◌then◌else◌, IfOk, OnOk};
-ghost use Rattle.view_pages.specs.Alike.{parted};
+ghost use Rattle.view_sentences.specs.Alike.{parted};
 ghost use Rattle.view_pages.specs.Pair as spec;
 
-use crate::alike::parted;
 use std::alloc::{AllocError as OutOfMemory, Global};
-use view_page::layout::reading::Inode;
+use view_page::journals::reading::Inode;
+use view_sentences::parted;
 
 /// At most as many inodes are drawn.
 pub const MOST_PAIRS: u64 = 12;

@@ -2,23 +2,17 @@
 
 ghost use Rattle.std.specs.Prelude.{◌≡◌, IfOk, OnOk};
 ghost use Rattle.view_pages.specs.Page as spec;
-ghost use Rattle.view_pages.specs.Parts.{Pushed};
+ghost use Rattle.view_page.specs.Parts.{Pushed};
 
-use crate::calls::push_calls;
-use crate::entries::push_entries;
-use crate::frame::{push_head, push_tiles};
-use crate::html::{Frame, Section};
-use crate::order::order;
-use crate::part::{Part, push_more, push_parts};
-use crate::plan::{Shown, beyond, first_of, planned, windows_of};
 use crate::section::{Detail, push_section, view_of};
 use crate::sections::push_sections;
-use crate::slots::{Asked, At, fill};
-use crate::tables::{push_registers, push_rules};
 use std::alloc::{AllocError as OutOfMemory, Global};
-use view_page::Side;
-use view_page::layout::Window;
-use view_page::layout::reading::{Event, Inode, Report, Span, Task};
+use view_page::journals::Window;
+use view_page::journals::reading::{Event, Inode, Report, Span, Task};
+use view_page::{Frame, Part, Section, Side, push_more, push_parts};
+use view_plan::order::order;
+use view_plan::{Asked, At, Shown, beyond, fill, first_of, planned, windows_of};
+use view_tables::{push_calls, push_entries, push_head, push_registers, push_rules, push_tiles};
 
 /// Appends the page of a report, which was read from `text`.
 pub fn push_page(

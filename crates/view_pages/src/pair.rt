@@ -1,24 +1,21 @@
 // The page of two reports of one script.
 
 ghost use Rattle.std.specs.Prelude.{◌≡◌, ◌<◌, length, OnOk};
-ghost use Rattle.view_page.specs.layout.Windows.{windows};
+ghost use Rattle.view_page.specs.journals.Windows.{windows};
 ghost use Rattle.view_pages.specs.Pair as spec;
-ghost use Rattle.view_pages.specs.Parts.{Pushed};
-ghost use Rattle.view_pages.specs.Plan.{most_drawn};
+ghost use Rattle.view_page.specs.Parts.{Pushed};
+ghost use Rattle.view_plan.specs.Plan.{most_drawn};
 
-use crate::alike::differing;
 use crate::chosen::{MOST_PAIRS, numbers, parted_of, room_after, shown};
-use crate::frame::{push_head, push_tiles};
-use crate::html::{Frame, Section};
 use crate::page::push_tables;
-use crate::part::{Part, push_more, push_parts};
-use crate::plan::planned;
 use crate::section::{push_at_end, push_drawing, push_heading, push_marked, push_not_drawn};
-use crate::sentences::push_sentences;
 use std::alloc::{AllocError as OutOfMemory, Global};
-use view_page::layout::reading::{Event, Inode, InodeHead, Report, Span};
-use view_page::layout::{Window, windows};
-use view_page::{Side, View};
+use view_page::journals::reading::{Event, Inode, InodeHead, Report, Span};
+use view_page::journals::{Window, windows};
+use view_page::{Frame, Part, Section, Side, View, push_more, push_parts};
+use view_plan::planned;
+use view_sentences::{differing, push_sentences};
+use view_tables::{push_head, push_tiles};
 
 // A journal of at most as many events is drawn whole, and of a longer one windows.
 const MOST_DRAWN: u32 = 120;

@@ -1,19 +1,19 @@
 // The section of an inode in a page.
 
 ghost use Rattle.std.specs.Prelude.{◌≡◌, ◌<◌, length, OnOk};
-ghost use Rattle.view_pages.specs.Parts.{Pushed};
+ghost use Rattle.view_page.specs.Parts.{Pushed};
 ghost use Rattle.view_pages.specs.Section as spec;
 
-use crate::html::Section;
-use crate::order::{Grade, count};
-use crate::overview::push_overview;
-use crate::part::{Part, by_count, push_more, push_parts};
-use crate::sentences::push_sentences;
-use crate::words::{after_word, cut, first_word};
 use std::alloc::{AllocError as OutOfMemory, Global};
-use view_page::layout::Window;
-use view_page::layout::reading::{Event, Inode, InodeHead, Span};
-use view_page::{Side, View, push_inode};
+use view_drawing::push_inode;
+use view_overview::push_overview;
+use view_page::journals::Window;
+use view_page::journals::reading::{Event, Inode, InodeHead, Span};
+use view_page::{
+    Part, Section, Side, View, after_word, by_count, cut, first_word, path, push_more, push_parts,
+};
+use view_plan::{Grade, count};
+use view_sentences::push_sentences;
 
 /// What a section has of a journal that isn't drawn whole.
 #[derive(Clone, Copy)]
@@ -41,13 +41,6 @@ fn push_titled(out: &mut Vec<u8>, text: &[u8], most: u32, span: Span) -> Result<
         Part::Text(cut(most, span)),
     ];
     push_parts(out, text, &parts)
-}
-
-/// The path, the third word of an inode's line.
-pub fn path(text: &[u8], head: InodeHead) -> Span
-    ensures { result ≡ spec.path text.now head }
-{
-    first_word(text, after_word(text, after_word(text, head.line)))
 }
 
 // How many events a journal has.

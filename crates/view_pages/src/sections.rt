@@ -1,16 +1,15 @@
 // The sections of a page, one for each inode that it shows.
 
 ghost use Rattle.std.specs.Prelude.{◌≡◌, drop, slice_get, take, OnOk};
-ghost use Rattle.view_pages.specs.Parts.{Pushed};
+ghost use Rattle.view_page.specs.Parts.{Pushed};
 ghost use Rattle.view_pages.specs.Sections as spec;
 
-use crate::part::push_parts;
-use crate::plan::{Shown, windows_in};
 use crate::section::{Detail, push_section, view_of};
 use std::alloc::{AllocError as OutOfMemory, Global};
-use view_page::layout::Window;
-use view_page::layout::reading::Inode;
-use view_page::{Side, View};
+use view_page::journals::Window;
+use view_page::journals::reading::Inode;
+use view_page::{Side, View, push_parts};
+use view_plan::{Shown, windows_in};
 
 // At most as many sections of a page have an overview.
 const MOST_OVERVIEWS: usize = 16;

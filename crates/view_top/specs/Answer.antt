@@ -3,14 +3,14 @@ use Rattle.std.specs.Prelude.{◌≡◌, ℕ, ◌-◌, Bool, true, ◌&&◌, nat
 use Rattle.text_forms.specs.Options.{◌>>=◌}
 use Rattle.view_pages.specs.Page.{inode_page_parts, report_parts}
 use Rattle.view_pages.specs.Pair.{pair_parts}
-use Rattle.view_pages.specs.Parts.{page_of}
+use Rattle.view_pages.specs.drawn.page.Parts.{page_of}
 use Rattle.view_pages.specs.drawn.Drawing.{svg_of}
-use Rattle.view_pages.specs.drawn.layout.declared.window.Window.{Window}
-use Rattle.view_pages.specs.drawn.layout.reading.Read.{reports_of}
-use Rattle.view_pages.specs.drawn.layout.reading.Report.{InodeValue, ReportValue}
-use Rattle.view_pages.specs.drawn.layout.reading.declared.event.Event.{Event}
-use Rattle.view_pages.specs.drawn.layout.reading.reports.Numerals.{numeral}
-use Rattle.view_pages.specs.drawn.Pieces as pieces
+use Rattle.view_pages.specs.journals.declared.window.Window.{Window}
+use Rattle.view_pages.specs.journals.reading.Read.{reports_of}
+use Rattle.view_pages.specs.journals.reading.Report.{InodeValue, ReportValue}
+use Rattle.view_pages.specs.journals.reading.words.declared.event.Event.{Event}
+use Rattle.view_pages.specs.journals.reading.reports.Numerals.{numeral}
+use Rattle.view_pages.specs.drawn.page.Pieces as pieces
 use Rattle.view_top.specs.declared.command.Asked.{Asked}
 use Rattle.view_top.specs.declared.command.Command.{Command}
 use Rattle.view_top.specs.declared.command.Command.TheVariants as command

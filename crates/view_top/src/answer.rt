@@ -7,15 +7,15 @@ ghost use Rattle.view_top.specs.Limits.{most_input};
 ghost use Rattle.view_top.specs.NotDone.{not_done_status};
 ghost use Rattle.view_top.specs.Statuses as exit;
 ghost use Rattle.view_top.specs.Words.{AsksForInode};
-ghost use Rattle.view_pages.specs.drawn.layout.reading.Report.{HasShortJournals};
+ghost use Rattle.view_pages.specs.journals.reading.Report.{HasShortJournals};
 
 use crate::command::{Asked, Command};
 use crate::not_done::NotDone;
 use std::alloc::{AllocError as OutOfMemory, Global};
-use view_pages::drawn::layout::Window;
-use view_pages::drawn::layout::reading::reports::push_number;
-use view_pages::drawn::layout::reading::{Event, Inode, ReadErr, Report, read};
 use view_pages::drawn::svg;
+use view_pages::journals::Window;
+use view_pages::journals::reading::reports::push_number;
+use view_pages::journals::reading::{Event, Inode, ReadErr, Report, read};
 use view_pages::{push_inode_page, push_page, push_pair};
 
 // The most places of a range that is asked for.

@@ -2,10 +2,10 @@
 -- text's first bad line and the cause.
 use Rattle.std.specs.Prelude.{◌≡◌, ◌≤◌, ℕ, List, length, Option, IsOkAnd}
 use Rattle.buffer_measure.specs.Alone.{run_alone}
-use Rattle.buffer_measure.specs.Grammar.{buffers_of}
 use Rattle.buffer_measure.specs.Print.{printed}
 use Rattle.buffer_measure.specs.Run.{IsRunOf, RunValue}
-use Rattle.buffer_measure.specs.Text.{BufferValue}
+use Rattle.buffer_measure.specs.texts.Grammar.{buffers_of}
+use Rattle.buffer_measure.specs.texts.Text.{BufferValue}
 use Rattle.ima_top.specs.commands.BadLine.{refusal_of}
 
 -- the line that refuses an input that isn't a text of buffers

@@ -7,8 +7,8 @@ use Rattle.std.proofs.lemmas.List.FromFn.{length-enumerate_from}
 use Rattle.report_text.specs.model.growing.Shown.{Passed, fresh}
 use Rattle.script_text.specs.steps.templates.declared.entry.Entry.{Entry}
 use Rattle.buffer_measure.specs.Answered.{HaveAnswers}
-use Rattle.buffer_measure.specs.Forms.{is_buffer}
-use Rattle.buffer_measure.specs.Text.{Buffer}
+use Rattle.buffer_text.specs.Forms.{is_buffer}
+use Rattle.buffer_text.specs.Text.{Buffer}
 use Rattle.buffer_measure.specs.declared.answer.Answer.{Answer}
 use Rattle.buffer_measure.proofs.Answering.{answered_none, answered_step, answered_whole, numbered}
 use Rattle.buffer_measure.proofs.workers.answer_lines.Goals as goal

@@ -1,6 +1,6 @@
 use Rattle.std.proofs.Common.{◌≡◌, ◌++◌, drop}
 use Rattle.view_layout.specs.Drawing.{middle_end, segments_from, shown_in}
-use Rattle.view_layout.specs.Frame.{middle}
+use Rattle.view_journal.specs.Frame.{middle}
 use Rattle.view_layout.proofs.strips.push_segments.Given as goal
 
 -- the segments so far, and those from the last one on

@@ -1,7 +1,7 @@
 use Rattle.std.proofs.Common.{ℕ, ◌+◌, List, Option, ◌++◌, append-nil, append_assoc, drop, ap, sym, ◌∙◌, arith}
 use Rattle.std.proofs.lemmas.List.{at_drop_all}
-use Rattle.view_page.specs.layout.reading.Report.{InodeValue}
-use Rattle.view_pages.specs.Alike.{parted}
+use Rattle.view_page.specs.journals.reading.Report.{InodeValue}
+use Rattle.view_sentences.specs.Alike.{parted}
 use Rattle.view_pages.specs.Pair.{number_by, numbers_from, room_after}
 use Rattle.view_pages.proofs.PairsSteps.{numbers_here}
 use Rattle.view_pages.proofs.chosen.numbers_of.Goals as goal

@@ -1,8 +1,8 @@
 use Rattle.std.proofs.Common.{ap}
-use Rattle.view_page.specs.declared.inode.View.{View}
+use Rattle.view_page.specs.declared.view.View.{View}
 use Rattle.view_pages.specs.Section.{section_of}
 use Rattle.view_pages.specs.declared.section.Detail.TheVariants as detail
-use Rattle.view_pages.proofs.Joined.{as_parts, ◌▹◌}
+use Rattle.view_page.proofs.Joined.{as_parts, ◌▹◌}
 use Rattle.view_pages.proofs.page.push_inode_in.Goals as goal
 
 pub returns : goal.returns

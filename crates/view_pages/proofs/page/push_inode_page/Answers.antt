@@ -1,9 +1,9 @@
 use Rattle.std.proofs.Common.{List, ap, ◌∙◌}
-use Rattle.view_page.specs.layout.declared.window.Window.{Window}
-use Rattle.view_page.specs.layout.reading.Report.{InodeValue}
-use Rattle.view_page.specs.layout.reading.declared.event.Event.{Event}
+use Rattle.view_page.specs.journals.declared.window.Window.{Window}
+use Rattle.view_page.specs.journals.reading.Report.{InodeValue}
+use Rattle.view_page.specs.journals.reading.words.declared.event.Event.{Event}
 use Rattle.view_pages.specs.Page.{inode_parts, windows_or}
-use Rattle.view_pages.proofs.Joined.{as_parts}
+use Rattle.view_page.proofs.Joined.{as_parts}
 use Rattle.view_pages.proofs.page.push_inode_page.Goals as goal
 
 pub returns : goal.returns

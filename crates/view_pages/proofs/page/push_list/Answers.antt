@@ -1,7 +1,7 @@
 use Rattle.std.proofs.Common.{List, Option, ap, ◌∙◌}
-use Rattle.view_pages.specs.Entries.{entries}
-use Rattle.view_pages.specs.declared.slots.At.{At}
-use Rattle.view_pages.proofs.Joined.{as_parts}
+use Rattle.view_tables.specs.Entries.{entries}
+use Rattle.view_plan.specs.declared.slots.At.{At}
+use Rattle.view_page.proofs.Joined.{as_parts}
 use Rattle.view_pages.proofs.page.push_list.Goals as goal
 
 pub returns : goal.returns

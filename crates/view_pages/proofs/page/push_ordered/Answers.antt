@@ -1,9 +1,9 @@
 use Rattle.std.proofs.Common.{ℕ, List, ap, take, ◌∙◌}
-use Rattle.view_page.specs.layout.reading.Report.{InodeValue, ReportValue}
+use Rattle.view_page.specs.journals.reading.Report.{InodeValue, ReportValue}
 use Rattle.view_pages.specs.Page.{planned_parts}
-use Rattle.view_pages.specs.Plan.{most_sections, planned}
-use Rattle.view_pages.specs.declared.plan.Shown.{Shown}
-use Rattle.view_pages.proofs.Joined.{as_parts}
+use Rattle.view_plan.specs.Plan.{most_sections, planned}
+use Rattle.view_plan.specs.declared.plan.Shown.{Shown}
+use Rattle.view_page.proofs.Joined.{as_parts}
 use Rattle.view_pages.proofs.page.push_ordered.Goals as goal
 
 pub returns : goal.returns

@@ -1,8 +1,8 @@
 use Rattle.std.proofs.Common.{ℕ, List, ap, ◌∙◌}
-use Rattle.view_page.specs.layout.reading.Report.{ReportValue}
-use Rattle.view_pages.specs.Order.{order}
+use Rattle.view_page.specs.journals.reading.Report.{ReportValue}
+use Rattle.view_plan.specs.Order.{order}
 use Rattle.view_pages.specs.Page.{ordered_parts}
-use Rattle.view_pages.proofs.Joined.{as_parts}
+use Rattle.view_page.proofs.Joined.{as_parts}
 use Rattle.view_pages.proofs.page.push_page.Goals as goal
 
 pub returns : goal.returns

@@ -1,8 +1,8 @@
 use Rattle.std.proofs.Common.{List, ap, ◌∙◌}
 use Rattle.view_page.specs.declared.own.Side.TheVariants as side
-use Rattle.view_page.specs.layout.reading.Report.{InodeValue, ReportValue}
+use Rattle.view_page.specs.journals.reading.Report.{InodeValue, ReportValue}
 use Rattle.view_pages.specs.Sections.{sections}
-use Rattle.view_pages.proofs.Joined.{as_parts, ◌▹◌}
+use Rattle.view_page.proofs.Joined.{as_parts, ◌▹◌}
 use Rattle.view_pages.proofs.page.push_planned.Goals as goal
 
 pub returns : goal.returns

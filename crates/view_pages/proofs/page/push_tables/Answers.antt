@@ -1,10 +1,10 @@
 -- The parts of a report are those of its fields.
 use Rattle.std.proofs.Common.{◌≡◌, List, ap, ◌∙◌, subst}
 use Rattle.std.specs.Prelude.{OnOk}
-use Rattle.view_page.specs.layout.reading.Report.{InodeValue, ReportValue, TaskValue}
-use Rattle.view_page.specs.layout.reading.declared.event.Span.{Span}
+use Rattle.view_page.specs.journals.reading.Report.{InodeValue, ReportValue, TaskValue}
+use Rattle.view_page.specs.journals.reading.words.declared.event.Span.{Span}
 use Rattle.view_pages.specs.Page.{tables_by}
-use Rattle.view_pages.specs.Parts.{Pushed}
+use Rattle.view_page.specs.Parts.{Pushed}
 use Rattle.view_pages.proofs.page.push_tables.Goals as goal
 
 pub returns : goal.returns

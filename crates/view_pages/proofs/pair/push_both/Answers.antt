@@ -1,10 +1,10 @@
 use Rattle.std.proofs.Common.{List, ap, ◌∙◌}
-use Rattle.view_page.specs.declared.inode.View.{View}
+use Rattle.view_page.specs.declared.view.View.{View}
 use Rattle.view_page.specs.declared.own.Side.TheVariants as side
-use Rattle.view_page.specs.layout.reading.Report.{InodeValue}
-use Rattle.view_page.specs.layout.reading.declared.event.Event.{Event}
+use Rattle.view_page.specs.journals.reading.Report.{InodeValue}
+use Rattle.view_page.specs.journals.reading.words.declared.event.Event.{Event}
 use Rattle.view_pages.specs.Pair.{side_of, view_at}
-use Rattle.view_pages.proofs.Joined.{as_parts, ◌▹◌}
+use Rattle.view_page.proofs.Joined.{as_parts, ◌▹◌}
 use Rattle.view_pages.proofs.pair.push_both.Goals as goal
 
 pub returns : goal.returns

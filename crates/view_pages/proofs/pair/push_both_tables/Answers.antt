@@ -1,4 +1,4 @@
-use Rattle.view_pages.proofs.Joined.{◌▹◌}
+use Rattle.view_page.proofs.Joined.{◌▹◌}
 use Rattle.view_pages.proofs.pair.push_both_tables.Goals as goal
 
 pub returns : goal.returns

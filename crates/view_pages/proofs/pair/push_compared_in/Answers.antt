@@ -1,7 +1,7 @@
 use Rattle.std.proofs.Common.{List, ap, ◌∙◌}
-use Rattle.view_page.specs.layout.declared.window.Window.{Window}
+use Rattle.view_page.specs.journals.declared.window.Window.{Window}
 use Rattle.view_pages.specs.Pair.{compared}
-use Rattle.view_pages.proofs.Joined.{as_parts}
+use Rattle.view_page.proofs.Joined.{as_parts}
 use Rattle.view_pages.proofs.pair.push_compared_in.Goals as goal
 
 pub returns : goal.returns

@@ -1,6 +1,6 @@
 use Rattle.std.proofs.Common.{ℕ, List, ap, ◌∙◌}
 use Rattle.view_pages.specs.Pair.{both_tables}
-use Rattle.view_pages.proofs.Joined.{as_parts, ◌▹◌}
+use Rattle.view_page.proofs.Joined.{as_parts, ◌▹◌}
 use Rattle.view_pages.proofs.pair.push_pair_by_inodes.Goals as goal
 
 pub returns : goal.returns

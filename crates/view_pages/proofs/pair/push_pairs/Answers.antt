@@ -2,10 +2,10 @@ use Rattle.std.proofs.Common.{ℕ, ◌-◌, length, take, ap, sym, ◌∙◌}
 use Rattle.std.specs.Prelude.{max}
 use Rattle.std.proofs.lemmas.List.{length-take-le}
 use Rattle.view_pages.specs.Pair.{most_pairs, pairs_from}
-use Rattle.view_pages.specs.Parts.{more}
-use Rattle.view_pages.specs.declared.html.Section.TheVariants as section
-use Rattle.view_pages.specs.declared.part.Part.TheVariants as part
-use Rattle.view_pages.proofs.Joined.{as_parts, ◌▹◌}
+use Rattle.view_page.specs.Parts.{more}
+use Rattle.view_page.specs.declared.html.Section.TheVariants as section
+use Rattle.view_page.specs.declared.part.Part.TheVariants as part
+use Rattle.view_page.proofs.Joined.{as_parts, ◌▹◌}
 use Rattle.view_pages.proofs.pair.push_pairs.Goals as goal
 
 pub push_pairs_of-requires : goal.push_pairs_of-requires

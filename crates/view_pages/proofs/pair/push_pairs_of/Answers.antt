@@ -1,11 +1,11 @@
 use Rattle.std.proofs.Common.{◌≡◌, ℕ, ◌+◌, List, Option, ◌++◌, drop, ap, sym, ◌∙◌, arith}
 use Rattle.std.proofs.lemmas.List.{at_drop_all}
-use Rattle.view_page.specs.layout.reading.Report.{InodeValue}
-use Rattle.view_pages.specs.Alike.{parted}
+use Rattle.view_page.specs.journals.reading.Report.{InodeValue}
+use Rattle.view_sentences.specs.Alike.{parted}
 use Rattle.view_pages.specs.Pair.{most_pairs, pair_by, pairs_from, room_after}
-use Rattle.view_pages.specs.Parts.{page_of}
-use Rattle.view_pages.specs.declared.part.Part.{Part}
-use Rattle.view_pages.proofs.Joined.{as_parts, going, gone}
+use Rattle.view_page.specs.Parts.{page_of}
+use Rattle.view_page.specs.declared.part.Part.{Part}
+use Rattle.view_page.proofs.Joined.{as_parts, going, gone}
 use Rattle.view_pages.proofs.PairsSteps.{pairs_here}
 use Rattle.view_pages.proofs.pair.push_pairs_of.Goals as goal
 

@@ -1,6 +1,6 @@
 use Rattle.std.proofs.Common.{◌≡◌, ◌++◌, drop}
 use Rattle.view_pages.specs.Pair.{most_pairs, pairs_from}
-use Rattle.view_pages.specs.Parts.{page_of}
+use Rattle.view_page.specs.Parts.{page_of}
 use Rattle.view_pages.proofs.pair.push_pairs_of.Given as goal
 
 -- the inodes so far have been appended, and the others are left

@@ -1,9 +1,9 @@
 use Rattle.std.proofs.Common.{List, ap, ◌∙◌}
-use Rattle.view_page.specs.layout.reading.Report.{InodeValue, ReportValue}
+use Rattle.view_page.specs.journals.reading.Report.{InodeValue, ReportValue}
 use Rattle.view_pages.specs.Page.{tables}
-use Rattle.view_pages.specs.Plan.{planned}
-use Rattle.view_pages.specs.declared.plan.Shown.{Shown}
-use Rattle.view_pages.proofs.Joined.{as_parts}
+use Rattle.view_plan.specs.Plan.{planned}
+use Rattle.view_plan.specs.declared.plan.Shown.{Shown}
+use Rattle.view_page.proofs.Joined.{as_parts}
 use Rattle.view_pages.proofs.pair.push_side_tables.Goals as goal
 
 pub returns : goal.returns

@@ -1,9 +1,9 @@
 use Rattle.std.proofs.Common.{ℕ, ap}
-use Rattle.view_pages.specs.Parts.{more}
+use Rattle.view_page.specs.Parts.{more}
 use Rattle.view_pages.specs.Section.{titled}
-use Rattle.view_pages.specs.declared.html.Section.TheVariants as section
-use Rattle.view_pages.specs.declared.part.Part.TheVariants as part
-use Rattle.view_pages.proofs.Joined.{as_parts, ◌▹◌}
+use Rattle.view_page.specs.declared.html.Section.TheVariants as section
+use Rattle.view_page.specs.declared.part.Part.TheVariants as part
+use Rattle.view_page.proofs.Joined.{as_parts, ◌▹◌}
 use Rattle.view_pages.proofs.section.push_at_end.Goals as goal
 
 pub returns : goal.returns

@@ -1,6 +1,6 @@
 use Rattle.std.proofs.Common.{take}
 use Rattle.view_pages.specs.Section.{attr}
-use Rattle.view_pages.proofs.Joined.{no_parts, one_more}
+use Rattle.view_page.proofs.Joined.{no_parts, one_more}
 use Rattle.view_pages.proofs.section.push_attrs.Goals as goal
 
 pub loop-line-init : goal.loop-line-init

@@ -1,6 +1,6 @@
-use Rattle.view_page.specs.Drawing.{inode_pieces}
-use Rattle.view_pages.proofs.Drawings.{drew}
-use Rattle.view_pages.proofs.Joined.{◌▹◌}
+use Rattle.view_drawing.specs.Drawing.{inode_pieces}
+use Rattle.view_page.proofs.Drawings.{drew}
+use Rattle.view_page.proofs.Joined.{◌▹◌}
 use Rattle.view_pages.proofs.section.push_drawing.Goals as goal
 
 pub returns : goal.returns

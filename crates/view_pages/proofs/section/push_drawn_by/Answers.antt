@@ -1,4 +1,4 @@
-use Rattle.view_pages.proofs.Joined.{◌▹◌}
+use Rattle.view_page.proofs.Joined.{◌▹◌}
 use Rattle.view_pages.proofs.section.push_drawn_by.Goals as goal
 
 pub returns : goal.returns

@@ -1,4 +1,4 @@
-use Rattle.view_pages.proofs.Joined.{as_parts}
+use Rattle.view_page.proofs.Joined.{as_parts}
 use Rattle.view_pages.proofs.section.push_marked.Goals as goal
 
 pub returns : goal.returns

@@ -1,12 +1,12 @@
 -- The parts of an inode are those of its fields.
 use Rattle.std.proofs.Common.{◌≡◌, List, ap, ◌∙◌, subst}
 use Rattle.std.specs.Prelude.{OnOk}
-use Rattle.view_page.specs.layout.reading.Report.{InodeValue}
-use Rattle.view_page.specs.layout.reading.declared.event.Event.{Event}
-use Rattle.view_page.specs.layout.reading.declared.event.Span.{Span}
-use Rattle.view_page.specs.layout.reading.declared.report.InodeHead.{InodeHead}
+use Rattle.view_page.specs.journals.reading.Report.{InodeValue}
+use Rattle.view_page.specs.journals.reading.words.declared.event.Event.{Event}
+use Rattle.view_page.specs.journals.reading.words.declared.event.Span.{Span}
+use Rattle.view_page.specs.journals.reading.declared.report.InodeHead.{InodeHead}
 use Rattle.view_pages.specs.Section.{section_by}
-use Rattle.view_pages.specs.Parts.{Pushed}
+use Rattle.view_page.specs.Parts.{Pushed}
 use Rattle.view_pages.proofs.section.push_section.Goals as goal
 
 pub returns : goal.returns

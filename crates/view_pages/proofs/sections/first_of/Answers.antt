@@ -1,5 +1,5 @@
 use Rattle.std.proofs.Common.{arith}
-use Rattle.view_pages.proofs.Firsts.{first_so_many}
+use Rattle.view_page.proofs.about_journals.Firsts.{first_so_many}
 use Rattle.view_pages.proofs.sections.first_of.Goals as goal
 
 pub returns : goal.returns

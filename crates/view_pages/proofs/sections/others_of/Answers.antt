@@ -1,6 +1,6 @@
 use Rattle.std.proofs.Common.{ℕ, ◌-◌, ◌≤◌, List, length, drop, length-drop, ◌∙◌, arith}
 use Rattle.std.proofs.lemmas.List.{take_all}
-use Rattle.view_pages.proofs.Firsts.{after_so_many}
+use Rattle.view_page.proofs.about_journals.Firsts.{after_so_many}
 use Rattle.view_pages.proofs.sections.others_of.Goals as goal
 
 pub returns : goal.returns

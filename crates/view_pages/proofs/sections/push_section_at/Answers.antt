@@ -1,10 +1,10 @@
 use Rattle.std.proofs.Common.{List, ap, ◌∙◌}
 use Rattle.std.specs.Prelude.{slice_get}
-use Rattle.view_page.specs.declared.inode.View.{View}
-use Rattle.view_page.specs.layout.declared.window.Window.{Window}
+use Rattle.view_page.specs.declared.view.View.{View}
+use Rattle.view_page.specs.journals.declared.window.Window.{Window}
 use Rattle.view_pages.specs.Section.{view_of}
 use Rattle.view_pages.specs.Sections.{section_if}
-use Rattle.view_pages.proofs.Joined.{as_parts}
+use Rattle.view_page.proofs.Joined.{as_parts}
 use Rattle.view_pages.proofs.sections.push_section_at.Goals as goal
 
 pub returns : goal.returns

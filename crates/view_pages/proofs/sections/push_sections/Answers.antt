@@ -1,7 +1,7 @@
 use Rattle.std.proofs.Common.{ℕ, List, ap}
 use Rattle.view_pages.specs.Sections.{sections_of}
 use Rattle.view_pages.specs.declared.section.Detail.TheVariants as detail
-use Rattle.view_pages.proofs.Joined.{as_parts, ◌▹◌}
+use Rattle.view_page.proofs.Joined.{as_parts, ◌▹◌}
 use Rattle.view_pages.proofs.sections.push_sections.Goals as goal
 
 pub returns : goal.returns

@@ -1,5 +1,5 @@
 use Rattle.view_pages.specs.Sections.{section_at}
-use Rattle.view_pages.proofs.Joined.{no_parts, one_more}
+use Rattle.view_page.proofs.Joined.{no_parts, one_more}
 use Rattle.view_pages.proofs.sections.push_sections_of.Goals as goal
 
 pub loop-number-init : goal.loop-number-init

@@ -1,6 +1,6 @@
 use Rattle.std.proofs.Common.{take}
 use Rattle.std.specs.List.{flat_map}
-use Rattle.view_pages.specs.Parts.{Pushed}
+use Rattle.view_page.specs.Parts.{Pushed}
 use Rattle.view_pages.specs.Sections.{section_at}
 use Rattle.view_pages.proofs.sections.push_sections_of.Given as goal
 

@@ -1,6 +1,6 @@
 use Rattle.std.proofs.Common.{◌≡◌, ℕ, List, Some, Vec, Result, Ok, Err, sym, ap, subst}
-use Rattle.view_pages.specs.drawn.layout.reading.Read.{reports_of}
-use Rattle.view_pages.specs.drawn.layout.reading.Report.{ReportValue}
+use Rattle.view_pages.specs.journals.reading.Read.{reports_of}
+use Rattle.view_pages.specs.journals.reading.Report.{ReportValue}
 use Rattle.view_top.specs.Answer.{Answers, answer_by, answer_of, bad_line, drawn, more, refusal_in}
 use Rattle.view_top.specs.declared.command.Command.{Command}
 use Rattle.view_top.specs.declared.not_done.NotDone.{NotDone}

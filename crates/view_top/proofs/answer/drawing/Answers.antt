@@ -1,9 +1,9 @@
 -- The drawing is that of the inode that was found.
 use Rattle.std.proofs.Common.{◌≡◌, ℕ, List, Option, ap, sym, subst, ◌∙◌}
 use Rattle.view_pages.specs.drawn.Drawing.{svg_of}
-use Rattle.view_pages.specs.drawn.Pieces.{page_of}
-use Rattle.view_pages.specs.drawn.layout.reading.Report.{InodeValue}
-use Rattle.view_pages.specs.drawn.layout.reading.declared.event.Event.{Event}
+use Rattle.view_pages.specs.drawn.page.Pieces.{page_of}
+use Rattle.view_pages.specs.journals.reading.Report.{InodeValue}
+use Rattle.view_pages.specs.journals.reading.words.declared.event.Event.{Event}
 use Rattle.view_top.specs.Answer.{Page, drawn_by}
 use Rattle.view_top.proofs.answer.drawing.Goals as goal
 

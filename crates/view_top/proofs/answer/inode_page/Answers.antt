@@ -1,8 +1,8 @@
 -- The page is that of the inode that was found.
 use Rattle.std.proofs.Common.{◌≡◌, ◌++◌, ℕ, List, Option, ap, sym, subst, ◌∙◌}
 use Rattle.view_pages.specs.Page.{inode_page_parts}
-use Rattle.view_pages.specs.Parts.{page_of}
-use Rattle.view_pages.specs.drawn.layout.reading.Report.{InodeValue}
+use Rattle.view_pages.specs.drawn.page.Parts.{page_of}
+use Rattle.view_pages.specs.journals.reading.Report.{InodeValue}
 use Rattle.view_top.specs.Answer.{Page, drawn_by}
 use Rattle.view_top.proofs.answer.inode_page.Goals as goal
 

@@ -1,8 +1,8 @@
 -- The page is that of the two reports.
 use Rattle.std.proofs.Common.{◌≡◌, ◌≤◌, ◌++◌, ℕ, List, [], ◌∷◌, length, get_or, arith, ap, sym, ◌∙◌}
 use Rattle.view_pages.specs.Pair.{pair_parts}
-use Rattle.view_pages.specs.Parts.{page_of}
-use Rattle.view_pages.specs.drawn.layout.reading.Report.{ReportValue}
+use Rattle.view_pages.specs.drawn.page.Parts.{page_of}
+use Rattle.view_pages.specs.journals.reading.Report.{ReportValue}
 use Rattle.view_top.specs.Answer.{Page, pair}
 use Rattle.view_top.proofs.answer.pair.Goals as goal
 

@@ -1,0 +1,2 @@
+mod Examples
+pub use Rattle.script_words.proofs as about_lines

@@ -1,0 +1,16 @@
+use Rattle.std.proofs.Common.{◌≡◌, ℕ, List, ◌++◌, ◌∙◌, ap}
+use Rattle.view_layout.specs.Drawing.{end_of, highest}
+use Rattle.view_drawing.specs.Drawing.{head_of}
+use Rattle.view_page.specs.declared.pieces.Piece.{Piece}
+use Rattle.view_drawing.proofs.inode.push_head.Goals as goal
+
+pub returns : goal.returns
+returns c =
+    let out : List Piece = c.args.out.now.items in
+    let end : ℕ = end_of c.args.parts.columns.now in
+    let up : c.from-up.result ≡ highest c.args.parts.flags.now
+    = c.from-up.ensures ∙ c.highest.ensures in
+    c.in_ok-add.ensures
+    ∙ (ap (λ (x : ℕ). out ++ head_of x c.from-up.result c.from.result) c.end_of-width.ensures.is
+    ∙ (ap (λ (x : ℕ). out ++ head_of end x c.from.result) up
+    ∙ ap (λ (x : ℕ). out ++ head_of end (highest c.args.parts.flags.now) x) c.from.ensures))

@@ -1,5 +1,0 @@
-use Rattle.view_layout.proofs.HashedLemmas.{as_hashed_is_sound}
-use Rattle.view_layout.proofs.law.as_hashed_is_sound.Goals as goal
-
-pub returns : goal.returns
-returns c = as_hashed_is_sound

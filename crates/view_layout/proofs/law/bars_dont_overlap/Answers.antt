@@ -1,5 +1,0 @@
-use Rattle.view_layout.proofs.RowsLemmas.{bars_dont_overlap}
-use Rattle.view_layout.proofs.law.bars_dont_overlap.Goals as goal
-
-pub returns : goal.returns
-returns c = bars_dont_overlap

@@ -1,5 +1,0 @@
-use Rattle.view_layout.proofs.ColumnsStand.{columns_are_the_journals}
-use Rattle.view_layout.proofs.law.columns_are_the_journals.Goals as goal
-
-pub returns : goal.returns
-returns c = columns_are_the_journals

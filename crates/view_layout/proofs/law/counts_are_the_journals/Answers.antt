@@ -1,5 +1,0 @@
-use Rattle.view_layout.proofs.CountsLemmas.{counts_are_the_journals}
-use Rattle.view_layout.proofs.law.counts_are_the_journals.Goals as goal
-
-pub returns : goal.returns
-returns c = counts_are_the_journals

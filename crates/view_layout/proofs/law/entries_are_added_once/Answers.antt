@@ -1,5 +1,0 @@
-use Rattle.view_layout.proofs.EntriesLemmas.{entries_are_added_once}
-use Rattle.view_layout.proofs.law.entries_are_added_once.Goals as goal
-
-pub returns : goal.returns
-returns c = entries_are_added_once

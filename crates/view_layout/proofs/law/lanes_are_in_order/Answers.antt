@@ -1,5 +1,0 @@
-use Rattle.view_layout.proofs.BarsLemmas.{lanes_are_in_order}
-use Rattle.view_layout.proofs.law.lanes_are_in_order.Goals as goal
-
-pub returns : goal.returns
-returns c = lanes_are_in_order

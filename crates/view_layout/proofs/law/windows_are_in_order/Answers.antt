@@ -1,5 +1,0 @@
-use Rattle.view_layout.proofs.WindowsLemmas.{windows_are_in_order}
-use Rattle.view_layout.proofs.law.windows_are_in_order.Goals as goal
-
-pub returns : goal.returns
-returns c = windows_are_in_order

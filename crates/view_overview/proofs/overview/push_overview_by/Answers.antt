@@ -1,0 +1,7 @@
+use Rattle.view_page.proofs.Joined.{◌▹◌}
+use Rattle.view_overview.proofs.overview.push_overview_by.Goals as goal
+
+pub returns : goal.returns
+returns c =
+    c.in_ok-push_parts.ensures ▹ c.in_ok-push_strips.ensures ▹ c.in_ok-push_drawn.ensures
+    ▹ c.in_ok-push_parts-2.ensures

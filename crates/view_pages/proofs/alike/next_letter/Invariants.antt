@@ -1,7 +1,0 @@
-use Rattle.std.proofs.Common.{◌≡◌, drop}
-use Rattle.view_pages.specs.Alike.{letters}
-use Rattle.view_pages.proofs.alike.next_letter.Given as goal
-
--- the bytes so far are digits
-abbrev pub invariant-loop-k : goal.invariant-loop-k
-invariant-loop-k l = letters (drop l.k l.bytes) ≡ letters (drop l.fn.from l.bytes)

@@ -1,6 +1,0 @@
-use Rattle.std.proofs.Common.{◌≡◌, drop}
-use Rattle.view_pages.specs.Overview.{highest_from}
-use Rattle.view_pages.proofs.buckets.highest.Given as goal
-
-abbrev pub invariant-loop-note : goal.invariant-loop-note
-invariant-loop-note l = highest_from l.rank (drop l.note-index l.notes) ≡ highest_from 0 l.notes

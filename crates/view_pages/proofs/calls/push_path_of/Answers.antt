@@ -1,9 +1,0 @@
-use Rattle.std.proofs.Common.{ap, ◌∙◌}
-use Rattle.view_pages.specs.Entries.{said}
-use Rattle.view_pages.specs.Words.{cut}
-use Rattle.view_pages.proofs.Joined.{as_parts}
-use Rattle.view_pages.proofs.calls.push_path_of.Goals as goal
-
-pub returns : goal.returns
-returns c =
-    as_parts c.in_ok-push_said.ensures (ap said (c.cut.ensures ∙ ap (cut 80) c.path.ensures))

@@ -1,7 +1,0 @@
-use Rattle.view_pages.proofs.Joined.{◌▹◌}
-use Rattle.view_pages.proofs.calls.push_task_by.Goals as goal
-
-pub returns : goal.returns
-returns c =
-    c.in_ok-push_task_head.ensures ▹ c.in_ok-push_chips.ensures ▹ c.in_ok-push_cut_calls.ensures
-    ▹ c.in_ok-push_waits.ensures ▹ c.in_ok-push_parts.ensures

@@ -1,6 +1,0 @@
-use Rattle.std.proofs.Common.{◌≡◌, drop}
-use Rattle.view_pages.specs.Frame.{events, events_from}
-use Rattle.view_pages.proofs.frame.events.Given as goal
-
-abbrev pub invariant-loop-inode : goal.invariant-loop-inode
-invariant-loop-inode l = events_from l.n (drop l.inode-index l.inodes) ≡ events l.inodes

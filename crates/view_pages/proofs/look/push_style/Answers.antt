@@ -1,6 +1,0 @@
-use Rattle.view_pages.specs.Look.{style}
-use Rattle.view_pages.proofs.look.push_style.Goals as goal
-
-pub returns : goal.returns
-unfolding style
-returns c = c.push_lines.ensures

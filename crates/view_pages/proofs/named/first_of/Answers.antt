@@ -1,6 +1,0 @@
-use Rattle.std.proofs.Common.{arith}
-use Rattle.view_pages.proofs.Firsts.{first_so_many}
-use Rattle.view_pages.proofs.named.first_of.Goals as goal
-
-pub returns : goal.returns
-returns c = first_so_many c.args.files.now 4 c.min.result (omega (arith, c.min.ensures))

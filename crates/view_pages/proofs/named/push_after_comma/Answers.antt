@@ -1,5 +1,0 @@
-use Rattle.view_pages.proofs.Joined.{◌▹◌}
-use Rattle.view_pages.proofs.named.push_after_comma.Goals as goal
-
-pub returns : goal.returns
-returns c = c.in_ok-push_comma.ensures ▹ c.in_ok-push_holder.ensures

@@ -1,8 +1,0 @@
-use Rattle.std.proofs.Common.{◌≡◌, ◌++◌, take}
-use Rattle.view_pages.specs.Parts.{page_of}
-use Rattle.view_pages.proofs.part.push_parts.Given as goal
-
--- the parts so far have been appended
-abbrev pub invariant-loop-part : goal.invariant-loop-part
-invariant-loop-part l =
-    l.out.items ≡ l.fn.out.items ++ page_of l.text (take l.part-index l.parts)

@@ -1,8 +1,0 @@
-use Rattle.std.proofs.Common.{arith}
-use Rattle.view_pages.specs.Slots.{most}
-use Rattle.view_pages.proofs.Firsts.{first_so_many}
-use Rattle.view_pages.proofs.slots.first_inodes.Goals as goal
-
-pub returns-clause-is : goal.returns-clause-is
-returns-clause-is c =
-    first_so_many c.args.inodes.now most c.min.result (omega (arith, c.min.ensures))

@@ -1,6 +1,0 @@
-use Rattle.view_pages.proofs.Joined.{◌▹◌}
-use Rattle.view_pages.proofs.tables.push_registers.Goals as goal
-
-pub returns : goal.returns
-returns c =
-    c.in_ok-push_parts.ensures ▹ c.in_ok-push_register_rows.ensures ▹ c.in_ok-push_parts-2.ensures

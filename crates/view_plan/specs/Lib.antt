@@ -1,0 +1,4 @@
+pub mod Order
+pub mod Plan
+pub mod Slots
+pub mod Sums

@@ -1,0 +1,3 @@
+pub mod Walks
+pub mod TalesSteps
+pub mod HoldersSteps

@@ -1,0 +1,6 @@
+use Rattle.std.proofs.Common.{arith}
+use Rattle.view_page.proofs.about_journals.Firsts.{first_so_many}
+use Rattle.view_tables.proofs.calls.first_of.Goals as goal
+
+pub returns : goal.returns
+returns c = first_so_many c.args.tasks.now 64 c.min.result (omega (arith, c.min.ensures))

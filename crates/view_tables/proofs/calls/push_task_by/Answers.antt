@@ -1,0 +1,7 @@
+use Rattle.view_page.proofs.Joined.{◌▹◌}
+use Rattle.view_tables.proofs.calls.push_task_by.Goals as goal
+
+pub returns : goal.returns
+returns c =
+    c.in_ok-push_task_head.ensures ▹ c.in_ok-push_chips.ensures ▹ c.in_ok-push_cut_calls.ensures
+    ▹ c.in_ok-push_waits.ensures ▹ c.in_ok-push_parts.ensures

@@ -1,0 +1,4 @@
+pub mod Frame
+pub mod Entries
+pub mod Tables
+pub mod Calls
