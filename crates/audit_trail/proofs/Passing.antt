@@ -18,15 +18,13 @@ use Rattle.world_model.specs.model.events.hashes.Digest.{digest_of}
 use Rattle.world_model.specs.model.events.Inode.{Inode}
 use Rattle.world_model.specs.model.events.labels.Labels.{collect_algo}
 use Rattle.world_model.specs.model.events.meta.declared.step.Who.{Who}
-use Rattle.world_model.specs.model.matching.declared.family.Family.TheVariants.{Auditing, Hashing}
 use Rattle.world_model.specs.model.policy.declared.access.Action.{Action}
 use Rattle.world_model.specs.model.policy.declared.access.Super.{Super}
 use Rattle.world_model.specs.model.policy.declared.rule.Func.{Func}
 use Rattle.audit_trail.proofs.Placed.{mapped_there}
 use Rattle.audit_trail.proofs.Standing.{past_count, past_next}
-use Rattle.audit_trail.specs.Asked.{asker_of, line_for}
 use Rattle.audit_trail.specs.Sites.{event_lines, inode_at, numbered_lines, programs_in, site_lines, station_at, stations_in}
-use Rattle.audit_trail.specs.Trail.{inode_lines, journal_lines, lines_of, step_lines}
+use Rattle.audit_trail.specs.Trail.{inode_lines, journal_lines, step_lines}
 use Rattle.audit_trail.specs.Walk.{IsWalk, digest_at}
 use Rattle.audit_trail.specs.declared.site.Context.{Context}
 use Rattle.audit_trail.specs.declared.site.Site.{Site}
@@ -83,20 +81,6 @@ numbered c s i inode j is there same =
     inode) there)
 
 -- ---- the records of one event
-
--- those of a check, by the lines that ask for one
-pub check_lines : (c : Context) (s : Site) (k : ℕ) (w : Walk) (e : Event) (file : ℕ) (func : Func)
-    (action : Action) (n : ℕ) (audit hash : Option ℕ) → e.deed ≡ deed.Check file func action n
-    → audit ≡ line_for Auditing (take n c.rules.now) s.system.now w.meta func
-    (asker_of (programs_in c) e.who)
-    → hash ≡ line_for Hashing (take n c.rules.now) s.system.now w.meta func
-    (asker_of (programs_in c) e.who)
-    → lines_of s.number k e.who s.file.now.path (digest_at c.settings.now.hash w) audit hash
-    ≡ event_lines c s k w e
-check_lines c s k w e file func action n audit hash is a h =
-    (λ i. lines_of s.number k e.who s.file.now.path (digest_at c.settings.now.hash w) (a i) (h i))
-    ∙ sym (ap (λ (d : Deed). step_lines (programs_in c) c.rules.now s.number (station_at s) w.meta
-    (digest_at c.settings.now.hash w) k e.who d) is)
 
 -- another deed has none
 pub no_check : (c : Context) (s : Site) (k : ℕ) (w : Walk) (who : Who) (d : Deed) (t : Told)

@@ -20,13 +20,6 @@ place_gather : (o i s k z w : List ℕ) → ((((o ++ i) ++ s) ++ k) ++ z) ++ w
     ≡ o ++ ((i ++ (s ++ k)) ++ (z ++ w))
 place_gather o i s k z w = simp append_assoc
 
--- the pieces of a place, as the code appends them, are the place
-pub place_pushed : (o : List ℕ) (i k : ℕ) (who : Who)
-    → ((((o ++ numeral i) ++ codes ".") ++ numeral k) ++ codes " ") ++ who_word who
-    ≡ o ++ place_text i k who
-place_pushed o i k who =
-    place_gather o (numeral i) (codes ".") (numeral k) (codes " ") (who_word who)
-
 front_gather : (o w s p t n path : List ℕ) → ((((((o ++ w) ++ s) ++ p) ++ t) ++ n) ++ s) ++ path
     ≡ o ++ (w ++ (s ++ (p ++ (t ++ (n ++ (s ++ path))))))
 front_gather o w s p t n path = simp append_assoc

@@ -217,15 +217,3 @@ walk_begins i w content attrs meta collecting digest = record {
   in_force = λ f e. absurd (none-some f e);
   cached = λ d e. absurd (none-some d (sym digest ∙ e));
 }
-
--- a walk that keeps another digest of its content agrees with the same events
-pub walk_kept : (w : Walk) (kept : Option Digest) → IsKeptOf w.content kept → (i : Inode)
-    (p : List Event) → IsWalk i p w → IsWalk i p (record w { digest = kept })
-walk_kept w kept is i p h = record {
-  content = h.content;
-  attributes = h.attributes;
-  metadata = h.metadata;
-  collecting = h.collecting;
-  in_force = h.in_force;
-  cached = is;
-}

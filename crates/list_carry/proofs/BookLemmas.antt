@@ -1,5 +1,5 @@
 -- The book of a carried list.
-use Rattle.std.proofs.Common.{◌≡◌, ℕ, zero, suc, ◌+◌, ◌-◌, ◌≤◌, Bool, true, false, ◌&&◌, cond, List, [], ◌∷◌, ◌++◌, length, get_or, replicate, Option, None, Some, Ok, Err, refl, sym, ap, subst, ◌∙◌, arith, append_assoc, append-nil, length-append}
+use Rattle.std.proofs.Common.{◌≡◌, ℕ, zero, suc, ◌+◌, ◌-◌, ◌≤◌, Bool, true, false, ◌&&◌, cond, List, [], ◌∷◌, ◌++◌, length, get_or, replicate, Option, None, Some, Ok, Err, refl, sym, ap, subst, ◌∙◌, arith, append_assoc, length-append}
 use Rattle.std.proofs.lemmas.List.{replicate-append-replicate}
 use Rattle.std.proofs.lemmas.List.Elements.{All-cons, All-nil}
 use Rattle.std.proofs.lemmas.Option.{get_or_from_slice_get, none-some, same_Some}
@@ -21,15 +21,6 @@ use Rattle.list_carry.specs.declared.causes.CarryErr.{CarryErr}
 use Rattle.list_carry.specs.declared.causes.CarryErr.TheVariants as err
 
 -- ---- further entries
-
--- a book has no further entries than itself
-pub Extends-none : (book : Grown Entry) → Extends book book []
-Extends-none book = record {
-  name = refl;
-  callers = refl;
-  list = sym (append-nil book.list);
-  numbers = sym (append-nil book.numbers);
-}
 
 -- further entries after further entries
 pub Extends-append : (a b c : Grown Entry) (xs ys : List Entry) → Extends a b xs → Extends b c ys
@@ -103,14 +94,6 @@ new_entry list grown e es rest whole rest_is grown_is new so_far =
     ∙ ap (λ (l : List Entry). all_new list l) (sym rest_is)
     ∙ so_far
 
--- an entry that isn't new decides
-pub old_entry : (list : List Entry) (e : Entry) (es rest : List Entry) (whole : Bool)
-    → rest ≡ e ∷ es → is_none (place_of_same list e) ≡ false → all_new list rest ≡ whole
-    → whole ≡ false
-old_entry list e es rest whole rest_is old so_far =
-    sym so_far ∙ ap (λ (l : List Entry). all_new list l) rest_is
-    ∙ ap (λ (b : Bool). b && all_new (list ++ e ∷ []) es) old
-
 -- what a call that has added entries says of the test
 pub passed : (b : Bool) → Loads {X = Unit {0}} (Ok tt) (if_new b) → b ≡ true
 passed true said = refl
@@ -158,16 +141,6 @@ loaded_list list others started looked first is begun grown said =
     (subst (λ (l : List Entry). Loads {X = Unit {0}} (Ok tt) (if_new (all_new l others)))
     begun said)
     ∙ ap Ok (is ∙ ap (λ (l : List Entry). l ++ others) (sym begun) ∙ sym grown)
-
--- an error of adding the entries is an error of the whole list
-pub failed_start : (e : CarryErr) (list others started : List Entry) (first : Entry)
-    → list ≡ first ∷ others → started ≡ first ∷ []
-    → Loads (Err e) (if_new (all_new started others))
-    → Loads (Err e) (if_distinct list)
-failed_start e list others started first is begun said =
-    failed_list e first others list is
-    (subst (λ (l : List Entry). Loads (Err e) (if_new (all_new l others)))
-    begun said)
 
 -- ---- the whole book
 

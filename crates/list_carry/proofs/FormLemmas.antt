@@ -334,13 +334,6 @@ length-records_in count bytes list small is = (records_in-parts count bytes list
 
 -- ---- the steps of loading
 
--- without a count the cause is that of the header
-pub load_of-uncounted : (bytes : List ℕ) (c : CarryCause) → Err c ≡ count_in bytes
-    → load_of bytes ≡ Err c
-unfolding load_of
-load_of-uncounted bytes c is =
-    ap (λ (r : Result ℕ CarryCause). list_after r (drop header_length bytes)) (sym is)
-
 -- the list is what the records give
 pub load_of-counted : (bytes : List ℕ) (count : ℕ) (o : Option (List Entry))
     → Ok count ≡ count_in bytes → o ≡ records_in count (drop header_length bytes)

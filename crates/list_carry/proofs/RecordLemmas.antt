@@ -217,22 +217,6 @@ record_in-entry bytes p e parts entry =
     ∙ ap (λ (o : Option RecordParts). o >>= λ q. entry_in q.pcr q.template q.violation q.bytes
     >>= λ x. Some (x, q.rest)) parts
 
--- without parts there is no record
-pub record_in-no_parts : (bytes : List ℕ) → None ≡ parts_in bytes → record_in bytes ≡ None
-unfolding record_in
-record_in-no_parts bytes none =
-    ap (λ (o : Option RecordParts). o >>= λ q. entry_in q.pcr q.template q.violation q.bytes
-    >>= λ x. Some (x, q.rest)) (sym none)
-
--- without an entry there is no record
-pub record_in-no_entry : (bytes : List ℕ) (p : RecordParts) → Some p ≡ parts_in bytes
-    → None ≡ entry_in p.pcr p.template p.violation p.bytes → record_in bytes ≡ None
-unfolding record_in
-record_in-no_entry bytes p parts none =
-    ap (λ (o : Option RecordParts). o >>= λ q. entry_in q.pcr q.template q.violation q.bytes
-    >>= λ x. Some (x, q.rest)) (sym parts)
-    ∙ ap (λ (o : Option Entry). o >>= λ x. Some (x, p.rest)) (sym none)
-
 -- the entry of the record is appended
 pub Takes-record : (old new : List Entry) (rest : List ℕ) (e : Entry)
     (said : Option (Entry × List ℕ)) → Some (e, rest) ≡ said → new ≡ old ++ e ∷ []

@@ -1,40 +1,14 @@
 -- Journals that are read event by event.
-use Rattle.std.proofs.Common.{◌≡◌, ℕ, ◌+◌, ◌<◌, ◌≤◌, Bool, ◌&&◌, ◌||◌, List, [], ◌++◌, drop, get_or, length, take, Option, Some, sym, ap, ◌∙◌, if◌then◌else◌, arith}
-use Rattle.std.proofs.lemmas.List.{append-nil, drop_all, nil_from_length, take-append-drop, take-append-le, take_all}
+use Rattle.std.proofs.Common.{◌≡◌, ℕ, ◌+◌, ◌<◌, ◌≤◌, Bool, ◌&&◌, ◌||◌, List, get_or, length, take, Option, Some, sym, ap, ◌∙◌, if◌then◌else◌}
+use Rattle.std.proofs.lemmas.List.{take_all}
 use Rattle.report_text.specs.model.events.Past.{past}
 use Rattle.report_text.specs.model.events.State.{content, content_after}
 use Rattle.report_text.specs.model.events.declared.told.Event.{Event}
-use Rattle.report_text.specs.model.events.pages.Content.{overwritten, resized, with_zeros_to}
 use Rattle.report_text.specs.model.events.templates.declared.entry.Entry.{Entry}
 use Rattle.order_outcomes.specs.Calls.{is_by, is_listed, is_read, listed_in, place_told, shows_at}
 use Rattle.order_outcomes.proofs.Walking.{past_next}
 
 -- ---- contents
-
--- a write of no bytes beyond the end extends the content
-pub extended : (old : List ℕ) (from : ℕ) (bytes : List ℕ) → length bytes ≡ 0 → length old < from
-    → resized old from ≡ overwritten old from bytes
-extended old from bytes none lt =
-    let empty : bytes ≡ [] = nil_from_length bytes none in
-    let rest : drop (from + length bytes) old ≡ [] = drop_all (from + length bytes) old
-    (omega (arith, lt)) in
-    sym (append-nil (resized old from))
-    ∙ ap (λ l. resized old from ++ l) (sym empty)
-    ∙ sym (append-nil (resized old from ++ bytes))
-    ∙ ap (λ l. (resized old from ++ bytes) ++ l) (sym rest)
-
--- a write of no bytes within the content changes nothing
-pub unchanged : (old : List ℕ) (from : ℕ) (bytes : List ℕ) → length bytes ≡ 0
-    → from ≤ length old → old ≡ overwritten old from bytes
-unchanged old from bytes none le =
-    let empty : bytes ≡ [] = nil_from_length bytes none in
-    let front : take from (with_zeros_to from old) ≡ take from old = take-append-le from old _ le in
-    sym (take-append-drop from old)
-    ∙ ap (λ l. l ++ drop from old) (sym (append-nil (take from old)))
-    ∙ (λ i. (sym front i ++ sym empty i) ++ drop (from_is i) old)
-  where
-    from_is : from ≡ from + length bytes
-    from_is = omega (arith, none)
 
 -- the content after one event more
 pub content_next : (journal : List Event) (k : ℕ) (e : Event) (old new : List ℕ)

@@ -11,4 +11,3 @@ pub mod Meeting
 pub mod Founding
 pub mod Taking
 pub mod Listing
-pub mod Pages

@@ -1,16 +1,16 @@
 -- What is seen of a file after one event more.
-use Rattle.std.proofs.Common.{◌≡◌, ℕ, ◌+◌, ◌<◌, Bool, true, false, List, [], ◌∷◌, get_or, length, take, Option, Some, None, cond, ◌≤◌, refl, sym, ap, ◌∙◌, subst, arith}
+use Rattle.std.proofs.Common.{◌≡◌, ℕ, ◌+◌, ◌<◌, Bool, true, false, List, [], ◌∷◌, get_or, length, take, Option, Some, None, cond, refl, sym, ap, ◌∙◌, subst, arith}
 use Rattle.std.specs.Prelude.{◌==◌}
 use Rattle.std.proofs.lemmas.Bool.{eqb-true}
 use Rattle.std.proofs.lemmas.List.{length-reverse, length-take-le}
-use Rattle.inode_events.specs.Checks.{Check, check_after, last_check}
+use Rattle.inode_events.specs.Checks.{check_after, last_check}
 use Rattle.inode_events.specs.Files.{counted, dropped, files, find_file, held, less_file, with_file, without_file}
 use Rattle.inode_events.specs.Past.{past}
 use Rattle.inode_events.specs.declared.deed.How.{How}
 use Rattle.inode_events.specs.declared.told.Event.{Event}
 use Rattle.order_sights.specs.Files.{IsSeen, check_in, counted_as, drops}
 use Rattle.order_sights.specs.declared.files.FileSeen.{FileSeen}
-use Rattle.order_sights.proofs.Walks.{past_next, past_none}
+use Rattle.order_outcomes.proofs.Walking.{past_next, past_none}
 
 -- dropping another file leaves this one
 find-less : (file other : ℕ) (hs : List (ℕ × How)) → (other == file) ≡ false

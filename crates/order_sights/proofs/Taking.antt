@@ -1,5 +1,5 @@
 -- What is taken along a journal is what its open collection has.
-use Rattle.std.proofs.Common.{◌≡◌, ℕ, ◌+◌, ◌<◌, ◌≤◌, Bool, true, false, List, [], ◌∷◌, ◌++◌, get_or, length, take, Option, Some, None, refl, ap, sym, ◌∙◌}
+use Rattle.std.proofs.Common.{◌≡◌, ℕ, ◌+◌, ◌<◌, Bool, true, false, List, [], ◌∷◌, ◌++◌, get_or, length, take, Option, Some, None, refl, ap, sym, ◌∙◌}
 use Rattle.inode_events.specs.Inode.{Inode}
 use Rattle.inode_events.specs.Integrity.{Collection, Integrity, collected_more, collecting, collecting_after, integrity}
 use Rattle.inode_events.specs.Past.{past}
@@ -10,9 +10,9 @@ use Rattle.inode_events.specs.declared.told.Event.{Event}
 use Rattle.inode_events.specs.declared.told.Told.{Told}
 use Rattle.inode_events.specs.declared.told.Told.TheVariants as told
 use Rattle.inode_events.specs.pages.Content.{piece_at}
-use Rattle.order_sights.specs.Taken.{none_taken, taken, taken_after, taken_more}
+use Rattle.order_sights.specs.Taken.{taken, taken_after, taken_more}
 use Rattle.order_sights.specs.TakenValue.{TakenValue}
-use Rattle.order_sights.proofs.Walks.{past_next}
+use Rattle.order_outcomes.proofs.Walking.{past_next}
 
 -- the collection has taken this
 pub record HasTaken (c : Collection) (t : TakenValue) : Type 0 where

@@ -1,5 +1,5 @@
 -- What calls were told, event by event.
-use Rattle.std.proofs.Common.{◌≡◌, ℕ, ◌+◌, ◌<◌, ◌≤◌, All, List, [], ◌∷◌, ◌++◌, get_or, length, take, Option, Some, None, refl, sym, ap, ◌∙◌, subst}
+use Rattle.std.proofs.Common.{◌≡◌, ℕ, ◌+◌, ◌<◌, All, List, [], ◌∷◌, ◌++◌, get_or, length, take, Option, Some, None, sym, ap, ◌∙◌, subst}
 use Rattle.std.specs.Prelude.{option_to_list, reverse}
 use Rattle.std.proofs.lemmas.List.{append-nil, reverse-append}
 use Rattle.std.proofs.lemmas.List.Elements.{All-head, All-nil, All-push, All-tail}
@@ -7,7 +7,7 @@ use Rattle.inode_events.specs.Past.{past}
 use Rattle.inode_events.specs.declared.told.Event.{Event}
 use Rattle.order_alike.specs.Alike.{places_in, with_place}
 use Rattle.order_outcomes.specs.Calls.{place_told}
-use Rattle.order_sights.proofs.Walks.{past_next, past_none}
+use Rattle.order_outcomes.proofs.Walking.{past_next, past_none}
 
 -- ---- places
 
