@@ -19,11 +19,11 @@ use Rattle.script_text.specs.script_lines.Forms.{behind_by, id_of, rule_of}
 use Rattle.script_text.specs.script_lines.Line.{cut_line, fields, is_skipped}
 use Rattle.script_text.specs.script_lines.Read.{fault_at, from_ended, step_over, text_of}
 use Rattle.script_text.specs.script_lines.Value.{value_of}
-use Rattle.script_text.specs.Files.{two}
+use Rattle.script_text.specs.fields.FileFields.{two}
 use Rattle.script_text.specs.Forms.{are_bytes, is_cred}
 use Rattle.script_text.specs.Limits.{most_bytes, most_rules, most_threads, most_value}
-use Rattle.script_text.specs.Tasks.{cred_in, cred_with, threads_of}
-use Rattle.script_text.proofs.CallForms.{any_ok}
+use Rattle.script_text.specs.fields.TaskFields.{cred_in, cred_with, threads_of}
+use Rattle.script_text.proofs.about_calls.Fitting.{any_ok}
 use Rattle.script_text.proofs.FileForms.{Ids, id_formed}
 use Rattle.script_text.proofs.Holding.{at_some, both_true, bound, given, left_true, not_false, right_true, tested}
 use Rattle.script_text.proofs.Lasts.{all_changed, length_changed, sum_changed}

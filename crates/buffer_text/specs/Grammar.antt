@@ -14,9 +14,9 @@ use Rattle.script_text.specs.script_lines.Line.{cut_line, fields}
 use Rattle.script_text.specs.script_lines.Read.{text_of}
 use Rattle.script_text.specs.script_lines.Value.{value_of}
 use Rattle.script_text.specs.Draft.{change_last}
-use Rattle.script_text.specs.Files.{two}
+use Rattle.script_text.specs.fields.FileFields.{two}
 use Rattle.script_text.specs.Limits.{most_bytes, most_rules, most_value}
-use Rattle.script_text.specs.Tasks.{cred_in, threads_of}
+use Rattle.script_text.specs.fields.TaskFields.{cred_in, threads_of}
 use Rattle.buffer_text.specs.Draft.{Draft, start}
 use Rattle.buffer_text.specs.Heads.{head_of, is_over, rank, stands}
 use Rattle.buffer_text.specs.Limits.{most_callers, most_lines}

@@ -12,7 +12,7 @@ use Rattle.script_words.specs.declared.fault.LineCause.TheVariants as cause
 use Rattle.script_words.specs.Forms.{field}
 use Rattle.script_words.specs.Line.{cut_line, fields, is_skipped}
 use Rattle.script_words.specs.Read.{fault_at, from_ended, step_over, text_of}
-use Rattle.script_text.specs.Files.{content_of, two}
+use Rattle.script_text.specs.fields.FileFields.{content_of, two}
 use Rattle.script_text.specs.Limits.{most_bytes, most_files}
 use Rattle.script_text.specs.ListGrammar.{ListDraft, Listed, add, head_of, is_over, list_of, listed, placed, stands, start, with_end, with_file, with_head, with_version}
 use Rattle.script_text.specs.declared.list_head.ListHead.{ListHead}

@@ -3,8 +3,8 @@
 use Rattle.std.specs.Prelude.{ℕ, ◌+◌, List, [], ◌∷◌, ◌++◌, length, codes, Option, Some, Result, Ok, Err, ok_or, if◌then◌else◌}
 use Rattle.std.specs.Str.{bytes_eq}
 use Rattle.ima_templates.specs.declared.entry.Entry.{Entry}
-use Rattle.script_text.specs.Files.{within_sum}
-use Rattle.script_text.specs.Settings.{digest_in}
+use Rattle.script_text.specs.Limits.{within_sum}
+use Rattle.script_text.specs.fields.SettingFields.{digest_in}
 use Rattle.script_text.specs.ListGrammar as list
 use Rattle.script_text.specs.events.forms.Lines.{◌>>=◌}
 use Rattle.script_text.specs.script_lines.Causes.{cause_text}

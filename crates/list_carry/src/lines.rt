@@ -2,7 +2,7 @@
 
 ghost use Rattle.std.specs.Prelude.{◌≡◌, IsTrue, IfOk, map, ok_or};
 ghost use Rattle.script_text.specs.ListGrammar.{listed};
-ghost use Rattle.script_text.specs.Settings.{digest_in, digest_sized};
+ghost use Rattle.script_text.specs.fields.SettingFields.{digest_in, digest_sized};
 ghost use Rattle.script_text.specs.events.forms.Paths.{is_path};
 ghost use Rattle.script_text.specs.script_lines.Gives.{LineGives, LineMakes};
 ghost use Rattle.list_carry.specs.Draft.{as_list, with_list};

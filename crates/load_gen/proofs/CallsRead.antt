@@ -13,7 +13,7 @@ use Rattle.call_steps.specs.declared.call.Call.TheVariants as call
 use Rattle.hex.specs.Hex.{encode_lower}
 use Rattle.call_steps.specs.events.declared.deed.How.{How}
 use Rattle.call_steps.specs.events.declared.deed.How.TheVariants as how
-use Rattle.script_text.specs.Calls.{call_of}
+use Rattle.script_text.specs.call_table.Calls.{call_of}
 use Rattle.script_text.specs.Draft.{Draft}
 use Rattle.script_text.specs.Forms.{is_id}
 use Rattle.script_text.specs.Grammar.{with_head}
@@ -21,8 +21,8 @@ use Rattle.script_text.specs.Heads.{head_of}
 use Rattle.script_text.specs.Limits.{most_bytes, most_calls, most_content}
 use Rattle.script_text.specs.Places.{place_in}
 use Rattle.script_text.specs.Tasks.{appends, call_bytes, called, task_with, with_call, with_call_line}
-use Rattle.script_text.specs.declared.head.CallWord.{CallWord}
-use Rattle.script_text.specs.declared.head.CallWord.TheVariants as word
+use Rattle.script_text.specs.call_table.declared.table.CallWord.{CallWord}
+use Rattle.script_text.specs.call_table.declared.table.CallWord.TheVariants as word
 use Rattle.script_text.specs.declared.head.Head.TheVariants as head
 use Rattle.script_text.specs.declared.blocks.TaskBlock.{TaskBlock}
 use Rattle.script_text.proofs.Lasts.{all_changed, length_changed}

@@ -7,7 +7,8 @@ use Rattle.std.proofs.lemmas.Bool.Decides.{nat_tests}
 use Rattle.std.proofs.lemmas.List.{length-replicate}
 use Rattle.hex.specs.Hex.{encode_lower}
 use Rattle.script_text.specs.Draft.{Draft, change_last}
-use Rattle.script_text.specs.Files.{Front, block_of, filed, sealed, setup_of, with_file, with_front, with_seal}
+use Rattle.script_text.specs.Files.{block_of, filed, sealed, setup_of, with_file, with_front, with_seal}
+use Rattle.script_text.specs.fields.FileFields.{Front}
 use Rattle.script_text.specs.Forms.{is_ino}
 use Rattle.script_text.specs.Grammar.{with_head}
 use Rattle.script_text.specs.Limits.{most_bytes, most_content, most_files}

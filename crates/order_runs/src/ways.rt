@@ -172,6 +172,24 @@ fn meet(
     }
 }
 
+// Adds the count of the way to that of one as which it can be met, if there is one and 128 bits
+// have the sum; otherwise notes the place that the way will have. Returns whether it was met.
+fn meet_or_note(
+    alloc: Global,
+    next: &mut Vec<Way>,
+    index: &mut Index,
+    way: &Way,
+) -> Result<bool, OutOfMemory>
+    ensures { IfOk result (λ met. IsMet met next.old.items way.now next.new.items) }
+{
+    let mark = way.point.sight.mark();
+    if meet(alloc, next, index, mark, way)? {
+        return Ok(true);
+    }
+    index.add(alloc, mark, next.len())?;
+    Ok(false)
+}
+
 // Adds the way, or its count to that of a way as which it can be met, if 128 bits have the sum.
 fn add_way(
     alloc: Global,
@@ -181,11 +199,9 @@ fn add_way(
 ) -> Result<(), OutOfMemory>
     ensures { OnOk result (IsWayAdded next.old.items way next.new.items) }
 {
-    let mark = way.point.sight.mark();
-    if meet(alloc, next, index, mark, &way)? {
+    if meet_or_note(alloc, next, index, &way)? {
         return Ok(());
     }
-    index.add(alloc, mark, next.len())?;
     push_way(next, way)
 }
 

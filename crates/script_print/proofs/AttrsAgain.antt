@@ -19,10 +19,11 @@ use Rattle.script_text.specs.Limits.{most_attrs, most_bytes, most_value}
 use Rattle.script_text.specs.Settings.{one_if}
 use Rattle.script_text.specs.declared.blocks.FileBlock.{FileBlock}
 use Rattle.script_text.specs.declared.head.Head.TheVariants as head
-use Rattle.script_text.proofs.Holding.{left_true, right_true}
+use Rattle.call_lines.proofs.Holding.{left_true, right_true}
 use Rattle.script_text.proofs.Lasts.{change_behind, last_behind}
-use Rattle.script_text.proofs.ValueForms.{is_value}
-use Rattle.script_print.specs.Spelling.{attr_line, hex_text}
+use Rattle.call_lines.proofs.ValueForms.{is_value}
+use Rattle.call_lines.specs.Form.{hex_text}
+use Rattle.script_print.specs.Spelling.{attr_line}
 use Rattle.script_print.proofs.Many.{Leads, by_map, many}
 use Rattle.script_print.proofs.Steps.{one_line}
 use Rattle.script_print.proofs.Words.{hex_plain, value_back, word_plain}

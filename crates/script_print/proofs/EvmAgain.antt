@@ -16,11 +16,13 @@ use Rattle.script_text.specs.Forms.{AreNames, are_apart, are_bytes, is_among, is
 use Rattle.script_text.specs.Grammar.{with_head}
 use Rattle.script_text.specs.Limits.{most_added, most_key}
 use Rattle.script_text.specs.ScriptValue.{ScriptValue}
-use Rattle.script_text.specs.Settings.{is_added_name, locked, with_added, with_format, with_key, with_name}
+use Rattle.script_text.specs.Settings.{locked, with_added, with_format, with_key, with_name}
+use Rattle.script_text.specs.fields.SettingFields.{is_added_name}
 use Rattle.script_text.specs.declared.head.Head.TheVariants as head
-use Rattle.script_text.proofs.Holding.{both_true, left_true, right_true}
-use Rattle.script_print.specs.Lines.{is_plain}
-use Rattle.script_print.specs.Spelling.{evm_lines, format_word, hex_text, key_lines, lock_lines, name_line}
+use Rattle.call_lines.proofs.Holding.{both_true, left_true, right_true}
+use Rattle.call_lines.specs.Lines.{is_plain}
+use Rattle.call_lines.specs.Form.{hex_text}
+use Rattle.script_print.specs.Spelling.{evm_lines, format_word, key_lines, lock_lines, name_line}
 use Rattle.script_print.proofs.Many.{IsAt, Leads, above, again_at, by_map, many}
 use Rattle.script_print.proofs.SettingsAgain.{after_mode, draft}
 use Rattle.script_print.proofs.Steps.{Reads, followed, nothing, one_line}

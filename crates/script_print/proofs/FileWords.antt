@@ -5,12 +5,13 @@ use Rattle.std.specs.Fmt.{decimal}
 use Rattle.std.specs.List.{list_all}
 use Rattle.inode_meta.specs.declared.identity.Meta.{Meta}
 use Rattle.text_forms.specs.Paths.{is_path}
-use Rattle.script_text.specs.Files.{Front, front_of}
+use Rattle.script_text.specs.fields.FileFields.{Front, front_of}
 use Rattle.script_text.specs.Forms.{is_id, is_ino, is_meta, is_mode}
 use Rattle.script_text.specs.declared.blocks.FileBlock.{FileBlock}
-use Rattle.script_text.proofs.Holding.{left_true, right_true}
-use Rattle.script_print.specs.Lines.{is_plain}
-use Rattle.script_print.specs.Spelling.{meta_words, octal}
+use Rattle.call_lines.proofs.Holding.{left_true, right_true}
+use Rattle.call_lines.specs.Lines.{is_plain}
+use Rattle.call_lines.specs.Form.{octal}
+use Rattle.script_print.specs.Spelling.{meta_words}
 use Rattle.script_print.proofs.AttrsAgain.{with_attrs}
 use Rattle.script_print.proofs.Words.{decimal_plain, id_back, id_plain, ino_back, ino_plain, mode_back, numeral_back, octal_plain, path_plain}
 

@@ -21,10 +21,11 @@ use Rattle.script_text.specs.Limits.{most_bytes, most_content, most_files, most_
 use Rattle.script_text.specs.ScriptValue.{ScriptValue}
 use Rattle.script_text.specs.declared.blocks.FileBlock.{FileBlock}
 use Rattle.script_text.specs.declared.head.Head.TheVariants as head
-use Rattle.script_text.proofs.Holding.{left_true, right_true}
-use Rattle.script_text.proofs.ValueForms.{is_value}
-use Rattle.script_print.specs.Lines.{Line, is_plain}
-use Rattle.script_print.specs.Spelling.{attr_line, file_line, file_lines, hex_text, kind_word}
+use Rattle.call_lines.proofs.Holding.{left_true, right_true}
+use Rattle.call_lines.proofs.ValueForms.{is_value}
+use Rattle.call_lines.specs.Lines.{Line, is_plain}
+use Rattle.call_lines.specs.Form.{hex_text}
+use Rattle.script_print.specs.Spelling.{attr_line, file_line, file_lines, kind_word}
 use Rattle.script_print.proofs.AttrsAgain.{attrs_again, putting}
 use Rattle.script_print.proofs.FileWords.{IsMeta, bare_block, front_back, front_for, meta_parts, shared_plain, shared_words}
 use Rattle.script_print.proofs.Many.{IsAt, Leads, again_at, many}

@@ -1,6 +1,4 @@
 pub mod AttrsAgain
-pub mod CallWords
-pub mod CallsAgain
 pub mod EvmAgain
 pub mod FileWords
 pub mod FilesAgain

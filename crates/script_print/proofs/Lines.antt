@@ -1,6 +1,6 @@
 -- Lines of plain words are read word by word, and one after another.
-use Rattle.std.proofs.Common.{◌≡◌, ℕ, ◌+◌, Bool, true, false, not, ◌==◌, List, [], ◌∷◌, ◌++◌, map, Option, Some, None, Result, Ok, Err, if◌then◌else◌, refl, sym, ap, ◌∙◌, arith}
-use Rattle.std.specs.List.{list_all, join_with_byte}
+use Rattle.std.proofs.Common.{◌≡◌, ℕ, ◌+◌, Bool, true, false, not, ◌==◌, List, [], ◌∷◌, ◌++◌, map, Some, None, Result, Ok, Err, if◌then◌else◌, refl, sym, ap, ◌∙◌, arith}
+use Rattle.std.specs.List.{list_all}
 use Rattle.std.proofs.lemmas.Bool.{false≢true}
 use Rattle.std.proofs.lemmas.Bool.Decides.{nat_tests}
 use Rattle.std.proofs.lemmas.List.{append-nil}
@@ -17,8 +17,9 @@ use Rattle.script_text.specs.Draft.{Draft}
 use Rattle.script_text.specs.Grammar.{add}
 use Rattle.script_text.specs.Heads.{is_over}
 use Rattle.script_text.specs.Settings.{Made}
-use Rattle.script_text.proofs.Holding.{both_true, left_true, right_true}
-use Rattle.script_print.specs.Lines.{Line, begins_line, is_plain, is_read_line, lines_text, words_text}
+use Rattle.call_lines.proofs.Holding.{both_true, left_true, right_true}
+pub use Rattle.call_lines.proofs.Rules.{joined_is, text_behind}
+use Rattle.call_lines.specs.Lines.{Line, begins_line, is_plain, is_read_line, lines_text, words_text}
 
 -- ---- the words of a line
 
@@ -40,16 +41,6 @@ clean w h = all_weaker is_visible is_clean_byte clean_byte w h
 
 no_space : (b : ℕ) → is_visible b ≡ true → (b == 32) ≡ false
 no_space b h = grind (arith, nat_tests)
-
--- words preceded by a space each are words joined by spaces
-pub joined_is : (w : List ℕ) (ws : Line) → words_text (w ∷ ws) ≡ join_with_byte 32 (w ∷ ws)
-joined_is w [] = append-nil w
-joined_is w (v ∷ ws) = ap (λ (t : List ℕ). w ++ 32 ∷ t) (joined_is v ws)
-
--- the text after the first word
-abbrev pub text_behind : Line → Option (List ℕ)
-text_behind [] = None
-text_behind (w ∷ ws) = Some (words_text (w ∷ ws))
 
 cut_none : (w : List ℕ) → is_plain w ≡ true → cut 32 w ≡ None
 cut_none [] h = refl

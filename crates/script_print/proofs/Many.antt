@@ -4,7 +4,7 @@ use Rattle.std.proofs.lemmas.Bool.Decides.{nat_tests}
 use Rattle.std.proofs.lemmas.List.Concat.{flat_map_single}
 use Rattle.script_text.specs.Draft.{Draft}
 use Rattle.script_text.specs.Heads.{in_order}
-use Rattle.script_print.specs.Lines.{Line}
+use Rattle.call_lines.specs.Lines.{Line}
 use Rattle.script_print.proofs.Steps.{Reads, followed, nothing}
 
 -- the lines lead to the draft of a state that satisfies Q

@@ -1,15 +1,16 @@
 -- A path is found at the index of its file.
-use Rattle.std.proofs.Common.{◌≡◌, ℕ, zero, suc, ◌+◌, ◌<◌, Bool, true, false, not, List, [], ◌∷◌, ◌++◌, length, map, slice_get, Option, Some, None, is_some, refl, sym, ap, ◌∙◌, inl, inr, arith, length-append, append_assoc}
+use Rattle.std.proofs.Common.{◌≡◌, ℕ, zero, suc, ◌+◌, ◌<◌, Bool, true, false, not, List, [], ◌∷◌, ◌++◌, length, map, slice_get, Option, Some, None, is_some, refl, sym, ap, subst, ◌∙◌, inl, inr, arith, length-append, append_assoc}
 use Rattle.std.specs.Cmp.Lexicographic.{bytes_decides}
 use Rattle.std.specs.List.{list_all}
 use Rattle.std.specs.Str.{bytes_eq}
 use Rattle.std.proofs.lemmas.Bool.{cases_Bool, false≢true}
 use Rattle.text_forms.specs.Paths.{is_path}
 use Rattle.script_text.specs.Forms.{are_apart, has_place, path_of_block}
-use Rattle.script_text.specs.Places.{one_on, place_in}
+use Rattle.call_lines.specs.Places.{one_on, place_in}
 use Rattle.script_text.specs.declared.blocks.FileBlock.{FileBlock}
-use Rattle.script_text.proofs.Holding.{left_true, right_true}
-use Rattle.script_print.specs.Spelling.{path_at}
+use Rattle.call_lines.proofs.Holding.{left_true, right_true}
+use Rattle.call_lines.specs.Form.{path_at}
+use Rattle.call_lines.proofs.Again.{AreKnown}
 
 reflexive : (bs : List ℕ) → bytes_eq bs bs ≡ true
 reflexive bs = (bytes_decides bs bs).1 refl
@@ -62,19 +63,33 @@ pub record AreFound (files : List FileBlock) (paths : List (List ℕ)) : Type 0 
   pub apart : are_apart has_place [] (map path_of_block files) ≡ true
   pub forms : list_all is_path (map path_of_block files) ≡ true
 
--- the path at an index is that of the file there
-pub got : (files : List FileBlock) (k : ℕ) → k < length files
-    → slice_get (map path_of_block files) k ≡ Some (path_at files k)
+-- the path at an index
+got : (paths : List (List ℕ)) (k : ℕ) → k < length paths
+    → slice_get paths k ≡ Some (path_at paths k)
 got [] k lt = absurd (omega (arith, lt))
-got (b ∷ bs) zero lt = refl
-got (b ∷ bs) (suc k) lt = got bs k (omega (arith, lt))
+got (p ∷ ps) zero lt = refl
+got (p ∷ ps) (suc k) lt = got ps k (omega (arith, lt))
 
 -- the path at an index has the form of a path
-pub form_at : (files : List FileBlock) (k : ℕ) → k < length files
-    → list_all is_path (map path_of_block files) ≡ true → is_path (path_at files k) ≡ true
+form_at : (paths : List (List ℕ)) (k : ℕ) → k < length paths → list_all is_path paths ≡ true
+    → is_path (path_at paths k) ≡ true
 form_at [] k lt h = absurd (omega (arith, lt))
-form_at (b ∷ bs) zero lt h =
-    left_true (is_path b.path) (list_all is_path (map path_of_block bs)) h
-form_at (b ∷ bs) (suc k) lt h =
-    form_at bs k (omega (arith, lt))
-    (right_true (is_path b.path) (list_all is_path (map path_of_block bs)) h)
+form_at (p ∷ ps) zero lt h = left_true (is_path p) (list_all is_path ps) h
+form_at (p ∷ ps) (suc k) lt h =
+    form_at ps k (omega (arith, lt)) (right_true (is_path p) (list_all is_path ps) h)
+
+all_known : (paths : List (List ℕ)) → are_apart has_place [] paths ≡ true
+    → list_all is_path paths ≡ true → AreKnown paths
+all_known paths apart forms = record {
+  form = λ i lt. form_at paths i lt forms;
+  place = λ i lt.
+      let from_zero : 0 + i ≡ i = omega arith in
+      place_again [] paths apart i (path_at paths i) (got paths i lt)
+      ∙ ap (λ (k : ℕ). Some k) from_zero;
+}
+
+-- the paths of the files of a script are known
+pub paths_known : (files : List FileBlock) (paths : List (List ℕ)) → AreFound files paths
+    → AreKnown paths
+paths_known files paths found =
+    subst AreKnown (sym found.are) (all_known (map path_of_block files) found.apart found.forms)

@@ -2,13 +2,13 @@
 use Rattle.std.proofs.Common.{◌≡◌, ℕ, ◌+◌, ◌<◌, List, [], ◌∷◌, ◌++◌, get_or, length, map, take, refl, sym, ap, ◌∙◌, subst, append_assoc}
 use Rattle.std.specs.Prelude.{decimal}
 use Rattle.std.specs.List.{AllByRecursion, flat_map}
-use Rattle.std.proofs.lemmas.List.{append-nil, take_more}
+use Rattle.std.proofs.lemmas.List.{append-nil, map-append, take_more}
 use Rattle.std.proofs.lemmas.List.Concat.{flat_map-append}
 use Rattle.policy_text.specs.rules.RuleValue.{RuleValue}
 use Rattle.policy_text.specs.Spelling.{rule_text, rule_words}
 use Rattle.script_text.proofs.Lasts.{each_behind}
-use Rattle.script_print.specs.Lines.{Line, behind_space, line_text, lines_text, spaced, words_text}
-use Rattle.script_print.proofs.RulesAgain.{rule_joined}
+use Rattle.call_lines.specs.Lines.{Line, behind_space, line_text, lines_text, spaced, words_text}
+use Rattle.call_lines.proofs.Rules.{added_put}
 
 -- the text of lines, one for each element
 pub text_of_map : {X : Type 0} (f : X → Line) (xs : List X)
@@ -30,11 +30,6 @@ turns_text (t ∷ ts) = ap (λ l. 32 ∷ (decimal t ++ l)) (turns_text ts)
 
 pub lines_more : (ls ms : List Line) → lines_text (ls ++ ms) ≡ lines_text ls ++ lines_text ms
 lines_more ls ms = flat_map-append line_text ls ms
-
--- the text of a rule after the first word
-pub rule_behind : (w : List ℕ) (r : RuleValue)
-    → words_text (w ∷ rule_words r) ≡ w ++ 32 ∷ rule_text r
-rule_behind w r = ap (λ t. w ++ 32 ∷ t) (rule_joined r)
 
 -- ---- one section after another
 
@@ -115,13 +110,6 @@ seven_put o0 o1 o2 o3 o4 o5 o6 o7 a b c d e f tc td te tf l n e1 e2 c3 e3 c4 e4 
 
 -- ---- the words of a line, one after another
 
--- a first word and a rule, appended to a text
-pub added_put : (start o p : List ℕ) (w : List ℕ) (r : RuleValue) → o ≡ start ++ (w ++ 32 ∷ [])
-    → p ≡ o ++ rule_text r → p ≡ start ++ words_text (w ∷ rule_words r)
-added_put start o p w r h k =
-    k ∙ ap (λ t. t ++ rule_text r) h ∙ append_assoc start (w ++ 32 ∷ []) (rule_text r)
-    ∙ ap (λ t. start ++ t) (append_assoc w (32 ∷ []) (rule_text r) ∙ sym (rule_behind w r))
-
 -- a first word, a rule and the end of the line, appended to a text
 pub rule_put : (start o p q : List ℕ) (w : List ℕ) (r : RuleValue) → o ≡ start ++ (w ++ 32 ∷ [])
     → p ≡ o ++ rule_text r → q ≡ p ++ 10 ∷ [] → q ≡ start ++ line_text (w ∷ rule_words r)
@@ -185,3 +173,12 @@ pub all_more : {X : Type 0} (P : X → Type 0) (xs : List X) (i : ℕ) (x : X) �
     → AllByRecursion P (take (i + 1) xs)
 all_more P xs i x lt is h k =
     subst (λ l. AllByRecursion P l) (sym (taken xs i x lt is)) (each_behind P (take i xs) x h k)
+
+-- the values that are made of the elements so far, and one more
+pub map_more : {X Y Z : Type 0} (f : X → Z) (g : Y → Z) (xs : List X) (i : ℕ) (x : X)
+    (ys new : List Y) (y : Y) → i < length xs → x ≡ get_or xs i x → new ≡ ys ++ y ∷ []
+    → g y ≡ f x → map g ys ≡ map f (take i xs) → map g new ≡ map f (take (i + 1) xs)
+map_more f g xs i x ys new y lt is more same h =
+    ap (λ l. map g l) more ∙ map-append g ys (y ∷ []) ∙ ap (λ l. l ++ g y ∷ []) h
+    ∙ ap (λ z. map f (take i xs) ++ z ∷ []) same
+    ∙ sym (map-append f (take i xs) (x ∷ [])) ∙ ap (λ l. map f l) (sym (taken xs i x lt is))

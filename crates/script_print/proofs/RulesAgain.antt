@@ -1,44 +1,21 @@
 -- Reading the lines of rules makes the rules again.
-use Rattle.std.proofs.Common.{◌≡◌, ℕ, ◌+◌, ◌<◌, ◌≤◌, true, nat_lt, List, [], ◌∷◌, ◌++◌, length, map, Ok, refl, sym, ap, ◌∙◌, subst, arith, length-append, append_assoc}
+use Rattle.std.proofs.Common.{◌≡◌, ℕ, ◌+◌, ◌<◌, ◌≤◌, true, nat_lt, List, [], ◌∷◌, ◌++◌, length, map, refl, sym, ap, ◌∙◌, subst, arith, length-append, append_assoc}
 use Rattle.std.specs.Prelude.{codes}
-use Rattle.std.specs.List.{AllByRecursion, list_all}
+use Rattle.std.specs.List.{AllByRecursion}
 use Rattle.std.proofs.lemmas.Bool.Decides.{nat_tests}
 use Rattle.std.proofs.lemmas.List.{append-nil}
-use Rattle.policy_text.specs.Grammar as policy
-use Rattle.policy_text.specs.rules.Key.{keys}
 use Rattle.policy_text.specs.rules.RuleValue.{RuleValue}
-use Rattle.policy_text.specs.rules.ValueTexts.{act_word}
-use Rattle.policy_text.specs.Spelling.{is_visible_word, key_words, rule_text, rule_words}
-use Rattle.text_forms.specs.Tokens.{is_filled}
-use Rattle.text_forms.proofs.Visible.{all_weaker}
-use Rattle.script_words.specs.Forms.{bad_rule, rule_of}
+use Rattle.policy_text.specs.Spelling.{rule_words}
 use Rattle.script_text.specs.Draft.{Draft}
 use Rattle.script_text.specs.Grammar.{with_head}
 use Rattle.script_text.specs.Limits.{most_rules}
 use Rattle.script_text.specs.Tasks.{with_rule}
 use Rattle.script_text.specs.declared.head.Head.TheVariants as head
-use Rattle.script_text.proofs.Holding.{right_true}
-use Rattle.script_print.specs.Lines.{is_plain, words_text}
-use Rattle.script_print.specs.Rules.{IsReadRule}
+use Rattle.call_lines.specs.Rules.{IsReadRule}
 use Rattle.script_print.specs.Spelling.{rule_line}
-use Rattle.script_print.proofs.Lines.{joined_is, text_behind}
+use Rattle.call_lines.proofs.Rules.{rule_back, rule_plain}
 use Rattle.script_print.proofs.Many.{IsAt, Leads, again_at, by_map, many}
 use Rattle.script_print.proofs.Steps.{Reads, one_line}
-
-visible_plain : (w : List ℕ) → is_visible_word w ≡ true → is_plain w ≡ true
-visible_plain w h = right_true (is_filled w) (is_plain w) h
-
-pub rule_plain : (r : RuleValue) → IsReadRule r → list_all is_plain (rule_words r) ≡ true
-rule_plain r h = all_weaker is_visible_word is_plain visible_plain (rule_words r) h.visible
-
--- the words of a rule, joined, are its text
-pub rule_joined : (r : RuleValue) → words_text (rule_words r) ≡ rule_text r
-unfolding rule_text
-rule_joined r = joined_is (act_word r.act) (key_words keys r)
-
-pub rule_back : (r : RuleValue) → IsReadRule r → rule_of (text_behind (rule_words r)) ≡ Ok r
-rule_back r h =
-    ap (λ (t : List ℕ). bad_rule (policy.rule_of t)) (rule_joined r) ∙ ap bad_rule h.again
 
 room : (n m : ℕ) → n < m → nat_lt n m ≡ true
 room n m h = grind (arith, nat_tests)

@@ -16,12 +16,13 @@ use Rattle.script_text.specs.Grammar.{script_of, with_head}
 use Rattle.script_text.specs.Heads.{is_over}
 use Rattle.script_text.specs.Limits.{most_bytes, most_tasks, most_threads, most_turns}
 use Rattle.script_text.specs.ScriptValue.{ScriptValue}
-use Rattle.script_text.specs.Tasks.{ended, turns_from, turns_of, with_rounds, with_schedule, with_threads}
+use Rattle.script_text.specs.Tasks.{ended, with_rounds, with_schedule, with_threads}
+use Rattle.script_text.specs.fields.TaskFields.{turns_from, turns_of}
 use Rattle.script_text.specs.declared.blocks.FileBlock.{FileBlock}
 use Rattle.script_text.specs.declared.blocks.TaskBlock.{TaskBlock}
 use Rattle.script_text.specs.declared.head.Head.TheVariants as head
-use Rattle.script_text.proofs.Holding.{both_true, left_true, right_true}
-use Rattle.script_print.specs.Lines.{is_plain}
+use Rattle.call_lines.proofs.Holding.{both_true, left_true, right_true}
+use Rattle.call_lines.specs.Lines.{is_plain}
 use Rattle.script_print.specs.Rules.{AreReadRules, IsReadRule}
 use Rattle.script_print.specs.Spelling.{ending_line, evm_lines, file_lines, rule_line, script_lines, script_text, setting_lines, super_line, task_lines}
 use Rattle.script_print.proofs.EvmAgain.{after_evm, evm_again}
@@ -202,13 +203,15 @@ module _ (s : ScriptValue) (h : IsScript s) (rules : AllByRecursion IsReadRule s
         script = record d5.script { tasks = s.tasks };
       } in
       let P : List TaskBlock → Type 0 =
-      λ l. Reads d5 (flat_map (task_lines s.files) s.tasks)
+      λ l. Reads d5 (flat_map (task_lines d5.paths) s.tasks)
       (record (tasking d5 found s.tasks r6.to) { script = record d5.script { tasks = l } }) in
-      let e6 : Reads d5 (flat_map (task_lines s.files) s.tasks) d6 = subst P same r6.reads in
+      let blocks = flat_map (task_lines (map path_of_block s.files)) s.tasks in
+      let Q : List (List ℕ) → Type 0 = λ ps. Reads d5 (flat_map (task_lines ps) s.tasks) d6 in
+      let e6 : Reads d5 blocks d6 = subst Q r4.is.1 (subst P same r6.reads) in
       let d7 : Draft = record (ended s.ending d6) { at = 13 } in
       let e7 = ending_again d6 s.ending h.tasks.few h.ending r6.is.at in
       let last = ending_line s.ending ∷ [] in
-      let l6 = flat_map (task_lines s.files) s.tasks ++ last in
+      let l6 = blocks ++ last in
       let l5 = map rule_line s.rules ++ l6 in
       let l4 = flat_map file_lines s.files ++ l5 in
       let l3 = map super_line s.supers ++ l4 in
@@ -220,7 +223,7 @@ module _ (s : ScriptValue) (h : IsScript s) (rules : AllByRecursion IsReadRule s
             (followed (map super_line s.supers) l4 d2 d3 d7 r3.reads
             (followed (flat_map file_lines s.files) l5 d3 d4 d7 r4.reads
             (followed (map rule_line s.rules) l6 d4 d5 d7 r5.reads
-            (followed (flat_map (task_lines s.files) s.tasks) last d5 d6 d7 e6 e7)))));
+            (followed blocks last d5 d6 d7 e6 e7)))));
         is = record { script = refl; over = refl };
       }
 

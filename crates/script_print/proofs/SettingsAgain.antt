@@ -21,11 +21,13 @@ use Rattle.script_text.specs.Forms.{IsDigestOf, are_bytes}
 use Rattle.script_text.specs.Grammar.{with_head}
 use Rattle.script_text.specs.Heads.{stands}
 use Rattle.script_text.specs.ScriptValue.{ScriptValue}
-use Rattle.script_text.specs.Settings.{boot_algo, digest_in, digest_sized, hashed_by, mode_named, shown_by, with_boot, with_hash, with_mode, with_template, with_version}
+use Rattle.script_text.specs.Settings.{boot_algo, hashed_by, shown_by, with_boot, with_hash, with_mode, with_template, with_version}
+use Rattle.script_text.specs.fields.SettingFields.{digest_in, digest_sized, mode_named}
 use Rattle.script_text.specs.declared.head.Head.TheVariants as head
-use Rattle.script_text.proofs.Holding.{both_true}
-use Rattle.script_print.specs.Lines.{is_plain}
-use Rattle.script_print.specs.Spelling.{hex_text, setting_lines}
+use Rattle.call_lines.proofs.Holding.{both_true}
+use Rattle.call_lines.specs.Lines.{is_plain}
+use Rattle.call_lines.specs.Form.{hex_text}
+use Rattle.script_print.specs.Spelling.{setting_lines}
 use Rattle.script_print.proofs.Steps.{Reads, followed, one_line}
 use Rattle.script_print.proofs.Words.{hex_plain, value_back}
 

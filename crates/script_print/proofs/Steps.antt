@@ -13,9 +13,10 @@ use Rattle.script_text.specs.Grammar.{add, headed, placed, script_of, with_head}
 use Rattle.script_text.specs.Heads.{head_of, is_over, rank, stands}
 use Rattle.script_text.specs.Settings.{Made}
 use Rattle.script_text.specs.declared.head.Head.{Head}
-use Rattle.script_text.proofs.Holding.{both_true}
-use Rattle.script_print.specs.Lines.{Line, begins_line, is_plain, is_read_line, lines_text, words_text}
-use Rattle.script_print.proofs.Lines.{cut_words_text, fields_words_text, folded, lines_of, run, text_behind}
+use Rattle.call_lines.proofs.Holding.{both_true}
+use Rattle.call_lines.specs.Lines.{Line, begins_line, is_plain, is_read_line, lines_text, words_text}
+use Rattle.call_lines.proofs.Rules.{text_behind}
+use Rattle.script_print.proofs.Lines.{cut_words_text, fields_words_text, folded, lines_of, run}
 
 -- the lines are read word by word, and lead from draft d to draft e
 pub record Reads (d : Draft) (ls : List Line) (e : Draft) : Type 0 where

@@ -13,10 +13,11 @@ use Rattle.script_text.specs.Forms.{AreSupers, is_ino, is_super, is_uuid}
 use Rattle.script_text.specs.Grammar.{with_head}
 use Rattle.script_text.specs.Limits.{most_supers}
 use Rattle.script_text.specs.ScriptValue.{ScriptValue}
-use Rattle.script_text.specs.Settings.{super_in, versions_of, with_super}
+use Rattle.script_text.specs.Settings.{with_super}
+use Rattle.script_text.specs.fields.SuperFields.{super_in, versions_of}
 use Rattle.script_text.specs.declared.head.Head.TheVariants as head
-use Rattle.script_text.proofs.Holding.{left_true, right_true}
-use Rattle.script_print.specs.Lines.{is_plain}
+use Rattle.call_lines.proofs.Holding.{left_true, right_true}
+use Rattle.call_lines.specs.Lines.{is_plain}
 use Rattle.script_print.specs.Spelling.{super_line, versions_word}
 use Rattle.script_print.proofs.EvmAgain.{after_evm}
 use Rattle.script_print.proofs.Many.{IsAt, Leads, again_at, by_map, many}

@@ -4,30 +4,33 @@ use Rattle.std.specs.Prelude.{codes}
 use Rattle.std.specs.Fmt.{decimal}
 use Rattle.std.specs.List.{AllByRecursion, list_all, sum_by}
 use Rattle.std.proofs.lemmas.Bool.Decides.{nat_tests}
-use Rattle.std.proofs.lemmas.List.{append-nil}
+use Rattle.std.proofs.lemmas.List.{append-nil, length-map}
 use Rattle.std.proofs.lemmas.List.Sums.{sum_by-cons}
 use Rattle.call_steps.specs.declared.call.Call.{Call}
 use Rattle.inode_meta.specs.declared.identity.Cred.{Cred}
-use Rattle.script_text.specs.Calls.{call_of}
 use Rattle.script_text.specs.Draft.{Draft}
-use Rattle.script_text.specs.Forms.{appended_by, calls_of, is_cred, is_id, is_line_call, is_task, task_bytes}
+use Rattle.script_text.specs.Forms.{appended_by, calls_of, is_cred, is_id, is_line_call, is_task, path_of_block, task_bytes}
 use Rattle.script_text.specs.Grammar.{with_head}
 use Rattle.script_text.specs.Limits.{most_bytes, most_calls, most_rules, most_tasks}
 use Rattle.script_text.specs.Settings.{one_if}
-use Rattle.script_text.specs.Tasks.{appends, call_bytes, cred_in, task_with, with_call, with_call_line, with_cred, with_task}
-use Rattle.script_text.specs.declared.blocks.FileBlock.{FileBlock}
+use Rattle.script_text.specs.Tasks.{appends, call_bytes, task_with, with_call, with_call_line, with_cred, with_task}
+use Rattle.script_text.specs.fields.TaskFields.{cred_in}
 use Rattle.script_text.specs.declared.blocks.TaskBlock.{TaskBlock}
 use Rattle.script_text.specs.declared.head.Head.TheVariants as head
-use Rattle.script_text.proofs.Holding.{left_true, right_true}
+use Rattle.call_lines.proofs.Holding.{left_true, right_true}
 use Rattle.script_text.proofs.Lasts.{change_behind}
-use Rattle.script_print.specs.Lines.{Line, is_plain}
+use Rattle.call_lines.specs.Calls.{call_line, call_of, line_by, words_after}
+use Rattle.call_lines.specs.Lines.{Line, is_plain}
+use Rattle.call_lines.specs.Table.{row, spoken}
+use Rattle.call_lines.specs.declared.table.CallWord.{CallWord}
+use Rattle.call_lines.proofs.Again.{call_back}
+use Rattle.call_lines.proofs.Rows.{first_word, told-spoken}
+use Rattle.script_text.specs.Heads.{head_of, head_with, section_of}
 use Rattle.script_print.specs.Rules.{AreReadRules, HasReadRule}
-use Rattle.script_print.specs.Spelling.{admin_words, call_line, task_line, task_lines}
-use Rattle.script_print.proofs.CallWords.{first_word, head_word, word_of, words_of}
-use Rattle.script_print.proofs.CallsAgain.{call_back}
-use Rattle.script_print.proofs.Lines.{text_behind}
+use Rattle.script_print.specs.Spelling.{admin_words, task_line, task_lines}
+use Rattle.call_lines.proofs.Rules.{text_behind}
 use Rattle.script_print.proofs.Many.{IsAt, Leads, again_at, by_map, many}
-use Rattle.script_print.proofs.PathsAgain.{AreFound}
+use Rattle.script_print.proofs.PathsAgain.{AreFound, paths_known}
 use Rattle.script_print.proofs.Steps.{Reads, followed, one_line}
 use Rattle.script_print.proofs.Words.{id_back, id_plain}
 
@@ -136,9 +139,6 @@ appending c = one_if (appends c)
 
 module _ (base : Draft) (found : AreFound base.script.files base.paths) (tasks : List TaskBlock)
     (t : TaskBlock) (most : Most) (few : AreFew (length base.script.rules) most) where
-  abbrev files : List FileBlock
-  files = base.script.files
-
   abbrev calling : Called → Draft
   calling x = record base {
     script = record base.script {
@@ -152,7 +152,7 @@ module _ (base : Draft) (found : AreFound base.script.files base.paths) (tasks :
 
   -- the remaining calls have their forms, and there is room for them
   pub record AreLeft (x : Called) (cs : List Call) : Type 0 where
-    pub forms : list_all (is_line_call (length files)) cs ≡ true
+    pub forms : list_all (is_line_call (length base.paths)) cs ≡ true
     pub read : AllByRecursion HasReadRule cs
     pub calls : x.calls + length cs ≤ most.calls
     pub appended : x.appended + sum_by appending cs ≤ most.appended
@@ -182,34 +182,39 @@ module _ (base : Draft) (found : AreFound base.script.files base.paths) (tasks :
         script = record base.script { tasks = ts };
       })) (change_behind (task_with c) tasks block))
 
-  line_back : (c : Call) (x : Called) (text : Option (List ℕ)) (words : Line)
-      → call_of (word_of c) text words base.paths ≡ Ok c
+  line_back : (w : CallWord) (c : Call) (x : Called) (text : Option (List ℕ)) (words : Line)
+      → call_of w text words base.paths ≡ Ok c
       → with_call c (calling x) ≡ Ok (calling (behind c x))
-      → with_call_line (word_of c) text words (calling x) ≡ Ok (calling (behind c x))
+      → with_call_line w text words (calling x) ≡ Ok (calling (behind c x))
   unfolding with_call_line
-  line_back c x text words is made = rw is made
+  line_back w c x text words is made = rw is made
 
   one_call : (c : Call) (cs : List Call) (x : Called) → AreLeft x (c ∷ cs)
-      → Leads Called calling (calling x) (call_line files c ∷ []) (λ y. AreLeft y cs)
+      → Leads Called calling (calling x) (call_line base.paths c ∷ []) (λ y. AreLeft y cs)
   unfolding with_head
   one_call c cs x h =
-      let form = is_line_call (length files) c in
-      let rest = list_all (is_line_call (length files)) cs in
-      let back = call_back files base.paths found c (left_true form rest h.forms) h.read.0 in
-      let first = first_word files c in
+      let form = is_line_call (length base.paths) c in
+      let rest = list_all (is_line_call (length base.paths)) cs in
+      let known = paths_known base.script.files base.paths found in
+      let back = call_back base.paths known c (left_true form rest h.forms) h.read.0 in
+      let w = (spoken c).word in
+      let ws = words_after base.paths (spoken c) in
+      let first = first_word w in
       let sums = sum_by-cons call_bytes c cs in
       let rules = sum_by-cons appending c cs in
       let y : Called = behind c x in
       let made = made_back c x (omega (arith, h.calls, few.calls))
       (omega (arith, h.appended, rules, few.appended)) (omega (arith, h.sum, sums, few.sum)) in
-      let reads : Reads (calling x) ((head_word c ∷ words_of files c) ∷ []) (calling y) =
-      one_line (head_word c) (words_of files c) (head.Call (word_of c)) (calling x) (calling y)
-      first.begins first.plain back.plain first.head refl
-      (line_back c x (text_behind (words_of files c)) (take 9 (words_of files c)) back.back made) in
+      let kind : head_of (row w).word ≡ Some (head.Call w) =
+      ap (λ (o : Option CallWord). head_with o (section_of (row w).word)) first.kind in
       let P : Line → Type 0 = λ l. Reads (calling x) (l ∷ []) (calling y) in
+      let reads : P (line_by base.paths (spoken c)) =
+      one_line (row w).word ws (head.Call w) (calling x) (calling y)
+      first.begins first.plain back.plain kind refl
+      (line_back w c x (text_behind ws) (take 9 ws) back.back made) in
       record {
         to = y;
-        reads = subst P (sym first.line) reads;
+        reads = subst P (sym (told-spoken (line_by base.paths) c)) reads;
         is = record {
           forms = right_true form rest h.forms;
           read = h.read.1;
@@ -221,12 +226,12 @@ module _ (base : Draft) (found : AreFound base.script.files base.paths) (tasks :
       }
 
   calls_again : (x : Called) → AreLeft x t.calls
-      → Leads Called calling (calling x) (map (call_line files) t.calls) (λ y. AreLeft y [])
+      → Leads Called calling (calling x) (map (call_line base.paths) t.calls) (λ y. AreLeft y [])
   calls_again x h =
-      let r = many calling (λ c. call_line files c ∷ []) AreLeft one_call t.calls x h in
+      let r = many calling (λ c. call_line base.paths c ∷ []) AreLeft one_call t.calls x h in
       record {
         to = r.to;
-        reads = by_map (call_line files) t.calls (calling x) (calling r.to) r.reads;
+        reads = by_map (call_line base.paths) t.calls (calling x) (calling r.to) r.reads;
         is = r.is;
       }
 
@@ -263,7 +268,7 @@ module _ (base : Draft) (found : AreFound base.script.files base.paths) (tasks :
       pub whole : x.done ++ ts ≡ tasks
 
     one_task : (t : TaskBlock) (ts : List TaskBlock) (x : Tasked) → TasksLeft x (t ∷ ts)
-        → Leads Tasked tasking (tasking x) (task_lines base.script.files t) (λ y. TasksLeft y ts)
+        → Leads Tasked tasking (tasking x) (task_lines base.paths t) (λ y. TasksLeft y ts)
     one_task t ts x h =
         let files = base.script.files in
         let form = is_task (length files) t in
@@ -290,8 +295,11 @@ module _ (base : Draft) (found : AreFound base.script.files base.paths) (tasks :
           appended = x.appended;
           sum = x.sum;
         } in
+        let same_count : length base.paths ≡ length files =
+        ap length found.are ∙ length-map files path_of_block in
         let r = calls_again base found x.done t most few from (record {
-          forms = right_true (is_cred t.cred) all is;
+          forms = ap (λ (n : ℕ). list_all (is_line_call n) t.calls) same_count
+              ∙ right_true (is_cred t.cred) all is;
           read = h.read.0;
           calls = omega arith;
           appended = omega arith;
@@ -308,14 +316,14 @@ module _ (base : Draft) (found : AreFound base.script.files base.paths) (tasks :
         let same : r.to.done ≡ t.calls = sym (append-nil r.to.done) ∙ r.is.whole in
         let first = with_it (tasking x) t.cred cred h.at (omega (arith, h.few)) in
         let P : List Call → Type 0 =
-        λ l. Reads first (map (call_line files) t.calls) (calling base found x.done t most few
+        λ l. Reads first (map (call_line base.paths) t.calls) (calling base found x.done t most few
         (record { done = l; calls = r.to.calls; appended = r.to.appended; sum = r.to.sum })) in
-        let calls : Reads first (map (call_line files) t.calls) (tasking y) = subst P same r.reads
-        in
+        let lines = map (call_line base.paths) t.calls in
+        let calls : Reads first lines (tasking y) = subst P same r.reads in
         record {
           to = y;
-          reads = followed (task_line t.cred ∷ []) (map (call_line files) t.calls) (tasking x) first
-              (tasking y) (task_again (tasking x) t.cred cred h.at (omega (arith, h.few))) calls;
+          reads = followed (task_line t.cred ∷ []) lines (tasking x) first (tasking y)
+              (task_again (tasking x) t.cred cred h.at (omega (arith, h.few))) calls;
           is = record {
             at = record { some = omega arith; few = omega arith };
             forms = right_true form rest h.forms;
@@ -330,6 +338,6 @@ module _ (base : Draft) (found : AreFound base.script.files base.paths) (tasks :
 
     -- reading the lines of all tasks makes the tasks again
     pub tasks_again : (x : Tasked) → TasksLeft x tasks
-        → Leads Tasked tasking (tasking x) (flat_map (task_lines base.script.files) tasks)
+        → Leads Tasked tasking (tasking x) (flat_map (task_lines base.paths) tasks)
         (λ y. TasksLeft y [])
-    tasks_again x h = many tasking (task_lines base.script.files) TasksLeft one_task tasks x h
+    tasks_again x h = many tasking (task_lines base.paths) TasksLeft one_task tasks x h

@@ -1,86 +1,28 @@
--- The printed words of numbers, values and names are plain, and are read as the same.
-use Rattle.std.proofs.Common.{◌≡◌, ℕ, ◌-◌, ◌^◌, ◌<◌, ◌≤◌, ◌==◌, Bool, true, false, ◌&&◌, nat_le, List, [], ◌∷◌, length, Option, Some, None, if◌then◌else◌, refl, sym, ap, ◌∙◌, inl, inr, arith}
+-- The printed words of numbers are plain, and are read as the same.
+use Rattle.std.proofs.Common.{◌≡◌, ℕ, ◌-◌, ◌^◌, ◌<◌, ◌≤◌, ◌==◌, Bool, true, false, ◌&&◌, nat_le, Some, None, if◌then◌else◌, refl, sym, ◌∙◌, arith}
 use Rattle.std.specs.Fmt.{decimal}
-use Rattle.std.specs.List.{list_all, slice_split, onto_first}
 use Rattle.std.specs.Str.Parse.{digits_value}
-use Rattle.std.proofs.lemmas.Bool.{cases_Bool}
 use Rattle.std.proofs.lemmas.Bool.Decides.{nat_tests}
-use Rattle.std.proofs.lemmas.List.Sums.{list_all-from_AllPass}
-use Rattle.hex.specs.Hex.{encode_lower, is_hex_digit}
-use Rattle.hex.proofs.HexLemmas.{decode_of-encode_lower, decode_of-ok}
-use Rattle.text_forms.specs.Numbers.{is_short_numeral, short_number_of}
-use Rattle.text_forms.specs.Options.{◌>>=◌}
-use Rattle.text_forms.specs.Paths.{is_path}
-use Rattle.text_forms.specs.Tokens.{is_filled}
-use Rattle.text_forms.specs.Words.{is_visible, is_word}
-use Rattle.text_forms.proofs.ShortNumbers.{short_number_by_value, short_number_of-decimal, short_number_of-digits}
-use Rattle.text_forms.proofs.Visible.{all_weaker, visible-digits}
-use Rattle.script_words.specs.Forms.{descriptor_of, id_of, if_any, ino_of, mode_of, offset_of, place_among, small_of}
-use Rattle.script_words.specs.Value.{hex_value, value_of, within}
-use Rattle.script_text.specs.Files.{numeral_of}
-use Rattle.script_text.specs.Forms.{are_bytes, is_descriptor, is_id, is_ino, is_mode}
-use Rattle.script_text.proofs.Holding.{both_true, left_true, right_true}
-use Rattle.script_text.proofs.ValueForms.{indexed, is_value}
-use Rattle.script_print.specs.Lines.{is_plain}
-use Rattle.script_print.specs.Spelling.{hex_text, octal}
-
--- ---- numbers
+use Rattle.text_forms.specs.Numbers.{is_short_numeral}
+use Rattle.text_forms.proofs.ShortNumbers.{short_number_by_value, short_number_of-decimal}
+use Rattle.script_words.specs.Forms.{ino_of, place_among}
+use Rattle.script_text.specs.fields.FileFields.{numeral_of}
+use Rattle.script_text.specs.Forms.{is_ino}
+use Rattle.call_lines.specs.Lines.{is_plain}
+pub use Rattle.call_lines.proofs.Words.{decimal_plain, octal_plain, id_plain, descriptor_plain, id_back, mode_back, descriptor_back, small_back, offset_back, any_number_back, hex_plain, value_back, word_plain, path_plain}
 
 at_most : (n most : ℕ) → nat_le n most ≡ true → n ≤ most
 at_most n most h = grind (arith, nat_tests)
-
-pub decimal_plain : (n : ℕ) → n < 2 ^ 64 → is_plain (decimal n) ≡ true
-decimal_plain n fits = visible-digits 10 n (omega arith) (omega arith) (omega arith)
-
-pub octal_plain : (n : ℕ) → is_mode n ≡ true → is_plain (octal n) ≡ true
-octal_plain n h =
-    let le : n ≤ 0xffff = at_most n 0xffff h in
-    visible-digits 8 n (omega arith) (omega arith) (omega arith)
-
-pub id_plain : (n : ℕ) → is_id n ≡ true → is_plain (decimal n) ≡ true
-id_plain n h = let le : n ≤ 0xffff_ffff = at_most n 0xffff_ffff h in decimal_plain n (omega arith)
 
 pub ino_plain : (n : ℕ) → is_ino n ≡ true → is_plain (decimal n) ≡ true
 ino_plain n h =
     let le : n ≤ 0xffff_ffff_ffff_ffff = at_most n 0xffff_ffff_ffff_ffff h in
     decimal_plain n (omega arith)
 
-pub descriptor_plain : (n : ℕ) → is_descriptor n ≡ true → is_plain (decimal n) ≡ true
-descriptor_plain n h = let le : n ≤ 255 = at_most n 255 h in decimal_plain n (omega arith)
-
-pub id_back : (n : ℕ) → is_id n ≡ true → id_of (decimal n) ≡ Some n
-id_back n h =
-    let le : n ≤ 0xffff_ffff = at_most n 0xffff_ffff h in
-    short_number_of-decimal 0xffff_ffff n (omega arith) le
-
 pub ino_back : (n : ℕ) → is_ino n ≡ true → ino_of (decimal n) ≡ Some n
 ino_back n h =
     let le : n ≤ 0xffff_ffff_ffff_ffff = at_most n 0xffff_ffff_ffff_ffff h in
     short_number_of-decimal 0xffff_ffff_ffff_ffff n (omega arith) le
-
-pub mode_back : (n : ℕ) → is_mode n ≡ true → mode_of (octal n) ≡ Some n
-mode_back n h =
-    let le : n ≤ 0xffff = at_most n 0xffff h in
-    short_number_of-digits 8 (omega arith) (omega arith) 0xffff n (omega arith) le
-
-pub descriptor_back : (n : ℕ) → is_descriptor n ≡ true → descriptor_of (decimal n) ≡ Some n
-descriptor_back n h =
-    let le : n ≤ 255 = at_most n 255 h in short_number_of-decimal 255 n (omega arith) le
-
-pub small_back : (n : ℕ) → n < 64 → small_of (decimal n) ≡ Some n
-small_back n h = short_number_of-decimal 63 n (omega arith) (omega arith)
-
-pub offset_back : (n : ℕ) → nat_le n 0xffff_ffff ≡ true → offset_of (decimal n) ≡ Some n
-offset_back n h = id_back n h
-
--- a number of at least one is read again
-any_back : (o : Option ℕ) (n : ℕ) → o ≡ Some n → 1 ≤ n → if_any o ≡ Some n
-any_back o n e some = let other : (n == 0) ≡ false = grind (arith, nat_tests) in rw (e, other) refl
-
-pub any_number_back : (most n : ℕ) → n < 2 ^ 64 → 1 ≤ n → n ≤ most
-    → if_any (short_number_of 10 most (decimal n)) ≡ Some n
-any_number_back most n fits some le =
-    any_back (short_number_of 10 most (decimal n)) n (short_number_of-decimal most n fits le) some
 
 pub place_back : (count n : ℕ) → n < count → n < 2 ^ 64 → place_among count (decimal n) ≡ Some n
 place_back count n lt fits =
@@ -100,75 +42,3 @@ numeral n fits =
 
 pub numeral_back : (n : ℕ) → n < 2 ^ 64 → numeral_of (decimal n) ≡ Some (decimal n)
 numeral_back n fits = rw (numeral n fits) refl
-
--- ---- values
-
-hex_visible : (c : ℕ) → is_hex_digit c ≡ true → is_visible c ≡ true
-hex_visible c h = grind (arith, nat_tests)
-
-pub hex_plain : (v : List ℕ) → are_bytes v ≡ true → is_plain (hex_text v) ≡ true
-hex_plain v h =
-    let s = encode_lower v in
-    let parts = decode_of-ok s v (decode_of-encode_lower v (indexed v h)) in
-    all_weaker is_hex_digit is_visible hex_visible s (list_all-from_AllPass is_hex_digit s parts.1)
-
-decoded : (v : List ℕ) → are_bytes v ≡ true → hex_value (encode_lower v) ≡ Some v
-decoded v h = rw (decode_of-encode_lower v (indexed v h)) refl
-
-pub value_back : (least most : ℕ) (v : List ℕ) → is_value least most v ≡ true
-    → value_of least most (hex_text v) ≡ Some v
-value_back least most v h =
-    let low = nat_le least (length v) in
-    let high = nat_le (length v) most in
-    let within_is : (low && high) ≡ true = left_true (low && high) (are_bytes v) h in
-    ap (λ (o : Option (List ℕ)). o >>= within least most)
-    (decoded v (right_true (low && high) (are_bytes v) h)) ∙ rw within_is refl
-
--- ---- names and paths
-
-pub word_plain : (w : List ℕ) → is_word 255 w ≡ true → is_plain w ≡ true
-word_plain w h = right_true (is_filled w && nat_le (length w) 255) (is_plain w) h
-
-parts_plain : (parts : List (List ℕ)) → list_all (is_word 255) parts ≡ true
-    → list_all is_plain parts ≡ true
-parts_plain parts h = all_weaker (is_word 255) is_plain word_plain parts h
-
-abbrev parts_of : List ℕ → List (List ℕ)
-parts_of bs = slice_split (λ c. c == 47) bs
-
--- a part with one more byte is plain only if the byte is visible
-onto_plain : (b : ℕ) (parts : List (List ℕ)) → list_all is_plain (onto_first b parts) ≡ true
-    → (is_visible b ≡ true) × (list_all is_plain parts ≡ true)
-onto_plain b [] h =
-    (left_true (is_visible b) true (left_true (is_visible b && true) true h), refl)
-onto_plain b (part ∷ parts) h =
-    let here = left_true (is_visible b && is_plain part) (list_all is_plain parts) h in
-    let rest = right_true (is_visible b && is_plain part) (list_all is_plain parts) h in (
-      left_true (is_visible b) (is_plain part) here,
-      both_true (is_plain part) (list_all is_plain parts)
-          (right_true (is_visible b) (is_plain part) here) rest,
-    )
-
-slash_visible : (b : ℕ) → (b == 47) ≡ true → is_visible b ≡ true
-slash_visible b h = grind (arith, nat_tests)
-
--- text whose parts between slashes are plain is plain
-between_plain : (bs : List ℕ) → list_all is_plain (parts_of bs) ≡ true → is_plain bs ≡ true
-between_plain [] h = refl
-between_plain (b ∷ bs) h = elim (cases_Bool (b == 47)) [
-  | inl e ↦ both_true (is_visible b) (is_plain bs) (slash_visible b e)
-      (between_plain bs (rw e at h))
-  | inr e ↦
-      let both = onto_plain b (parts_of bs) (rw e at h) in
-      both_true (is_visible b) (is_plain bs) both.0 (between_plain bs both.1)
-]
-
-pub path_plain : (path : List ℕ) → is_path path ≡ true → is_plain path ≡ true
-path_plain [] h = refl
-path_plain (b ∷ parts) h =
-    let front = (b == 47) && nat_le (length (b ∷ parts)) 1024 in
-    let words = list_all (is_word 255) (parts_of parts) in
-    both_true (is_visible b) (is_plain parts)
-    (slash_visible b (left_true (b == 47) (nat_le (length (b ∷ parts)) 1024)
-    (left_true front words h)))
-    (between_plain parts (parts_plain (parts_of parts) (right_true front words h)))

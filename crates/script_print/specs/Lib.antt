@@ -1,3 +1,3 @@
 pub mod Spelling
-pub mod Lines
 pub mod Rules
+pub use Rattle.call_lines.specs.Lines

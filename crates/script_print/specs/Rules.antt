@@ -1,21 +1,7 @@
--- Rules whose text is read as the same rule.
-use Rattle.std.specs.Prelude.{◌≡◌, true, Ok}
-use Rattle.std.specs.List.{AllByRecursion, list_all}
-use Rattle.call_steps.specs.declared.call.Call.{Call}
-use Rattle.call_steps.specs.declared.call.Call.TheVariants as call
-use Rattle.policy_text.specs.Grammar.{rule_of}
-use Rattle.policy_text.specs.rules.RuleValue.{RuleValue}
-use Rattle.policy_text.specs.Spelling.{is_visible_word, rule_text, rule_words}
+-- Tasks whose rules are read as the same rules.
+use Rattle.std.specs.List.{AllByRecursion}
 use Rattle.script_text.specs.declared.blocks.TaskBlock.{TaskBlock}
-
-pub record IsReadRule (r : RuleValue) : Type 0 where
-  pub again : rule_of (rule_text r) ≡ Ok r
-  pub visible : list_all is_visible_word (rule_words r) ≡ true
-
--- the rule that a call appends, if any, is read as the same rule
-abbrev pub HasReadRule : Call → Type 0
-HasReadRule (call.AddRule rule) = IsReadRule rule
-HasReadRule _ = Unit {0}
+pub use Rattle.call_lines.specs.Rules.{HasReadRule, IsReadRule}
 
 abbrev pub AreReadRules : TaskBlock → Type 0
 AreReadRules t = AllByRecursion HasReadRule t.calls

@@ -1,17 +1,9 @@
 -- The canonical text of a script, line by line, each line by its words.
-use Rattle.std.specs.Prelude.{ℕ, ◌==◌, Bool, true, false, List, [], ◌∷◌, ◌++◌, codes, decimal, map, Option, Some, None, slice_get, if◌then◌else◌}
-use Rattle.std.specs.Fmt.{digits}
+use Rattle.std.specs.Prelude.{ℕ, ◌==◌, Bool, true, false, List, [], ◌∷◌, ◌++◌, codes, decimal, map, Option, Some, None, if◌then◌else◌}
 use Rattle.std.specs.List.{flat_map}
-use Rattle.call_steps.specs.declared.call.Call.{Call}
-use Rattle.call_steps.specs.declared.call.Call.TheVariants as call
 use Rattle.call_steps.specs.declared.ending.Ending.{Ending}
 use Rattle.call_steps.specs.declared.ending.Ending.TheVariants as ending
 use Rattle.hash_algos.specs.Algo.{algo_name}
-use Rattle.hex.specs.Hex.{encode_lower}
-use Rattle.inode_events.specs.declared.deed.Change.{Change}
-use Rattle.inode_events.specs.declared.deed.Change.TheVariants as change
-use Rattle.inode_events.specs.declared.deed.How.{How}
-use Rattle.inode_events.specs.declared.deed.How.TheVariants as how
 use Rattle.inode_events.specs.declared.image.Image.{Image}
 use Rattle.inode_meta.specs.Words.{mode_word, template_word}
 use Rattle.inode_meta.specs.declared.identity.Cred.{Cred}
@@ -21,16 +13,13 @@ use Rattle.policy_text.specs.Spelling.{rule_words}
 use Rattle.policy_text.specs.rules.declared.access.Super.{Super}
 use Rattle.text_forms.specs.FileSystems.{magic_text, uuid_text}
 use Rattle.xattr_store.specs.Attrs.{Pair}
-use Rattle.script_print.specs.Lines.{Line, lines_text}
+use Rattle.call_lines.specs.Calls.{call_line}
+use Rattle.call_lines.specs.Form.{hex_text, octal}
+use Rattle.call_lines.specs.Lines.{Line, lines_text}
+use Rattle.script_text.specs.Forms.{path_of_block}
 use Rattle.script_text.specs.ScriptValue.{ScriptValue}
 use Rattle.script_text.specs.declared.blocks.FileBlock.{FileBlock}
 use Rattle.script_text.specs.declared.blocks.TaskBlock.{TaskBlock}
-
-abbrev pub hex_text : List ℕ → List ℕ
-hex_text bytes = codes "hex:" ++ encode_lower bytes
-
-abbrev pub octal : ℕ → List ℕ
-octal n = digits 8 false n
 
 -- ---- settings and file systems
 
@@ -111,75 +100,9 @@ task_line c =
     codes "task" ∷ (codes "uid=" ++ decimal c.uid) ∷ (codes "euid=" ++ decimal c.euid)
     ∷ (codes "gid=" ++ decimal c.gid) ∷ (codes "egid=" ++ decimal c.egid) ∷ admin_words c.admin
 
-abbrev pub way_words : How → List (List ℕ)
-way_words (how.Read true) = codes "r" ∷ codes "create" ∷ []
-way_words (how.Read false) = codes "r" ∷ []
-way_words (how.Write true true) = codes "rw" ∷ codes "create" ∷ []
-way_words (how.Write true false) = codes "rw" ∷ []
-way_words (how.Write false true) = codes "w" ∷ codes "create" ∷ []
-way_words (how.Write false false) = codes "w" ∷ []
-way_words how.Exec = []
-
-abbrev pub trunc_words : Bool → List (List ℕ)
-trunc_words true = codes "trunc" ∷ []
-trunc_words false = []
-
-abbrev pub mapping_word : Bool → List ℕ
-mapping_word true = codes "exec"
-mapping_word false = codes "read"
-
-abbrev pub path_of : Option FileBlock → List ℕ
-path_of None = []
-path_of (Some b) = b.path
-
--- the path of the file of this number
-abbrev pub path_at : List FileBlock → ℕ → List ℕ
-path_at files n = path_of (slice_get files n)
-
-abbrev pub attr_set_line : List ℕ → List ℕ → Option (List ℕ) → Line
-attr_set_line path name None = codes "removexattr" ∷ path ∷ name ∷ []
-attr_set_line path name (Some value) = codes "setxattr" ∷ path ∷ name ∷ hex_text value ∷ []
-
-abbrev pub meta_set_line : List ℕ → Change → Line
-meta_set_line path (change.Mode mode) = codes "chmod" ∷ path ∷ octal mode ∷ []
-meta_set_line path (change.Owner uid gid) = codes "chown" ∷ path ∷ decimal uid ∷ decimal gid ∷ []
-
-abbrev pub open_line : ℕ → List ℕ → How → Bool → Line
-open_line fd path h trunc =
-    codes "open" ∷ decimal fd ∷ path ∷ way_words h ++ trunc_words trunc
-
-abbrev pub write_line : ℕ → ℕ → List ℕ → Line
-write_line fd from bytes = codes "write" ∷ decimal fd ∷ decimal from ∷ hex_text bytes ∷ []
-
-abbrev pub mmap_line : ℕ → ℕ → Bool → Line
-mmap_line m fd exec = codes "mmap" ∷ decimal m ∷ decimal fd ∷ mapping_word exec ∷ []
-
-abbrev pub exec_line : ℕ → List ℕ → Line
-exec_line run path = codes "exec" ∷ decimal run ∷ path ∷ []
-
-abbrev pub call_line : List FileBlock → Call → Line
-call_line files (call.Open fd inode h trunc) = open_line fd (path_at files inode) h trunc
-call_line files (call.Read fd from len) =
-    codes "read" ∷ decimal fd ∷ decimal from ∷ decimal len ∷ []
-call_line files (call.Write fd from bytes) = write_line fd from bytes
-call_line files (call.Ftruncate fd len) = codes "ftruncate" ∷ decimal fd ∷ decimal len ∷ []
-call_line files (call.Close fd) = codes "close" ∷ decimal fd ∷ []
-call_line files (call.Mmap m fd exec) = mmap_line m fd exec
-call_line files (call.Mread m from len) =
-    codes "mread" ∷ decimal m ∷ decimal from ∷ decimal len ∷ []
-call_line files (call.Munmap m) = codes "munmap" ∷ decimal m ∷ []
-call_line files (call.Exec run inode) = exec_line run (path_at files inode)
-call_line files (call.Endexec run) = codes "endexec" ∷ decimal run ∷ []
-call_line files (call.SetAttr inode name value) = attr_set_line (path_at files inode) name value
-call_line files (call.SetMeta inode c) = meta_set_line (path_at files inode) c
-call_line files (call.Post sem) = codes "post" ∷ decimal sem ∷ []
-call_line files (call.Wait sem) = codes "wait" ∷ decimal sem ∷ []
-call_line files (call.AddRule rule) = codes "addrule" ∷ rule_words rule
-call_line files (call.Module inode) = codes "module" ∷ path_at files inode ∷ []
-call_line files (call.Firmware inode) = codes "firmware" ∷ path_at files inode ∷ []
-
-abbrev pub task_lines : List FileBlock → TaskBlock → List Line
-task_lines files t = task_line t.cred ∷ map (call_line files) t.calls
+-- the block of a task, if the files have these paths
+abbrev pub task_lines : List (List ℕ) → TaskBlock → List Line
+task_lines paths t = task_line t.cred ∷ map (call_line paths) t.calls
 
 abbrev pub ending_line : Ending → Line
 ending_line (ending.Schedule turns) = codes "schedule" ∷ map decimal turns
@@ -193,7 +116,7 @@ script_lines s =
     ++ (map super_line s.supers
     ++ (flat_map file_lines s.files
     ++ (map rule_line s.rules
-    ++ (flat_map (task_lines s.files) s.tasks ++ ending_line s.ending ∷ [])))))
+    ++ (flat_map (task_lines (map path_of_block s.files)) s.tasks ++ ending_line s.ending ∷ [])))))
 
 -- the canonical text of a script
 unfoldable pub script_text : ScriptValue → List ℕ

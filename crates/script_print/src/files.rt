@@ -1,10 +1,11 @@
 // The blocks of files.
 
 ghost use Rattle.std.specs.Prelude.{◌≡◌, ◌++◌, codes, flat_map, OnOk};
-ghost use Rattle.script_print.specs.Lines.{line_text, lines_text, spaced};
-ghost use Rattle.script_print.specs.Spelling.{attr_line, content_words, file_line, file_lines, hex_text, kind_word, meta_words};
+ghost use Rattle.call_lines.specs.Lines.{line_text, lines_text, spaced};
+ghost use Rattle.call_lines.specs.Form.{hex_text};
+ghost use Rattle.script_print.specs.Spelling.{attr_line, content_words, file_line, file_lines, kind_word, meta_words};
 
-use crate::pushed::{push_hex, push_number, push_octal, push_value, push_word};
+use call_lines::{push_hex, push_number, push_octal, push_value, push_word};
 use inode_events::Image;
 use inode_events::pages::Content;
 use inode_meta::Meta;

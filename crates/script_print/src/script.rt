@@ -4,7 +4,7 @@ ghost use Rattle.std.specs.Prelude.{◌≡◌, IfOk, Ok};
 ghost use Rattle.script_text.specs.Grammar.{script_of};
 ghost use Rattle.script_print.specs.Spelling.{script_text};
 
-use crate::calls::{push_ending, push_rules, push_tasks};
+use crate::calls::{paths_of, push_ending, push_rules, push_tasks};
 use crate::files::push_files;
 use crate::settings::{push_evm, push_settings, push_supers};
 use script_text::Script;
@@ -24,7 +24,8 @@ pub fn print(alloc: Global, script: &Script) -> Result<Vec<u8>, OutOfMemory>
     push_supers(&mut out, &script.supers)?;
     push_files(&mut out, &script.files)?;
     push_rules(alloc, &mut out, script.rules.rules())?;
-    push_tasks(alloc, &mut out, &script.files, &script.tasks)?;
+    let paths = paths_of(alloc, &script.files)?;
+    push_tasks(alloc, &mut out, &paths, &script.tasks)?;
     push_ending(&mut out, &script.ending)?;
     Ok(out)
 }

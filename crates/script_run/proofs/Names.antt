@@ -1,7 +1,6 @@
 -- The scene of each script has names and rules that a line can show.
-use Rattle.std.proofs.Common.{◌≡◌, ℕ, ◌≤◌, ◌&&◌, true, nat_le, nat_lt, List, [], ◌∷◌, length, map, arith}
+use Rattle.std.proofs.Common.{◌≡◌, ℕ, ◌≤◌, ◌&&◌, true, nat_le, nat_lt, List, [], ◌∷◌, Some, None, length, map, arith}
 use Rattle.std.specs.List.{AllByRecursion, list_all}
-use Rattle.call_steps.specs.Forms.{is_call, is_set_value}
 use Rattle.call_steps.specs.declared.call.Call.{Call}
 use Rattle.call_steps.specs.declared.call.Call.TheVariants as call
 use Rattle.run_model.specs.events.declared.deed.Change.TheVariants as change
@@ -10,7 +9,7 @@ use Rattle.report_laws.specs.Law.{HasNames, IsNamedCall}
 use Rattle.report_text.proofs.Kept.{visible}
 use Rattle.report_text.specs.Ranges.{IsClean}
 use Rattle.run_model.specs.Scene.{Program, Station}
-use Rattle.script_text.specs.Forms.{IsFile, IsScript, are_bytes, is_attr, is_cred, is_line_call, is_spelled, is_task}
+use Rattle.script_text.specs.Forms.{IsFile, IsScript, are_bytes, is_attr, is_cred, is_line_call, is_mode, is_task}
 use Rattle.script_text.specs.ScriptValue.{ScriptValue}
 use Rattle.script_text.specs.declared.blocks.FileBlock.{FileBlock}
 use Rattle.script_text.specs.declared.blocks.TaskBlock.{TaskBlock}
@@ -46,28 +45,27 @@ files_named supers (b ∷ bs) h =
     (attrs_named b.image.attrs h.0.attrs.forms, files_named supers bs h.1)
 
 -- a call of a script has names, modes and rules that a line can show
-call_named : (files : ℕ) (c : Call) → is_call files c ≡ true → is_spelled c ≡ true → KeepsRule c
-    → IsNamedCall c
-call_named files (call.SetAttr inode name value) h s k =
-    word_clean name (right_true (nat_lt inode files) (is_word 255 name)
-    (left_true (nat_lt inode files && is_word 255 name) (is_set_value value) h))
-call_named files (call.SetMeta inode (change.Mode mode)) h s k =
-    let low : mode ≤ 0xffff = at_most mode 0xffff s in omega (arith, low)
-call_named files (call.SetMeta inode (change.Owner uid gid)) h s k = tt
-call_named files (call.AddRule rule) h s k = k
-call_named files c h s k = tt
+call_named : (files : ℕ) (c : Call) → is_line_call files c ≡ true → KeepsRule c → IsNamedCall c
+call_named files (call.SetAttr inode name (Some value)) h k =
+    word_clean name (left_true (is_word 255 name) _ (right_true (nat_lt inode files) _ h))
+call_named files (call.SetAttr inode name None) h k =
+    word_clean name (left_true (is_word 255 name) _ (right_true (nat_lt inode files) _ h))
+call_named files (call.SetMeta inode (change.Mode mode)) h k =
+    let form = is_mode mode in
+    let is : form ≡ true = left_true form true (right_true (nat_lt inode files) (form && true) h) in
+    let low : mode ≤ 0xffff = at_most mode 0xffff is in
+    omega (arith, low)
+call_named files (call.SetMeta inode (change.Owner uid gid)) h k = tt
+call_named files (call.AddRule rule) h k = k
+call_named files c h k = tt
 
 calls_named : (files : ℕ) (cs : List Call) → list_all (is_line_call files) cs ≡ true
     → AllByRecursion KeepsRule cs → AllByRecursion IsNamedCall cs
 calls_named files [] h k = tt
-calls_named files (c ∷ cs) h k =
-    let here : (is_call files c && is_spelled c) ≡ true =
-    left_true (is_line_call files c) (list_all (is_line_call files) cs) h in (
-      call_named files c (left_true (is_call files c) (is_spelled c) here)
-          (right_true (is_call files c) (is_spelled c) here) k.0,
-      calls_named files cs (right_true (is_line_call files c) (list_all (is_line_call files) cs) h)
-          k.1,
-    )
+calls_named files (c ∷ cs) h k = (
+  call_named files c (left_true (is_line_call files c) (list_all (is_line_call files) cs) h) k.0,
+  calls_named files cs (right_true (is_line_call files c) (list_all (is_line_call files) cs) h) k.1,
+)
 
 tasks_named : (files : ℕ) (ts : List TaskBlock) → list_all (is_task files) ts ≡ true
     → AllByRecursion (λ (b : TaskBlock). AllByRecursion KeepsRule b.calls) ts

@@ -11,11 +11,12 @@ use Rattle.call_steps.specs.declared.call.Call.TheVariants as call
 use Rattle.run_model.specs.events.Files.{is_writer}
 use Rattle.run_model.specs.events.declared.image.Image.{Image}
 use Rattle.policy_rules.specs.declared.access.Super.{Super}
-use Rattle.script_text.specs.Forms.{AreFiles, AreTasks, IsFile, IsOn, IsOnSome, IsScript, is_cred, is_line_call, is_spelled, is_task}
+use Rattle.script_text.specs.Forms.{AreFiles, AreTasks, IsFile, IsOn, IsOnSome, IsScript, is_cred, is_line_call, is_task}
 use Rattle.script_text.specs.ScriptValue.{ScriptValue}
 use Rattle.script_text.specs.declared.blocks.FileBlock.{FileBlock}
 use Rattle.script_text.specs.declared.blocks.TaskBlock.{TaskBlock}
 use Rattle.script_text.proofs.Holding.{both_true, left_true, right_true}
+use Rattle.script_text.proofs.about_calls.Ranges.{line_call_is}
 use Rattle.task_core.specs.laws_of_progress.NextSteps.{IsFit}
 use Rattle.task_core.specs.laws_of_progress.Stations.{IsWithin}
 use Rattle.task_core.specs.starts.Started as started
@@ -101,7 +102,7 @@ calls_fit files (d ∷ ds) h zero c at =
     let first = left_true (is_line_call files d) (list_all (is_line_call files) ds) h in
     let is : d ≡ c = same_Some d c at in
     call_fits files c (subst (λ (x : Call). is_call files x ≡ true) is
-    (left_true (is_call files d) (is_spelled d) first))
+    (line_call_is files d first))
 calls_fit files (d ∷ ds) h (suc k) c at =
     calls_fit files ds (right_true (is_line_call files d) (list_all (is_line_call files) ds) h)
     k c at

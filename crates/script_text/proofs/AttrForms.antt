@@ -1,10 +1,9 @@
 -- Attributes that are set by lines and seals have the forms of attributes.
-use Rattle.std.proofs.Common.{◌≡◌, ℕ, ◌+◌, ◌≤◌, Bool, true, false, not, ◌&&◌, ◌||◌, cond, List, [], ◌∷◌, length, Option, Some, None, if◌then◌else◌, refl, sym, ap, ◌∙◌, subst, inl, inr, arith}
+use Rattle.std.proofs.Common.{◌≡◌, ℕ, ◌+◌, ◌≤◌, true, false, cond, List, [], ◌∷◌, length, Option, Some, None, if◌then◌else◌, refl, ap, inl, inr, arith}
 use Rattle.std.specs.Cmp.Lexicographic.{bytes_decides}
 use Rattle.std.specs.List.{list_all, sum_by}
-use Rattle.std.specs.Ordering.{is_eq, match_ordering}
+use Rattle.std.specs.Ordering.{match_ordering}
 use Rattle.std.specs.Str.{bytes_eq}
-use Rattle.std.specs.declared.cmp.Ordering.{Ordering}
 use Rattle.std.specs.declared.cmp.Ordering.TheVariants.{Less, Equal, Greater}
 use Rattle.std.proofs.lemmas.Bool.{cases_Bool}
 use Rattle.std.proofs.lemmas.List.Sums.{sum_by-cons}
@@ -21,16 +20,16 @@ use Rattle.evm_verify.specs.hmacs.Hmac.{hmac}
 use Rattle.inode_meta.specs.declared.identity.Meta.{Meta}
 use Rattle.label_values.specs.Labels.{is_plain, label_of}
 use Rattle.text_forms.specs.Words.{is_word}
-use Rattle.xattr_store.specs.Attrs.{IsAttrs, Pair, byte_order, put, without}
+use Rattle.xattr_store.specs.Attrs.{Pair, byte_order, put, without}
 use Rattle.xattr_store.proofs.Kept.{attrs-put, attrs-without}
 use Rattle.xattr_store.proofs.Search.{eq_as_ordered}
 use Rattle.xattr_store.specs.Names.{ima_name}
-use Rattle.script_text.specs.Files.{counted_length, is_counted}
-use Rattle.script_text.specs.Forms.{AreAttrs, are_bytes, attr_bytes, attr_count, is_attr}
-use Rattle.script_text.specs.Limits.{most_attrs}
+use Rattle.script_text.specs.Files.{is_counted}
+use Rattle.script_text.specs.Forms.{AreAttrs, are_bytes, attr_count, is_attr}
+use Rattle.script_fields.specs.Limits.{most_attrs}
 use Rattle.script_text.specs.Settings.{one_if}
 use Rattle.script_text.proofs.HashBytes.{hmac_bytes, label_bytes}
-use Rattle.script_text.proofs.Holding.{both_true, left_true, right_true}
+use Rattle.call_lines.proofs.Holding.{both_true, left_true, right_true}
 
 forms_put : (name bytes : List ℕ) (attrs : List Pair) → is_attr (name, bytes) ≡ true
     → list_all is_attr attrs ≡ true → list_all is_attr (put name bytes attrs) ≡ true

@@ -1,42 +1,17 @@
 -- Examples of lines and texts, each with its value.
-use Rattle.std.proofs.Common.{◌≡◌, ℕ, Bool, true, false, List, [], ◌∷◌, codes, Result, Ok, Err, Some, None, refl}
-use Rattle.call_steps.specs.declared.call.Call.TheVariants as call
+use Rattle.std.proofs.Common.{◌≡◌, true, false, [], ◌∷◌, codes, Ok, Err, refl}
 use Rattle.call_steps.specs.declared.ending.Ending.TheVariants as ending
-use Rattle.call_steps.specs.events.declared.deed.How.TheVariants as how
 use Rattle.script_words.specs.declared.fault.LineCause.TheVariants as cause
 use Rattle.script_words.specs.Read.{fault_at}
-use Rattle.script_text.specs.Calls.{open_of, setxattr_of, write_of}
 use Rattle.script_text.specs.Draft.{plain_script}
 use Rattle.script_text.specs.Files.{is_counted}
 use Rattle.script_text.specs.Forms.{are_apart, is_among, is_ending}
 use Rattle.script_text.specs.Grammar.{add, placed, script_of, with_head}
 use Rattle.script_text.specs.ListGrammar as list
-use Rattle.script_text.specs.Places.{place_in}
-use Rattle.script_text.specs.Settings.{is_added_name, with_mode, with_version}
-use Rattle.script_text.specs.Tasks.{turns_of, with_rounds, with_schedule}
-
-abbrev paths : List (List ℕ)
-paths = codes "/a" ∷ codes "/b" ∷ codes "/a" ∷ []
-
-first_path : (place_in paths (codes "/a") ≡ Some 0) × (place_in paths (codes "/b") ≡ Some 1)
-    × (place_in paths (codes "/c") ≡ None)
-first_path = (refl, refl, refl)
-
--- a word of the wrong form is refused before it is asked whether the path exists
-opens : (open_of (codes "7" ∷ codes "/b" ∷ codes "rw" ∷ codes "create" ∷ []) paths
-    ≡ Ok (call.Open 7 1 (how.Write true true) false))
-    × (open_of (codes "7" ∷ codes "/b" ∷ codes "r" ∷ codes "trunc" ∷ []) paths
-    ≡ Err cause.BadField)
-    × (open_of (codes "7" ∷ codes "/c" ∷ codes "w" ∷ codes "trunc" ∷ []) paths ≡ Err cause.Unknown)
-    × (open_of (codes "7" ∷ codes "/c" ∷ codes "x" ∷ []) paths ≡ Err cause.BadField)
-    × (open_of (codes "7" ∷ codes "c" ∷ codes "w" ∷ []) paths ≡ Err cause.BadField)
-opens = (refl, refl, refl, refl, refl)
-
-writes : (write_of (codes "0" ∷ codes "4" ∷ codes "txt:ab" ∷ []) ≡ Ok (call.Write 0 4 (codes "ab")))
-    × (write_of (codes "0" ∷ codes "4" ∷ codes "txt:" ∷ []) ≡ Err cause.BadField)
-    × (setxattr_of (codes "/b" ∷ codes "user.x" ∷ codes "txt:" ∷ []) paths
-    ≡ Ok (call.SetAttr 1 (codes "user.x") (Some [])))
-writes = (refl, refl, refl)
+use Rattle.script_text.specs.Settings.{with_mode, with_version}
+use Rattle.script_fields.specs.SettingFields.{is_added_name}
+use Rattle.script_text.specs.Tasks.{with_rounds, with_schedule}
+use Rattle.script_fields.specs.TaskFields.{turns_of}
 
 names : (is_added_name (codes "security.x") ≡ true) × (is_added_name (codes "security.") ≡ false)
     × (is_added_name (codes "security.evm") ≡ false) × (is_added_name (codes "user.name.x") ≡ false)

@@ -1,9 +1,9 @@
 -- The settings, file systems and files that lines make have their forms.
-use Rattle.std.proofs.Common.{◌≡◌, ℕ, zero, suc, ◌+◌, ◌*◌, ◌^◌, ◌<◌, ◌≤◌, ◌==◌, Bool, true, false, not, ◌&&◌, ◌||◌, nat_le, nat_lt, List, [], ◌∷◌, ◌++◌, length, Option, Some, None, Result, Ok, Err, IfOk, IfSome, ok_or, slice_get, if◌then◌else◌, refl, inl, inr, sym, ap, ◌∙◌, arith, length-append}
+use Rattle.std.proofs.Common.{◌≡◌, ℕ, zero, suc, ◌+◌, ◌*◌, ◌^◌, ◌<◌, ◌==◌, Bool, true, ◌&&◌, nat_le, List, [], ◌∷◌, ◌++◌, length, Option, Some, None, Ok, Err, IfOk, IfSome, slice_get, refl, inl, inr, arith}
 use Rattle.std.specs.Prelude.{codes, option_map, slice_index}
 use Rattle.std.specs.Int.{w128, from_be_bytes}
-use Rattle.std.specs.List.{list_all, list_any}
-use Rattle.std.proofs.lemmas.Bool.{cases_Bool, false≢true}
+use Rattle.std.specs.List.{list_all}
+use Rattle.std.proofs.lemmas.Bool.{cases_Bool}
 use Rattle.std.proofs.lemmas.Bool.Decides.{nat_tests}
 use Rattle.std.proofs.lemmas.List.{length-replicate}
 use Rattle.std.proofs.lemmas.List.Folds.{list_all-append}
@@ -11,30 +11,26 @@ use Rattle.hash_algos.specs.Algo.{algo_size}
 use Rattle.hash_algos.specs.Digest.{zero_digest}
 use Rattle.hash_algos.specs.declared.algo.Algo.{Algo}
 use Rattle.call_steps.specs.events.declared.image.Image.{Image}
-use Rattle.inode_meta.specs.declared.measurement.Template.{Template}
 use Rattle.inode_meta.specs.declared.measurement.Template.TheVariants as template
 use Rattle.policy_text.specs.rules.RuleValue.{is_named_template}
 use Rattle.policy_text.specs.rules.Values.{template_of}
-use Rattle.text_forms.specs.Tables.{look_up}
 use Rattle.policy_text.specs.rules.declared.access.Super.{Super}
 use Rattle.text_forms.specs.FileSystems.{magic_of, uuid_of, without_0x}
-use Rattle.text_forms.specs.Lines.{◌>>=◌}
-use Rattle.text_forms.specs.Numbers.{number_of}
 use Rattle.text_forms.specs.Paths.{is_path}
 use Rattle.text_forms.specs.Tokens.{is_filled}
 use Rattle.text_forms.specs.Words.{is_word}
-use Rattle.uuid.specs.Text.{by_index, byte_of_digits, digits_of, has_hyphens, is_hex_digit, parsed_hyphenated, parsed_simple, value_of as digit_of}
-use Rattle.script_words.specs.declared.fault.LineCause.{LineCause}
+use Rattle.uuid.specs.Text.{by_index, byte_of_digits, digits_of, has_hyphens, is_hex_digit, parsed_simple, value_of as digit_of}
 use Rattle.script_words.specs.declared.fault.LineCause.TheVariants as cause
 use Rattle.script_words.specs.Forms.{behind, behind_by, id_of, ino_of, mode_of, read_by}
 use Rattle.script_words.specs.Value.{value_of}
-use Rattle.script_text.specs.Files.{Front, content_of, file_in, front_in, front_of, front_with, numeral_of, path_of}
-use Rattle.script_text.specs.Forms.{IsDigestOf, IsOn, IsOnSome, are_bytes, is_byte, is_format, is_id, is_ino, is_key, is_mode, is_super, is_uuid}
-use Rattle.script_text.specs.Limits.{most_content, most_key}
-use Rattle.script_text.specs.Settings.{digest_in, digest_sized, format_of, name_of, super_in, super_of, super_with, versions_of}
+use Rattle.script_fields.specs.FileFields.{Front, content_of, file_in, front_in, front_of, front_with, numeral_of, path_of}
+use Rattle.script_text.specs.Forms.{IsDigestOf, IsOnSome, are_bytes, is_byte, is_format, is_id, is_ino, is_key, is_mode, is_super, is_uuid}
+use Rattle.script_fields.specs.Limits.{most_content, most_key}
+use Rattle.script_fields.specs.SettingFields.{digest_in, digest_sized, format_of}
+use Rattle.script_fields.specs.SuperFields.{name_of, super_in, super_of, super_with, versions_of}
 use Rattle.script_text.proofs.HashBytes.{zeros}
-use Rattle.script_text.proofs.Holding.{at_some, both_true, bound, given, left_true, looked_up, right_true, tested, unless_more}
-use Rattle.script_text.proofs.ValueForms.{indexed, is_value, number_of_within, number_within, value_within}
+use Rattle.call_lines.proofs.Holding.{at_some, both_true, given, left_true, looked_up, right_true, tested, unless_more}
+use Rattle.call_lines.proofs.ValueForms.{indexed, is_value, number_of_within, number_within, value_within}
 
 -- ---- settings
 

@@ -17,17 +17,19 @@ use Rattle.script_words.specs.declared.fault.LineCause.TheVariants as cause
 use Rattle.script_words.specs.Forms.{behind_by, field, place_among}
 use Rattle.script_words.specs.Value.{value_of}
 use Rattle.script_text.specs.Draft.{Draft, change_last}
-use Rattle.script_text.specs.Files.{Front, attr_put, attrs_put, block_of, content_of, counted_length, file_in, filed, front_in, has_attr, is_counted, on_super, sealed, setup_of, two, with_absent, with_attr, with_block, with_file, with_front, with_pair, with_seal}
+use Rattle.script_text.specs.Files.{attr_put, attrs_put, block_of, counted_length, filed, has_attr, is_counted, on_super, sealed, setup_of, with_absent, with_attr, with_block, with_file, with_front, with_pair, with_seal}
+use Rattle.script_fields.specs.FileFields.{Front, content_of, file_in, front_in, two}
 use Rattle.script_text.specs.Forms.{AreFiles, AreTasks, IsFile, IsOnSome, are_bytes, attr_bytes, attr_count, file_bytes, has_place, is_attr, path_of_block}
-use Rattle.script_text.specs.Limits.{most_attrs, most_bytes, most_content, most_files, most_value}
-use Rattle.script_text.specs.Places.{place_in}
-use Rattle.script_text.specs.Settings.{Made, name_of, one_if}
+use Rattle.script_fields.specs.Limits.{most_attrs, most_bytes, most_content, most_files, most_value}
+use Rattle.call_lines.specs.Places.{place_in}
+use Rattle.script_text.specs.Settings.{Made, one_if}
+use Rattle.script_fields.specs.SuperFields.{name_of}
 use Rattle.script_text.specs.declared.blocks.FileBlock.{FileBlock}
 use Rattle.script_text.proofs.AttrForms.{attrs_more, attrs_sealed, sum_put, sum_sealed}
 use Rattle.script_text.proofs.FileForms.{IsFront, content_formed, file_in_formed, front_in_formed, is_content}
-use Rattle.script_text.proofs.Holding.{at_some, both_true, given, left_true, not_false, right_true, tested}
+use Rattle.call_lines.proofs.Holding.{at_some, both_true, given, left_true, not_false, right_true, tested}
 use Rattle.script_text.proofs.Lasts.{apart_behind, each_behind, each_changed, last_behind, last_changed, length_changed, map_changed, sum_changed}
-use Rattle.script_text.proofs.ValueForms.{is_value, value_within}
+use Rattle.call_lines.proofs.ValueForms.{is_value, value_within}
 use Rattle.script_text.proofs.Kept.{AreListed, IsDraft, IsOpen, Keeps, below}
 use Rattle.script_text.proofs.MoreFiles.{tasks_of_more}
 

@@ -1,8 +1,7 @@
 -- Hashes, labels and HMACs are bytes.
-use Rattle.std.proofs.Common.{◌≡◌, ℕ, zero, suc, ◌<◌, Bool, true, false, nat_lt, List, [], ◌∷◌, ◌++◌, take, replicate, refl, inl, inr, arith}
+use Rattle.std.proofs.Common.{◌≡◌, ℕ, zero, suc, true, List, [], ◌∷◌, ◌++◌, take, replicate, refl, inl, inr, arith}
 use Rattle.std.specs.Prelude.{slice_index}
 use Rattle.std.specs.Int.{w32, w64, byte_at, bytes_high_first, bytes_low_first, to_be_bytes, to_le_bytes}
-use Rattle.std.specs.List.{list_all}
 use Rattle.std.proofs.lemmas.Bool.{cases_Bool}
 use Rattle.std.proofs.lemmas.Bool.Decides.{nat_tests}
 use Rattle.std.proofs.lemmas.List.Folds.{list_all-append}
@@ -19,7 +18,7 @@ use Rattle.evm_verify.specs.hmacs.Hmac.{hmac}
 use Rattle.label_values.specs.Labels.{is_plain, label_of}
 use Rattle.evm_verify.specs.Input.{evm_value}
 use Rattle.script_text.specs.Forms.{are_bytes, is_byte}
-use Rattle.script_text.proofs.Holding.{both_true, left_true, right_true}
+use Rattle.call_lines.proofs.Holding.{both_true, left_true, right_true}
 
 byte_small : (k n : ℕ) → is_byte (byte_at k n) ≡ true
 byte_small zero n = grind (arith, nat_tests)

@@ -1,45 +1,28 @@
 -- Each line of settings and file systems preserves the invariant of a script.
-use Rattle.std.proofs.Common.{◌≡◌, ℕ, suc, ◌+◌, ◌≤◌, Bool, true, false, not, ◌&&◌, ◌||◌, nat_le, nat_lt, List, [], ◌∷◌, ◌++◌, length, map, Option, Some, None, Result, Ok, Err, IfOk, IfSome, ok_or, is_some, slice_get, if◌then◌else◌, refl, inl, inr, sym, ap, ◌∙◌, subst, lit≤, arith, length-append}
+use Rattle.std.proofs.Common.{◌≡◌, ℕ, ◌+◌, ◌≤◌, Bool, true, false, not, nat_lt, List, [], ◌∷◌, ◌++◌, length, map, Some, Ok, Err, IfOk, IfSome, if◌then◌else◌, refl, arith, length-append}
 use Rattle.std.specs.Prelude.{codes}
-use Rattle.std.specs.List.{AllByRecursion, list_all, list_any, sum_by}
+use Rattle.std.specs.List.{list_any, sum_by}
 use Rattle.std.specs.Str.{bytes_eq}
-use Rattle.std.proofs.lemmas.Bool.{cases_Bool, false≢true}
 use Rattle.std.proofs.lemmas.Bool.Decides.{nat_tests}
-use Rattle.std.proofs.lemmas.List.{map-append}
 use Rattle.std.proofs.lemmas.List.Folds.{list_all-append}
-use Rattle.std.proofs.lemmas.List.Sums.{sum_by_push}
-use Rattle.call_steps.specs.Forms.{is_call, is_set_value}
-use Rattle.call_steps.specs.declared.call.Call.{Call}
-use Rattle.call_steps.specs.declared.call.Call.TheVariants as call
 use Rattle.evm_verify.specs.Input.{five_names}
 use Rattle.hash_algos.specs.Algo.{algo_by_name}
-use Rattle.hash_algos.specs.Digest.{digest_of}
-use Rattle.call_steps.specs.events.declared.image.Image.{Image}
-use Rattle.label_values.specs.Labels.{label_of}
 use Rattle.policy_text.specs.rules.RuleValue.{RuleValue, if_there, is_named_template}
 use Rattle.policy_text.specs.rules.Values.{template_of}
-use Rattle.policy_text.specs.rules.declared.access.Super.{Super}
 use Rattle.text_forms.specs.Lines.{◌>>=◌}
-use Rattle.text_forms.specs.Tokens.{is_filled}
-use Rattle.text_forms.specs.Words.{is_word}
-use Rattle.text_forms.proofs.Visible.{all_weaker}
-use Rattle.xattr_store.specs.Attrs.{Pair, put}
 use Rattle.script_words.specs.declared.fault.LineCause.TheVariants as cause
-use Rattle.script_words.specs.Forms.{behind_by, field, place_among}
 use Rattle.script_words.specs.Value.{value_of}
-use Rattle.script_text.specs.Draft.{Draft, change_last, last_of}
-use Rattle.script_text.specs.Files.{Front, attr_put, attrs_put, block_of, content_of, counted_length, file_in, filed, front_in, has_attr, is_counted, on_super, sealed, setup_of, two, with_absent, with_attr, with_block, with_file, with_front, with_pair, with_seal}
-use Rattle.script_text.specs.Forms.{AreAttrs, AreFiles, AreNames, AreSupers, AreTasks, IsDigestOf, IsFile, IsOnSome, IsScript, appended_by, are_bytes, attr_bytes, attr_count, bytes_in, calls_of, file_bytes, has_place, is_among, is_attr, is_bare, is_cred, is_ending, is_format, is_id, is_ino, is_key, is_line_call, is_mode, is_spelled, is_super, is_task, path_of_block, task_bytes}
-use Rattle.script_text.specs.Limits.{most_added, most_attrs, most_bytes, most_calls, most_content, most_files, most_key, most_rules, most_supers, most_value}
-use Rattle.script_text.specs.Places.{place_in}
-use Rattle.script_text.specs.Settings.{Made, boot_algo, digest_in, format_of, hashed_by, is_added_name, is_protected, locked, mode_named, name_of, one, one_if, shown_by, super_in, with_added, with_boot, with_format, with_hash, with_key, with_mode, with_name, with_super, with_template, with_version, with_word}
+use Rattle.script_text.specs.Draft.{Draft, last_of}
+use Rattle.script_text.specs.Forms.{AreFiles, AreNames, AreSupers, AreTasks, IsDigestOf, IsFile, IsScript, appended_by, attr_count, bytes_in, calls_of, is_among, is_ending, is_format, is_key, is_super, path_of_block}
+use Rattle.script_fields.specs.Limits.{most_added, most_attrs, most_bytes, most_calls, most_key, most_rules, most_supers}
+use Rattle.script_text.specs.Settings.{Made, boot_algo, hashed_by, is_protected, locked, shown_by, with_added, with_boot, with_format, with_hash, with_key, with_mode, with_name, with_super, with_template, with_version, with_word}
+use Rattle.script_fields.specs.SettingFields.{digest_in, format_of, is_added_name, mode_named, one}
+use Rattle.script_fields.specs.SuperFields.{super_in}
 use Rattle.script_text.specs.declared.blocks.FileBlock.{FileBlock}
 use Rattle.script_text.specs.declared.blocks.TaskBlock.{TaskBlock}
-use Rattle.script_text.proofs.AttrForms.{attrs_more, attrs_sealed, sum_put, sum_sealed}
-use Rattle.script_text.proofs.FileForms.{IsFront, content_formed, digest_formed, file_in_formed, format_formed, front_in_formed, is_content, key_formed, on_more, super_formed, template_named, zeros_are}
-use Rattle.script_text.proofs.Holding.{at_some, both_true, bound, given, left_true, not_false, right_true, tested}
-use Rattle.script_text.proofs.Lasts.{apart_behind, each_behind, each_changed, each_weaker, last_behind, last_changed, length_changed, map_changed, sum_changed}
-use Rattle.script_text.proofs.ValueForms.{is_value, value_within}
+use Rattle.script_text.proofs.FileForms.{digest_formed, format_formed, key_formed, on_more, super_formed, template_named, zeros_are}
+use Rattle.call_lines.proofs.Holding.{at_some, bound, given, not_false, tested}
+use Rattle.script_text.proofs.Lasts.{apart_behind, each_weaker}
 
 -- the paths are those of the files
 pub record AreListed (paths : List (List ℕ)) (files : List FileBlock) : Type 0 where

@@ -1,5 +1,5 @@
 -- The first bytes of an array in which a label was written.
-use Rattle.std.proofs.Common.{◌≡◌, ℕ, ◌-◌, List, [], ◌∷◌, ◌++◌, length, take, refl, ap, arith}
+use Rattle.std.proofs.Common.{◌≡◌, ℕ, ◌-◌, List, ◌++◌, length, take, arith}
 use Rattle.std.proofs.Math.Seq.{take-append_seam}
 
 pub shown : (out label rest : List ℕ) (len : ℕ) → out ≡ label ++ rest → len ≡ length label

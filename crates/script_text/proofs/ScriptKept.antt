@@ -1,6 +1,5 @@
 -- Each line preserves the invariant of a script, and so does a whole text.
 use Rattle.std.proofs.Common.{◌≡◌, ℕ, ◌+◌, Bool, true, false, List, [], ◌∷◌, Option, Result, Ok, Err, IfOk, if◌then◌else◌, ◌==◌, lit≤, refl, subst}
-use Rattle.call_steps.specs.declared.call.Call.{Call}
 use Rattle.text_forms.specs.Lines.{◌>>=◌, at_line, lines}
 use Rattle.script_words.specs.declared.fault.Fault.{Fault}
 use Rattle.script_words.specs.declared.fault.LineCause.{LineCause}
@@ -14,7 +13,7 @@ use Rattle.script_text.specs.Heads.{head_of, is_over, rank, stands}
 use Rattle.script_text.specs.declared.head.Head.{Head}
 use Rattle.script_text.specs.declared.head.Head.TheVariants as head
 use Rattle.script_text.proofs.FileForms.{zeros_are}
-use Rattle.script_text.proofs.Holding.{given, right_true, tested}
+use Rattle.call_lines.proofs.Holding.{given, right_true, tested}
 use Rattle.script_text.proofs.FilesKept.{absent_kept, attr_kept, file_kept, seal_kept}
 use Rattle.script_text.proofs.Kept.{IsDraft, Keeps, boot_kept, format_kept, hash_kept, key_kept, mode_kept, name_kept, script_from, super_kept, template_kept, version_kept}
 use Rattle.script_text.proofs.TasksKept.{call_line_kept, rounds_kept, rule_kept, schedule_kept, task_kept, threads_kept}

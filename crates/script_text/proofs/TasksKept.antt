@@ -15,19 +15,20 @@ use Rattle.text_forms.specs.Numbers.{is_short_numeral, short_number_of}
 use Rattle.text_forms.proofs.Visible.{all_weaker}
 use Rattle.script_words.specs.declared.fault.LineCause.TheVariants as cause
 use Rattle.script_words.specs.Forms.{behind_by, id_of, place_among, rule_of}
-use Rattle.script_text.specs.Calls.{call_of}
+use Rattle.call_lines.specs.Calls.{call_of}
 use Rattle.script_text.specs.Draft.{Draft, change_last}
 use Rattle.script_text.specs.Forms.{appended_by, calls_of, is_cred, is_ending, is_line_call, is_task, task_bytes}
-use Rattle.script_text.specs.Limits.{most_bytes, most_calls, most_rules, most_tasks, most_threads, most_turns}
+use Rattle.script_fields.specs.Limits.{most_bytes, most_calls, most_rules, most_tasks, most_threads, most_turns}
 use Rattle.script_text.specs.Settings.{Made, one_if}
-use Rattle.script_text.specs.Tasks.{admin_of, appends, call_bytes, called, cred_in, cred_with, ended, few_turns, has_room, task_with, threads_of, turn_of, turns_from, turns_of, with_call, with_call_line, with_cred, with_rounds, with_rule, with_schedule, with_task, with_threads}
+use Rattle.script_text.specs.Tasks.{appends, call_bytes, called, ended, has_room, task_with, with_call, with_call_line, with_cred, with_rounds, with_rule, with_schedule, with_task, with_threads}
+use Rattle.script_fields.specs.TaskFields.{admin_of, cred_in, cred_with, few_turns, threads_of, turn_of, turns_from, turns_of}
 use Rattle.script_text.specs.declared.blocks.TaskBlock.{TaskBlock}
-use Rattle.script_text.specs.declared.head.CallWord.{CallWord}
-use Rattle.script_text.proofs.CallForms.{any_ok, call_formed, some_ok}
+use Rattle.call_lines.specs.declared.table.CallWord.{CallWord}
+use Rattle.call_lines.proofs.Fitting.{any_ok, call_formed, some_ok}
 use Rattle.script_text.proofs.FileForms.{Ids, id_formed}
-use Rattle.script_text.proofs.Holding.{at_some, both_true, bound, given, left_true, not_false, right_true, tested}
+use Rattle.call_lines.proofs.Holding.{at_some, both_true, bound, given, left_true, not_false, right_true, tested}
 use Rattle.script_text.proofs.Lasts.{all_changed, length_changed, sum_changed}
-use Rattle.script_text.proofs.ValueForms.{any_within, number_within}
+use Rattle.call_lines.proofs.ValueForms.{any_within, number_within}
 use Rattle.script_text.proofs.Kept.{IsDraft, Keeps}
 
 -- there is room for one more rule

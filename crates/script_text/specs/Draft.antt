@@ -1,5 +1,5 @@
 -- A script while its lines are read.
-use Rattle.std.specs.Prelude.{ℕ, ◌-◌, ◌==◌, Bool, true, false, List, [], ◌++◌, ◌∷◌, Option, Some, None, length, take, slice_get}
+use Rattle.std.specs.Prelude.{ℕ, ◌-◌, Bool, false, List, [], ◌++◌, ◌∷◌, Option, Some, None, length, take, slice_get}
 use Rattle.call_steps.specs.declared.ending.Ending.TheVariants.{Rounds}
 use Rattle.hash_algos.specs.Digest.{zero_digest}
 use Rattle.hash_algos.specs.declared.algo.Algo.TheVariants.{Sha256}

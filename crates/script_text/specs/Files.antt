@@ -1,59 +1,26 @@
 -- The blocks of files.
-use Rattle.std.specs.Prelude.{ℕ, ◌+◌, Bool, true, false, ◌&&◌, ◌||◌, not, nat_lt, List, [], ◌∷◌, ◌++◌, length, codes, Option, Some, None, is_some, option_map, slice_get, Result, Ok, Err, ok_or, if◌then◌else◌}
+use Rattle.std.specs.Prelude.{ℕ, ◌+◌, Bool, true, false, ◌&&◌, ◌||◌, not, nat_lt, List, [], ◌∷◌, ◌++◌, length, codes, Option, Some, None, is_some, slice_get, Ok, Err, ok_or, if◌then◌else◌}
 use Rattle.std.specs.Str.{bytes_eq}
 use Rattle.evm_verify.specs.Setup.{Setup}
 use Rattle.evm_verify.specs.Status.{renewed}
 use Rattle.hash_algos.specs.Digest.{digest_of}
 use Rattle.hash_algos.specs.declared.algo.Algo.{Algo}
-use Rattle.call_steps.specs.events.declared.image.Image.{Image}
 use Rattle.label_values.specs.Labels.{label_of}
 use Rattle.policy_text.specs.rules.declared.access.Super.{Super}
 use Rattle.text_forms.specs.Lines.{◌>>=◌}
-use Rattle.text_forms.specs.Numbers.{is_short_numeral}
-use Rattle.text_forms.specs.Paths.{is_path}
-use Rattle.text_forms.specs.Tokens.{is_filled}
-use Rattle.text_forms.specs.Words.{is_word}
-use Rattle.xattr_store.specs.Attrs.{Pair, put, value}
+use Rattle.xattr_store.specs.Attrs.{put, value}
 use Rattle.xattr_store.specs.Names.{evm_name, ima_name}
-use Rattle.script_words.specs.declared.fault.LineCause.{LineCause}
 use Rattle.script_words.specs.declared.fault.LineCause.TheVariants as cause
-use Rattle.script_words.specs.Forms.{behind_by, field, id_of, ino_of, mode_of, place_among}
+use Rattle.script_words.specs.Forms.{behind_by, field, place_among}
 use Rattle.script_words.specs.Value.{value_of}
 use Rattle.script_text.specs.Draft.{Draft, change_last, last_of}
-use Rattle.script_text.specs.Limits.{most_attrs, most_bytes, most_content, most_files, most_value}
-use Rattle.script_text.specs.Places.{place_in}
+use Rattle.script_fields.specs.Limits.{most_attrs, most_bytes, most_files, most_value}
+use Rattle.call_lines.specs.Places.{place_in}
 use Rattle.script_text.specs.ScriptValue.{ScriptValue}
-use Rattle.script_text.specs.Settings.{Made, name_of, one_if}
+use Rattle.script_text.specs.Settings.{Made, one_if}
+use Rattle.script_fields.specs.SuperFields.{name_of}
 use Rattle.script_text.specs.declared.blocks.FileBlock.{FileBlock}
-
--- the words that `file` and `absent` share; the number of the file system may have any length
-pub record Front : Type 0 where
-  pub path : List ℕ
-  pub fs : List ℕ
-  pub ino : ℕ
-  pub generation : ℕ
-  pub uid : ℕ
-  pub gid : ℕ
-  pub mode : ℕ
-
-abbrev pub path_of : List ℕ → Option (List ℕ)
-path_of text = if is_path text then Some text else None
-
-abbrev pub numeral_of : List ℕ → Option (List ℕ)
-numeral_of text = if is_short_numeral 10 text then Some text else None
-
-abbrev pub front_with : Option (List ℕ) → Option (List ℕ) → Option ℕ → Option ℕ → Option ℕ
-    → Option ℕ → Option ℕ → Option Front
-front_with (Some p) (Some f) (Some i) (Some g) (Some u) (Some o) (Some m) =
-    Some (record { path = p; fs = f; ino = i; generation = g; uid = u; gid = o; mode = m })
-front_with _ _ _ _ _ _ _ = None
-
-abbrev pub front_of : List ℕ → List ℕ → List ℕ → List ℕ → List ℕ → List ℕ → List ℕ → Option Front
-front_of p f i g u o m =
-    front_with (path_of p) (behind_by numeral_of (codes "fs=") f)
-    (behind_by ino_of (codes "ino=") i) (behind_by id_of (codes "gen=") g)
-    (behind_by id_of (codes "uid=") u) (behind_by id_of (codes "gid=") o)
-    (behind_by mode_of (codes "mode=") m)
+use Rattle.script_fields.specs.FileFields.{Front, content_of, file_in, front_in, two}
 
 -- the file as its block begins, on file system n
 abbrev pub block_of : Front → ℕ → Super → Bool → List ℕ → FileBlock
@@ -75,10 +42,6 @@ block_of f n s present content = record {
     versions = s.versions;
   };
 }
-
--- the sum, if it is within its limit
-abbrev pub within_sum : ℕ → Option ℕ
-within_sum sum = if nat_lt most_bytes sum then None else Some sum
 
 abbrev pub filed : FileBlock → Draft → Draft
 filed b d =
@@ -108,25 +71,10 @@ abbrev pub with_front : Front → Bool → List ℕ → Draft → Made
 with_front f present content d =
     on_super f present content d (place_among (length d.script.supers) f.fs)
 
-abbrev pub content_of : List ℕ → Option (List ℕ)
-content_of text = value_of 0 most_content text
-
--- `file PATH fs=NUM ino=NUM gen=NUM uid=NUM gid=NUM mode=MODE content=VALUE`
-abbrev pub file_in : List (List ℕ) → Option (Front × List ℕ)
-file_in (p ∷ f ∷ i ∷ g ∷ u ∷ o ∷ m ∷ c ∷ more) =
-    if is_filled more then None else option_map (λ front. (front, c)) (front_of p f i g u o m)
-file_in _ = None
-
 unfoldable pub with_file : List (List ℕ) → Draft → Made
 with_file words d =
     field (file_in words) λ f. field (behind_by content_of (codes "content=") f.1) λ content.
     with_front f.0 true content d
-
--- `absent PATH fs=NUM ino=NUM gen=NUM uid=NUM gid=NUM mode=MODE`
-abbrev pub front_in : List (List ℕ) → Option Front
-front_in (p ∷ f ∷ i ∷ g ∷ u ∷ o ∷ m ∷ more) = if is_filled more then None
-    else front_of p f i g u o m
-front_in _ = None
 
 unfoldable pub with_absent : List (List ℕ) → Draft → Made
 with_absent words d = field (front_in words) λ front. with_front front false [] d
@@ -167,10 +115,6 @@ with_pair name bytes d =
     else if is_counted name && not (nat_lt d.counted most_attrs) then Err cause.TooMany
     else if nat_lt most_bytes (d.sum + counted_length name bytes) then Err cause.TooLarge
     else Ok (attr_put name bytes d)
-
-abbrev pub two : List (List ℕ) → Option (List ℕ × List ℕ)
-two (a ∷ b ∷ []) = Some (a, b)
-two _ = None
 
 -- `attr NAME VALUE`, in the block of the last file
 unfoldable pub with_attr : List (List ℕ) → Draft → Made

@@ -1,19 +1,13 @@
 -- The invariants of a script: the forms of its parts, their lengths and their numbers.
-use Rattle.std.specs.Prelude.{◌≡◌, ℕ, ◌+◌, ◌^◌, ◌≤◌, ◌==◌, Bool, true, false, ◌&&◌, ◌||◌, not, nat_le, nat_lt, List, [], ◌∷◌, ◌++◌, length, map, Option, Some, None, is_some, slice_get}
+use Rattle.std.specs.Prelude.{◌≡◌, ℕ, ◌+◌, ◌^◌, ◌≤◌, ◌==◌, Bool, true, ◌&&◌, ◌||◌, not, nat_le, nat_lt, List, [], ◌∷◌, ◌++◌, length, map, Option, Some, None, is_some, slice_get}
 use Rattle.std.specs.List.{AllByRecursion, list_all, list_any, sum_by}
 use Rattle.std.specs.Str.{bytes_eq}
-use Rattle.call_steps.specs.Forms.{is_call}
-use Rattle.call_steps.specs.declared.call.Call.{Call}
-use Rattle.call_steps.specs.declared.call.Call.TheVariants as call
 use Rattle.call_steps.specs.declared.ending.Ending.{Ending}
 use Rattle.call_steps.specs.declared.ending.Ending.TheVariants as ending
 use Rattle.evm_verify.specs.Input.{five_names}
 use Rattle.hash_algos.specs.Algo.{algo_size}
 use Rattle.hash_algos.specs.DigestValue.{DigestValue}
 use Rattle.hash_algos.specs.declared.algo.Algo.{Algo}
-use Rattle.call_steps.specs.events.Files.{is_exec}
-use Rattle.call_steps.specs.events.declared.deed.Change.{Change}
-use Rattle.call_steps.specs.events.declared.deed.Change.TheVariants as change
 use Rattle.call_steps.specs.events.declared.image.Image.{Image}
 use Rattle.inode_meta.specs.declared.identity.Cred.{Cred}
 use Rattle.inode_meta.specs.declared.identity.Meta.{Meta}
@@ -23,29 +17,19 @@ use Rattle.text_forms.specs.Paths.{is_path}
 use Rattle.text_forms.specs.Tokens.{is_filled}
 use Rattle.text_forms.specs.Words.{is_word}
 use Rattle.xattr_store.specs.Attrs.{IsAttrs, Pair}
+pub use Rattle.call_lines.specs.Calls.{is_line_call}
+pub use Rattle.call_lines.specs.Form.{are_bytes, is_byte, is_id, is_mode}
 use Rattle.script_text.specs.Files.{counted_length, is_counted}
-use Rattle.script_text.specs.Limits.{most_added, most_attrs, most_bytes, most_calls, most_content, most_files, most_key, most_rules, most_supers, most_tasks, most_threads, most_turns}
-use Rattle.script_text.specs.Places.{place_in}
+use Rattle.script_fields.specs.Limits.{most_added, most_attrs, most_bytes, most_calls, most_content, most_files, most_key, most_rules, most_supers, most_tasks, most_threads, most_turns}
+use Rattle.call_lines.specs.Places.{place_in}
 use Rattle.script_text.specs.ScriptValue.{ScriptValue}
-use Rattle.script_text.specs.Settings.{boot_algo, is_added_name, one_if}
+use Rattle.script_text.specs.Settings.{boot_algo, one_if}
+use Rattle.script_fields.specs.SettingFields.{is_added_name}
 use Rattle.script_text.specs.Tasks.{appends, call_bytes}
 use Rattle.script_text.specs.declared.blocks.FileBlock.{FileBlock}
 use Rattle.script_text.specs.declared.blocks.TaskBlock.{TaskBlock}
 
--- ---- numbers and bytes
-
-abbrev pub is_byte : ℕ → Bool
-is_byte b = nat_lt b 256
-
-abbrev pub are_bytes : List ℕ → Bool
-are_bytes bytes = list_all is_byte bytes
-
--- the number of a user or a group, or a generation
-abbrev pub is_id : ℕ → Bool
-is_id n = nat_le n 0xffff_ffff
-
-abbrev pub is_mode : ℕ → Bool
-is_mode n = nat_le n 0xffff
+-- ---- numbers
 
 -- the number of an inode, or a magic number
 abbrev pub is_ino : ℕ → Bool
@@ -53,9 +37,6 @@ is_ino n = nat_le n 0xffff_ffff_ffff_ffff
 
 abbrev pub is_uuid : ℕ → Bool
 is_uuid n = nat_lt n (2 ^ 128)
-
-abbrev pub is_descriptor : ℕ → Bool
-is_descriptor n = nat_le n 255
 
 -- each word is new among those before it
 abbrev pub are_apart : (List (List ℕ) → List ℕ → Bool) → List (List ℕ) → List (List ℕ) → Bool
@@ -151,26 +132,6 @@ pub record AreFiles (supers : List Super) (files : List FileBlock) : Type 0 wher
 
 abbrev pub is_cred : Cred → Bool
 is_cred c = is_id c.uid && is_id c.euid && is_id c.gid && is_id c.egid
-
-abbrev pub is_change : Change → Bool
-is_change (change.Mode mode) = is_mode mode
-is_change (change.Owner uid gid) = is_id uid && is_id gid
-
--- the remaining numbers and the bytes are in range; only `exec` executes
-abbrev pub is_spelled : Call → Bool
-is_spelled (call.Open fd inode how trunc) = is_descriptor fd && not (is_exec how)
-is_spelled (call.Read fd from len) = is_descriptor fd
-is_spelled (call.Write fd from bytes) = is_descriptor fd && are_bytes bytes
-is_spelled (call.Ftruncate fd len) = is_descriptor fd
-is_spelled (call.Close fd) = is_descriptor fd
-is_spelled (call.Mmap map fd exec) = is_descriptor fd
-is_spelled (call.SetAttr inode name value) = if_there are_bytes value
-is_spelled (call.SetMeta inode change) = is_change change
-is_spelled _ = true
-
--- a call of a script with this many files
-abbrev pub is_line_call : ℕ → Call → Bool
-is_line_call files c = is_call files c && is_spelled c
 
 abbrev pub is_task : ℕ → TaskBlock → Bool
 is_task files t = is_cred t.cred && list_all (is_line_call files) t.calls

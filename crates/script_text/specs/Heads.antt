@@ -1,25 +1,11 @@
 -- The kinds of lines by their first words, and the order of the lines.
 use Rattle.std.specs.Prelude.{ℕ, ◌==◌, Bool, true, false, ◌&&◌, ◌||◌, nat_le, nat_lt, List, [], ◌∷◌, codes, Option, Some, None}
 use Rattle.text_forms.specs.Tables.{look_up}
+use Rattle.call_lines.specs.Table.{call_word_of}
+use Rattle.call_lines.specs.declared.table.CallWord.{CallWord}
 use Rattle.script_text.specs.Draft.{Draft}
-use Rattle.script_text.specs.declared.head.CallWord.{CallWord}
-use Rattle.script_text.specs.declared.head.CallWord.TheVariants as word
 use Rattle.script_text.specs.declared.head.Head.{Head}
 use Rattle.script_text.specs.declared.head.Head.TheVariants as head
-
-abbrev pub call_word_of : List ℕ → Option CallWord
-call_word_of text =
-    look_up
-    ((codes "open", word.Open) ∷ (codes "read", word.Read) ∷ (codes "write", word.Write)
-    ∷ (codes "ftruncate", word.Ftruncate)
-    ∷ (codes "close", word.Close) ∷ (codes "mmap", word.Mmap) ∷ (codes "mread", word.Mread)
-    ∷ (codes "munmap", word.Munmap)
-    ∷ (codes "exec", word.Exec) ∷ (codes "endexec", word.Endexec) ∷ (codes "setxattr", word.SetAttr)
-    ∷ (codes "removexattr", word.RemoveAttr) ∷ (codes "chmod", word.Chmod)
-    ∷ (codes "chown", word.Chown) ∷ (codes "post", word.Post)
-    ∷ (codes "wait", word.Wait) ∷ (codes "addrule", word.AddRule) ∷ (codes "module", word.Module)
-    ∷ (codes "firmware", word.Firmware)
-    ∷ []) text
 
 abbrev pub section_of : List ℕ → Option Head
 section_of text =

@@ -10,8 +10,8 @@ use Rattle.script_words.specs.declared.fault.LineCause.TheVariants as cause
 use Rattle.script_words.specs.Forms.{field}
 use Rattle.script_words.specs.Line.{cut_line, fields}
 use Rattle.script_words.specs.Read.{text_of}
-use Rattle.script_text.specs.Files.{content_of, two}
-use Rattle.script_text.specs.Limits.{most_bytes, most_files}
+use Rattle.script_fields.specs.FileFields.{content_of, two}
+use Rattle.script_fields.specs.Limits.{most_bytes, most_files}
 use Rattle.script_text.specs.declared.list_head.ListHead.{ListHead}
 use Rattle.script_text.specs.declared.list_head.ListHead.TheVariants as head
 

@@ -1,31 +1,23 @@
 -- The settings of a script, and its file systems.
-use Rattle.std.specs.Prelude.{ℕ, Bool, true, false, ◌&&◌, ◌==◌, not, nat_le, nat_lt, List, [], ◌∷◌, ◌++◌, length, codes, Option, Some, None, Result, Ok, Err, ok_or, if◌then◌else◌}
+use Rattle.std.specs.Prelude.{ℕ, Bool, true, not, nat_lt, List, [], ◌∷◌, ◌++◌, length, codes, Some, Result, Ok, Err, ok_or, if◌then◌else◌}
 use Rattle.std.specs.Str.{bytes_eq}
 use Rattle.evm_verify.specs.Changes as evm
-use Rattle.evm_verify.specs.Input.{evm_name}
-use Rattle.hash_algos.specs.Algo.{algo_by_name, algo_size}
+use Rattle.hash_algos.specs.Algo.{algo_by_name}
 use Rattle.hash_algos.specs.Digest.{zero_digest}
-use Rattle.hash_algos.specs.DigestValue.{DigestValue}
 use Rattle.hash_algos.specs.declared.algo.Algo.{Algo}
 use Rattle.hash_algos.specs.declared.algo.Algo.TheVariants.{Sha1}
-use Rattle.inode_meta.specs.declared.appraisal.Mode.{Mode}
-use Rattle.inode_meta.specs.declared.appraisal.Mode.TheVariants as mode
 use Rattle.inode_meta.specs.declared.measurement.Template.{Template}
 use Rattle.inode_meta.specs.declared.measurement.Template.TheVariants as template
-use Rattle.policy_text.specs.rules.Key.{starts}
 use Rattle.policy_text.specs.rules.Values.{template_of}
-use Rattle.text_forms.specs.Tables.{look_up}
-use Rattle.policy_text.specs.rules.declared.access.Super.{Super}
-use Rattle.text_forms.specs.FileSystems.{magic_of, uuid_of}
 use Rattle.text_forms.specs.Lines.{◌>>=◌}
-use Rattle.text_forms.specs.Tokens.{is_filled}
-use Rattle.text_forms.specs.Words.{is_word}
 use Rattle.script_words.specs.declared.fault.LineCause.{LineCause}
 use Rattle.script_words.specs.declared.fault.LineCause.TheVariants as cause
-use Rattle.script_words.specs.Forms.{behind_by, field}
+use Rattle.script_words.specs.Forms.{field}
 use Rattle.script_words.specs.Value.{value_of}
 use Rattle.script_text.specs.Draft.{Draft}
-use Rattle.script_text.specs.Limits.{most_added, most_key, most_supers}
+use Rattle.script_fields.specs.Limits.{most_added, most_key, most_supers}
+use Rattle.script_fields.specs.SettingFields.{digest_in, format_of, is_added_name, mode_named, one}
+use Rattle.script_fields.specs.SuperFields.{super_in}
 
 abbrev pub one_if : Bool → ℕ
 one_if b = if b then 1 else 0
@@ -67,27 +59,10 @@ unfoldable pub with_template : List (List ℕ) → Draft → Made
 with_template (w ∷ []) d = ok_or (template_of w) cause.BadField >>= λ t. Ok (shown_by t d)
 with_template _ d = Err cause.BadField
 
-abbrev pub digest_sized : Algo → List ℕ → Result DigestValue LineCause
-digest_sized a bytes = if length bytes == algo_size a then Ok (record { algo = a; bytes = bytes })
-    else Err cause.BadField
-
--- a digest of as many bytes as the algorithm has, which is at most 64
-abbrev pub digest_in : Algo → List ℕ → Result DigestValue LineCause
-digest_in a w = field (value_of 0 64 w) λ bytes. digest_sized a bytes
-
-abbrev pub one : List (List ℕ) → Option (List ℕ)
-one (w ∷ []) = Some w
-one _ = None
-
 unfoldable pub with_boot : List (List ℕ) → Draft → Made
 with_boot words d =
     field (one words) λ w. digest_in (boot_algo d.script.template d.script.hash) w >>= λ g.
     Ok (record d { script = record d.script { boot = g } })
-
-abbrev pub mode_named : List ℕ → Option Mode
-mode_named word =
-    look_up ((codes "enforce", mode.Enforce) ∷ (codes "log", mode.Log) ∷ (codes "fix", mode.Fix)
-    ∷ (codes "off", mode.Off) ∷ []) word
 
 unfoldable pub with_mode : List (List ℕ) → Draft → Made
 with_mode (w ∷ []) d =
@@ -101,11 +76,6 @@ with_key (w ∷ []) d = ok_or (value_of 1 most_key w) cause.BadField >>= λ k. O
 with_key _ d = Err cause.BadField
 
 -- ---- the names that EVM protects besides the five
-
--- a name of 10 to 255 bytes that begins with `security.`, except that of the HMAC itself
-abbrev pub is_added_name : List ℕ → Bool
-is_added_name w = is_word 255 w && nat_le 10 (length w) && starts w (codes "security.")
-    && not (bytes_eq w evm_name)
 
 abbrev pub is_protected : List ℕ → Draft → Bool
 is_protected w d = evm.is_protected d.script.added w
@@ -129,9 +99,6 @@ with_word w d = if bytes_eq w (codes ".") then locked d else with_added w d
 unfoldable pub with_name : List (List ℕ) → Draft → Made
 with_name words d = field (one words) λ w. with_word w d
 
-abbrev pub format_of : List ℕ → Option ℕ
-format_of word = look_up ((codes "1", 1) ∷ (codes "2", 2) ∷ []) word
-
 unfoldable pub with_format : List (List ℕ) → Draft → Made
 with_format (w ∷ []) d =
     ok_or (format_of w) cause.BadField >>= λ f. Ok
@@ -139,27 +106,6 @@ with_format (w ∷ []) d =
 with_format _ d = Err cause.BadField
 
 -- ---- file systems
-
-abbrev pub versions_of : List ℕ → Option Bool
-versions_of word = look_up ((codes "versions", true) ∷ (codes "noversions", false) ∷ []) word
-
-abbrev pub name_of : List ℕ → Option (List ℕ)
-name_of text = if is_word 255 text then Some text else None
-
-abbrev pub super_with : Option ℕ → Option ℕ → Option (List ℕ) → Option Bool → Option Super
-super_with (Some magic) (Some uuid) (Some name) (Some versions) =
-    Some (record { magic = magic; uuid = uuid; name = name; versions = versions })
-super_with _ _ _ _ = None
-
-abbrev pub super_of : List ℕ → List ℕ → List ℕ → List ℕ → Option Super
-super_of m u n v =
-    super_with (behind_by magic_of (codes "magic=") m) (behind_by uuid_of (codes "uuid=") u)
-    (behind_by name_of (codes "name=") n) (versions_of v)
-
--- `fs magic=MAGIC uuid=UUID name=WORD versions`, or `noversions` as the last word
-abbrev pub super_in : List (List ℕ) → Option Super
-super_in (m ∷ u ∷ n ∷ v ∷ more) = if is_filled more then None else super_of m u n v
-super_in _ = None
 
 unfoldable pub with_super : List (List ℕ) → Draft → Made
 with_super words d =

@@ -7,8 +7,8 @@ ghost use Rattle.script_text.specs.Heads.{is_over, stands};
 
 use crate::blocks::{FileBlock, TaskBlock};
 use crate::head::{Head, in_order};
-use crate::paths::Paths;
 use crate::script::Script;
+use call_lines::Paths;
 use call_steps::Ending;
 use hash_algos::{Algo, Digest};
 use inode_meta::{Mode, Template};

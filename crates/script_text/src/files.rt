@@ -1,23 +1,18 @@
 //! The blocks of files.
 
-ghost use Rattle.std.specs.Prelude.{◌≡◌, ◌+◌, ◌-◌, ◌≤◌, length, take, ok_or, option_map, map, codes, IfOk, IfErr, IfNone, OnOk, OnSome};
-ghost use Rattle.std.specs.Option.{option_copied};
+ghost use Rattle.std.specs.Prelude.{◌≡◌, ◌+◌, ◌-◌, ◌≤◌, length, take, map, IfOk, IfErr, IfNone, OnOk, OnSome};
 ghost use Rattle.hash_algos.specs.Digest.{digest_of};
 ghost use Rattle.label_values.specs.Labels.{label_of};
-ghost use Rattle.text_forms.specs.Tokens.{is_filled};
 ghost use Rattle.xattr_store.specs.Names.{ima_name};
-ghost use Rattle.script_words.specs.declared.fault.LineCause.TheVariants as cause;
-ghost use Rattle.script_words.specs.Forms.{behind_by, id_of, ino_of, mode_of};
-ghost use Rattle.script_words.specs.Gives.{LineGives, LineMakes};
+ghost use Rattle.script_words.specs.Gives.{LineMakes};
 ghost use Rattle.script_text.specs.Draft.{change_last, last_of};
-ghost use Rattle.script_text.specs.Settings.{name_of};
-ghost use Rattle.script_text.specs.Files.{attrs_put, block_of, content_of, counted_length, file_in, front_in, front_of, has_attr, is_counted, numeral_of, path_of, sealed, setup_of, two, with_absent, with_attr, with_block, with_file, with_front, with_pair, with_seal, within_sum};
-ghost use Rattle.script_text.specs.FrontView.{front_view};
-ghost use Rattle.script_text.specs.Limits.{most_value};
+ghost use Rattle.script_text.specs.Files.{attrs_put, block_of, counted_length, has_attr, is_counted, sealed, setup_of, with_absent, with_attr, with_block, with_file, with_front, with_pair, with_seal};
+ghost use Rattle.script_fields.specs.FrontView.{front_view};
+ghost use Rattle.script_fields.specs.Limits.{most_value};
 
 use crate::blocks::FileBlock;
 use crate::draft::Draft;
-use crate::paths::Paths;
+use call_lines::Paths;
 use call_steps::events::Image;
 use evm_verify::Evm;
 use hash_algos::Algo;
@@ -26,31 +21,16 @@ use inode_meta::Meta;
 use inode_pages::Content;
 use label_values::{MAX_LABEL, write_label};
 use policy_text::Super;
-use script_words::{LineCause, LineErr, content_of, id_of, ino_of, mode_of, place_among, value_of};
+use script_fields::{Front, content_behind, file_in, front_in, name_of, sum_of, two};
+use script_words::{LineCause, LineErr, place_among, value_of};
 use std::alloc::{AllocError as OutOfMemory, Global};
 use std::mem;
-use text_forms::{is_path, is_short_numeral, is_word};
 use xattr_store::{Attrs, Bytes, EVM_NAME, IMA_NAME, MAX_VALUE};
 
 // The most files of a script, and the most attributes of a file.
 const FILES: usize = 256;
 
 const ATTRS: usize = 16;
-
-// The limit on the total length of all values that count.
-const BYTES: usize = 33_554_432;
-
-/// The words that `file` and `absent` share. The number of the file system may have any length.
-#[derive(Drop)]
-pub struct Front<'a> {
-    pub path: &'a [u8],
-    pub fs: &'a [u8],
-    pub ino: u64,
-    pub generation: u32,
-    pub uid: u32,
-    pub gid: u32,
-    pub mode: u16,
-}
 
 impl Draft {
     /// Reads `file PATH fs=NUM ino=NUM gen=NUM uid=NUM gid=NUM mode=MODE content=VALUE`.
@@ -176,69 +156,6 @@ impl Draft {
     }
 }
 
-fn front_in<'a>(fields: &[&'a [u8]]) -> Option<Front<'a>>
-    ensures { option_map front_view result ≡ front_in (map (λ w. w.now) fields.now) }
-{
-    let [path, fs, ino, generation, uid, gid, mode, more @ ..] = fields else {
-        return None;
-    };
-    if is_filled(more) {
-        return None;
-    }
-    front_of(path, fs, ino, generation, uid, gid, mode)
-}
-
-fn file_in<'a>(fields: &[&'a [u8]]) -> Option<(Front<'a>, &'a [u8])>
-    ensures { option_map (λ f. (front_view f.0, f.1.now)) result
-        ≡ file_in (map (λ w. w.now) fields.now) }
-{
-    let [
-        path,
-        fs,
-        ino,
-        generation,
-        uid,
-        gid,
-        mode,
-        content,
-        more @ ..,
-    ] = fields
-    else {
-        return None;
-    };
-    if is_filled(more) {
-        return None;
-    }
-    let front = front_of(path, fs, ino, generation, uid, gid, mode)?;
-    Some((front, content))
-}
-
-/// Whether there are any words.
-pub fn is_filled(words: &[&[u8]]) -> bool
-    ensures { result ≡ is_filled (map (λ w. w.now) words.now) }
-{
-    match words {
-        [] => false,
-        _ => true,
-    }
-}
-
-/// The two words, if there are exactly two.
-pub fn two<'a>(fields: &[&'a [u8]]) -> Option<(&'a [u8], &'a [u8])>
-    ensures { option_map (λ w. (w.0.now, w.1.now)) result ≡ two (map (λ w. w.now) fields.now) }
-{
-    match fields {
-        [a, b] => Some((a, b)),
-        _ => None,
-    }
-}
-
-fn name_of(text: &[u8]) -> Option<&[u8]>
-    ensures { option_copied result ≡ name_of text.now }
-{
-    if is_word(text, 255) { Some(text) } else { None }
-}
-
 /// Removes and returns the last element of a list.
 pub fn pop_last<T>(items: &mut Vec<T>) -> Option<T>
     ensures last { result ≡ last_of items.old.items }
@@ -283,80 +200,6 @@ fn seal_last(files: &mut Vec<FileBlock>, evm: &Evm, hash: Algo) -> Result<(), Li
     }
 }
 
-fn front_of<'a>(
-    path: &'a [u8],
-    fs: &'a [u8],
-    ino: &[u8],
-    generation: &[u8],
-    uid: &[u8],
-    gid: &[u8],
-    mode: &[u8],
-) -> Option<Front<'a>>
-    ensures { option_map front_view result ≡ front_of path.now fs.now ino.now generation.now uid.now
-        gid.now mode.now }
-{
-    let path = path_of(path)?;
-    let fs = numeral_behind(fs)?;
-    let ino = ino_behind(ino)?;
-    let generation = id_behind(b"gen=", generation)?;
-    let uid = id_behind(b"uid=", uid)?;
-    let gid = id_behind(b"gid=", gid)?;
-    let mode = mode_behind(mode)?;
-    Some(Front {
-        path,
-        fs,
-        ino,
-        generation,
-        uid,
-        gid,
-        mode,
-    })
-}
-
-fn path_of(text: &[u8]) -> Option<&[u8]>
-    ensures { option_copied result ≡ path_of text.now }
-{
-    if is_path(text) { Some(text) } else { None }
-}
-
-fn numeral_behind(text: &[u8]) -> Option<&[u8]>
-    ensures { option_copied result ≡ behind_by numeral_of (codes "fs=") text.now }
-{
-    let number = text.strip_prefix(b"fs=")?;
-    if is_short_numeral(number, 10) {
-        Some(number)
-    } else {
-        None
-    }
-}
-
-fn ino_behind(text: &[u8]) -> Option<u64>
-    ensures { result ≡ behind_by ino_of (codes "ino=") text.now }
-{
-    ino_of(text.strip_prefix(b"ino=")?)
-}
-
-/// The number of a user or a group, or a generation, after its key.
-pub fn id_behind(key: &[u8], text: &[u8]) -> Option<u32>
-    ensures { result ≡ behind_by id_of key.now text.now }
-{
-    id_of(text.strip_prefix(key)?)
-}
-
-fn mode_behind(text: &[u8]) -> Option<u16>
-    ensures { result ≡ behind_by mode_of (codes "mode=") text.now }
-{
-    mode_of(text.strip_prefix(b"mode=")?)
-}
-
-fn content_behind(alloc: Global, text: &[u8]) -> Result<Content, LineErr>
-    ensures { LineGives result
-        (ok_or (behind_by content_of (codes "content=") text.now) cause.BadField) }
-{
-    let value = text.strip_prefix(b"content=").ok_or(LineCause::BadField)?;
-    content_of(alloc, value)
-}
-
 // The file as its block begins.
 fn block_of(
     alloc: Global,
@@ -386,16 +229,6 @@ fn block_of(
     };
     let path = Bytes::from_slice(alloc, front.path)?;
     Ok(FileBlock { path, fs, image })
-}
-
-/// The sum with the length of one more value, if it is within its limit.
-pub fn sum_of(sum: usize, len: usize) -> Option<usize>
-    ensures { result ≡ within_sum (sum + len) }
-{
-    match sum.checked_add(len) {
-        Some(sum) if sum <= BYTES => Some(sum),
-        _ => None,
-    }
 }
 
 fn counted_length(name: &[u8], value: &[u8]) -> usize

@@ -1,6 +1,7 @@
-ghost use Rattle.std.specs.Prelude.{◌≡◌, map};
-ghost use Rattle.text_forms.specs.Tables.{look_up};
-ghost use Rattle.script_text.specs.Heads.{call_word_of, head_of, in_order, rank, repeats, section_of};
+ghost use Rattle.std.specs.Prelude.{◌≡◌};
+ghost use Rattle.script_text.specs.Heads.{head_of, in_order, rank, repeats, section_of};
+
+use call_lines::{CallWord, call_word_of, look_up};
 
 /// The kind of a line of a script, by its first word.
 #[derive(Clone, Copy)]
@@ -26,30 +27,6 @@ pub enum Head {
     Threads,
 }
 
-/// The kind of a call's line, by its first word.
-#[derive(Clone, Copy)]
-pub enum CallWord {
-    Open,
-    Read,
-    Write,
-    Ftruncate,
-    Close,
-    Mmap,
-    Mread,
-    Munmap,
-    Exec,
-    Endexec,
-    SetAttr,
-    RemoveAttr,
-    Chmod,
-    Chown,
-    Post,
-    Wait,
-    AddRule,
-    Module,
-    Firmware,
-}
-
 /// The line's kind, by its first word.
 pub fn head_of(word: &[u8]) -> Option<Head>
     ensures { result ≡ head_of word.now }
@@ -59,29 +36,6 @@ pub fn head_of(word: &[u8]) -> Option<Head>
         None => section_of(word),
     }
 }
-
-// The calls by the words with which their lines begin.
-const CALLS: [(&[u8], CallWord); 19] = [
-    (b"open", CallWord::Open),
-    (b"read", CallWord::Read),
-    (b"write", CallWord::Write),
-    (b"ftruncate", CallWord::Ftruncate),
-    (b"close", CallWord::Close),
-    (b"mmap", CallWord::Mmap),
-    (b"mread", CallWord::Mread),
-    (b"munmap", CallWord::Munmap),
-    (b"exec", CallWord::Exec),
-    (b"endexec", CallWord::Endexec),
-    (b"setxattr", CallWord::SetAttr),
-    (b"removexattr", CallWord::RemoveAttr),
-    (b"chmod", CallWord::Chmod),
-    (b"chown", CallWord::Chown),
-    (b"post", CallWord::Post),
-    (b"wait", CallWord::Wait),
-    (b"addrule", CallWord::AddRule),
-    (b"module", CallWord::Module),
-    (b"firmware", CallWord::Firmware),
-];
 
 // The other lines by their first words.
 const SECTIONS: [(&[u8], Head); 18] = [
@@ -104,25 +58,6 @@ const SECTIONS: [(&[u8], Head); 18] = [
     (b"rounds", Head::Rounds),
     (b"threads", Head::Threads),
 ];
-
-// The entry of a table under this word, if there is one.
-fn look_up<T: Copy>(mut table: &[(&[u8], T)], word: &[u8]) -> Option<T>
-    ensures { result ≡ look_up (map (λ e. (e.0.now, e.1)) table.entry.now) word.now }
-{
-    while let [entry, rest @ ..] = table {
-        if word == entry.0 {
-            return Some(entry.1);
-        }
-        table = rest;
-    }
-    None
-}
-
-fn call_word_of(word: &[u8]) -> Option<CallWord>
-    ensures { result ≡ call_word_of word.now }
-{
-    look_up(&CALLS, word)
-}
 
 fn section_of(word: &[u8]) -> Option<Head>
     ensures { result ≡ section_of word.now }

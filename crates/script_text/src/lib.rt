@@ -6,13 +6,11 @@
 #![tactic(auto)]
 
 mod blocks;
-mod calls;
 mod draft;
 mod files;
 mod head;
 mod list;
 mod list_head;
-mod paths;
 mod read;
 mod schedule;
 mod script;
@@ -20,10 +18,11 @@ mod settings;
 mod tasks;
 
 pub use blocks::{Calls, FileBlock, TaskBlock};
+pub use call_lines as call_table;
 pub use call_steps as steps;
 pub use call_steps::{Ending, events, templates};
 pub use evm_verify as evm;
-pub use files::{pop_last, sum_of, two};
+pub use files::pop_last;
 pub use hash_algos as hashes;
 pub use head::in_order;
 pub use inode_hashing as hashing;
@@ -33,8 +32,8 @@ pub use list::{ListText, parse_list};
 pub use policy_text as policy;
 pub use read::parse;
 pub use script::Script;
+pub use script_fields::{cred_in, sum_of, threads_of, two};
 pub use script_words as script_lines;
 pub use script_words::{Fault, LineCause, ScriptErr};
-pub use tasks::{cred_in, threads_of};
 pub use text_forms as forms;
 pub use xattr_store as xattrs;

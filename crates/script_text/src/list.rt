@@ -5,9 +5,9 @@ ghost use Rattle.std.specs.Option.{option_copied};
 ghost use Rattle.script_words.specs.Gives.{Gives, LineMakes};
 ghost use Rattle.script_text.specs.ListGrammar.{list_of, listed, placed, stands, start, with_end, with_file, with_head, with_version};
 
-use crate::files::{sum_of, two};
 use crate::list_head::{ListHead, head_of};
 use inode_pages::MOST_BYTES;
+use script_fields::{sum_of, two};
 use script_words::{Grammar, LineCause, LineErr, ScriptErr, cut_line, fields, read_text, value_of};
 use std::alloc::Global;
 use std::marker::Model;

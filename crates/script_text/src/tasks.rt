@@ -1,32 +1,27 @@
 //! Rules, the blocks of tasks, and the ending line.
 
-ghost use Rattle.std.specs.Prelude.{◌≡◌, ◌≤◌, length, map, ok_or, OnOk};
+ghost use Rattle.std.specs.Prelude.{◌≡◌, ◌≤◌, length, map, OnOk};
 ghost use Rattle.std.specs.Option.{option_copied};
-ghost use Rattle.script_words.specs.declared.fault.LineCause.TheVariants as cause;
-ghost use Rattle.script_words.specs.Gives.{LineGives, LineMakes};
+ghost use Rattle.script_words.specs.Gives.{LineMakes};
 ghost use Rattle.script_text.specs.Draft.{change_last};
-ghost use Rattle.script_text.specs.Tasks.{admin_of, appends, call_bytes, cred_in, cred_of, ended, has_room, task_with, threads_of, value_length, with_call, with_call_line, with_cred, with_rounds, with_rule, with_task, with_threads};
+ghost use Rattle.script_text.specs.Tasks.{appends, call_bytes, ended, has_room, task_with, value_length, with_call, with_call_line, with_cred, with_rounds, with_rule, with_task, with_threads};
 
 use crate::blocks::{Calls, TaskBlock};
-use crate::calls::call_of;
 use crate::draft::Draft;
-use crate::files::{id_behind, pop_last, sum_of};
-use crate::head::CallWord;
+use crate::files::pop_last;
+use call_lines::{CallWord, call_of};
 use call_steps::{Call, Ending};
 use inode_meta::Cred;
 use policy_text::RULES;
+use script_fields::{cred_in, sum_of, threads_of};
 use script_words::{LineCause, LineErr, rule_of};
 use std::alloc::{AllocError as OutOfMemory, Global};
-use text_forms::short_number_of;
 use xattr_store::Bytes;
 
 // The most tasks of a script, and the most calls of all tasks.
 const TASKS: usize = 64;
 
 const CALLS: usize = 32_768;
-
-// The most threads of a run.
-const THREADS: u64 = 16;
 
 impl Draft {
     // Whether there is room for one more rule, of the script or of a task.
@@ -159,49 +154,6 @@ fn call_on_last(tasks: &mut Vec<TaskBlock>, call: Call) -> Result<(), OutOfMemor
     }
 }
 
-/// The credentials in the words of a task, `admin` among them if it is the fifth.
-pub fn cred_in(fields: &[&[u8]]) -> Option<Cred>
-    ensures { result ≡ cred_in (map (λ w. w.now) fields.now) }
-{
-    let [uid, euid, gid, egid, more @ ..] = fields else {
-        return None;
-    };
-    cred_of(uid, euid, gid, egid, more)
-}
-
-fn cred_of(uid: &[u8], euid: &[u8], gid: &[u8], egid: &[u8], more: &[&[u8]]) -> Option<Cred>
-    ensures { result ≡ cred_of uid.now euid.now gid.now egid.now (map (λ w. w.now) more.now) }
-{
-    let uid = id_behind(b"uid=", uid)?;
-    let euid = id_behind(b"euid=", euid)?;
-    let gid = id_behind(b"gid=", gid)?;
-    let egid = id_behind(b"egid=", egid)?;
-    let admin = admin_of(more)?;
-    Some(Cred {
-        uid,
-        euid,
-        gid,
-        egid,
-        admin,
-    })
-}
-
-fn admin_of(more: &[&[u8]]) -> Option<bool>
-    ensures { result ≡ admin_of (map (λ w. w.now) more.now) }
-{
-    match more {
-        [] => Some(false),
-        [word] => {
-            if *word == b"admin".as_slice() {
-                Some(true)
-            } else {
-                None
-            }
-        }
-        _ => None,
-    }
-}
-
 fn value_length(value: &Option<Bytes>) -> usize
     ensures { result ≡ value_length value.now }
 {
@@ -228,15 +180,5 @@ fn appends(call: &Call) -> bool
     match call {
         Call::AddRule { .. } => true,
         _ => false,
-    }
-}
-
-/// The number of threads, 1 to 16.
-pub fn threads_of(text: &[u8]) -> Option<u32>
-    ensures { result ≡ threads_of text.now }
-{
-    match short_number_of(text, 10, THREADS)? {
-        0 => None,
-        number => Some(number as u32),
     }
 }

@@ -1,5 +1,5 @@
-use Rattle.script_print.specs.Lines.{line_text}
-use Rattle.script_print.specs.Rules.{IsReadRule}
+use Rattle.call_lines.specs.Lines.{line_text}
+use Rattle.call_lines.specs.Rules.{IsReadRule}
 use Rattle.script_print.specs.Spelling.{rule_line}
 use Rattle.script_print.proofs.Pieces.{all_more, text_more}
 use Rattle.script_print.proofs.calls.push_rules.Goals as goal

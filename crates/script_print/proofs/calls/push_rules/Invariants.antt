@@ -1,8 +1,8 @@
 -- the lines of the rules so far, each of which is read again
 use Rattle.std.proofs.Common.{◌≡◌, ◌++◌, take}
 use Rattle.std.specs.List.{AllByRecursion, flat_map}
-use Rattle.script_print.specs.Lines.{line_text}
-use Rattle.script_print.specs.Rules.{IsReadRule}
+use Rattle.call_lines.specs.Lines.{line_text}
+use Rattle.call_lines.specs.Rules.{IsReadRule}
 use Rattle.script_print.specs.Spelling.{rule_line}
 use Rattle.script_print.proofs.calls.push_rules.Given as goal
 

@@ -1,7 +1,7 @@
 -- the lines of the attributes so far
 use Rattle.std.proofs.Common.{◌≡◌, ◌++◌, take}
 use Rattle.std.specs.List.{flat_map}
-use Rattle.script_print.specs.Lines.{line_text}
+use Rattle.call_lines.specs.Lines.{line_text}
 use Rattle.script_print.specs.Spelling.{attr_line}
 use Rattle.script_print.proofs.files.push_attrs.Given as goal
 

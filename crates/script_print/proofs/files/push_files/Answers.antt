@@ -1,4 +1,4 @@
-use Rattle.script_print.specs.Lines.{lines_text}
+use Rattle.call_lines.specs.Lines.{lines_text}
 use Rattle.script_print.specs.Spelling.{file_lines}
 use Rattle.script_print.proofs.Pieces.{text_more}
 use Rattle.script_print.proofs.files.push_files.Goals as goal

@@ -1,7 +1,7 @@
 -- the lines of the files so far
 use Rattle.std.proofs.Common.{◌≡◌, ◌++◌, take}
 use Rattle.std.specs.List.{flat_map}
-use Rattle.script_print.specs.Lines.{lines_text}
+use Rattle.call_lines.specs.Lines.{lines_text}
 use Rattle.script_print.specs.Spelling.{file_lines}
 use Rattle.script_print.proofs.files.push_files.Given as goal
 

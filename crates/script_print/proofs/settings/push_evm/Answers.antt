@@ -3,7 +3,7 @@ use Rattle.std.specs.Prelude.{codes}
 use Rattle.std.specs.List.{flat_map}
 use Rattle.std.proofs.lemmas.Result.{on_ok_weaker}
 use Rattle.script_text.specs.ScriptValue.{ScriptValue}
-use Rattle.script_print.specs.Lines.{line_text, lines_text}
+use Rattle.call_lines.specs.Lines.{line_text, lines_text}
 use Rattle.script_print.specs.Spelling.{format_word, key_lines, lock_lines, name_line}
 use Rattle.script_print.proofs.Pieces.{four_put, text_of_map}
 use Rattle.script_print.proofs.settings.push_evm.Goals as goal

@@ -1,4 +1,4 @@
-use Rattle.script_print.specs.Lines.{line_text}
+use Rattle.call_lines.specs.Lines.{line_text}
 use Rattle.script_print.specs.Spelling.{super_line}
 use Rattle.script_print.proofs.Pieces.{text_more}
 use Rattle.script_print.proofs.settings.push_supers.Goals as goal

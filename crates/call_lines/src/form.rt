@@ -1,0 +1,199 @@
+//! The forms of one word, each read by one function.
+
+ghost use Rattle.std.specs.Prelude.{◌≡◌};
+ghost use Rattle.script_words.specs.Gives.{LineGives};
+ghost use Rattle.call_lines.specs.Form.{mapping_of};
+
+use crate::paths::Paths;
+use call_steps::events::BoxedBytes;
+use call_steps::policy::xattrs::Bytes;
+use script_words::{
+    LineCause, LineErr, descriptor_of, id_of, mode_of, offset_of, portion_of, small_of, value_of,
+};
+use std::alloc::Global;
+use text_forms::{is_path, is_word};
+
+/// The form of a word.
+pub trait Form {
+    ghost use Rattle.std.specs.Prelude.{ℕ, List, Result};
+    ghost use Rattle.script_words.specs.declared.fault.LineCause.{LineCause};
+
+    /// What a word of the form says.
+    type Value: Drop;
+
+    /// What the word says, if the files have these paths, or the cause for which its line is
+    /// refused.
+    ghost read: { List (List ℕ) → List ℕ → Result Self.Value LineCause };
+
+    /// Reads a word of the form.
+    fn read(alloc: Global, paths: &Paths, word: &[u8]) -> Result<Self::Value, LineErr>
+        ensures { LineGives result (read paths.now word.now) };
+}
+
+/// A descriptor.
+pub struct Descriptor;
+
+impl Form for Descriptor {
+    ghost use Rattle.call_lines.specs.Form as spec;
+
+    type Value = u8;
+
+    ghost read = { (spec.form spec.Form.Descriptor).read };
+
+    fn read(_alloc: Global, _paths: &Paths, word: &[u8]) -> Result<u8, LineErr> {
+        Ok(descriptor_of(word).ok_or(LineCause::BadField)?)
+    }
+}
+
+/// The number of a map, a run or a semaphore.
+pub struct Small;
+
+impl Form for Small {
+    ghost use Rattle.call_lines.specs.Form as spec;
+
+    type Value = u8;
+
+    ghost read = { (spec.form spec.Form.Small).read };
+
+    fn read(_alloc: Global, _paths: &Paths, word: &[u8]) -> Result<u8, LineErr> {
+        Ok(small_of(word).ok_or(LineCause::BadField)?)
+    }
+}
+
+/// An offset or a length.
+pub struct Offset;
+
+impl Form for Offset {
+    ghost use Rattle.call_lines.specs.Form as spec;
+
+    type Value = u64;
+
+    ghost read = { (spec.form spec.Form.Offset).read };
+
+    fn read(_alloc: Global, _paths: &Paths, word: &[u8]) -> Result<u64, LineErr> {
+        Ok(offset_of(word).ok_or(LineCause::BadField)?)
+    }
+}
+
+/// The length of one read.
+pub struct Portion;
+
+impl Form for Portion {
+    ghost use Rattle.call_lines.specs.Form as spec;
+
+    type Value = u64;
+
+    ghost read = { (spec.form spec.Form.Portion).read };
+
+    fn read(_alloc: Global, _paths: &Paths, word: &[u8]) -> Result<u64, LineErr> {
+        Ok(portion_of(word).ok_or(LineCause::BadField)?)
+    }
+}
+
+/// A mode.
+pub struct Mode;
+
+impl Form for Mode {
+    ghost use Rattle.call_lines.specs.Form as spec;
+
+    type Value = u16;
+
+    ghost read = { (spec.form spec.Form.Mode).read };
+
+    fn read(_alloc: Global, _paths: &Paths, word: &[u8]) -> Result<u16, LineErr> {
+        Ok(mode_of(word).ok_or(LineCause::BadField)?)
+    }
+}
+
+/// The number of a user or a group.
+pub struct Id;
+
+impl Form for Id {
+    ghost use Rattle.call_lines.specs.Form as spec;
+
+    type Value = u32;
+
+    ghost read = { (spec.form spec.Form.Id).read };
+
+    fn read(_alloc: Global, _paths: &Paths, word: &[u8]) -> Result<u32, LineErr> {
+        Ok(id_of(word).ok_or(LineCause::BadField)?)
+    }
+}
+
+/// How a descriptor is mapped: for execution, or only for reading.
+pub struct Mapping;
+
+impl Form for Mapping {
+    ghost use Rattle.call_lines.specs.Form as spec;
+
+    type Value = bool;
+
+    ghost read = { (spec.form spec.Form.Mapping).read };
+
+    fn read(_alloc: Global, _paths: &Paths, word: &[u8]) -> Result<bool, LineErr> {
+        Ok(mapping_of(word).ok_or(LineCause::BadField)?)
+    }
+}
+
+fn mapping_of(word: &[u8]) -> Option<bool>
+    ensures { result ≡ mapping_of word.now }
+{
+    if word == b"read".as_slice() {
+        Some(false)
+    } else if word == b"exec".as_slice() {
+        Some(true)
+    } else {
+        None
+    }
+}
+
+/// The name of an attribute: 1 to 255 visible bytes.
+pub struct Name;
+
+impl Form for Name {
+    ghost use Rattle.call_lines.specs.Form as spec;
+
+    type Value = BoxedBytes;
+
+    ghost read = { (spec.form spec.Form.Name).read };
+
+    fn read(alloc: Global, _paths: &Paths, word: &[u8]) -> Result<BoxedBytes, LineErr> {
+        if !is_word(word, 255) {
+            return Err(LineErr::Refused(LineCause::BadField));
+        }
+        Ok(BoxedBytes::from_slice(alloc, word)?)
+    }
+}
+
+/// Bytes, at least `LEAST` and at most `MOST` of them.
+pub struct Value<const LEAST: usize, const MOST: usize>;
+
+impl<const LEAST: usize, const MOST: usize> Form for Value<LEAST, MOST> {
+    ghost use Rattle.call_lines.specs.Form as spec;
+
+    type Value = Bytes;
+
+    ghost read = { (spec.form (spec.Form.Bytes LEAST MOST)).read };
+
+    fn read(alloc: Global, _paths: &Paths, word: &[u8]) -> Result<Bytes, LineErr> {
+        value_of(alloc, word, LEAST, MOST)
+    }
+}
+
+/// The path of a file, which says the file's number.
+pub struct Path;
+
+impl Form for Path {
+    ghost use Rattle.call_lines.specs.Form as spec;
+
+    type Value = u32;
+
+    ghost read = { (spec.form spec.Form.Path).read };
+
+    fn read(_alloc: Global, paths: &Paths, word: &[u8]) -> Result<u32, LineErr> {
+        if !is_path(word) {
+            return Err(LineErr::Refused(LineCause::BadField));
+        }
+        Ok(paths.place(word).ok_or(LineCause::Unknown)?)
+    }
+}
