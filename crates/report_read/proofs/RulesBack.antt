@@ -9,7 +9,7 @@ use Rattle.report_text.specs.model.events.forms.Words.{words}
 use Rattle.report_text.specs.model.events.meta.declared.step.Who.{Who}
 use Rattle.report_text.specs.model.events.policy.RuleValue.{RuleValue}
 use Rattle.report_text.specs.model.events.policy.ValueTexts.{act_word}
-use Rattle.script_words.specs.policy.Spelling.{key_words, rule_text}
+use Rattle.report_words.specs.script_lines.policy.Spelling.{key_words, rule_text}
 use Rattle.report_text.specs.model.events.policy.declared.rule.Act.{Act}
 use Rattle.report_text.specs.model.events.policy.declared.rule.Act.TheVariants as act
 use Rattle.report_text.specs.model.events.policy.Key.{keys}

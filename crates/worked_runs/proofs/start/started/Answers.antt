@@ -3,7 +3,7 @@ use Rattle.std.proofs.Common.{◌≡◌, ◌∙◌, ℕ, ◌<◌, All, List, ap,
 use Rattle.std.proofs.lemmas.List.{length-map}
 use Rattle.std.proofs.lemmas.List.Elements.{All-from_recursion}
 use Rattle.ima_top.specs.events.declared.image.Image.{Image}
-use Rattle.ima_top.specs.policy.declared.access.Super.{Super}
+use Rattle.ima_top.specs.policy.rules.declared.access.Super.{Super}
 use Rattle.ima_top.proofs.about_runs.about_starts.Fits.{files_fit, places_fit}
 use Rattle.ima_top.proofs.about_runs.about_starts.Beginning.{started_is}
 use Rattle.ima_top.specs.scenes.Scene.{file_of, fs_of}
