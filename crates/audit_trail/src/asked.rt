@@ -10,11 +10,11 @@ ghost use Rattle.audit_trail.specs.Asked.{asker_by, asker_of, asking_line, asks,
 ghost use Rattle.audit_trail.specs.Sites.{programs_in};
 
 use crate::site::Context;
-use report_text::model::matching::Index;
-use script_scene::scripts::TaskBlock;
-use script_scene::scripts::meta::{Cred, Meta, Who};
-use script_scene::scripts::policy::{Access, Act, Func, Rule, Super};
-use script_scene::scripts::steps::{Ask, Call, Course};
+use inode_meta::{Cred, Meta, Who};
+use policy_text::{Access, Act, Func, Rule, Super};
+use rule_match::Index;
+use run_model::steps::{Ask, Call, Course};
+use script_text::TaskBlock;
 
 // The access mask of a call that makes a check.
 fn mask_of(call: &Call) -> u8

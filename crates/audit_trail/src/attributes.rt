@@ -7,15 +7,15 @@ ghost use Rattle.world_model.specs.inodes.answers.Changes.{fixed_on, labelled_on
 
 use crate::digests::digest_taken;
 use crate::taken::Taken;
-use script_scene::scripts::events::pages::Content;
-use script_scene::scripts::events::{Deed, Event, Told};
-use script_scene::scripts::evm::Evm;
-use script_scene::scripts::hashes::Digest;
-use script_scene::scripts::meta::{EvmStatus, Meta};
-use script_scene::scripts::xattrs::Attrs;
+use evm_verify::Evm;
+use hash_algos::Digest;
+use inode_events::{Deed, Event, Told};
+use inode_meta::{EvmStatus, Meta};
+use inode_pages::Content;
+use inode_state::changed;
 use std::alloc::AllocError as OutOfMemory;
-use world_model::inodes::states::changed;
 use world_model::inodes::{change_on, label_on};
+use xattr_store::Attrs;
 
 // Writes the label of what a collection took.
 fn label(

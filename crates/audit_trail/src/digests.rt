@@ -5,9 +5,9 @@ ghost use Rattle.world_model.specs.model.events.hashes.Digest.{digest_of};
 ghost use Rattle.audit_trail.specs.Steps.{IsKeptOf, taken_digest};
 
 use crate::taken::Taken;
-use script_scene::scripts::events::pages::Content;
-use script_scene::scripts::hashes::{Algo, Digest};
-use script_scene::scripts::hashing::digest_of_content;
+use hash_algos::{Algo, Digest};
+use inode_hashing::digest_of_content;
+use inode_pages::Content;
 
 // The digest of the content by the algorithm. It is the one that is kept, if that is by the same
 // algorithm, and is kept from then on.

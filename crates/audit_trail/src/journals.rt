@@ -13,7 +13,7 @@ use crate::asked::lines_for;
 use crate::records::push_records;
 use crate::site::{Context, Site};
 use crate::walk::Walk;
-use script_scene::scripts::events::{Deed, EndedInode, Event};
+use inode_events::{Deed, EndedInode, Event};
 use std::alloc::{AllocError as OutOfMemory, Global};
 
 // Prints the records of the event, if it is a check, and returns how many. The walk has passed the

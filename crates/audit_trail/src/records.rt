@@ -6,11 +6,11 @@ ghost use Rattle.audit_trail.specs.Texts.{front_text, place_text};
 ghost use Rattle.audit_trail.specs.Trail.{audit_line, hash_line, if_line, label_word, lines_of};
 
 use crate::site::Site;
+use hash_algos::Digest;
+use inode_events::labels::{MAX_LABEL, write_label};
+use inode_meta::Who;
 use list_format::{append_hex, append_named_digest};
 use report_text::{push_number, push_who};
-use script_scene::scripts::hashes::Digest;
-use script_scene::scripts::labels::{MAX_LABEL, write_label};
-use script_scene::scripts::meta::Who;
 use std::alloc::AllocError as OutOfMemory;
 
 // Prints the place of a check: `I.K TASK.CALL.STEP`.

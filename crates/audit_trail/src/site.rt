@@ -1,9 +1,9 @@
 // What the records of a journal are made of.
 
-use report_text::model::matching::Index;
-use script_scene::scripts::events::Settings;
-use script_scene::scripts::policy::Super;
-use script_scene::scripts::{FileBlock, TaskBlock};
+use inode_events::Settings;
+use policy_text::Super;
+use rule_match::Index;
+use script_text::{FileBlock, TaskBlock};
 
 // What is the same for all inodes of a run.
 #[derive(Clone, Copy)]

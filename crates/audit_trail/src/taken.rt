@@ -7,8 +7,8 @@ ghost use Rattle.audit_trail.specs.Steps.{begun, taken_digest, taken_more};
 ghost use Rattle.world_model.specs.model.events.hashes.Digest.{digest_of};
 ghost use Rattle.world_model.specs.model.events.pages.Content.{piece_at};
 
-use script_scene::scripts::events::pages::{Content, Page};
-use script_scene::scripts::hashes::{Algo, Digest, Running};
+use hash_algos::{Algo, Digest, Running};
+use inode_pages::{Content, Page};
 use std::alloc::{AllocError as OutOfMemory, Global};
 use std::marker::Model;
 

@@ -9,13 +9,13 @@ ghost use Rattle.audit_trail.specs.Trail.{IsOfRun, trail_lines, trail_text};
 
 use crate::journals::push_inodes;
 use crate::site::Context;
-use report_text::model::matching::Index;
-use report_text::model::{Ended, RuleEntry};
+use inode_events::EndedInode;
+use policy_text::Policy;
 use report_text::push_numbers;
-use script_scene::scripts::Script;
-use script_scene::scripts::events::EndedInode;
-use script_scene::scripts::policy::Policy;
+use rule_match::Index;
+use run_model::{Ended, RuleEntry};
 use script_scene::settings_of;
+use script_text::Script;
 use std::alloc::{AllocError as OutOfMemory, Global};
 
 // The trail of these inodes: how many records there are, the records, and `end`.

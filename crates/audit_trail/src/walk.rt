@@ -7,14 +7,14 @@ ghost use Rattle.audit_trail.specs.Steps.{IsWellFormed, finished_after, gathered
 use crate::attributes::rewrite;
 use crate::digests::digest_by;
 use crate::taken::Taken;
-use script_scene::scripts::events::pages::Content;
-use script_scene::scripts::events::{Deed, Event, Settings, Told};
-use script_scene::scripts::hashes::{Algo, Digest};
-use script_scene::scripts::labels::collect_algo;
-use script_scene::scripts::meta::Meta;
-use script_scene::scripts::xattrs::Attrs;
+use hash_algos::{Algo, Digest};
+use inode_events::labels::collect_algo;
+use inode_events::{Deed, Event, Settings, Told};
+use inode_meta::Meta;
+use inode_pages::Content;
+use inode_state::metadata_after;
 use std::alloc::{AllocError as OutOfMemory, Global};
-use world_model::inodes::states::metadata_after;
+use xattr_store::Attrs;
 
 // An inode as the events so far left it.
 #[derive(Drop)]

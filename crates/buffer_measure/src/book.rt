@@ -7,8 +7,8 @@ ghost use Rattle.buffer_measure.specs.Kept.{IsBookOf};
 ghost use Rattle.buffer_measure.specs.Answered.{IsAdded, IsSamePass};
 
 use crate::answer::Answer;
+use ima_templates::{Entry, Placed};
 use measure_book::{Book, Pass};
-use script_text::templates::{Entry, Placed};
 use std::alloc::AllocError as OutOfMemory;
 use std::marker::{Brand, Model, PhantomData};
 

@@ -5,11 +5,11 @@ ghost use Rattle.buffer_measure.specs.Entries.{boot_entry, entry_for};
 ghost use Rattle.buffer_text.specs.Forms.{is_buffer};
 
 use buffer_text::BufferBytes;
-use script_text::hashes::{Algo, Digest, digest_of};
-use script_text::meta::{DEFAULT_PCR, Template};
-use script_text::templates::{Entry, build, restore};
-use script_text::xattrs::Bytes;
+use hash_algos::{Algo, Digest, digest_of};
+use ima_templates::{Entry, build, restore};
+use inode_meta::{DEFAULT_PCR, Template};
 use std::alloc::{AllocError as OutOfMemory, Global};
+use xattr_store::Bytes;
 
 /// The first entry of the list: a boot aggregate of zeros by this algorithm.
 pub fn boot_entry(alloc: Global, hash: Algo) -> Result<Entry, OutOfMemory>

@@ -17,7 +17,6 @@ mod workers;
 
 pub use answer::Answer;
 pub use answers::Answers;
-pub use buffer_text as texts;
 pub use buffer_text::{BufferBytes, BufferCaller, BufferText, parse};
 pub use laws::{print_determines, runs_alone};
 pub use measuring::{measure_all, measure_owned};

@@ -11,10 +11,10 @@ use crate::answer::Answer;
 use crate::answers::Answers;
 use crate::parts::push_lines;
 use crate::run::BufferRun;
+use ima_io::Pieces;
+use ima_templates::Entry;
 use measure_book::registers::Banks;
-use report_text::outer::Pieces;
 use report_text::{push_entries, push_number, push_numbers, push_registers};
-use script_text::templates::Entry;
 use std::alloc::{AllocError as OutOfMemory, Global};
 use std::thread::Threads;
 

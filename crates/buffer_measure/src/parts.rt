@@ -4,9 +4,9 @@ ghost use Rattle.std.specs.Prelude.{◌≡◌, ◌+◌, ◌*◌, ◌<◌, ◌≤
 ghost use Rattle.std.specs.List.{AllByRecursion, flat_map};
 ghost use Rattle.buffer_measure.specs.Parts.{ArePartsOf, IsMade, IsPart, entries_in, entries_text, part_bytes};
 
-use report_text::outer::Pieces;
+use ima_io::Pieces;
+use ima_templates::Entry;
 use report_text::push_entries;
-use script_text::templates::Entry;
 use std::alloc::{AllocError as OutOfMemory, Global};
 use std::thread::Threads;
 use std::{mem, thread};

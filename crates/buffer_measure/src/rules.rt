@@ -6,8 +6,8 @@ ghost use Rattle.script_text.specs.steps.policy.RuleValue.{if_there};
 ghost use Rattle.script_text.specs.steps.policy.Tests.{id_holds};
 ghost use Rattle.buffer_measure.specs.Wanted.{asks_of_a_file, decides, ids_hold, is_critical, is_measuring, register_of, wanted};
 
-use script_text::meta::{Cred, DEFAULT_PCR};
-use script_text::policy::{Act, Func, IdTest, Policy, Rule};
+use inode_meta::{Cred, DEFAULT_PCR};
+use policy_text::{Act, Func, IdTest, Policy, Rule};
 
 /// The register that the buffers of a caller with these credentials extend, or `None` if they
 /// aren't measured. The first line of the family `measure` decides whose function is CRITICAL_DATA,

@@ -1,6 +1,6 @@
 use crate::answers::Answers;
+use ima_templates::Entry;
 use measure_book::registers::Banks;
-use script_text::templates::Entry;
 use std::marker::Model;
 
 /// The outcome of a run of buffers. Contracts see a record of these fields, with each vector as a

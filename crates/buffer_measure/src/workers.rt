@@ -12,17 +12,17 @@ use crate::book::{KeptBook, Name};
 use crate::entries::entry_for;
 use crate::rules::wanted;
 use buffer_text::{BufferBytes, BufferCaller, VALUE};
+use hash_algos::Algo;
+use ima_io::{Gate, Who};
+use ima_templates::Entry;
+use inode_meta::Cred;
 use measure_book::Pass;
-use report_text::outer::{Gate, Who};
-use script_text::hashes::Algo;
-use script_text::meta::Cred;
-use script_text::policy::Policy;
-use script_text::templates::Entry;
-use script_text::xattrs::Bytes;
+use policy_text::Policy;
 use std::alloc::{AllocError as OutOfMemory, Global};
 use std::sync::{Mutex, Wait};
 use std::thread::Threads;
 use std::{mem, thread};
+use xattr_store::Bytes;
 
 /// A caller with its pass of the list. Once all its buffers have been measured, it has their
 /// answers in their place.

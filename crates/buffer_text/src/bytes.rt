@@ -4,10 +4,10 @@ ghost use Rattle.std.specs.Prelude.{◌≡◌, Some, IfOk};
 ghost use Rattle.script_text.specs.Limits.{most_value};
 ghost use Rattle.script_text.specs.script_lines.Value.{value_of};
 
-use script_text::script_lines::{LineErr, value_of};
-use script_text::xattrs::Bytes;
+use script_words::{LineErr, value_of};
 use std::alloc::{AllocError as OutOfMemory, Global};
 use std::marker::Model;
+use xattr_store::Bytes;
 
 /// The most bytes of a buffer.
 pub const VALUE: usize = 4_096;

@@ -7,9 +7,9 @@ ghost use Rattle.buffer_text.specs.Heads.{is_over, stands};
 
 use crate::head::BufferHead;
 use crate::text::{BufferCaller, BufferText};
-use script_text::hashes::Algo;
+use hash_algos::Algo;
+use policy_text::Policy;
 use script_text::in_order;
-use script_text::policy::Policy;
 use std::alloc::Global;
 use std::marker::Model;
 

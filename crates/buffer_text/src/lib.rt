@@ -14,6 +14,5 @@ mod text;
 
 pub use bytes::{BufferBytes, VALUE};
 pub use read::parse;
-pub use script_text as scripts;
 pub use std::alloc::AllocError as OutOfMemory;
 pub use text::{BufferCaller, BufferText};

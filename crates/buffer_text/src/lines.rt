@@ -10,14 +10,14 @@ ghost use Rattle.buffer_text.specs.Text.{caller_with};
 use crate::bytes::{BufferBytes, VALUE};
 use crate::draft::Draft;
 use crate::text::BufferCaller;
-use script_text::forms::is_word;
-use script_text::hashes::by_name;
-use script_text::meta::Cred;
-use script_text::policy::RULES;
-use script_text::script_lines::{LineCause, LineErr, rule_of, value_of};
-use script_text::xattrs::Bytes;
+use hash_algos::by_name;
+use inode_meta::Cred;
+use policy_text::RULES;
 use script_text::{cred_in, pop_last, sum_of, threads_of, two};
+use script_words::{LineCause, LineErr, rule_of, value_of};
 use std::alloc::{AllocError as OutOfMemory, Global};
+use text_forms::is_word;
+use xattr_store::Bytes;
 
 // The most callers, and the most buffers of all callers.
 const CALLERS: usize = 64;

@@ -9,9 +9,7 @@ ghost use Rattle.buffer_text.specs.Grammar.{buffers_of, placed, with_head};
 use crate::draft::Draft;
 use crate::head::{BufferHead, head_of};
 use crate::text::BufferText;
-use script_text::script_lines::{
-    Grammar, LineCause, LineErr, ScriptErr, cut_line, fields, read_text,
-};
+use script_words::{Grammar, LineCause, LineErr, ScriptErr, cut_line, fields, read_text};
 use std::alloc::Global;
 
 /// Reads the callers of a text, with their buffers, and its rules.

@@ -5,12 +5,12 @@ ghost use Rattle.buffer_text.specs.Forms.{IsBufferText};
 ghost use Rattle.buffer_text.specs.Text.{caller_with};
 
 use crate::bytes::BufferBytes;
-use script_text::hashes::Algo;
-use script_text::meta::Cred;
-use script_text::policy::Policy;
-use script_text::xattrs::Bytes;
+use hash_algos::Algo;
+use inode_meta::Cred;
+use policy_text::Policy;
 use std::alloc::{AllocError as OutOfMemory, Global};
 use std::marker::Model;
+use xattr_store::Bytes;
 
 /// A caller, which measures its buffers one after another. Contracts see a record of these fields,
 /// with the buffers as a list.

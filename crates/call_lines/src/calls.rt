@@ -10,9 +10,9 @@ use crate::behind::{Alone, Forms, Then, Way};
 use crate::form::{Descriptor, Id, Mapping, Mode, Name, Offset, Path, Portion, Small, Value};
 use crate::paths::Paths;
 use crate::table::CallWord;
-use call_steps::events::pages::MOST_BYTES;
 use call_steps::events::{BoxedBytes, BoxedValue, Change};
 use call_steps::{BoxedRule, Call};
+use inode_pages::MOST_BYTES;
 use script_words::{LineErr, rule_of};
 use std::alloc::Global;
 

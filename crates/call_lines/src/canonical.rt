@@ -11,9 +11,9 @@ ghost use Rattle.call_lines.specs.Rules.{HasReadRule, IsReadRule};
 use crate::pushed::{push_number, push_octal, push_value, push_word};
 use call_steps::Call;
 use call_steps::events::{Change, How};
-use call_steps::policy::xattrs::Bytes;
 use policy_text::{Rule, print_rule};
 use std::alloc::{AllocError as OutOfMemory, Global};
+use xattr_store::Bytes;
 
 /// Appends the canonical line of a call without its newline, if the files have these paths.
 pub fn push_call(

@@ -6,12 +6,12 @@ ghost use Rattle.call_lines.specs.Form.{mapping_of};
 
 use crate::paths::Paths;
 use call_steps::events::BoxedBytes;
-use call_steps::policy::xattrs::Bytes;
 use script_words::{
     LineCause, LineErr, descriptor_of, id_of, mode_of, offset_of, portion_of, small_of, value_of,
 };
 use std::alloc::Global;
 use text_forms::{is_path, is_word};
+use xattr_store::Bytes;
 
 /// The form of a word.
 pub trait Form {

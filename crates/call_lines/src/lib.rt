@@ -13,10 +13,8 @@ mod paths;
 mod pushed;
 mod table;
 
-pub use call_steps as steps;
 pub use calls::call_of;
 pub use canonical::push_call;
 pub use paths::Paths;
 pub use pushed::{push_hex, push_number, push_octal, push_value, push_word};
-pub use script_words as script_lines;
 pub use table::{CallWord, call_word_of, look_up};

@@ -1,10 +1,10 @@
 ghost use Rattle.std.specs.Prelude.{◌≡◌, ◌<◌, None, [], ◌∷◌, ◌++◌, length, IfOk};
 ghost use Rattle.call_lines.specs.Places.{place_in};
 
-use call_steps::policy::xattrs::Bytes;
 use std::alloc::{AllocError as OutOfMemory, Global};
 use std::collections::BTreeMap;
 use std::marker::Model;
+use xattr_store::Bytes;
 
 /// The paths of a script's files, in order. Contracts see the list.
 #[derive(Drop)]

@@ -1,5 +1,5 @@
-use inode_events::meta::Slot;
-use inode_events::policy::Func;
+use inode_meta::Slot;
+use policy_rules::Func;
 
 /// The next step of a call: the event to make, or none. The event's other fields come from the
 /// call, from the file that it uses, from the task's credentials and from the rules.

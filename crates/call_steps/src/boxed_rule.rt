@@ -1,6 +1,6 @@
 ghost use Rattle.std.specs.Prelude.{◌≡◌, IfOk};
 
-use inode_events::policy::Rule;
+use policy_rules::Rule;
 use std::alloc::{AllocError as OutOfMemory, Global};
 use std::marker::Model;
 

@@ -27,7 +27,6 @@ pub use due::{Due, Next};
 pub use ending::{Ending, Turns};
 pub use held::{Hand, Handle, Held, Name};
 pub use inode_events as events;
-pub use inode_events::{policy, templates};
 pub use next::next_by;
 pub use plan::Plan;
 pub use reply::Reply;

@@ -11,8 +11,8 @@ use crate::held::Hand;
 use crate::next::next_by;
 use crate::reply::Reply;
 use inode_events::Told;
-use inode_events::meta::Mode;
-use inode_events::policy::Action;
+use inode_meta::Mode;
+use policy_rules::Action;
 
 /// A call in progress. It is of no further use once the call is answered.
 #[derive(Clone, Copy, Debug, PartialEq, Eq)]

@@ -1,10 +1,10 @@
 ghost use Rattle.std.specs.Prelude.{◌≡◌};
 ghost use Rattle.call_steps.specs.Steps.{reply_of};
 
+use hash_algos::Sha256Digest;
 use inode_events::Told;
-use inode_events::hashes::Sha256Digest;
 use inode_events::labels::Cause;
-use inode_events::meta::EvmStatus;
+use inode_meta::EvmStatus;
 
 /// The reply to a call.
 #[derive(Clone, Copy, Debug, PartialEq, Eq)]

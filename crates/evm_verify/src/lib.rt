@@ -8,7 +8,6 @@ mod input;
 mod names;
 
 pub use evm::Evm;
-pub use hmac_core as hmacs;
 pub use input::VALUE_LEN;
 pub use names::is_protected;
 pub use std::alloc::AllocError as OutOfMemory;

@@ -3,8 +3,8 @@ ghost use Rattle.std.specs.Option.{option_copied};
 ghost use Rattle.std.specs.Prelude.{◌≡◌, Some, drop, nat_eq};
 ghost use Rattle.label_values.specs.Verdicts.{by_algorithm, judge, judge_labelled, judge_summed, judge_unlabelled, mend_for};
 
-use label_values::hashes::{Algo, AlgoSet, Digest};
-use label_values::meta::{EvmStatus, Need};
+use hash_algos::{Algo, AlgoSet, Digest};
+use inode_meta::{EvmStatus, Need};
 use label_values::{Cause, Label, Mend, Verdict, read_label};
 
 // The verdict if nothing else is wrong: the algorithm may still be denied.

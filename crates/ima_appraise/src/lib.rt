@@ -5,4 +5,3 @@
 mod appraisal;
 
 pub use appraisal::{mend_for, verdict};
-pub use label_values as labels;

@@ -12,8 +12,5 @@ mod shown;
 pub use absorb::Absorb;
 pub use entries::{build, restore, violation};
 pub use entry::{Entry, Placed};
-pub use hash_algos as hashes;
-pub use inode_meta as meta;
 pub use shown::can_show;
 pub use std::alloc::AllocError as OutOfMemory;
-pub use xattr_store as xattrs;

@@ -1,8 +1,8 @@
 // The results of the calls on an inode.
 use hash_algos::{Algo, Sha256Digest};
 use inode_events::Grant;
-use inode_events::policy::Action;
 use inode_meta::EvmStatus;
+use policy_rules::Action;
 
 /// The result of counting a file.
 #[derive(Clone, Copy, Debug, PartialEq, Eq)]

@@ -4,8 +4,8 @@ ghost use Rattle.std.specs.Prelude.{◌≡◌, false, OnOk, OnErr};
 ghost use Rattle.inode_events.specs.Says.{is_too_long};
 ghost use Rattle.inode_answers.specs.Changes.{changed_on, labelled_on, mended_on};
 
+use evm_verify::Evm;
 use hash_algos::Digest;
-use inode_events::evm::Evm;
 use inode_meta::{EvmStatus, Meta};
 use label_values::{MAX_LABEL, write_label};
 use std::alloc::AllocError as OutOfMemory;

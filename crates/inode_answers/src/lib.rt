@@ -11,7 +11,6 @@ mod values;
 
 pub use answers::{Checked, CloseTaken, Counted, Found, Got, Piece, Set, Taken, Wrote};
 pub use attributes::{change_on, label_on, mend_on};
-pub use inode_events as events;
 pub use outcomes::{admits, creates, found, is_mend, piece_of, place_of, placed_if_measured};
 pub use std::alloc::AllocError as OutOfMemory;
 pub use told::{

@@ -10,10 +10,10 @@ ghost use Rattle.inode_pages.specs.Content.{piece_bytes};
 use crate::answers::{Found, Piece};
 use ima_templates::Placed;
 use inode_events::How;
-use inode_events::policy::Action;
 use inode_meta::Mode;
 use inode_pages::PAGE_SIZE;
 use label_values::{Mend, Verdict};
+use policy_rules::Action;
 
 /// Whether the open creates an absent file.
 pub fn creates(how: How) -> bool

@@ -17,12 +17,12 @@ use crate::listing::list_asked;
 use grow_list::Pass;
 use ima_templates::{Entry, violation};
 use inode_answers::{Checked, Found, found, found_told, place_of};
-use inode_events::policy::{Access, Action, Func, Super};
 use inode_events::{Deed, Event};
 use inode_meta::{Cred, Who};
 use inode_state::{Kind, Known, counts_as};
 use measure_book::Book;
 use rule_match::Index;
+use rule_match::policy::{Access, Action, Func, Super};
 use std::alloc::AllocError as OutOfMemory;
 
 impl InodeCell {

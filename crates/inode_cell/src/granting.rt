@@ -27,12 +27,12 @@ use hash_algos::{Algo, AlgoSet, Digest};
 use ima_appraise::{mend_for, verdict};
 use ima_templates::{Entry, Placed, build};
 use inode_answers::{Taken, admits, is_mend, mend_on, placed_if_measured, signature_in};
-use inode_events::policy::Action;
 use inode_events::{Deed, Event, Grant, Told};
 use inode_meta::{EvmStatus, Mode, Need, Slot, Who};
 use inode_state::{Asked, Collecting, Kind, Known, Sums, copied, counts_as, key_of};
 use label_values::{Mend, Verdict, read_label};
 use measure_book::Book;
+use rule_match::policy::Action;
 use std::alloc::AllocError as OutOfMemory;
 use xattr_store::IMA_NAME;
 

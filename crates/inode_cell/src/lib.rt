@@ -14,14 +14,9 @@ mod setting;
 mod writing;
 
 pub use cell::InodeCell;
-pub use grow_list as growing;
-pub use ima_appraise as appraisals;
 pub use inode_answers as answers;
 pub use inode_answers::{
     Checked, CloseTaken, Counted, Found, Got, Piece, Set, Taken, Wrote, change_on, label_on,
 };
 pub use inode_events::EndedInode;
-pub use inode_state as states;
-pub use measure_book as books;
-pub use rule_match as matching;
 pub use std::alloc::AllocError as OutOfMemory;

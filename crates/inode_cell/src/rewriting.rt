@@ -3,10 +3,10 @@ ghost use Rattle.std.specs.Prelude.{◌≡◌, OnOk, OnErr};
 ghost use Rattle.std.specs.Option.{option_copied};
 ghost use Rattle.inode_answers.specs.Changes.{IsRewriting, rewritten};
 
+use evm_verify::Evm;
 use hash_algos::Digest;
 use inode_answers::{change_on, label_on};
 use inode_events::Deed;
-use inode_events::evm::Evm;
 use inode_meta::Meta;
 use inode_state::changed;
 use std::alloc::AllocError as OutOfMemory;

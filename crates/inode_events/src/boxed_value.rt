@@ -1,8 +1,8 @@
 ghost use Rattle.std.specs.Prelude.{◌≡◌, IfOk};
 
-use ima_templates::xattrs::Bytes;
 use std::alloc::{AllocError as OutOfMemory, Global};
 use std::marker::Model;
+use xattr_store::Bytes;
 
 /// The new value of an attribute, or `None` for its removal, in memory of its own, so that it
 /// doesn't enlarge the deeds and calls that have none. Contracts see the value.

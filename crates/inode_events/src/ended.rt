@@ -1,7 +1,7 @@
 use crate::told::Event;
 use hash_algos::Digest;
-use ima_templates::xattrs::{Attrs, Bytes};
 use std::marker::Model;
+use xattr_store::{Attrs, Bytes};
 
 /// An inode at the end of a run: its journal, and the state that follows from the journal.
 /// Contracts see the record of its fields, with the journal as a list.

@@ -1,10 +1,10 @@
 ghost use Rattle.std.specs.Prelude.{◌≡◌, IfOk};
 
-use ima_templates::xattrs::Attrs;
 use inode_meta::Meta;
 use inode_pages::Content;
 use std::alloc::{AllocError as OutOfMemory, Global};
 use std::marker::Model;
+use xattr_store::Attrs;
 
 /// An inode as its script describes it.
 #[derive(Drop)]

@@ -8,5 +8,4 @@ mod reading;
 
 pub use content::digest_of_content;
 pub use hashing::Hashing;
-pub use inode_pages as pages;
 pub use reading::hashed_at;

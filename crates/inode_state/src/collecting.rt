@@ -7,9 +7,9 @@ ghost use Rattle.inode_state.specs.Collecting.{Asks, Chooses, begun_seen, collec
 
 use crate::known::Known;
 use hash_algos::Algo;
-use inode_events::policy::Action;
 use inode_events::{Deed, Event, Told};
 use inode_meta::Slot;
+use policy_rules::Action;
 
 /// What a check asked of a file.
 #[derive(Drop)]

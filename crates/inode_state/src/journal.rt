@@ -16,11 +16,11 @@ ghost use Rattle.inode_state.specs.Value.{HasOthers, IsSameJournal, beside_own, 
 use crate::showing::show;
 use crate::{Known, State, counted};
 use grow_list::{Grow, Pass};
-use inode_events::xattrs::Bytes;
 use inode_events::{BoxedImage, Deed, Event, How, Image, Settings, Told};
 use inode_meta::Who;
 use std::alloc::{AllocError as OutOfMemory, Global};
 use std::marker::Model;
+use xattr_store::Bytes;
 
 /// The journal of one inode, with the inode's state after its last event.
 #[derive(Drop)]

@@ -5,11 +5,11 @@ ghost use Rattle.kernel_read.specs.Places.{calls_in, reads};
 ghost use Rattle.kernel_read.specs.Table.{func_raised};
 ghost use Rattle.kernel_read_laws.specs.Reads.{placed_by, read_by};
 
+use inode_events::templates::Placed;
+use inode_events::{Deed, Event, Told};
+use policy_text::Func;
+use run_model::steps::Call;
 use script_text::TaskBlock;
-use script_text::events::{Deed, Event, Told};
-use script_text::policy::Func;
-use script_text::steps::Call;
-use script_text::templates::Placed;
 
 // The hook that the call raises and the inode that the kernel reads by it.
 pub fn read_of(call: &Call) -> Option<(Func, u32)>

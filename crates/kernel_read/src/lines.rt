@@ -13,13 +13,13 @@ ghost use Rattle.script_text.specs.steps.declared.call.Call.{Call};
 
 use crate::calls::read_of;
 use crate::places::Row;
-use report_text::model::EndedTask;
+use inode_events::EndedInode;
+use inode_events::templates::Placed;
+use policy_text::Func;
 use report_text::{push_number, push_numbers, push_reply};
+use run_model::EndedTask;
+use run_model::steps::{Call, Reply};
 use script_text::TaskBlock;
-use script_text::events::EndedInode;
-use script_text::policy::Func;
-use script_text::steps::{Call, Reply};
-use script_text::templates::Placed;
 use std::alloc::AllocError as OutOfMemory;
 
 // Prints a place, or `-`.

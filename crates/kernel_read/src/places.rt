@@ -6,9 +6,9 @@ ghost use Rattle.kernel_read.specs.Places.{HasPlaces, HasShape, calls_in, cell, 
 ghost use Rattle.kernel_read_laws.specs.Reads.{place_of_call};
 
 use crate::calls::{is_read, placed_by};
+use inode_events::templates::Placed;
+use inode_events::{EndedInode, Event};
 use script_text::TaskBlock;
-use script_text::events::{EndedInode, Event};
-use script_text::templates::Placed;
 use std::alloc::{AllocError as OutOfMemory, Global};
 use std::marker::Model;
 

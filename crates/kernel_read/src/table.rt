@@ -5,8 +5,8 @@ ghost use Rattle.kernel_read.specs.Table.{calls_of, loads_text};
 
 use crate::lines::push_tasks;
 use crate::places::places;
-use report_text::model::Ended;
 use report_text::push_numbers;
+use run_model::Ended;
 use script_text::Script;
 use std::alloc::{AllocError as OutOfMemory, Global};
 

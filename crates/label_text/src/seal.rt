@@ -2,11 +2,11 @@
 ghost use Rattle.std.specs.Prelude.{◌≡◌, IfOk};
 ghost use Rattle.script_text.specs.Files.{sealed};
 
+use evm_verify::Evm;
+use hash_algos::Algo;
+use inode_hashing::digest_of_content;
+use label_values::{MAX_LABEL, write_label};
 use script_text::FileBlock;
-use script_text::evm::Evm;
-use script_text::hashes::Algo;
-use script_text::hashing::digest_of_content;
-use script_text::labels::{MAX_LABEL, write_label};
 use std::alloc::AllocError as OutOfMemory;
 use xattr_store::{Attrs, IMA_NAME, NewValue};
 

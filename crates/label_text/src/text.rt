@@ -5,8 +5,8 @@ ghost use Rattle.script_text.specs.Files.{setup_of};
 ghost use Rattle.label_text.specs.Labels.{file_lines, hmac_line, label_answer, line_under, value_line};
 
 use crate::seal::sealed_attrs;
+use evm_verify::Evm;
 use script_scene::evm_of;
-use script_text::evm::Evm;
 use script_text::{FileBlock, Script};
 use std::alloc::{AllocError as OutOfMemory, Global};
 

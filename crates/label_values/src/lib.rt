@@ -5,7 +5,5 @@
 mod label;
 mod verdict;
 
-pub use hash_algos as hashes;
-pub use inode_meta as meta;
 pub use label::{Label, MAX_LABEL, collect_algo, read_label, write_label};
 pub use verdict::{Cause, Mend, Verdict};

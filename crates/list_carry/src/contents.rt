@@ -5,8 +5,8 @@ ghost use Rattle.std.specs.List.{list_all};
 ghost use Rattle.list_carry.specs.Contents.{contents_in, digest_after, digest_by, digest_in, head_in, ima_in, is_zero, last_in, name_in, ng_in, padded_in, shown, third_in};
 
 use crate::cut::{cut_at, sized_in, split_at_first};
-use ima_templates::hashes::{Algo, Digest, by_name};
-use ima_templates::meta::Template;
+use hash_algos::{Algo, Digest, by_name};
+use inode_meta::Template;
 
 // The field `n` has this many bytes.
 const PADDED_LENGTH: usize = 256;

@@ -7,11 +7,11 @@ ghost use Rattle.list_carry.specs.Heads.{has_boot, is_over, stands};
 use crate::carried::Carried;
 use crate::head::CarryHead;
 use crate::text::CarryText;
-use script_text::hashes::{Algo, Digest};
+use hash_algos::{Algo, Digest};
 use script_text::in_order;
-use script_text::xattrs::Bytes;
 use std::alloc::Global;
 use std::marker::Model;
+use xattr_store::Bytes;
 
 // The ranks of the boot aggregate, of files and of the last line.
 const BOOT: u8 = 3;

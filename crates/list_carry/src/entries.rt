@@ -7,10 +7,10 @@ ghost use Rattle.list_carry.specs.Contents.{shown};
 ghost use Rattle.list_carry.specs.Entries.{entry_in, entry_with, has_violations, is_graphic, is_name, is_valid, is_violation, most_name};
 
 use crate::contents::{Contents, contents_in, is_zero};
-use ima_templates::meta::{DEFAULT_PCR, Template};
-use ima_templates::xattrs::{Bytes, MAX_VALUE};
 use ima_templates::{Entry, restore};
+use inode_meta::{DEFAULT_PCR, Template};
 use std::alloc::{AllocError as OutOfMemory, Global};
+use xattr_store::{Bytes, MAX_VALUE};
 
 /// The entry of this register and template, a violation or not, whose template data these bytes
 /// are; `None` exactly if there is no such entry.

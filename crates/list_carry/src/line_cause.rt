@@ -4,7 +4,7 @@ ghost use Rattle.std.specs.Prelude.{◌≡◌, Some};
 ghost use Rattle.list_carry.specs.Grammar.{line_text};
 
 use crate::causes::CarryCause;
-use script_text::script_lines::{Fault, LineCause, LineErr, ScriptErr};
+use script_words::{Fault, LineCause, LineErr, ScriptErr};
 use std::fmt::{self, Display};
 
 /// Why a line of a carry text is refused: for a cause that other texts have too, or, if none of

@@ -14,12 +14,12 @@ use crate::causes::CarryErr;
 use crate::draft::Draft;
 use crate::line_cause::{CarryLine, CarryLineErr};
 use crate::reading::load;
-use script_text::forms::is_path;
-use script_text::hashes::{Algo, Digest};
-use script_text::script_lines::{LineCause, LineErr, value_of};
-use script_text::xattrs::Bytes;
+use hash_algos::{Algo, Digest};
 use script_text::{sum_of, two};
+use script_words::{LineCause, LineErr, value_of};
 use std::alloc::Global;
+use text_forms::is_path;
+use xattr_store::Bytes;
 
 // The most bytes of a carried form, of any digest and of a content, and the most files.
 const FORM: usize = 4_194_304;

@@ -8,7 +8,7 @@ use crate::draft::Draft;
 use crate::head::{CarryHead, head_of};
 use crate::line_cause::{CarryLine, CarryLineErr, CarryTextErr};
 use crate::text::CarryText;
-use script_text::script_lines::{Grammar, LineCause, LineErr, cut_line, fields, read_text};
+use script_words::{Grammar, LineCause, LineErr, cut_line, fields, read_text};
 use std::alloc::Global;
 
 /// Reads the list that an earlier boot left, the boot aggregate and the files of a carry text.

@@ -7,7 +7,7 @@ use crate::cut::sized_in;
 use crate::entries::entry_in;
 use byteorder::{ByteOrder, LittleEndian};
 use ima_templates::Entry;
-use ima_templates::meta::Template;
+use inode_meta::Template;
 use std::alloc::{AllocError as OutOfMemory, Global};
 
 /// The parts of a record, and the bytes after the record.

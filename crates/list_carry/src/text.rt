@@ -4,9 +4,9 @@ ghost use Rattle.std.specs.Prelude.{◌≡◌};
 ghost use Rattle.list_carry.specs.Text.{HavePaths};
 
 use crate::carried::Carried;
-use script_text::hashes::{Algo, Digest};
-use script_text::xattrs::Bytes;
+use hash_algos::{Algo, Digest};
 use std::marker::Model;
+use xattr_store::Bytes;
 
 /// The list of an earlier boot, the boot aggregate of this one, and the files that it measures.
 ///

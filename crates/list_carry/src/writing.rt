@@ -10,7 +10,7 @@ ghost use Rattle.list_carry.specs.Reading.{load_of};
 use crate::reading::{HEADER_LENGTH, MARK, VERSION};
 use byteorder::{ByteOrder, LittleEndian};
 use ima_templates::Entry;
-use ima_templates::meta::Template;
+use inode_meta::Template;
 use std::alloc::AllocError as OutOfMemory;
 
 // A record has this many bytes beside the template data.

@@ -5,7 +5,7 @@ ghost use Rattle.load_gen.specs.Accepted.{IsAccepted};
 ghost use Rattle.load_gen.specs.Script.{file_text, files, group, groups, most_text, read_text, rules_text, script_text, settings_text, tasks, write_text};
 
 use crate::draws::Draws;
-use script_print::list_lines::append_hex;
+use list_format::append_hex;
 use std::alloc::{AllocError as OutOfMemory, Global};
 use std::io::Write;
 

@@ -6,11 +6,11 @@ ghost use Rattle.report_text.specs.model.events.State.{content_after};
 ghost use Rattle.report_text.specs.model.events.pages.Content.{overwritten};
 ghost use Rattle.order_outcomes.specs.Calls.{is_by, is_listed, is_read, listed_in, listed_of, place_told, shows_at, verdict_by, verdict_in, verdict_of, verdict_told};
 
-use report_text::model::events::labels::Verdict;
-use report_text::model::events::pages::{Content, PageErr};
-use report_text::model::events::templates::{Entry, Placed};
-use report_text::model::events::{Deed, EndedInode, Event, Told};
-use script_text::hashing::digest_of_content;
+use ima_templates::{Entry, Placed};
+use inode_events::{Deed, EndedInode, Event, Told};
+use inode_hashing::digest_of_content;
+use inode_pages::{Content, PageErr};
+use label_values::Verdict;
 use std::alloc::{AllocError as OutOfMemory, Global};
 
 fn is_by(event: &Event, task: usize, call: usize) -> bool

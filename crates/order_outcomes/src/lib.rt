@@ -18,5 +18,3 @@ pub use lines::Kind;
 pub use made::{Made, made_of};
 pub use order_counts as counts;
 pub use outcome::outcome_of;
-pub use report_text as reports;
-pub use script_text as scripts;

@@ -5,11 +5,11 @@ ghost use Rattle.std.specs.List.{concat};
 ghost use Rattle.order_outcomes.specs.Outcome.{entry_line, is_of, kind_text, lines_of, lines_text, with_line};
 
 use crate::sets::add_text;
-use report_text::model::events::templates::Entry;
-use report_text::model::events::templates::xattrs::Bytes;
+use ima_templates::Entry;
 use report_text::{push_entries, push_number};
 use std::alloc::{AllocError as OutOfMemory, Global};
 use std::slice;
+use xattr_store::Bytes;
 
 /// The two kinds of entries.
 #[derive(Clone, Copy, Debug, PartialEq, Eq)]

@@ -3,8 +3,8 @@
 ghost use Rattle.std.specs.Prelude.{◌≡◌, ◌↔◌, IsTrue};
 ghost use Rattle.order_outcomes.specs.Made.{events_in, made_of, replies_in};
 
-use report_text::model::events::EndedInode;
-use report_text::model::{Ended, EndedTask};
+use inode_events::EndedInode;
+use run_model::{Ended, EndedTask};
 
 /// How much a run has made. A turn that moves its task makes it more, and no other turn changes it.
 #[derive(Clone, Copy, Debug)]

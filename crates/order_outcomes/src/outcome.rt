@@ -5,12 +5,12 @@ ghost use Rattle.order_outcomes.specs.Outcome.{call_text, calls_text, done_text,
 
 use crate::calls::{listed_of, verdict_of};
 use crate::lines::{Kind, push_lines};
-use report_text::model::events::labels::Verdict;
-use report_text::model::events::templates::xattrs::Bytes;
-use report_text::model::{Ended, EndedTask};
-use report_text::steps::Reply;
+use label_values::Verdict;
 use report_text::{push_number, push_reply};
+use run_model::steps::Reply;
+use run_model::{Ended, EndedTask};
 use std::alloc::{AllocError as OutOfMemory, Global};
+use xattr_store::Bytes;
 
 fn push_verdict(out: &mut Vec<u8>, verdict: Option<Verdict>) -> Result<(), OutOfMemory>
     ensures { OnOk result (out.new.items ≡ out.old.items ++ verdict_text verdict) }

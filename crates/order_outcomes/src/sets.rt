@@ -3,9 +3,9 @@
 ghost use Rattle.std.specs.Prelude.{◌≡◌, ◌≤◌, length, IfSome, OnOk};
 ghost use Rattle.order_outcomes.specs.Sets.{place_for, with_text};
 
-use report_text::model::events::templates::xattrs::Bytes;
 use std::alloc::AllocError as OutOfMemory;
 use std::cmp::Ordering;
+use xattr_store::Bytes;
 
 // The place at which the text goes into the set, or `None` if it is there already.
 fn place_for(texts: &[Bytes], text: &[u8]) -> Option<usize>

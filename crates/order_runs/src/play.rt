@@ -1,15 +1,15 @@
 // A script that is run by one schedule after the other.
 
+use ima_io::Gate;
 use order_outcomes::counts::Order;
-use order_outcomes::reports::model::events::templates::xattrs::Bytes;
-use order_outcomes::reports::outer::Gate;
-use order_outcomes::scripts::{Script, ScriptErr, parse};
 use order_sights::Sight;
 use script_start::started;
+use script_text::{Script, ScriptErr, parse};
 use std::alloc::{AllocError as OutOfMemory, Global};
 use std::marker::Model;
 use task_core::{Task, World};
 use task_runner::run_schedule;
+use xattr_store::Bytes;
 
 /// A script that is run by one schedule after the other. Its own ending isn't followed. Contracts
 /// see its scene.

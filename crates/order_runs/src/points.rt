@@ -10,8 +10,8 @@ ghost use Rattle.order_runs.specs.Plays.{IsSchedule, moment_by};
 ghost use Rattle.order_sights.specs.Sights.{IsSight};
 
 use crate::play::Play;
+use ima_io::Gate;
 use order_outcomes::counts::Order;
-use order_outcomes::reports::outer::Gate;
 use order_outcomes::{Made, made_of};
 use order_sights::Sight;
 use std::alloc::{AllocError as OutOfMemory, Global};

@@ -10,11 +10,11 @@ ghost use Rattle.order_runs.specs.declared.part.Part.{Part};
 
 use crate::part::Part;
 use crate::ways::{Index, Way, root, spread};
+use ima_io::Gate;
 use order_outcomes::counts::Counted;
 use order_outcomes::outcome_of;
-use order_outcomes::reports::model::events::templates::xattrs::Bytes;
-use order_outcomes::reports::outer::Gate;
 use std::alloc::{AllocError as OutOfMemory, Global};
+use xattr_store::Bytes;
 
 /// The most turns of an order, which are those of a schedule.
 pub const MOST_TURNS: u32 = 1_048_576;

@@ -10,8 +10,8 @@ ghost use Rattle.order_runs.specs.Steps.{AreAdded, CanMeet, IsKept, IsMet, IsRoo
 
 use crate::part::Part;
 use crate::points::{Point, reached, turned};
+use ima_io::Gate;
 use order_outcomes::counts::{Counted, Order};
-use order_outcomes::reports::outer::Gate;
 use order_sights::are_alike;
 use std::alloc::{AllocError as OutOfMemory, Global};
 use std::collections::HashMap;

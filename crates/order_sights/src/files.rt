@@ -6,8 +6,8 @@ ghost use Rattle.inode_events.specs.Files.{counted, dropped};
 ghost use Rattle.inode_events.specs.Past.{past};
 ghost use Rattle.order_sights.specs.Files.{IsSeen, check_in, counted_as, drops};
 
-use inode_events::policy::{Action, Func};
 use inode_events::{Deed, Event, How, Told};
+use policy_rules::{Action, Func};
 
 /// What a journal says of a file: how it is held, and its last check.
 #[derive(Clone, Copy, Debug)]

@@ -11,9 +11,9 @@ use crate::states::same_state;
 use crate::taken::same_taken;
 use crate::told::{are_checks_below, same_calls, same_entries};
 use inode_cell::InodeCell;
-use inode_events::pages::Content;
 use inode_events::templates::Entry;
 use inode_events::{EndedInode, Event, How};
+use inode_pages::Content;
 use std::alloc::{AllocError as OutOfMemory, Global};
 
 // ---- files

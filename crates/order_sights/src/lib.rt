@@ -16,5 +16,4 @@ mod taken;
 mod tasks;
 mod told;
 
-pub use order_outcomes as outcomes;
 pub use sight::{Sight, are_alike};

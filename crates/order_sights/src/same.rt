@@ -3,13 +3,13 @@
 ghost use Rattle.std.specs.Prelude.{◌≡◌, ◌&&◌, IsTrue};
 
 use call_steps::{Due, Reply};
-use inode_events::hashes::{Algo, AlgoSet};
-use inode_events::meta::Template;
-use inode_events::pages::Page;
-use inode_events::policy::Action;
+use hash_algos::{Algo, AlgoSet};
 use inode_events::templates::Entry;
-use inode_events::templates::xattrs::Bytes;
+use inode_meta::Template;
+use inode_pages::Page;
 use inode_state::{Kept, Key, Marks, Sums};
+use policy_rules::Action;
+use xattr_store::Bytes;
 
 /// Values that can be compared. If the comparison says so, they are equal.
 pub trait Same {

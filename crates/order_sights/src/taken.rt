@@ -6,8 +6,8 @@ ghost use Rattle.inode_events.specs.pages.Content.{piece_at};
 ghost use Rattle.order_sights.specs.Taken.{none_taken, taken, taken_after, taken_more};
 
 use crate::same::same_all;
-use inode_events::pages::{Content, Page};
 use inode_events::{Deed, Event, Told};
+use inode_pages::{Content, Page};
 use order_outcomes::follow;
 use std::alloc::{AllocError as OutOfMemory, Global};
 use std::marker::Model;

@@ -6,7 +6,7 @@ ghost use Rattle.order_runs.specs.outcomes.reports.Numerals.{numeral};
 ghost use Rattle.order_top.specs.Text.{head_text, row_text, table_text, total_count, turns_text};
 
 use order_runs::Row;
-use order_runs::outcomes::reports::push_number;
+use report_text::push_number;
 use std::alloc::{AllocError as OutOfMemory, Global};
 
 fn push_count(alloc: Global, out: &mut Vec<u8>, count: u128) -> Result<(), OutOfMemory>

@@ -15,10 +15,10 @@ use crate::status::DONE;
 use crate::text::{table_text, total_of};
 use crate::words::{Asked, asked_of};
 use ima_io::{Gate, Sink, Source, read_all, write_all};
-use order_runs::outcomes::reports::model::events::templates::xattrs::Bytes;
-use order_runs::outcomes::scripts::{Fault, ScriptErr};
 use order_runs::{Part, Play, Row, Stopped, rows_of};
+use script_text::{Fault, ScriptErr};
 use std::alloc::{AllocError as OutOfMemory, Global};
+use xattr_store::Bytes;
 
 /// The most bytes that a script may have: 4 MiB.
 pub const MOST_INPUT: usize = 4_194_304;

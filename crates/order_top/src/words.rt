@@ -5,9 +5,9 @@ ghost use Rattle.order_top.specs.Limits.{most_first};
 ghost use Rattle.order_top.specs.Words.{IsAsked, asked_by, asked_of, asking, dotted, number_of, task_of, tasks_of, turns_of};
 
 use crate::not_done::NotDone;
-use order_runs::outcomes::scripts::forms::short_number_of;
-use order_runs::outcomes::scripts::script_lines::cut;
+use script_words::cut;
 use std::alloc::{AllocError as OutOfMemory, Global};
+use text_forms::short_number_of;
 
 /// The most moments that are met if no word says otherwise.
 pub const MOST_MOMENTS: usize = 1_000_000;

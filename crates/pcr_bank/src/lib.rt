@@ -5,6 +5,4 @@
 mod banks;
 
 pub use banks::Banks;
-pub use hash_algos as hashes;
-pub use inode_meta as meta;
 pub use inode_meta::Bank;

@@ -5,8 +5,8 @@ ghost use Rattle.grow_list.specs.Shown.{IsSameList, HasItsOwn, HasEach, fresh};
 ghost use Rattle.policy_cell.specs.Policy.{in_force};
 
 use grow_list::{Grow, Pass};
+use inode_meta::Who;
 use rule_match::Index;
-use rule_match::meta::Who;
 use rule_match::policy::{Policy, Rule};
 use std::alloc::{AllocError as OutOfMemory, Global};
 use std::marker::Model;

@@ -24,4 +24,3 @@ pub use values::{
     template_of,
 };
 pub use words::mask_bits_word;
-pub use xattr_store as xattrs;

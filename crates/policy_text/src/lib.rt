@@ -12,7 +12,6 @@ mod read;
 mod write;
 
 pub use fault::{Fault, PolicyErr, RuleCause};
-pub use inode_meta as meta;
 pub use policy_rules::{
     Access, Act, Action, Func, IdTest, Key, MAY_APPEND, MAY_EXEC, MAY_READ, MAY_WRITE, MaskTest,
     Policy, Purpose, RULES, Rule, Super, template_of,
@@ -20,4 +19,3 @@ pub use policy_rules::{
 pub use read::{parse, parse_rule};
 pub use std::alloc::AllocError as OutOfMemory;
 pub use write::{print, print_rule};
-pub use xattr_store as xattrs;

@@ -9,8 +9,8 @@ ghost use Rattle.report_read.specs.Report.{HasShortJournals};
 use crate::draft::Draft;
 use crate::fault::{LineErr, ReadErr};
 use crate::report::Report;
-use report_words::script_lines::cut;
 use report_words::{Span, first_words};
+use script_words::cut;
 use std::alloc::Global;
 
 /// Reads a text of reports, one after another: one, and `more` after it.

@@ -19,6 +19,4 @@ mod stages;
 pub use by_line::read;
 pub use fault::ReadErr;
 pub use report::{Inode, InodeHead, Reply, Report, RunEnd, Task};
-pub use report_text as reports;
-pub use report_words as words;
 pub use report_words::{Deed, Event, Grant, Kind, Outcome, Placed, Span, Verdict};

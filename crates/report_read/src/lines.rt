@@ -5,7 +5,7 @@ ghost use Rattle.report_words.specs.Forms.{after_by};
 ghost use Rattle.report_read.specs.Lines as spec;
 
 use crate::report::{InodeHead, RunEnd};
-use report_text::model::meta::{Template, Who};
+use inode_meta::{Template, Who};
 use report_words::{
     Deed, Event, Outcome, Span, after, after_any, after_digest, after_hex, after_named_digest,
     after_wide_pcr, counted, deed_in, is_named_digest, is_whole, look_up, number_in, outcome_of,

@@ -17,13 +17,10 @@ mod tasks;
 mod tolds;
 mod totals;
 
-pub use call_steps as steps;
 pub use events::push_who;
-pub use ima_io as outer;
 pub use lists::{push_entries, push_registers, push_values};
 pub use print::{report, report_in_pieces};
 pub use push::{push_number, push_numbers};
-pub use run_model as model;
 pub use std::alloc::AllocError as OutOfMemory;
 pub use tasks::push_reply;
 pub use totals::summary;

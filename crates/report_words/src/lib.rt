@@ -19,8 +19,6 @@ pub use forms::{
     after, after_any, after_digest, after_hex, after_named_digest, after_wide_pcr, counted,
     first_words, is_named_digest, is_whole, number_in, who_in,
 };
-pub use inode_meta as meta;
 pub use outcomes::{is_cause, is_set_status, outcome_of};
-pub use script_words as script_lines;
 pub use std::alloc::AllocError as OutOfMemory;
 pub use tables::{is_among, look_up};

@@ -16,5 +16,4 @@ pub use decision::decide;
 pub use family::Family;
 pub use index::Index;
 pub use policy_rules as policy;
-pub use policy_rules::meta;
 pub use std::alloc::AllocError as OutOfMemory;

@@ -4,7 +4,3 @@
 //!
 //! The laws are stated in `specs/`, and are lemmas of `proofs/`.
 #![tactic(auto)]
-
-pub use inode_events as events;
-pub use inode_events::templates;
-pub use run_model::rules;

@@ -1,6 +1,6 @@
 use call_steps::Reply;
 use call_steps::events::EndedInode;
-use call_steps::templates::Entry;
+use ima_templates::Entry;
 use inode_meta::Template;
 use measure_book::registers::Banks;
 use policy_cell::RuleEntry;

@@ -10,10 +10,6 @@ mod ended;
 mod turn;
 
 pub use call_steps as steps;
-pub use call_steps::{events, policy};
 pub use ended::{Ended, EndedTask};
-pub use inode_meta as meta;
-pub use measure_book::registers;
-pub use policy_cell as rules;
-pub use policy_cell::{RuleEntry, matching};
+pub use policy_cell::RuleEntry;
 pub use turn::Turn;

@@ -7,8 +7,8 @@ ghost use Rattle.script_print.specs.Spelling.{attr_line, content_words, file_lin
 
 use call_lines::{push_hex, push_number, push_octal, push_value, push_word};
 use inode_events::Image;
-use inode_events::pages::Content;
 use inode_meta::Meta;
+use inode_pages::Content;
 use script_text::FileBlock;
 use std::alloc::AllocError as OutOfMemory;
 use xattr_store::Bytes;

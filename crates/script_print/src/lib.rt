@@ -11,6 +11,5 @@ mod script;
 mod settings;
 
 pub use law::text_is_read;
-pub use list_format as list_lines;
 pub use script::print;
 pub use std::alloc::AllocError as OutOfMemory;

@@ -8,6 +8,6 @@ mod running;
 
 pub use laws::shown_runs_are_sound;
 pub use running::run;
-pub use script_start::{crew, scenes, started};
+pub use script_scene as scenes;
+pub use script_start::{crew, started};
 pub use task_runner as runners;
-pub use task_runner::tasks;

@@ -7,6 +7,7 @@ ghost use Rattle.task_runner.specs.worlds.WorldRuns.{StillRuns, moment_in, scene
 
 use crate::appended::rules_kept;
 use call_steps::Ending;
+use ima_io::Gate;
 use run_model::Ended;
 use script_start::started;
 use script_text::Script;
@@ -14,7 +15,6 @@ use std::alloc::{AllocError as OutOfMemory, Global};
 use std::marker::Brand;
 use std::sync::Wait;
 use std::thread::Threads;
-use task_runner::outer::Gate;
 use task_runner::tasks::{Task, World};
 use task_runner::{run_rounds, run_schedule, run_threads};
 

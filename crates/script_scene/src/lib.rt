@@ -6,6 +6,4 @@ mod parts;
 mod settings;
 
 pub use parts::{ScriptParts, parts_of};
-pub use script_text as scripts;
-pub use script_text::script_lines;
 pub use settings::{boot_entry, evm_of, settings_of};

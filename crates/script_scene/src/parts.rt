@@ -4,12 +4,12 @@ ghost use Rattle.script_scene.specs.Scene.{file_of, fs_of};
 
 use crate::settings::{boot_entry, settings_of};
 use ima_templates::Entry;
-use ima_templates::xattrs::Bytes;
-use run_model::events::{Image, Settings};
-use run_model::policy::{Policy, Super};
+use inode_events::{Image, Settings};
+use policy_rules::{Policy, Super};
 use run_model::steps::Ending;
 use script_text::{FileBlock, Script, TaskBlock};
 use std::alloc::{AllocError as OutOfMemory, Global};
+use xattr_store::Bytes;
 
 /// The parts with which the world and the tasks of a script start.
 #[derive(Drop)]

@@ -5,12 +5,12 @@ ghost use Rattle.inode_meta.specs.declared.measurement.Template.TheVariants.{Ima
 ghost use Rattle.script_text.specs.Files.{setup_of};
 ghost use Rattle.script_scene.specs.Scene.{IsForFiles, boot_by, settings_of};
 
+use evm_verify::Evm;
 use hash_algos::{Algo, Digest};
 use ima_templates::{Entry, build};
+use inode_events::Settings;
 use inode_meta::{DEFAULT_PCR, Template};
-use run_model::events::Settings;
 use script_text::Script;
-use script_text::evm::Evm;
 use std::alloc::{AllocError as OutOfMemory, Global};
 
 /// EVM as the script's settings configure it.

@@ -5,6 +5,4 @@ mod members;
 mod starting;
 
 pub use members::crew;
-pub use script_scene as scenes;
 pub use starting::started;
-pub use task_core as tasks;

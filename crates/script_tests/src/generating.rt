@@ -1,8 +1,8 @@
 // Scripts whose digests a program of 25 lines in another language gives, which follows the format's
 // description alone, with its own SHA-256. A summary shows of the text only how long it is.
 
+use hash_algos::{Algo, digest_of};
 use load_gen::script;
-use script_text::hashes::{Algo, digest_of};
 use std::test::Fail;
 
 #[test]

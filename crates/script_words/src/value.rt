@@ -9,9 +9,9 @@ ghost use Rattle.script_words.specs.Value.{any_value, byte_of, end_byte, fill_of
 use crate::fault::{LineCause, LineErr};
 use hex::{FromHexError, decode};
 use inode_pages::{Content, MOST_BYTES, PageErr};
-use policy_text::xattrs::Bytes;
 use std::alloc::{AllocError as OutOfMemory, Global};
 use text_forms::short_number_of;
+use xattr_store::Bytes;
 
 // The most bytes of a content.
 const CONTENT: usize = MOST_BYTES as usize;

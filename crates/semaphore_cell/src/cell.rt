@@ -9,8 +9,8 @@ ghost use Rattle.inode_events.specs.Past.{past};
 ghost use Rattle.inode_events.specs.Semaphores.{LegalSemaphores, left, semaphore_says};
 
 use grow_list::{Grow, Pass};
-use inode_events::meta::Who;
 use inode_events::{Deed, Event, Told};
+use inode_meta::Who;
 use std::alloc::{AllocError as OutOfMemory, Global};
 use std::marker::Model;
 

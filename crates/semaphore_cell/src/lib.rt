@@ -5,5 +5,4 @@ mod cell;
 
 pub use cell::SemaphoreCell;
 pub use grow_list::Pass;
-pub use inode_events as events;
 pub use std::alloc::AllocError as OutOfMemory;

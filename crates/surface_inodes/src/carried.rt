@@ -4,11 +4,14 @@ ghost use Rattle.std.specs.Prelude.{◌-◌, ◌<◌, ◌≤◌, ◌^◌, length
 ghost use Rattle.ima_top.specs.carrying.Form.{IsCarried};
 
 use crate::lists::EntryPass;
+use hash_algos as hashes;
 use ima_top::carrying;
-use ima_top::reports::model::registers;
-use ima_top::scripts::{LineCause, hashes, templates, xattrs};
-use ima_top::tasks::worlds::books;
+use ima_top::scripts::LineCause;
+use inode_events::templates;
+use measure_book as books;
+use pcr_bank as registers;
 use std::alloc::Global;
+use xattr_store as xattrs;
 
 // ---- list_carry
 

@@ -3,9 +3,15 @@
 ghost use Rattle.std.specs.Prelude.{IsTrue};
 ghost use Rattle.ima_top.specs.policy.rules.RuleValue.{is_named_template};
 
-use ima_top::scripts::hashing::pages;
-use ima_top::scripts::{events, evm, hashes, labels, meta, policy, templates, xattrs};
-use ima_top::tasks::worlds::inodes;
+use evm_verify as evm;
+use hash_algos as hashes;
+use inode_cell as inodes;
+use inode_events as events;
+use inode_events::{labels, templates};
+use inode_meta as meta;
+use inode_pages as pages;
+use policy_text as policy;
+use xattr_store as xattrs;
 
 // ---- inode_events
 

@@ -15,10 +15,17 @@ ghost use Rattle.ima_top.specs.worlds.inodes.Ending.{HasPasses};
 ghost use Rattle.ima_top.specs.worlds.inodes.Sums.{HasSums};
 ghost use Rattle.ima_top.specs.worlds.laws_of_journals.Own.{counter};
 
-use ima_top::scripts::hashing::pages;
-use ima_top::scripts::{events, hashes, hashing, meta, policy, templates};
-use ima_top::tasks::worlds::inodes::{growing, matching};
-use ima_top::tasks::worlds::{books, inodes};
+use grow_list as growing;
+use hash_algos as hashes;
+use inode_cell as inodes;
+use inode_events as events;
+use inode_events::templates;
+use inode_hashing as hashing;
+use inode_meta as meta;
+use inode_pages as pages;
+use measure_book as books;
+use policy_text as policy;
+use rule_match as matching;
 use std::alloc::Global;
 
 pub type EventPass = growing::Pass<events::Event>;

@@ -1,10 +1,10 @@
 //! A caller of each public call on shared lists, the measurement list, events and one inode,
 //! written as a user of one crate would write it.
 //!
-//! Each function makes one call, under the name by which the crates above pass its crate on. Its
-//! parameters and its result have the types of the call, and its `requires` are the conditions that
-//! a caller has to know, so its proof is that these are enough. What the call ensures isn't
-//! repeated. Types without a call are read field by field and variant by variant.
+//! Each function makes one call, under its public name. Its parameters and its result have the
+//! types of the call, and its `requires` are the conditions that a caller has to know, so its proof
+//! is that these are enough. What the call ensures isn't repeated. Types without a call are read
+//! field by field and variant by variant.
 //!
 //! Nothing calls these functions: they no longer compile or are no longer proved if a public name,
 //! form or condition changes. If a form isn't the plainest one, a comment quotes the entry of

@@ -8,12 +8,15 @@ ghost use Rattle.ima_top.specs.events.templates.xattrs.Attrs.{most_value};
 ghost use Rattle.ima_top.specs.worlds.model.growing.Others.{HasOthers};
 ghost use Rattle.ima_top.specs.worlds.model.growing.Shown.{HasEach};
 
-use ima_top::generator::prints::list_lines;
-use ima_top::reports::model::registers;
-use ima_top::scripts::{hashes, meta, templates, xattrs};
-use ima_top::tasks::worlds::books;
-use ima_top::tasks::worlds::inodes::growing;
+use grow_list as growing;
+use hash_algos as hashes;
+use inode_events::templates;
+use inode_meta as meta;
+use list_format as list_lines;
+use measure_book as books;
+use pcr_bank as registers;
 use std::alloc::Global;
+use xattr_store as xattrs;
 
 pub type EntryPass = growing::Pass<templates::Entry>;
 

@@ -2,12 +2,16 @@
 
 ghost use Rattle.std.specs.Prelude.{◌-◌, ◌<◌, ◌^◌, length};
 
-use ima_top::reports::model::registers;
-use ima_top::scripts::{hashes, meta, policy, templates, xattrs};
+use hash_algos as hashes;
+use ima_templates as templates;
 use ima_top::{buffers, outer, scripts};
+use inode_meta as meta;
+use pcr_bank as registers;
+use policy_text as policy;
 use std::alloc::Global;
 use std::sync::Wait;
 use std::thread::Threads;
+use xattr_store as xattrs;
 
 pub fn text_fields(text: &buffers::BufferText, caller: &buffers::BufferCaller) {
     let _hash: hashes::Algo = text.hash;

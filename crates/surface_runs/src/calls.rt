@@ -1,6 +1,9 @@
 // Calls of tasks, their steps and their replies.
 
-use ima_top::scripts::{events, meta, policy, steps};
+use call_steps as steps;
+use inode_events as events;
+use inode_meta as meta;
+use policy_text as policy;
 
 // ---- call_steps
 

@@ -2,12 +2,17 @@
 
 ghost use Rattle.std.specs.Prelude.{◌-◌, ◌<◌, ◌^◌, length};
 
+use call_steps as steps;
+use hash_algos as hashes;
 use ima_top::generator::prints;
-use ima_top::scripts::{events, hashes, meta, policy, steps, xattrs};
 use ima_top::{generator, outer, reports, scripts, tasks};
+use inode_events as events;
+use inode_meta as meta;
+use policy_text as policy;
 use std::alloc::Global;
 use std::sync::Wait;
 use std::thread::Threads;
+use xattr_store as xattrs;
 
 // ---- script_text
 

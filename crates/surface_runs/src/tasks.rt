@@ -7,15 +7,21 @@ ghost use Rattle.ima_top.specs.worlds.Runs.{AreTasks};
 ghost use Rattle.ima_top.specs.worlds.Tasks.{IsTask};
 ghost use Rattle.ima_top.specs.starts.Started.{IsFile};
 
-use ima_top::reports::model::{registers, rules};
+use call_steps as steps;
+use grow_list as growing;
+use ima_templates as templates;
 use ima_top::runs::runners;
-use ima_top::scripts::{events, meta, policy, steps, templates, xattrs};
-use ima_top::tasks::worlds::inodes;
-use ima_top::tasks::worlds::inodes::growing;
 use ima_top::{outer, tasks};
+use inode_cell as inodes;
+use inode_events as events;
+use inode_meta as meta;
+use pcr_bank as registers;
+use policy_cell as rules;
+use policy_text as policy;
 use std::alloc::Global;
 use std::sync::Wait;
 use std::thread::Threads;
+use xattr_store as xattrs;
 
 // ---- task_core
 

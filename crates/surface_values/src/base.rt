@@ -4,10 +4,12 @@
 
 ghost use Rattle.std.specs.Prelude.{◌≤◌, length};
 
-use ima_top::scripts::evm::hmacs;
-use ima_top::scripts::hashing::pages;
-use ima_top::scripts::{hashes, meta, xattrs};
+use hash_algos as hashes;
+use hmac_core as hmacs;
+use inode_meta as meta;
+use inode_pages as pages;
 use std::alloc::Global;
+use xattr_store as xattrs;
 
 // ---- xattr_store
 

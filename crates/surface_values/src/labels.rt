@@ -1,8 +1,12 @@
 // Labels, EVM and verdicts.
 
-use ima_top::scripts::{evm, hashes, labels, meta, xattrs};
-use ima_top::tasks::worlds::inodes::appraisals;
+use evm_verify as evm;
+use hash_algos as hashes;
+use ima_appraise as appraisals;
+use inode_meta as meta;
+use label_values as labels;
 use std::alloc::Global;
+use xattr_store as xattrs;
 
 // ---- label_values
 

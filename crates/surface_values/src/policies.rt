@@ -4,10 +4,14 @@ ghost use Rattle.std.specs.Prelude.{◌≡◌, ◌-◌, ◌<◌, ◌≤◌, ◌^
 ghost use Rattle.ima_top.specs.worlds.model.growing.Shown.{HasEach};
 ghost use Rattle.ima_top.specs.policy.rules.Limits.{most_rules};
 
-use ima_top::reports::model::rules;
-use ima_top::scripts::{hashes, meta, policy, xattrs};
-use ima_top::tasks::worlds::inodes::{growing, matching};
+use grow_list as growing;
+use hash_algos as hashes;
+use inode_meta as meta;
+use policy_cell as rules;
+use policy_cell::matching;
+use policy_text as policy;
 use std::alloc::Global;
+use xattr_store as xattrs;
 
 pub type RulePass = growing::Pass<rules::RuleEntry>;
 

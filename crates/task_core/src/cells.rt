@@ -9,7 +9,7 @@ ghost use Rattle.task_core.specs.Cells.{IsCellAt};
 use crate::task::Task;
 use crate::world::World;
 use task_mind::TaskMind;
-use world_locks::inodes::InodeCell;
+use world_model::inodes::InodeCell;
 
 impl World {
     /// The inode of this number.

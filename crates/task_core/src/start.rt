@@ -6,12 +6,12 @@ ghost use Rattle.world_start.specs.Started.{IsFile};
 
 use crate::world::World;
 use ima_templates::Entry;
-use inode_events::xattrs::Bytes;
 use inode_events::{Image, Settings};
 use policy_rules::{Policy, Super};
 use std::alloc::{AllocError as OutOfMemory, Global};
 use world_model::Passes;
 use world_start::{Start, start_lists};
+use xattr_store::Bytes;
 
 impl World {
     /// Starts a world of these inodes, each on the file system that its place names, with these

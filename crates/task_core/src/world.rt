@@ -1,12 +1,12 @@
 use grow_list::Pass;
 use inode_events::Settings;
+use measure_book::Book;
 use policy_cell::{PolicyCell, RuleEntry};
 use policy_rules::Super;
 use std::alloc::Global;
 use std::marker::Model;
 use world_close::semaphores::SemaphoreCell;
 use world_model::Station;
-use world_model::books::Book;
 
 /// The inodes, the measurement list, the semaphores and the rules that tasks share. Contracts see
 /// its constants and its lists.

@@ -9,9 +9,9 @@ ghost use Rattle.task_mind.specs.Value.{progress_in};
 
 use crate::handles::{name_ended, name_made, remove};
 use crate::progress::Progress;
-use run_model::events::Told;
-use run_model::meta::Mode;
-use run_model::policy::Action;
+use inode_events::Told;
+use inode_meta::Mode;
+use rule_match::policy::Action;
 use run_model::steps::{Ask, Call, Course, Handle, Name, Next, Reply, next_by};
 
 /// The answer to a call, with its effect on the task's names.

@@ -12,6 +12,5 @@ mod step;
 
 pub use mind::TaskMind;
 pub use progress::Progress;
-pub use run_model::matching;
 pub use std::alloc::AllocError as OutOfMemory;
 pub use step::{Doing, Step};

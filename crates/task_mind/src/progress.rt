@@ -5,8 +5,8 @@ ghost use Rattle.run_model.specs.steps.Mind.{begun, file_of, how_held, inode_of}
 ghost use Rattle.task_mind.specs.Value.{progress_in};
 
 use crate::handles::hand_of;
-use run_model::events::How;
-use run_model::meta::Mode;
+use inode_events::How;
+use inode_meta::Mode;
 use run_model::steps::{Call, Course, Due, Handle, Held, Plan};
 
 /// The progress of a call between two steps.

@@ -6,8 +6,8 @@ ghost use Rattle.task_mind.specs.Value.{progress_in};
 ghost use Rattle.task_mind.specs.Steps.{deed_in, step_in};
 
 use crate::progress::Progress;
-use run_model::events::{BoxedBytes, BoxedValue, Change, Deed, How};
-use run_model::policy::{Func, Rule};
+use inode_events::{BoxedBytes, BoxedValue, Change, Deed, How};
+use rule_match::policy::{Func, Rule};
 use run_model::steps::{Ask, Call};
 
 /// An event on an inode, before it has happened. Bytes are borrowed from the call.

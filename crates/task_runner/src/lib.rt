@@ -6,10 +6,8 @@ mod rounds;
 mod threads;
 mod turns;
 
-pub use ima_io as outer;
 pub use rounds::run_rounds;
 pub use std::alloc::AllocError as OutOfMemory;
 pub use task_core as tasks;
-pub use task_core::worlds;
 pub use threads::run_threads;
 pub use turns::run_schedule;

@@ -12,9 +12,9 @@ use crate::{Actor, look_and_apply};
 use grow_list::Pass;
 use ima_templates::Entry;
 use inode_events::Event;
+use measure_book::Book;
 use std::alloc::AllocError as OutOfMemory;
 use task_mind::Doing;
-use world_model::books::Book;
 use world_model::{Gathered, Station};
 
 /// Does the deed on the inode, through its task's passes of the journal and of the measurement

@@ -16,11 +16,11 @@ use crate::{Actor, Checks, look_and_check};
 use grow_list::Pass;
 use ima_templates::Entry;
 use inode_events::Event;
+use measure_book::Book;
+use policy_cell::matching::Index;
 use policy_rules::Super;
-use run_model::matching::Index;
 use std::alloc::AllocError as OutOfMemory;
 use world_model::Station;
-use world_model::books::Book;
 
 /// Makes the check on the inode, which is on this file system, through its task's passes of the
 /// journal and of the measurement list.

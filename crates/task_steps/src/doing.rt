@@ -20,14 +20,14 @@ use crate::collecting::collect;
 use crate::listed::{self, Checks};
 use crate::plain::apply_plain;
 use grow_list::Pass;
-use inode_events::policy::{Action, Super};
 use inode_events::{Event, Told};
 use inode_meta::{Cred, Slot, Who};
+use measure_book::Book;
+use policy_cell::matching::Index;
+use policy_rules::{Action, Super};
 use std::alloc::AllocError as OutOfMemory;
 use task_mind::Doing;
-use task_mind::matching::Index;
 use world_model::Gathered;
-use world_model::books::Book;
 use world_model::inodes::InodeCell;
 
 /// What a task knows about itself when it does a deed.

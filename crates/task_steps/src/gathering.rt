@@ -8,8 +8,8 @@ ghost use Rattle.task_steps.specs.Hashed.{HasGathered, sums_in};
 ghost use Rattle.world_model.specs.Tasks.{HasSummed, HasTakenIn};
 
 use hash_algos::Digest;
-use inode_events::pages::Page;
 use inode_hashing::Hashing;
+use inode_pages::Page;
 use std::mem;
 use world_model::Gathered;
 use world_model::inodes::Piece;

@@ -23,6 +23,3 @@ pub use gathering::gather;
 pub use listed::Checks;
 pub use looking::look_at_inodes;
 pub use std::alloc::AllocError as OutOfMemory;
-pub use task_mind as minds;
-pub use world_model as worlds;
-pub use world_model::books;

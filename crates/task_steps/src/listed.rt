@@ -13,14 +13,14 @@ ghost use Rattle.world_model.specs.Ready.{AsksBy};
 
 use crate::gathering::sums;
 use grow_list::Pass;
-use inode_events::policy::{Action, Func, Super};
 use inode_events::{Event, Told};
 use inode_hashing::Hashing;
 use inode_meta::{Cred, Slot, Who};
+use measure_book::Book;
+use policy_cell::matching::Index;
+use policy_rules::{Action, Func, Super};
 use std::alloc::AllocError as OutOfMemory;
-use task_mind::matching::Index;
 use world_model::Gathered;
-use world_model::books::Book;
 use world_model::inodes::answers::found_told;
 use world_model::inodes::{InodeCell, Taken};
 

@@ -6,9 +6,9 @@ ghost use Rattle.grow_list.specs.Shown.{fresh};
 
 use hash_algos::{Algo, Digest};
 use ima_templates::{Entry, Placed, build, can_show, violation};
+use inode_meta::Template;
 use measure_book::registers::Bank;
 use measure_book::{Book, Pass};
-use policy_text::meta::Template;
 use std::alloc::{AllocError as OutOfMemory, Global};
 use std::marker::{Brand, Model, PhantomData};
 use std::process::Abort;

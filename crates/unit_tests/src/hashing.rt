@@ -1,8 +1,8 @@
 // Digests of 5,000 bytes `a` that other programs computed (`md5sum`, `sha1sum`, `sha256sum`).
 
 use hash_algos::{Algo, Digest};
-use inode_hashing::pages::Content;
 use inode_hashing::{Hashing, digest_of_content};
+use inode_pages::Content;
 use std::test::Fail;
 
 const MD5: &[u8] = b"\x7a\xaa\x7d\xec\x70\x9f\xa4\xfa\x82\xf3\x74\x6a\xbf\xd8\x0b\xdb";

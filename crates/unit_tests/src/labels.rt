@@ -1,7 +1,7 @@
 // A SHA-1 that ends in four zero bytes, written out by hand: no content with such a digest is
 // known, so no run shows how it is written.
 use hash_algos::{Algo, Digest};
-use ima_appraise::labels::*;
+use label_values::*;
 
 const LABEL: &[u8] =
     b"\x04\x02\x21\x22\x23\x24\x25\x26\x27\x28\x29\x2a\x2b\x2c\x2d\x2e\x2f\x30\x00\x00\x00\x00";

@@ -7,10 +7,10 @@
 
 use hash_algos::{Algo, Digest};
 use ima_templates::{Entry, build, can_show, violation};
+use inode_meta::{Bank, Template};
 use list_format::{ascii, binary};
 use measure_book::extend;
 use measure_book::registers::Banks;
-use policy_text::meta::{Bank, Template};
 use std::alloc::{AllocError as OutOfMemory, Global};
 use std::process::Abort;
 use std::test::Fail;

@@ -1,4 +1,4 @@
-use evm_verify::hmacs::*;
+use hmac_core::*;
 
 struct Vector {
     key: &'static [u8],

@@ -1,10 +1,10 @@
 // Which rule decides: no command shows its place.
 
-use ima_templates::xattrs::Bytes;
+use inode_meta::Cred;
 use policy_cell::matching::{Family, Index};
-use policy_text::meta::Cred;
 use policy_text::{Access, Func, MAY_READ, Policy, Super, parse_rule};
 use std::test::Fail;
+use xattr_store::Bytes;
 
 #[test]
 fn the_deciding_rule_has_a_place(rt: HostRuntime) -> Result<(), Fail> {

@@ -1,4 +1,4 @@
-use inode_hashing::pages::{Content, MOST_BYTES, PageErr};
+use inode_pages::{Content, MOST_BYTES, PageErr};
 use std::alloc::Global;
 use std::test::Fail;
 

@@ -6,10 +6,10 @@ ghost use Rattle.view_drawing.specs.Drawing as spec;
 ghost use Rattle.view_page.specs.Pieces.{page_of};
 
 use crate::items::{add, push_item};
+use report_read::Event;
 use std::alloc::{AllocError as OutOfMemory, Global};
+use view_journal::{Item, Window, windows};
 use view_layout::{Parts, draft, end_of, highest, push_items};
-use view_page::journals::reading::Event;
-use view_page::journals::{Item, Window, windows};
 use view_page::{Own, Piece, Side, View, push_pieces};
 
 // A journal of at most as many events is drawn whole.

@@ -4,9 +4,9 @@ ghost use Rattle.std.specs.Prelude.{◌≡◌, ◌++◌, OnOk};
 ghost use Rattle.view_drawing.specs.Drawing as spec;
 
 use crate::segment::push_segment;
+use report_read::{Deed, Event, Outcome, Placed, Span};
 use std::alloc::AllocError as OutOfMemory;
-use view_page::journals::reading::{Deed, Event, Outcome, Placed, Span};
-use view_page::journals::{Area, Guide, Item, Look, Mark, Note};
+use view_journal::{Area, Guide, Item, Look, Mark, Note};
 use view_page::{Own, Piece, View};
 
 /// Appends the pieces of an item.

@@ -10,5 +10,3 @@ pub mod law;
 mod segment;
 
 pub use inode::{push_inode, svg};
-pub use view_layout as layout;
-pub use view_page as page;

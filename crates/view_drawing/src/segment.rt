@@ -5,7 +5,7 @@ ghost use Rattle.view_drawing.specs.Drawing as spec;
 
 use crate::items::add;
 use std::alloc::AllocError as OutOfMemory;
-use view_page::journals::{Freshness, Strip};
+use view_journal::{Freshness, Strip};
 use view_page::{Own, Piece};
 
 /// Appends the part of a strip that shows one number.

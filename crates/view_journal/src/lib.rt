@@ -24,6 +24,5 @@ pub use frame::{Extent, column_of, rows};
 pub use items::{Area, Guide, Item, Look, Strip};
 pub use kinds::{Collection, Freshness, Mark, Note};
 pub use notes::{mark_of, push_notes};
-pub use report_read as reading;
 pub use walk::{State, Walk, is_reader, is_write, is_writer};
 pub use window::{Window, is_marked, width, windows};

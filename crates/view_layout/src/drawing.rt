@@ -11,8 +11,8 @@ use crate::scenery::{
     push_bars, push_differing, push_guides, push_lane_items, push_parting, push_writes,
 };
 use crate::strips::push_strips;
+use report_read::Event;
 use std::alloc::{AllocError as OutOfMemory, Global};
-use view_journal::reading::Event;
 use view_journal::{Column, Item, Window, columns, shown_bars};
 
 /// The parts of which a drawing is made.

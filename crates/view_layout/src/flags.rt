@@ -3,8 +3,8 @@
 ghost use Rattle.std.specs.Prelude.{◌≡◌, ◌≤◌, ◌<◌, ◌++◌, length, map, All, IfOk, OnOk};
 ghost use Rattle.view_layout.specs.Flags as spec;
 
+use report_read::Event;
 use std::alloc::{AllocError as OutOfMemory, Global};
-use view_journal::reading::Event;
 use view_journal::{Column, Extent, Guide, Note, push_notes, rows};
 
 /// A note of an event whose column begins at x.

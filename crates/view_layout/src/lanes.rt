@@ -3,8 +3,8 @@
 ghost use Rattle.std.specs.Prelude.{◌≡◌, ◌≤◌, ◌<◌, ◌+◌, ◌*◌, ◌++◌, length, All, IfOk, OnOk};
 ghost use Rattle.view_layout.specs.Lanes as spec;
 
+use report_read::{Deed, Event};
 use std::alloc::{AllocError as OutOfMemory, Global};
-use view_journal::reading::{Deed, Event};
 use view_journal::{Bar, Column, extents, own, rows};
 
 /// The lane of a task.

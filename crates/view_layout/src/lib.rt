@@ -18,4 +18,3 @@ pub use drawing::{Parts, Sketch, draft, highest, push_items};
 pub use flags::Flag;
 pub use lanes::{Lane, Seat};
 pub use scenery::end_of;
-pub use view_journal as journals;

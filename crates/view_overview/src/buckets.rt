@@ -4,9 +4,9 @@ ghost use Rattle.std.specs.Prelude.{◌≡◌, ◌<◌, ◌≤◌, length, repli
 ghost use Rattle.view_page.specs.journals.Walk.{states_of};
 ghost use Rattle.view_overview.specs.Overview as spec;
 
+use report_read::Event;
 use std::alloc::{AllocError as OutOfMemory, Global};
-use view_page::journals::reading::Event;
-use view_page::journals::{Note, State, Walk, push_notes};
+use view_journal::{Note, State, Walk, push_notes};
 
 /// The highest counts and the gravest note of some places.
 #[derive(Clone, Copy)]

@@ -6,9 +6,9 @@ ghost use Rattle.view_overview.specs.Overview as spec;
 ghost use Rattle.view_page.specs.Parts.{Pushed};
 
 use crate::buckets::{Bucket, Scale, bucket_at, buckets, scale_of};
+use report_read::Event;
 use std::alloc::{AllocError as OutOfMemory, Global};
-use view_page::journals::Window;
-use view_page::journals::reading::Event;
+use view_journal::Window;
 use view_page::{Overview, Part, push_parts};
 
 /// A count that the overview shows.

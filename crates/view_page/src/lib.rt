@@ -27,5 +27,4 @@ pub use rules::push_rules;
 pub use std::alloc::AllocError as OutOfMemory;
 pub use told::{Overview, Told};
 pub use view::View;
-pub use view_journal as journals;
 pub use words::{after_word, cut, first_word, path, text_at};

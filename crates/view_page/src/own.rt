@@ -6,8 +6,8 @@ ghost use Rattle.view_page.specs.Own as spec;
 use crate::escape::push_all;
 use crate::rules::push_rules;
 use crate::shape::push_shape;
+use report_read::{Deed, Kind};
 use std::alloc::AllocError as OutOfMemory;
-use view_journal::reading::{Deed, Kind};
 use view_journal::{Freshness, Guide, Look, Mark, Note, Strip};
 
 /// To which of two reports of a page a drawing belongs: its identifiers begin with nothing, `a-` or

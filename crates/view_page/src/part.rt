@@ -9,8 +9,8 @@ use crate::look::{push_legend, push_style};
 use crate::own::Side;
 use crate::pieces::{Piece, push_pieces};
 use crate::told::{Overview, Told, overview_bytes, told_bytes};
+use report_read::Span;
 use std::alloc::AllocError as OutOfMemory;
-use view_journal::reading::Span;
 
 /// A part of a page.
 #[derive(Clone, Copy)]

@@ -5,9 +5,9 @@ ghost use Rattle.view_page.specs.Pieces as spec;
 
 use crate::escape::push_text;
 use crate::own::{Own, push_own};
+use report_read::Span;
+use report_text::push_number;
 use std::alloc::AllocError as OutOfMemory;
-use view_journal::reading::Span;
-use view_journal::reading::reports::push_number;
 
 /// A piece of a page.
 #[derive(Clone, Copy)]

@@ -4,7 +4,7 @@ ghost use Rattle.std.specs.Prelude.{◌≡◌, ◌≤◌, length};
 ghost use Rattle.view_page.specs.Pieces.{text_at};
 ghost use Rattle.view_page.specs.Words as spec;
 
-use view_journal::reading::{InodeHead, Span};
+use report_read::{InodeHead, Span};
 
 /// The range of the text, as far as the text reaches.
 pub fn text_at(text: &[u8], span: Span) -> &[u8]

@@ -4,8 +4,8 @@ ghost use Rattle.std.specs.Prelude.{◌≡◌, ◌++◌, [], ◌∷◌, ◌≤�
 ghost use Rattle.view_sentences.specs.Alike.{parted};
 ghost use Rattle.view_pages.specs.Pair as spec;
 
+use report_read::Inode;
 use std::alloc::{AllocError as OutOfMemory, Global};
-use view_page::journals::reading::Inode;
 use view_sentences::parted;
 
 /// At most as many inodes are drawn.

@@ -14,5 +14,3 @@ mod sections;
 pub use page::{push_inode_page, push_page};
 pub use pair::push_pair;
 pub use std::alloc::AllocError as OutOfMemory;
-pub use view_drawing as drawn;
-pub use view_page::journals;

@@ -6,9 +6,9 @@ ghost use Rattle.view_page.specs.Parts.{Pushed};
 
 use crate::section::{Detail, push_section, view_of};
 use crate::sections::push_sections;
+use report_read::{Event, Inode, Report, Span, Task};
 use std::alloc::{AllocError as OutOfMemory, Global};
-use view_page::journals::Window;
-use view_page::journals::reading::{Event, Inode, Report, Span, Task};
+use view_journal::Window;
 use view_page::{Frame, Part, Section, Side, push_more, push_parts};
 use view_plan::order::order;
 use view_plan::{Asked, At, Shown, beyond, fill, first_of, planned, windows_of};

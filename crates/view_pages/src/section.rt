@@ -4,11 +4,11 @@ ghost use Rattle.std.specs.Prelude.{◌≡◌, ◌<◌, length, OnOk};
 ghost use Rattle.view_page.specs.Parts.{Pushed};
 ghost use Rattle.view_pages.specs.Section as spec;
 
+use report_read::{Event, Inode, InodeHead, Span};
 use std::alloc::{AllocError as OutOfMemory, Global};
 use view_drawing::push_inode;
+use view_journal::Window;
 use view_overview::push_overview;
-use view_page::journals::Window;
-use view_page::journals::reading::{Event, Inode, InodeHead, Span};
 use view_page::{
     Part, Section, Side, View, after_word, by_count, cut, first_word, path, push_more, push_parts,
 };

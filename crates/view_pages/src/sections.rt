@@ -5,9 +5,9 @@ ghost use Rattle.view_page.specs.Parts.{Pushed};
 ghost use Rattle.view_pages.specs.Sections as spec;
 
 use crate::section::{Detail, push_section, view_of};
+use report_read::Inode;
 use std::alloc::{AllocError as OutOfMemory, Global};
-use view_page::journals::Window;
-use view_page::journals::reading::Inode;
+use view_journal::Window;
 use view_page::{Side, View, push_parts};
 use view_plan::{Shown, windows_in};
 

@@ -4,8 +4,8 @@ ghost use Rattle.std.specs.Prelude.{◌≡◌, ◌++◌, take, IfOk, OnOk};
 ghost use Rattle.view_plan.specs.Plan as spec;
 
 use crate::slots::At;
+use report_read::{Event, Inode};
 use std::alloc::{AllocError as OutOfMemory, Global};
-use view_journal::reading::{Event, Inode};
 use view_journal::{Window, width, windows};
 
 /// A window of an inode's journal that a page draws.

@@ -3,7 +3,7 @@
 ghost use Rattle.std.specs.Prelude.{◌≡◌, ◌≤◌, length, take};
 ghost use Rattle.view_plan.specs.Slots as spec;
 
-use view_journal::reading::{Deed, Event, Inode, Outcome, Placed, Span};
+use report_read::{Deed, Event, Inode, Outcome, Placed, Span};
 
 /// An event: its inode, its place in the journal, and its line.
 #[derive(Clone, Copy)]

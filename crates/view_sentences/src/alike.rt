@@ -3,9 +3,9 @@
 ghost use Rattle.std.specs.Prelude.{◌≡◌, ◌+◌, ◌<◌, [], ◌∷◌, length, drop, slice_get, slice_index, MatchOption, IfOk};
 ghost use Rattle.view_sentences.specs.Alike as spec;
 
+use report_read::{Deed, Event, Outcome};
 use std::alloc::{AllocError as OutOfMemory, Global};
-use view_page::journals::Window;
-use view_page::journals::reading::{Deed, Event, Outcome};
+use view_journal::Window;
 use view_page::text_at;
 
 fn is_digit(byte: u8) -> bool

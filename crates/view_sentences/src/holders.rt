@@ -7,9 +7,9 @@ ghost use Rattle.view_page.specs.journals.Walk.{start};
 ghost use Rattle.view_page.specs.journals.WalkView.{walk_of};
 ghost use Rattle.view_sentences.specs.Holders as spec;
 
+use report_read::{Deed, Event, Kind, Outcome};
 use std::alloc::{AllocError as OutOfMemory, Global};
-use view_page::journals::reading::{Deed, Event, Kind, Outcome};
-use view_page::journals::{Walk, is_reader, is_writer};
+use view_journal::{Walk, is_reader, is_writer};
 
 /// Who holds a file at a violation.
 #[derive(Clone, Copy)]

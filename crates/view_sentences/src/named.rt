@@ -5,8 +5,8 @@ ghost use Rattle.view_page.specs.Parts.{Pushed};
 ghost use Rattle.view_sentences.specs.Sentences as spec;
 
 use crate::holders::holders;
+use report_read::{Deed, Event, Kind};
 use std::alloc::{AllocError as OutOfMemory, Global};
-use view_page::journals::reading::{Deed, Event, Kind};
 use view_page::{Part, Told, push_more, push_parts};
 
 // At most as many holders are named.

@@ -6,9 +6,9 @@ ghost use Rattle.view_sentences.specs.Sentences as spec;
 
 use crate::alike::{file_of, opener};
 use crate::named::{push_holders_at, use_of};
+use report_read::{Event, Grant, Outcome, Verdict};
 use std::alloc::{AllocError as OutOfMemory, Global};
-use view_page::journals::is_write;
-use view_page::journals::reading::{Event, Grant, Outcome, Verdict};
+use view_journal::is_write;
 use view_page::{Part, Told, after_word, cut, push_parts};
 
 fn push_entry(

@@ -8,9 +8,9 @@ ghost use Rattle.view_sentences.specs.Sentences as spec;
 use crate::alike::is_drawn;
 use crate::said::{is_denied, push_said};
 use crate::tales::told_places;
+use report_read::{Event, Outcome};
 use std::alloc::{AllocError as OutOfMemory, Global};
-use view_page::journals::Window;
-use view_page::journals::reading::{Event, Outcome};
+use view_journal::Window;
 use view_page::{Part, Table, Told, View, push_more, push_parts};
 
 // At most as many events have a sentence.

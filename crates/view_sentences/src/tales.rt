@@ -3,9 +3,9 @@
 ghost use Rattle.std.specs.Prelude.{◌≡◌, ◌+◌, ◌<◌, length, take, if◌then◌else◌, IfOk, OnOk};
 ghost use Rattle.view_sentences.specs.Sentences as spec;
 
+use report_read::{Event, Outcome};
 use std::alloc::{AllocError as OutOfMemory, Global};
-use view_page::journals::reading::{Event, Outcome};
-use view_page::journals::{Freshness, State, Walk, is_marked};
+use view_journal::{Freshness, State, Walk, is_marked};
 
 /// The places of the first events that have a sentence, and how many have one.
 #[derive(Drop)]

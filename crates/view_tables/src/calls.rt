@@ -5,8 +5,8 @@ ghost use Rattle.view_tables.specs.Calls as spec;
 ghost use Rattle.view_page.specs.Parts.{Pushed};
 
 use crate::entries::{FIRST_SHOWN, added_at, is_shown, push_said};
+use report_read::{Inode, InodeHead, Reply, Span, Task};
 use std::alloc::{AllocError as OutOfMemory, Global};
-use view_page::journals::reading::{Inode, InodeHead, Reply, Span, Task};
 use view_page::{Part, Side, Table, after_word, cut, path, push_more, push_parts};
 use view_plan::{Asked, At, Shown, counted, fill, is_drawn};
 

@@ -4,8 +4,8 @@ ghost use Rattle.std.specs.Prelude.{◌≡◌, slice_get, OnOk};
 ghost use Rattle.view_tables.specs.Entries as spec;
 ghost use Rattle.view_page.specs.Parts.{Pushed};
 
+use report_read::Span;
 use std::alloc::AllocError as OutOfMemory;
-use view_page::journals::reading::Span;
 use view_page::{Part, Side, Table, after_word, cut, first_word, push_parts, text_at};
 use view_plan::{At, Shown, counted, is_drawn};
 

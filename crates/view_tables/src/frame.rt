@@ -4,8 +4,8 @@ ghost use Rattle.std.specs.Prelude.{◌≡◌, OnOk};
 ghost use Rattle.view_tables.specs.Frame as spec;
 ghost use Rattle.view_page.specs.Parts.{Pushed};
 
+use report_read::{Inode, Reply, Report, RunEnd, Task};
 use std::alloc::AllocError as OutOfMemory;
-use view_page::journals::reading::{Inode, Reply, Report, RunEnd, Task};
 use view_page::{Frame, Own, Part, Piece, push_parts};
 
 /// Appends what stands before the body's own parts, under this heading.

@@ -5,8 +5,8 @@ ghost use Rattle.view_page.specs.Parts.{Pushed};
 ghost use Rattle.view_tables.specs.Tables as spec;
 
 use crate::entries::{word_1, word_2, word_3};
+use report_read::Span;
 use std::alloc::AllocError as OutOfMemory;
-use view_page::journals::reading::Span;
 use view_page::{Part, Table, after_word, cut, push_more, push_parts};
 
 // No more registers are shown: two banks have 24 each.

@@ -11,11 +11,11 @@ ghost use Rattle.view_pages.specs.journals.reading.Report.{HasShortJournals};
 
 use crate::command::{Asked, Command};
 use crate::not_done::NotDone;
+use report_read::{Event, Inode, ReadErr, Report, read};
+use report_text::push_number;
 use std::alloc::{AllocError as OutOfMemory, Global};
-use view_pages::drawn::svg;
-use view_pages::journals::Window;
-use view_pages::journals::reading::reports::push_number;
-use view_pages::journals::reading::{Event, Inode, ReadErr, Report, read};
+use view_drawing::svg;
+use view_journal::Window;
 use view_pages::{push_inode_page, push_page, push_pair};
 
 // The most places of a range that is asked for.

@@ -4,7 +4,7 @@ ghost use Rattle.std.specs.Prelude.{◌≡◌, map, string_bytes};
 ghost use Rattle.view_top.specs.Words as spec;
 
 use text_forms::{is_short_numeral, short_number_of};
-use view_pages::journals::Window;
+use view_journal::Window;
 
 /// An inode of a report, and the places of its journal if not all are asked for.
 #[derive(Clone, Copy)]

@@ -19,4 +19,3 @@ pub use status::{
     DONE, NO_PLACE, OUT_OF_MEMORY, READ_FAULT, REFUSED, TOO_LONG, USAGE, WRITE_FAULT,
 };
 pub use top::{MOST_INPUT, serve_view};
-pub use view_pages as pages;

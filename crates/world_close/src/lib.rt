@@ -13,4 +13,3 @@ pub use lists::{Lists, close_lists};
 pub use resting::rests;
 pub use semaphore_cell as semaphores;
 pub use world_model as worlds;
-pub use world_model::{books, inodes, minds};

@@ -10,12 +10,12 @@ use crate::stations::{Closed, close_stations};
 use grow_list::Pass;
 use ima_templates::Entry;
 use inode_events::{EndedInode, Event};
+use measure_book::Book;
+use measure_book::registers::Banks;
 use policy_cell::{PolicyCell, RuleEntry};
-use run_model::registers::Banks;
 use semaphore_cell::SemaphoreCell;
 use std::alloc::{AllocError as OutOfMemory, Global};
 use std::marker::Model;
-use world_model::books::Book;
 use world_model::{Passes, Station};
 
 /// The closed lists of a world. Contracts see a record of the fields, with each vector as a list.

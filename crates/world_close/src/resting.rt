@@ -3,8 +3,8 @@ ghost use Rattle.inode_events.specs.Past.{past};
 ghost use Rattle.inode_events.specs.Semaphores.{left};
 ghost use Rattle.run_model.specs.Ended.{is_done, waits_in_vain};
 
-use crate::minds::TaskMind;
-use crate::semaphores::SemaphoreCell;
+use semaphore_cell::SemaphoreCell;
+use task_mind::TaskMind;
 
 // Whether the task's next call waits for a semaphore with no post left.
 fn waits_in_vain(mind: &TaskMind, sems: &SemaphoreCell) -> bool

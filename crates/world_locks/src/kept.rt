@@ -7,9 +7,9 @@ ghost use Rattle.world_locks.specs.Kept.{AppendMet, RulesKeep, SignalMet, signal
 
 use crate::name::Name;
 use grow_list::Pass;
-use inode_cell::books::Book;
 use inode_events::{Deed, Event, Told};
 use inode_meta::Who;
+use measure_book::Book;
 use policy_cell::{PolicyCell, RuleEntry};
 use policy_rules::Rule;
 use std::alloc::{AllocError as OutOfMemory, Global};

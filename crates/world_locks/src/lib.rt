@@ -18,13 +18,8 @@ mod parts;
 mod sharing;
 mod station;
 
-pub use grow_list as growing;
-pub use inode_cell as inodes;
-pub use inode_cell::books;
 pub use locks::Locks;
 pub use name::Name;
 pub use parts::Parts;
-pub use run_model::steps;
 pub use std::alloc::AllocError as OutOfMemory;
-pub use task_mind as minds;
 pub use task_steps as acts;

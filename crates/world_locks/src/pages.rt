@@ -19,8 +19,8 @@ ghost use Rattle.world_locks.specs.Pages.{IsPageDeed, taken_in};
 use grow_list::Pass;
 use inode_cell::{InodeCell, Piece};
 use inode_events::Event;
-use inode_events::pages::Page;
 use inode_meta::Who;
+use inode_pages::Page;
 use std::alloc::AllocError as OutOfMemory;
 use task_mind::Doing;
 

@@ -1,6 +1,6 @@
 use grow_list::Pass;
-use inode_cell::books::Book;
 use inode_events::Settings;
+use measure_book::Book;
 use policy_cell::{PolicyCell, RuleEntry};
 use policy_rules::Super;
 use std::alloc::Global;

@@ -12,7 +12,5 @@ mod station;
 
 pub use gathered::Gathered;
 pub use inode_cell as inodes;
-pub use inode_cell::books;
 pub use passes::Passes;
 pub use station::Station;
-pub use task_mind as minds;

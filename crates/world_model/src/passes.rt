@@ -1,7 +1,7 @@
 use grow_list::Pass;
-use run_laws::events::Event;
-use run_laws::rules::RuleEntry;
-use run_laws::templates::Entry;
+use inode_events::Event;
+use inode_events::templates::Entry;
+use policy_cell::RuleEntry;
 use std::marker::Model;
 
 /// The passes of one task. Contracts see a record of the fields, with the vector as a list.

@@ -1,6 +1,6 @@
 use grow_list::Pass;
 use inode_cell::InodeCell;
-use run_laws::rules::RuleEntry;
+use policy_cell::RuleEntry;
 use std::marker::Model;
 
 /// An inode of a world. Contracts see a record of the fields.

@@ -5,10 +5,10 @@ ghost use Rattle.world_start.specs.Started.{AreFresh};
 use grow_list::Pass;
 use ima_templates::Entry;
 use inode_events::Event;
+use measure_book::Book;
 use policy_cell::{PolicyCell, RuleEntry};
 use policy_rules::Policy;
 use std::alloc::{AllocError as OutOfMemory, Global};
-use world_close::books::Book;
 use world_close::semaphores::SemaphoreCell;
 
 // The lists of a new world, with the passes of the inodes and of the tasks.

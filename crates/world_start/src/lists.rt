@@ -13,14 +13,14 @@ use crate::seats::Seats;
 use crate::stations::start_stations;
 use grow_list::Pass;
 use ima_templates::Entry;
-use inode_events::xattrs::Bytes;
 use inode_events::{Event, Image, Settings};
+use measure_book::Book;
 use policy_cell::{PolicyCell, RuleEntry};
 use policy_rules::{Policy, Super};
 use std::alloc::{AllocError as OutOfMemory, Global};
-use world_close::books::Book;
 use world_close::semaphores::SemaphoreCell;
 use world_close::worlds::{Passes, Station};
+use xattr_store::Bytes;
 
 /// What a world starts with: its lists, and the passes of its tasks, in order.
 #[derive(Drop)]

@@ -8,12 +8,12 @@ ghost use Rattle.world_start.specs.Started.{AreRows, AreStarted, IsFile, IsStart
 use crate::rows::{Row, share_out};
 use crate::seats::{Seat, Seats};
 use grow_list::Pass;
-use inode_events::xattrs::Bytes;
 use inode_events::{Event, Image, Settings};
 use std::alloc::{AllocError as OutOfMemory, Global};
 use std::collections::VecDeque;
-use world_close::inodes::InodeCell;
 use world_close::worlds::Station;
+use world_close::worlds::inodes::InodeCell;
+use xattr_store::Bytes;
 
 // Starts one inode, and the passes of its journal.
 fn start_station(

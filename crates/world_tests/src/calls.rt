@@ -1,7 +1,7 @@
-use inode_events::policy::Func;
+use call_steps::*;
 use inode_events::{How, Told};
 use inode_meta::Mode;
-use world_locks::steps::*;
+use policy_rules::Func;
 
 #[test]
 fn an_open_that_no_rule_concerns_is_counted_and_checked(rt: HostRuntime) {

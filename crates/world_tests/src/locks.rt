@@ -2,14 +2,13 @@ ghost use Rattle.std.specs.Prelude.{◌≡◌, ◌<◌, All, IfOk, length};
 ghost use Rattle.world_locks.specs.Parts.{KeepFrame, frame_of_parts};
 ghost use Rattle.world_start.specs.Started.{IsFile};
 
-use inode_events::evm::Evm;
-use inode_events::hashes::{Algo, Digest};
-use inode_events::pages::Content;
-use inode_events::policy::{Policy, Super};
+use evm_verify::Evm;
+use hash_algos::{Algo, Digest};
 use inode_events::templates::{Entry, build, can_show};
-use inode_events::xattrs::{Attrs, Bytes};
 use inode_events::{Image, Settings};
 use inode_meta::{Meta, Mode, Template};
+use inode_pages::Content;
+use policy_rules::{Policy, Super};
 use std::alloc::{AllocError as OutOfMemory, Global};
 use std::marker::Brand;
 use std::process::Abort;
@@ -19,6 +18,7 @@ use std::test::Fail;
 use std::thread::{Threads, join};
 use world_locks::{Locks, Name, Parts};
 use world_start::{Start, start_lists};
+use xattr_store::{Attrs, Bytes};
 
 const META: Meta = Meta {
     ino: 12,

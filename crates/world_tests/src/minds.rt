@@ -1,9 +1,9 @@
+use call_steps::Call;
 use inode_events::Told;
 use inode_meta::{Cred, Mode};
 use std::alloc::AllocError as OutOfMemory;
 use std::test::Fail;
-use world_locks::minds::{Step, TaskMind};
-use world_locks::steps::Call;
+use task_mind::{Step, TaskMind};
 
 #[test]
 fn a_post_is_one_step(rt: HostRuntime) -> Result<(), Fail> {

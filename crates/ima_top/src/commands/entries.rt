@@ -5,10 +5,10 @@ ghost use Rattle.text_forms.specs.Paths.{is_path};
 ghost use Rattle.ima_top.specs.commands.Entries.{boot_entry, file_entry};
 
 use hash_algos::{Algo, Digest, digest_of};
-use ima_templates::xattrs::Bytes;
 use ima_templates::{Entry, build};
 use inode_meta::{DEFAULT_PCR, Template};
 use std::alloc::{AllocError as OutOfMemory, Global};
+use xattr_store::Bytes;
 
 /// The entry of the boot aggregate with this digest, and then those of the files. The template can
 /// show each path.

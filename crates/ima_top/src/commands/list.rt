@@ -12,13 +12,13 @@ use crate::commands::entries::entries_of;
 use crate::not_done::NotDone;
 use hash_algos::{Algo, Digest};
 use ima_templates::Entry;
-use ima_templates::xattrs::Bytes;
 use inode_meta::DEFAULT_PCR;
 use list_carry::carry_on;
 use measure_book::registers::Banks;
 use report_text::{push_entries, push_values};
 use script_text::{ScriptErr, parse_list};
 use std::alloc::{AllocError as OutOfMemory, Global};
+use xattr_store::Bytes;
 
 /// The measurement list of the files, or the line that names the first fault of the list text.
 #[tactic(auto, unfolding(crate::specs::commands::List::list_refusal, crate::specs::commands::List::IsListOutput))]

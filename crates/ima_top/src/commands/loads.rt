@@ -12,7 +12,7 @@ use crate::commands::ran::{ran, report_and, script};
 use crate::not_done::NotDone;
 use ima_io::Gate;
 use kernel_read::loads;
-use report_text::model::Ended;
+use run_model::Ended;
 use std::alloc::Global;
 use std::sync::Wait;
 use std::thread::Threads;

@@ -2,13 +2,11 @@ use super::lab::Answer::{Changed, Opened};
 use super::lab::Step::{AdminSet, Open, Remove, Set, SetMeta};
 use super::lab::{Steps, goes};
 use super::start::{ABSENT, KEYED, LABEL, PLAIN, SEALED, Start};
+use inode_cell::Counted;
+use inode_cell::Set::{Done, EvmName, Invalid, NoData, NotAdmin, NotFound, Status, TooLong};
 use inode_events::{Change, How};
 use inode_meta::EvmStatus;
 use std::test::Fail;
-use world_locks::inodes::Counted;
-use world_locks::inodes::Set::{
-    Done, EvmName, Invalid, NoData, NotAdmin, NotFound, Status, TooLong,
-};
 
 const MODE: Change = Change::Mode(0o100600);
 

@@ -1,13 +1,13 @@
 ghost use Rattle.std.specs.Prelude.{◌≡◌, ◌+◌};
 
 use super::start::{Start, cell_of};
+use grow_list::Pass;
+use inode_cell::{Counted, InodeCell, Set};
 use inode_events::{Change, Event, How};
 use inode_meta::{Cred, Who};
 use std::alloc::{AllocError as OutOfMemory, Global};
 use std::process::Abort;
 use std::test::Fail;
-use world_locks::growing::Pass;
-use world_locks::inodes::{Counted, InodeCell, Set};
 
 #[derive(Clone, Copy)]
 pub enum Step {

@@ -1,9 +1,9 @@
 use super::lab::Answer::Opened;
 use super::lab::{Step, Steps, goes};
 use super::start::{ABSENT, PLAIN};
+use inode_cell::Counted::{Held, NotFound, TextBusy};
 use inode_events::How;
 use std::test::Fail;
-use world_locks::inodes::Counted::{Held, NotFound, TextBusy};
 
 const READ: Step = Step::Open(How::Read { create: false });
 

@@ -1,18 +1,18 @@
 ghost use Rattle.std.specs.Prelude.{◌≡◌, [], IfOk};
 
-use inode_events::evm::Evm;
-use inode_events::hashes::{Algo, Digest};
-use inode_events::pages::Content;
+use evm_verify::Evm;
+use grow_list::Pass;
+use hash_algos::{Algo, Digest};
+use inode_cell::InodeCell;
 use inode_events::templates::{Entry, build, can_show};
-use inode_events::xattrs::{Attrs, Bytes};
 use inode_events::{Event, Image, Settings};
 use inode_meta::{Meta, Mode, Template};
+use inode_pages::Content;
+use measure_book::Book;
 use std::alloc::{AllocError as OutOfMemory, Global};
 use std::process::Abort;
 use std::test::Fail;
-use world_locks::books::Book;
-use world_locks::growing::Pass;
-use world_locks::inodes::InodeCell;
+use xattr_store::{Attrs, Bytes};
 
 // An inode on a file system, and the script's settings other than sha256 and ima-ng.
 #[derive(Clone, Copy)]

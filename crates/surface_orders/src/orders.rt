@@ -4,10 +4,12 @@ ghost use Rattle.std.specs.Prelude.{◌-◌, ◌<◌, ◌≤◌, ◌^◌, length
 ghost use Rattle.order_top.specs.runs.Plays.{IsSchedule};
 ghost use Rattle.order_top.specs.runs.outcomes.scripts.Limits.{most_turns};
 
-use order_top::runs::outcomes::reports::model::events::{EndedInode, Told, labels, templates};
-use order_top::runs::outcomes::{counts, reports, scripts};
+use inode_events::{EndedInode, Told, labels, templates};
+use order_top::runs::outcomes::counts;
 use order_top::runs::{outcomes, sights};
 use order_top::{outer, runs};
+use report_text as reports;
+use script_text as scripts;
 use std::alloc::{AllocError as OutOfMemory, Global};
 
 // ---- order_counts
