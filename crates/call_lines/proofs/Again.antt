@@ -12,7 +12,7 @@ use Rattle.call_steps.specs.events.declared.deed.How.TheVariants as how
 use Rattle.call_steps.specs.events.pages.Content.{most_bytes}
 use Rattle.text_forms.specs.Paths.{is_path}
 use Rattle.script_words.specs.Forms.{portion_of}
-use Rattle.call_lines.specs.Behind.{Alone, Behind, Forms, Rule, Said, Values, Way, Words, are_fit, is_fit, is_way, said_of, trunc_words, values_of, way_of, way_words, words_behind, words_of, ◌▸◌}
+use Rattle.call_lines.specs.Arguments.{Alone, Arguments, Forms, Rule, Said, Values, Way, Words, are_fit, argument_words, is_fit, is_way, said_of, trunc_words, values_of, way_of, way_words, words_of, ◌▸◌}
 use Rattle.call_lines.specs.Calls.{call_of, is_line_call, words_after}
 use Rattle.call_lines.specs.Form.{Bytes, Descriptor, Form, Id, Mapping, Mode, Name, Offset, Path, Portion, Small, Value, are_bytes, form, is_value, mapping_of, mapping_word, path_at}
 use Rattle.call_lines.specs.Lines.{is_plain}
@@ -21,42 +21,52 @@ use Rattle.call_lines.specs.Rules.{HasReadRule, SaysReadRule}
 use Rattle.call_lines.specs.Table.{row, spoken}
 use Rattle.call_lines.proofs.Holding.{both_true, left_true, right_true}
 use Rattle.call_lines.proofs.Rows.{is_short, made-spoken, most_words, says_rule, short_row}
-use Rattle.call_lines.proofs.Rules.{rule_back, rule_plain, text_behind}
+use Rattle.call_lines.proofs.Rules.{rule_back, rule_plain, text_after}
 use Rattle.call_lines.proofs.Words.{any_number_back, decimal_plain, descriptor_back, descriptor_plain, hex_plain, id_back, id_plain, mode_back, octal_plain, offset_back, path_plain, small_back, value_back, word_plain}
 
+-- what the test finds below n is below n
 below : (i n : ℕ) → nat_lt i n ≡ true → i < n
 below i n h = grind (arith, nat_tests)
 
+-- what the test finds at most `most` is at most `most`
 le_of : (n most : ℕ) → nat_le n most ≡ true → n ≤ most
 le_of n most h = grind (arith, nat_tests)
 
 -- ---- one word
 
+-- the printed number of a map, a run or a semaphore is plain
 small_plain : (m : ℕ) → is_small m ≡ true → is_plain (decimal m) ≡ true
 small_plain m h = let lt = below m 64 h in decimal_plain m (omega (arith, lt))
 
+-- the length of one read is at most that of the longest content
 portion_fits : (k : ℕ) → is_portion k ≡ true → k ≤ most_bytes
 portion_fits k h = le_of k most_bytes (right_true (nat_le 1 k) (nat_le k most_bytes) h)
 
+-- the length of one read is at least one byte
 portion_some : (k : ℕ) → is_portion k ≡ true → 1 ≤ k
 portion_some k h = le_of 1 k (left_true (nat_le 1 k) (nat_le k most_bytes) h)
 
+-- the printed length of one read is plain
 portion_plain : (k : ℕ) → is_portion k ≡ true → is_plain (decimal k) ≡ true
 portion_plain k h = let le = portion_fits k h in decimal_plain k (omega (arith, le))
 
+-- the printed length of one read is read as the same length
 portion_back : (k : ℕ) → is_portion k ≡ true → portion_of (decimal k) ≡ Some k
 portion_back k h =
     let le = portion_fits k h in
     any_number_back most_bytes k (omega (arith, le)) (portion_some k h) le
 
+-- the word for how a descriptor is mapped is plain
 mapping_plain : (exec : Bool) → is_plain (mapping_word exec) ≡ true
 mapping_plain true = refl
 mapping_plain false = refl
 
+-- the word for how a descriptor is mapped is read as the same
 mapping_back : (exec : Bool) → mapping_of (mapping_word exec) ≡ Some exec
 mapping_back true = refl
 mapping_back false = refl
 
+-- a value within its limits consists of bytes
 value_bytes : (least most : ℕ) (v : List ℕ) → is_value least most v ≡ true
     → are_bytes v ≡ true
 value_bytes least most v h =
@@ -64,6 +74,7 @@ value_bytes least most v h =
 
 -- ---- ways of opening
 
+-- the words for a way of opening and its flags are plain
 way_plain : (h : How) (trunc : Bool) → list_all is_plain (way_words h ++ trunc_words trunc) ≡ true
 way_plain (how.Read true) true = refl
 way_plain (how.Read true) false = refl
@@ -80,6 +91,7 @@ way_plain (how.Write false false) false = refl
 way_plain how.Exec true = refl
 way_plain how.Exec false = refl
 
+-- the words for a way of opening that a line can have are read as that way
 way_back : (h : How) (trunc : Bool) → is_way (h, trunc) ≡ true
     → way_of (way_words h ++ trunc_words trunc) ≡ Some (h, trunc)
 way_back (how.Read true) true fit = absurd (false≢true fit)
@@ -115,6 +127,7 @@ way_short (how.Write false false) false = refl
 way_short how.Exec true = refl
 way_short how.Exec false = refl
 
+-- canonical words are no more than the most words of their forms
 words_few : (paths : List (List ℕ)) (fs : Forms) (v : Values fs)
     → length (words_of paths fs v) ≤ most_words fs
 words_few paths Alone v = omega arith
@@ -135,9 +148,11 @@ pub record AreKnown (paths : List (List ℕ)) : Type 0 where
   pub place : (i : ℕ) → i < length paths → place_in paths (path_at paths i) ≡ Some i
 
 module _ (paths : List (List ℕ)) (known : AreKnown paths) where
+  -- the number of files
   abbrev n : ℕ
   n = length paths
 
+  -- a canonical word is plain
   word_is_plain : (f : Form) (x : Value f) → (form f).fits n x ≡ true
       → is_plain ((form f).word paths x) ≡ true
   word_is_plain Descriptor x h = descriptor_plain x h
@@ -165,6 +180,7 @@ module _ (paths : List (List ℕ)) (known : AreKnown paths) where
   word_back (Bytes least most) x h = rw (value_back least most x h) refl
   word_back Path x h = rw (known.form x (below x n h), known.place x (below x n h)) refl
 
+  -- canonical words are plain
   words_plain : (fs : Forms) (v : Values fs) → are_fit n fs v ≡ true
       → list_all is_plain (words_of paths fs v) ≡ true
   words_plain Alone v h = refl
@@ -188,18 +204,19 @@ module _ (paths : List (List ℕ)) (known : AreKnown paths) where
   -- the words after the first of a call's line are plain, and are read as the call
   pub record IsRead (c : Call) : Type 0 where
     pub plain : list_all is_plain (words_after paths (spoken c)) ≡ true
-    pub back : call_of (spoken c).word (text_behind (words_after paths (spoken c)))
+    pub back : call_of (spoken c).word (text_after (words_after paths (spoken c)))
         (take 9 (words_after paths (spoken c))) paths ≡ Ok c
 
-  said_plain : (b : Behind) (s : Said b) → is_fit n b s ≡ true → SaysReadRule b s
-      → list_all is_plain (words_behind paths b s) ≡ true
+  -- the canonical words of a call's arguments are plain
+  said_plain : (a : Arguments) (s : Said a) → is_fit n a s ≡ true → SaysReadRule a s
+      → list_all is_plain (argument_words paths a s) ≡ true
   said_plain Rule r h read = rule_plain r read
   said_plain (Words fs) v h read = words_plain fs v h
 
-  -- a line whose words are all kept
-  said_back : (b : Behind) (s : Said b) → is_short b ≡ true → is_fit n b s ≡ true
-      → SaysReadRule b s
-      → said_of paths b (text_behind (words_behind paths b s)) (take 9 (words_behind paths b s))
+  -- canonical arguments whose words are all kept are read as what they say
+  said_back : (a : Arguments) (s : Said a) → is_short a ≡ true → is_fit n a s ≡ true
+      → SaysReadRule a s
+      → said_of paths a (text_after (argument_words paths a s)) (take 9 (argument_words paths a s))
       ≡ Ok s
   said_back Rule r short h read = rule_back r read
   said_back (Words fs) v short h read =
@@ -212,6 +229,7 @@ module _ (paths : List (List ℕ)) (known : AreKnown paths) where
       let w = (spoken c).word in
       let s = (spoken c).said in
       record {
-        plain = said_plain (row w).behind s h (says_rule c read);
-        back = rw (said_back (row w).behind s (short_row w) h (says_rule c read)) (ap Ok (made-spoken c));
+        plain = said_plain (row w).arguments s h (says_rule c read);
+        back = rw (said_back (row w).arguments s (short_row w) h (says_rule c read))
+            (ap Ok (made-spoken c));
       }

@@ -12,17 +12,21 @@ use Rattle.call_lines.specs.Table.{call_word_of}
 use Rattle.call_lines.specs.declared.table.CallWord.{CallWord}
 use Rattle.call_lines.specs.declared.table.CallWord.TheVariants as word
 
+-- the files of the examples; the first and the third have the same path
 abbrev paths : List (List ℕ)
 paths = codes "/a" ∷ codes "/b" ∷ codes "/a" ∷ []
 
+-- a path names the first file that has it; a path that no file has names none
 first_path : (place_in paths (codes "/a") ≡ Some 0) × (place_in paths (codes "/b") ≡ Some 1)
     × (place_in paths (codes "/c") ≡ None)
 first_path = (refl, refl, refl)
 
+-- a kind of line is found by the whole first word, not by the beginning of one
 kinds : (call_word_of (codes "removexattr") ≡ Some word.RemoveAttr)
     × (call_word_of (codes "rea") ≡ None)
 kinds = (refl, refl)
 
+-- the call, or the cause, of a line with these words after its first
 abbrev said : CallWord → Line → Called
 said w ws = call_of w None ws paths
 
@@ -43,6 +47,7 @@ opens : (said word.Open (codes "7" ∷ codes "/b" ∷ codes "rw" ∷ codes "crea
 unfolding call_of
 opens = (refl, refl, refl, refl, refl, refl, refl, refl)
 
+-- a read is of 1 to 262,144 bytes, and has three words; the number of a map is below 64
 reads : (said word.Read (codes "7" ∷ codes "4" ∷ codes "262144" ∷ []) ≡ Ok (call.Read 7 4 262144))
     × (said word.Read (codes "7" ∷ codes "4" ∷ codes "0" ∷ []) ≡ Err cause.BadField)
     × (said word.Read (codes "7" ∷ codes "4" ∷ codes "1" ∷ codes "1" ∷ []) ≡ Err cause.BadField)
@@ -51,6 +56,7 @@ reads : (said word.Read (codes "7" ∷ codes "4" ∷ codes "262144" ∷ []) ≡ 
 unfolding call_of
 reads = (refl, refl, refl, refl, refl)
 
+-- a write is of at least one byte, and a length is below 4,294,967,296
 writes : (said word.Write (codes "0" ∷ codes "4" ∷ codes "txt:ab" ∷ [])
     ≡ Ok (call.Write 0 4 (codes "ab")))
     × (said word.Write (codes "0" ∷ codes "4" ∷ codes "txt:" ∷ []) ≡ Err cause.BadField)
@@ -61,6 +67,7 @@ writes : (said word.Write (codes "0" ∷ codes "4" ∷ codes "txt:ab" ∷ [])
 unfolding call_of
 writes = (refl, refl, refl, refl, refl, refl)
 
+-- maps, executions, semaphores and what the kernel reads itself; a rule can't be left out
 runs : (said word.Mmap (codes "1" ∷ codes "2" ∷ codes "exec" ∷ []) ≡ Ok (call.Mmap 1 2 true))
     × (said word.Mmap (codes "1" ∷ codes "2" ∷ codes "write" ∷ []) ≡ Err cause.BadField)
     × (said word.Munmap (codes "1" ∷ []) ≡ Ok (call.Munmap 1))
@@ -76,6 +83,7 @@ runs : (said word.Mmap (codes "1" ∷ codes "2" ∷ codes "exec" ∷ []) ≡ Ok 
 unfolding call_of
 runs = (refl, refl, refl, refl, refl, refl, refl, refl, refl, refl, refl, refl)
 
+-- changes of attributes, modes in octal, and owners; an attribute's value may be empty
 changes : (said word.SetAttr (codes "/b" ∷ codes "user.x" ∷ codes "txt:" ∷ [])
     ≡ Ok (call.SetAttr 1 (codes "user.x") (Some [])))
     × (said word.SetAttr (codes "/c" ∷ codes "user.x" ∷ codes "x" ∷ []) ≡ Err cause.BadField)
@@ -87,6 +95,7 @@ changes : (said word.SetAttr (codes "/b" ∷ codes "user.x" ∷ codes "txt:" ∷
 unfolding call_of
 changes = (refl, refl, refl, refl, refl)
 
+-- canonical lines, which name a file by its path
 lines : (n m : ℕ) → (call_line paths (call.Open n 1 (how.Write true true) true)
     ≡ codes "open" ∷ decimal n ∷ codes "/b" ∷ codes "rw" ∷ codes "create" ∷ codes "trunc" ∷ [])
     × (call_line paths (call.Read n m 1) ≡ codes "read" ∷ decimal n ∷ decimal m ∷ decimal 1 ∷ [])
@@ -100,6 +109,7 @@ lines : (n m : ℕ) → (call_line paths (call.Open n 1 (how.Write true true) tr
     ≡ codes "mmap" ∷ decimal n ∷ decimal m ∷ codes "read" ∷ [])
 lines n m = (refl, refl, refl, refl, refl, refl)
 
+-- calls that a line can and can't say: by the file, the numbers and the way of opening
 limits : (is_line_call 2 (call.Exec 3 1) ≡ true) × (is_line_call 2 (call.Exec 3 2) ≡ false)
     × (is_line_call 2 (call.Exec 64 1) ≡ false)
     × (is_line_call 2 (call.Open 0 0 (how.Read false) true) ≡ false)

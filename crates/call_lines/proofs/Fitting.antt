@@ -14,7 +14,7 @@ use Rattle.script_words.specs.declared.fault.LineCause.{LineCause}
 use Rattle.script_words.specs.declared.fault.LineCause.TheVariants as cause
 use Rattle.script_words.specs.Forms.{descriptor_of, id_of, mode_of, offset_of, portion_of, rule_of, small_of}
 use Rattle.script_words.specs.Value.{value_of}
-use Rattle.call_lines.specs.Behind.{Alone, Behind, Forms, Rule, Way, Words, are_fit, both, flags_of, is_fit, is_way, opened, opened_by, said_of, values_of, way_of, ◌▸◌}
+use Rattle.call_lines.specs.Arguments.{Alone, Arguments, Forms, Rule, Way, Words, are_fit, both, flags_of, is_fit, is_way, opened, opened_by, said_of, values_of, way_of, ◌▸◌}
 use Rattle.call_lines.specs.Calls.{call_of, can_say, is_line_call, made}
 use Rattle.call_lines.specs.Form.{Bytes, Descriptor, Form, Id, Mapping, Mode, Name, Offset, Path, Portion, Small, form, inode_at, is_descriptor, is_id, is_mode, is_value, mapping_of, name_of}
 use Rattle.call_lines.specs.Places.{one_on, place_in}
@@ -37,10 +37,12 @@ pub any_ok : {A : Type 0} (r : Result A LineCause) → IfOk r (λ x. Unit {0})
 any_ok (Ok x) = tt
 any_ok (Err c) = tt
 
+-- every result satisfies a test that is always true
 always_ok : {A : Type 0} (r : Result A LineCause) → IfOk r (λ x. true ≡ true)
 always_ok (Ok x) = refl
 always_ok (Err c) = tt
 
+-- a number of at most 63 is one of a map, a run or a semaphore
 small_of_within : (o : Option ℕ) → IfSome o (λ m. nat_le m 63 ≡ true)
     → IfSome o (λ m. is_small m ≡ true)
 small_of_within None h = tt
@@ -52,6 +54,7 @@ one_on_bound : (o : Option ℕ) (n : ℕ) → IfSome o (λ k. nat_lt k n ≡ tru
 one_on_bound None n h = tt
 one_on_bound (Some k) n h = grind (arith, nat_tests)
 
+-- the index of a path is below the number of paths
 place_bound : (paths : List (List ℕ)) (path : List ℕ)
     → IfSome (place_in paths path) (λ k. nat_lt k (length paths) ≡ true)
 place_bound [] path = tt
@@ -62,6 +65,7 @@ place_bound (p ∷ ps) path = elim (cases_Bool (bytes_eq path p)) [
       rw (e, same) (one_on_bound (place_in ps path) (length ps) (place_bound ps path))
 ]
 
+-- the file that a path names is one of the script's
 inode_bound : (paths : List (List ℕ)) (path : List ℕ)
     → IfOk (inode_at paths path) (λ i. nat_lt i (length paths) ≡ true)
 inode_bound paths path =
@@ -71,6 +75,7 @@ inode_bound paths path =
     (place_bound paths path))
     (λ e. tt)
 
+-- a name that is read has 1 to 255 visible bytes
 name_within : (text : List ℕ) → IfSome (name_of text) (λ w. is_word 255 w ≡ true)
 name_within text = elim (cases_Bool (is_word 255 text)) [
   | inl y ↦ rw y y
@@ -106,6 +111,7 @@ word_fits paths Path text = inode_bound paths text
 
 -- ---- words, one after another
 
+-- how a file is opened by these words is a way that a line can have
 opened_fits : (way : List ℕ) (create trunc : Bool)
     → IfSome (opened way create trunc) (λ o. is_way o ≡ true)
 opened_fits way create trunc = elim (cases_Bool (bytes_eq way (codes "r"))) [
@@ -123,11 +129,13 @@ opened_fits way create trunc = elim (cases_Bool (bytes_eq way (codes "r"))) [
   ]
 ]
 
+-- a way of opening whose flags have their form is one that a line can have
 opened_by_fits : (way : List ℕ) (flags : Option (Bool × Bool))
     → IfSome (opened_by way flags) (λ o. is_way o ≡ true)
 opened_by_fits way None = tt
 opened_by_fits way (Some flags) = opened_fits way flags.0 flags.1
 
+-- what the words of an `open` say is a way that a line can have
 way_fits : (ws : List (List ℕ)) → IfSome (way_of ws) (λ o. is_way o ≡ true)
 way_fits [] = tt
 way_fits (way ∷ flags) = opened_by_fits way (flags_of flags)
@@ -153,8 +161,9 @@ values_fit paths (f ▸ fs) (w ∷ ws) =
     both_fit ((form f).fits (length paths)) (are_fit (length paths) fs) ((form f).read paths w)
     (values_of paths fs ws) (word_fits paths f w) (values_fit paths fs ws)
 
-said_fits : (paths : List (List ℕ)) (b : Behind) (text : Option (List ℕ)) (ws : List (List ℕ))
-    → IfOk (said_of paths b text ws) (λ s. is_fit (length paths) b s ≡ true)
+-- what the arguments say fits their forms
+said_fits : (paths : List (List ℕ)) (a : Arguments) (text : Option (List ℕ)) (ws : List (List ℕ))
+    → IfOk (said_of paths a text ws) (λ s. is_fit (length paths) a s ≡ true)
 said_fits paths Rule text ws = always_ok (rule_of text)
 said_fits paths (Words fs) text ws = values_fit paths fs ws
 
@@ -164,7 +173,7 @@ pub call_formed : (paths : List (List ℕ)) (w : CallWord) (text : Option (List 
     → IfOk (call_of w text words paths) (λ c. is_line_call (length paths) c ≡ true)
 unfolding call_of
 call_formed paths w text words =
-    bound (λ s. is_fit (length paths) (row w).behind s ≡ true)
-    (λ c. is_line_call (length paths) c ≡ true) (said_of paths (row w).behind text words)
-    (λ s. Ok (made w s)) (said_fits paths (row w).behind text words)
+    bound (λ s. is_fit (length paths) (row w).arguments s ≡ true)
+    (λ c. is_line_call (length paths) c ≡ true) (said_of paths (row w).arguments text words)
+    (λ s. Ok (made w s)) (said_fits paths (row w).arguments text words)
     (λ s h. ap (can_say (length paths)) (spoken-made w s) ∙ h)

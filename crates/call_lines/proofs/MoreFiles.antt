@@ -2,7 +2,7 @@
 use Rattle.std.proofs.Common.{◌≡◌, ℕ, ◌≤◌, true, nat_lt, arith}
 use Rattle.std.proofs.lemmas.Bool.Decides.{nat_tests}
 use Rattle.call_steps.specs.declared.call.Call.{Call}
-use Rattle.call_lines.specs.Behind.{Alone, Behind, Forms, Rule, Said, Values, Way, Words, are_fit, is_fit, ◌▸◌}
+use Rattle.call_lines.specs.Arguments.{Alone, Arguments, Forms, Rule, Said, Values, Way, Words, are_fit, is_fit, ◌▸◌}
 use Rattle.call_lines.specs.Calls.{is_line_call}
 use Rattle.call_lines.specs.Form.{Bytes, Descriptor, Form, Id, Mapping, Mode, Name, Offset, Path, Portion, Small, Value, form}
 use Rattle.call_lines.specs.Table.{row, spoken}
@@ -26,6 +26,7 @@ module _ (n m : ℕ) (le : n ≤ m) where
   fits_more (Bytes least most) x h = h
   fits_more Path x h = more_below x h
 
+  -- what words can say in a script with n files, they can say with more
   are_fit_more : (fs : Forms) (v : Values fs) → are_fit n fs v ≡ true → are_fit m fs v ≡ true
   are_fit_more Alone v h = h
   are_fit_more Way v h = h
@@ -34,9 +35,11 @@ module _ (n m : ℕ) (le : n ≤ m) where
       (fits_more f v.0 (left_true ((form f).fits n v.0) (are_fit n fs v.1) h))
       (are_fit_more fs v.1 (right_true ((form f).fits n v.0) (are_fit n fs v.1) h))
 
-  is_fit_more : (b : Behind) (s : Said b) → is_fit n b s ≡ true → is_fit m b s ≡ true
+  -- what arguments can say in a script with n files, they can say with more
+  is_fit_more : (a : Arguments) (s : Said a) → is_fit n a s ≡ true → is_fit m a s ≡ true
   is_fit_more Rule s h = h
   is_fit_more (Words fs) s h = are_fit_more fs s h
 
+  -- a call that a line can say in a script with n files, it can say with more
   pub line_call_more : (c : Call) → is_line_call n c ≡ true → is_line_call m c ≡ true
-  line_call_more c h = is_fit_more (row (spoken c).word).behind (spoken c).said h
+  line_call_more c h = is_fit_more (row (spoken c).word).arguments (spoken c).said h

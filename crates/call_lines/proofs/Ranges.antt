@@ -11,19 +11,22 @@ use Rattle.call_lines.specs.Form.{are_bytes, is_descriptor, is_value}
 use Rattle.call_lines.specs.Table.{most_set, most_write}
 use Rattle.call_lines.proofs.Holding.{both_true, left_true, right_true}
 
--- the only word, or the last one
+-- a test that is followed only by one that always holds, holds itself
 last : (a : Bool) → (a && true) ≡ true → a ≡ true
 last a h = left_true a true h
 
+-- the bytes of a `write` are as many as may be written at once
 value_portion : (v : List ℕ) → is_value 1 most_write v ≡ true → is_portion (length v) ≡ true
 value_portion v h = left_true (is_portion (length v)) (are_bytes v) h
 
+-- the value of a `setxattr` is within its limit
 value_few : (v : List ℕ) → is_value 0 most_set v ≡ true → nat_le (length v) most_set ≡ true
 value_few v h =
     let some = nat_le 0 (length v) in
     let few = nat_le (length v) most_set in
     right_true some few (left_true (some && few) (are_bytes v) h)
 
+-- a call that a line can say in a script with n files is one of such a script
 pub line_call_is : (n : ℕ) (c : Call) → is_line_call n c ≡ true → is_call n c ≡ true
 line_call_is n (call.Open fd inode how trunc) h =
     let way = is_writer how || not trunc in

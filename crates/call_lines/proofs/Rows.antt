@@ -3,7 +3,7 @@ use Rattle.std.proofs.Common.{◌≡◌, ℕ, ◌+◌, Bool, true, nat_le, Some,
 use Rattle.call_steps.specs.declared.call.Call.{Call}
 use Rattle.call_steps.specs.declared.call.Call.TheVariants as call
 use Rattle.call_steps.specs.events.declared.deed.Change.TheVariants as change
-use Rattle.call_lines.specs.Behind.{Alone, Behind, Forms, Rule, Said, Way, Words, ◌▸◌}
+use Rattle.call_lines.specs.Arguments.{Alone, Arguments, Forms, Rule, Said, Way, Words, ◌▸◌}
 use Rattle.call_lines.specs.Calls.{made}
 use Rattle.call_lines.specs.Lines.{begins_line, is_plain}
 use Rattle.call_lines.specs.Rules.{HasReadRule, SaysReadRule}
@@ -12,7 +12,7 @@ use Rattle.call_lines.specs.declared.table.CallWord.{CallWord}
 use Rattle.call_lines.specs.declared.table.CallWord.TheVariants as word
 
 -- the line of a row's call says what made the call
-pub spoken-made : (w : CallWord) (s : Said (row w).behind)
+pub spoken-made : (w : CallWord) (s : Said (row w).arguments)
     → spoken (made w s) ≡ record { word = w; said = s }
 spoken-made word.Open s = refl
 spoken-made word.Read s = refl
@@ -62,6 +62,7 @@ pub record IsFirst (w : CallWord) : Type 0 where
   pub plain : is_plain (row w).word ≡ true
   pub kind : call_word_of (row w).word ≡ Some w
 
+-- the word of each row can begin a line, which then has the kind of that row
 pub first_word : (w : CallWord) → IsFirst w
 first_word word.Open = record { begins = refl; plain = refl; kind = refl }
 first_word word.Read = record { begins = refl; plain = refl; kind = refl }
@@ -90,11 +91,12 @@ most_words Way = 3
 most_words (f ▸ fs) = most_words fs + 1
 
 -- a line of at most nine words after the first, all of which are read
-abbrev pub is_short : Behind → Bool
+abbrev pub is_short : Arguments → Bool
 is_short Rule = true
 is_short (Words fs) = nat_le (most_words fs) 9
 
-pub short_row : (w : CallWord) → is_short (row w).behind ≡ true
+-- every row has at most nine words after its first
+pub short_row : (w : CallWord) → is_short (row w).arguments ≡ true
 short_row word.Open = refl
 short_row word.Read = refl
 short_row word.Write = refl
@@ -139,7 +141,7 @@ told-spoken f (call.Firmware inode) = refl
 
 -- the rule that a call appends is the one that its line says
 pub says_rule : (c : Call) → HasReadRule c
-    → SaysReadRule (row (spoken c).word).behind (spoken c).said
+    → SaysReadRule (row (spoken c).word).arguments (spoken c).said
 says_rule (call.Open fd inode how trunc) h = tt
 says_rule (call.Read fd from len) h = tt
 says_rule (call.Write fd from bytes) h = tt

@@ -23,6 +23,7 @@ use Rattle.call_lines.proofs.Holding.{both_true, left_true, right_true}
 
 -- ---- numbers
 
+-- a number that is refused above its limit is within the limit
 number_bound : (a : Bool) (v most : ℕ)
     → IfSome (if a && nat_le v most then Some v else None) (λ n. nat_le n most ≡ true)
 number_bound false v most = tt
@@ -31,22 +32,26 @@ number_bound true v most = elim (cases_Bool (nat_le v most)) [
   | inr e ↦ rw e tt
 ]
 
+-- a number within its limit is within it also if some numerals are refused
 short_bound : (b : Bool) (o : Option ℕ) (most : ℕ) → IfSome o (λ n. nat_le n most ≡ true)
     → IfSome (if b then o else None) (λ n. nat_le n most ≡ true)
 short_bound true o most h = h
 short_bound false o most h = tt
 
+-- a number that is read is within its limit
 pub number_of_within : (radix most : ℕ) (text : List ℕ)
     → IfSome (number_of radix most text) (λ n. nat_le n most ≡ true)
 number_of_within radix most text =
     number_bound (is_numeral radix text) (digits_value radix text) most
 
+-- a number that is read without leading zeros is within its limit
 pub number_within : (radix most : ℕ) (text : List ℕ)
     → IfSome (short_number_of radix most text) (λ n. nat_le n most ≡ true)
 number_within radix most text =
     short_bound (is_short text) (number_of radix most text) most
     (number_of_within radix most text)
 
+-- a number within its limit that isn't refused as 0 is at least 1
 pub any_within : (most : ℕ) (o : Option ℕ) → IfSome o (λ n. nat_le n most ≡ true)
     → IfSome (if_any o) (λ n. (nat_le 1 n && nat_le n most) ≡ true)
 any_within most None h = tt
@@ -57,6 +62,7 @@ any_within most (Some n) h = elim (cases_Bool (n == 0)) [
 
 -- ---- values
 
+-- a list whose element at each index is a byte consists of bytes
 from_index : (xs : List ℕ) → ((i : ℕ) → slice_index xs i < 256) → are_bytes xs ≡ true
 from_index [] h = refl
 from_index (x ∷ xs) h =
@@ -64,6 +70,7 @@ from_index (x ∷ xs) h =
     let small : is_byte x ≡ true = grind (arith, nat_tests) in
     rw small (from_index xs (λ i. h (suc i)))
 
+-- in a list of bytes the element at each index is a byte
 to_index : (xs : List ℕ) → are_bytes xs ≡ true → (i : ℕ) → slice_index xs i < 256
 to_index [] h i = omega arith
 to_index (x ∷ xs) h zero =
@@ -75,27 +82,33 @@ to_index (x ∷ xs) h (suc i) = to_index xs (right_true (is_byte x) (are_bytes x
 pub indexed : (xs : List ℕ) → are_bytes xs ≡ true → IsBytes xs
 indexed xs h = to_index xs h
 
+-- what hexadecimal digits decode to consists of bytes
 hex_bytes : (digits : List ℕ) (r : Result (List ℕ) FromHexError) → decode_of digits ≡ r
     → IfSome (result_ok r) (λ v. are_bytes v ≡ true)
 hex_bytes digits (Err e) is = tt
 hex_bytes digits (Ok bytes) is = from_index bytes (decode_of-ok digits bytes is).3
 
+-- a visible byte is a byte
 visible_byte : (b : ℕ) → is_visible b ≡ true → is_byte b ≡ true
 visible_byte b h = grind (arith, nat_tests)
 
+-- a value written as text consists of bytes
 text_bytes : (text : List ℕ) → IfSome (text_value text) (λ v. are_bytes v ≡ true)
 text_bytes text = elim (cases_Bool (list_all is_visible text)) [
   | inl e ↦ rw e (all_weaker is_visible is_byte visible_byte text e)
   | inr e ↦ rw e tt
 ]
 
+-- copies of a byte are bytes
 copies : (n b : ℕ) → is_byte b ≡ true → are_bytes (replicate n b) ≡ true
 copies zero b h = refl
 copies (suc n) b h = rw h (copies n b h)
 
+-- two hexadecimal digits make a byte
 small : (h l : ℕ) → nat_lt h 16 ≡ true → nat_lt l 16 ≡ true → is_byte (16 * h + l) ≡ true
 small h l p q = grind (arith, nat_tests)
 
+-- what two characters say as hexadecimal digits is a byte
 digits_byte : (high low : ℕ) → IfSome (byte_of high low) (λ b. is_byte b ≡ true)
 digits_byte high low = elim (cases_Bool (is_digit high 16 && is_digit low 16)) [
   | inl e ↦
@@ -105,6 +118,7 @@ digits_byte high low = elim (cases_Bool (is_digit high 16 && is_digit low 16)) [
   | inr e ↦ rw e tt
 ]
 
+-- what the end of a fill says is a byte
 end_bytes : (end : List ℕ) → IfSome (end_byte end) (λ b. is_byte b ≡ true)
 end_bytes (c ∷ high ∷ low ∷ []) = elim (cases_Bool (c == 58)) [
   | inl e ↦ rw e (digits_byte high low)
@@ -115,12 +129,14 @@ end_bytes (c ∷ high ∷ []) = tt
 end_bytes (c ∷ []) = tt
 end_bytes [] = tt
 
+-- a count and a byte, if there are both, make a pair whose second is a byte
 filled_by : (n b : Option ℕ) → IfSome b (λ x. is_byte x ≡ true)
     → IfSome {T = ℕ × ℕ} (b >>= λ x. n >>= λ m. Some (m, x)) (λ f. is_byte f.1 ≡ true)
 filled_by n None h = tt
 filled_by None (Some b) h = tt
 filled_by (Some n) (Some b) h = h
 
+-- what a fill repeats is a byte
 fill_byte : (most : ℕ) (fill : List ℕ) → IfSome (fill_of most fill) (λ f. is_byte f.1 ≡ true)
 fill_byte most fill = elim (cases_Bool (nat_le 3 (length fill))) [
   | inl e ↦ rw e
@@ -129,14 +145,17 @@ fill_byte most fill = elim (cases_Bool (nat_le 3 (length fill))) [
   | inr e ↦ rw e tt
 ]
 
+-- what a fill makes consists of bytes
 copied : (o : Option (ℕ × ℕ)) → IfSome o (λ f. is_byte f.1 ≡ true)
     → IfSome (option_map (λ f. replicate f.0 f.1) o) (λ v. are_bytes v ≡ true)
 copied None h = tt
 copied (Some f) h = copies f.0 f.1 h
 
+-- a value written as a fill consists of bytes
 fill_bytes : (most : ℕ) (fill : List ℕ) → IfSome (fill_value most fill) (λ v. are_bytes v ≡ true)
 fill_bytes most fill = copied (fill_of most fill) (fill_byte most fill)
 
+-- a value consists of bytes, however it is written
 any_bytes : (most : ℕ) (text : List ℕ) → IfSome (any_value most text) (λ v. are_bytes v ≡ true)
 any_bytes most text = elim (cases_Bool (starts text (codes "hex:"))) [
   | inl hex ↦ rw hex (hex_bytes (drop 4 text) (decode_of (drop 4 text)) refl)
@@ -149,6 +168,7 @@ any_bytes most text = elim (cases_Bool (starts text (codes "hex:"))) [
   ]
 ]
 
+-- bytes whose length is tested make a value within its limits
 value_bound : (least most : ℕ) (o : Option (List ℕ)) → IfSome o (λ v. are_bytes v ≡ true)
     → IfSome (o >>= within least most) (λ v. is_value least most v ≡ true)
 value_bound least most None h = tt
@@ -160,6 +180,7 @@ value_bound least most (Some v) h =
       | inr e ↦ rw e tt
     ]
 
+-- a value that is read is within its limits
 pub value_within : (least most : ℕ) (text : List ℕ)
     → IfSome (value_of least most text) (λ v. is_value least most v ≡ true)
 value_within least most text =

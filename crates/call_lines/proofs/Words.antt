@@ -23,40 +23,50 @@ use Rattle.call_lines.proofs.ValueForms.{indexed}
 
 -- ---- numbers
 
+-- what the test finds at most `most` is at most `most`
 at_most : (n most : ℕ) → nat_le n most ≡ true → n ≤ most
 at_most n most h = grind (arith, nat_tests)
 
+-- a printed number of 64 bits is plain
 pub decimal_plain : (n : ℕ) → n < 2 ^ 64 → is_plain (decimal n) ≡ true
 decimal_plain n fits = visible-digits 10 n (omega arith) (omega arith) (omega arith)
 
+-- a printed mode is plain
 pub octal_plain : (n : ℕ) → is_mode n ≡ true → is_plain (octal n) ≡ true
 octal_plain n h =
     let le : n ≤ 0xffff = at_most n 0xffff h in
     visible-digits 8 n (omega arith) (omega arith) (omega arith)
 
+-- the printed number of a user or a group is plain
 pub id_plain : (n : ℕ) → is_id n ≡ true → is_plain (decimal n) ≡ true
 id_plain n h = let le : n ≤ 0xffff_ffff = at_most n 0xffff_ffff h in decimal_plain n (omega arith)
 
+-- a printed descriptor is plain
 pub descriptor_plain : (n : ℕ) → is_descriptor n ≡ true → is_plain (decimal n) ≡ true
 descriptor_plain n h = let le : n ≤ 255 = at_most n 255 h in decimal_plain n (omega arith)
 
+-- the printed number of a user or a group is read as the same number
 pub id_back : (n : ℕ) → is_id n ≡ true → id_of (decimal n) ≡ Some n
 id_back n h =
     let le : n ≤ 0xffff_ffff = at_most n 0xffff_ffff h in
     short_number_of-decimal 0xffff_ffff n (omega arith) le
 
+-- a printed mode is read as the same mode
 pub mode_back : (n : ℕ) → is_mode n ≡ true → mode_of (octal n) ≡ Some n
 mode_back n h =
     let le : n ≤ 0xffff = at_most n 0xffff h in
     short_number_of-digits 8 (omega arith) (omega arith) 0xffff n (omega arith) le
 
+-- a printed descriptor is read as the same descriptor
 pub descriptor_back : (n : ℕ) → is_descriptor n ≡ true → descriptor_of (decimal n) ≡ Some n
 descriptor_back n h =
     let le : n ≤ 255 = at_most n 255 h in short_number_of-decimal 255 n (omega arith) le
 
+-- the printed number of a map, a run or a semaphore is read as the same number
 pub small_back : (n : ℕ) → n < 64 → small_of (decimal n) ≡ Some n
 small_back n h = short_number_of-decimal 63 n (omega arith) (omega arith)
 
+-- a printed offset or length is read as the same number
 pub offset_back : (n : ℕ) → nat_le n 0xffff_ffff ≡ true → offset_of (decimal n) ≡ Some n
 offset_back n h = id_back n h
 
@@ -64,6 +74,7 @@ offset_back n h = id_back n h
 any_back : (o : Option ℕ) (n : ℕ) → o ≡ Some n → 1 ≤ n → if_any o ≡ Some n
 any_back o n e some = let other : (n == 0) ≡ false = grind (arith, nat_tests) in rw (e, other) refl
 
+-- a printed number of 64 bits, from 1 to its limit, is read as the same number
 pub any_number_back : (most n : ℕ) → n < 2 ^ 64 → 1 ≤ n → n ≤ most
     → if_any (short_number_of 10 most (decimal n)) ≡ Some n
 any_number_back most n fits some le =
@@ -71,18 +82,22 @@ any_number_back most n fits some le =
 
 -- ---- values
 
+-- a hexadecimal digit is visible
 hex_visible : (c : ℕ) → is_hex_digit c ≡ true → is_visible c ≡ true
 hex_visible c h = grind (arith, nat_tests)
 
+-- a value printed as `hex:` is plain
 pub hex_plain : (v : List ℕ) → are_bytes v ≡ true → is_plain (hex_text v) ≡ true
 hex_plain v h =
     let s = encode_lower v in
     let parts = decode_of-ok s v (decode_of-encode_lower v (indexed v h)) in
     all_weaker is_hex_digit is_visible hex_visible s (list_all-from_AllPass is_hex_digit s parts.1)
 
+-- the hexadecimal digits of bytes are read as the same bytes
 decoded : (v : List ℕ) → are_bytes v ≡ true → hex_value (encode_lower v) ≡ Some v
 decoded v h = rw (decode_of-encode_lower v (indexed v h)) refl
 
+-- a value printed as `hex:` is read as the same value
 pub value_back : (least most : ℕ) (v : List ℕ) → is_value least most v ≡ true
     → value_of least most (hex_text v) ≡ Some v
 value_back least most v h =
@@ -94,13 +109,16 @@ value_back least most v h =
 
 -- ---- names and paths
 
+-- a word of 1 to 255 visible bytes is plain
 pub word_plain : (w : List ℕ) → is_word 255 w ≡ true → is_plain w ≡ true
 word_plain w h = right_true (is_filled w && nat_le (length w) 255) (is_plain w) h
 
+-- parts of 1 to 255 visible bytes each are plain
 parts_plain : (parts : List (List ℕ)) → list_all (is_word 255) parts ≡ true
     → list_all is_plain parts ≡ true
 parts_plain parts h = all_weaker (is_word 255) is_plain word_plain parts h
 
+-- the parts of a text between its slashes
 abbrev parts_of : List ℕ → List (List ℕ)
 parts_of bs = slice_split (λ c. c == 47) bs
 
@@ -117,6 +135,7 @@ onto_plain b (part ∷ parts) h =
           (right_true (is_visible b) (is_plain part) here) rest,
     )
 
+-- a slash is a visible byte
 slash_visible : (b : ℕ) → (b == 47) ≡ true → is_visible b ≡ true
 slash_visible b h = grind (arith, nat_tests)
 
@@ -131,6 +150,7 @@ between_plain (b ∷ bs) h = elim (cases_Bool (b == 47)) [
       both_true (is_visible b) (is_plain bs) both.0 (between_plain bs both.1)
 ]
 
+-- a path is plain
 pub path_plain : (path : List ℕ) → is_path path ≡ true → is_plain path ≡ true
 path_plain [] h = refl
 path_plain (b ∷ parts) h =

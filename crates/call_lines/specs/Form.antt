@@ -14,6 +14,7 @@ use Rattle.script_words.specs.Forms.{descriptor_of, id_of, mode_of, offset_of, p
 use Rattle.script_words.specs.Value.{value_of}
 use Rattle.call_lines.specs.Places.{place_in}
 
+-- the form of one word
 pub data Form : Type 0 where
   Descriptor : Form
   -- the number of a map, a run or a semaphore
@@ -46,6 +47,7 @@ Value Name = List ℕ
 Value (Bytes least most) = List ℕ
 Value Path = ℕ
 
+-- how a word of one form is read and written
 pub record Spelling (A : Type 0) : Type 0 where
   -- what the word says, or the cause for which its line is refused, if the files have these paths
   pub read : List (List ℕ) → List ℕ → Result A LineCause
@@ -56,9 +58,11 @@ pub record Spelling (A : Type 0) : Type 0 where
 
 -- ---- numbers and bytes
 
+-- a number below 256
 abbrev pub is_byte : ℕ → Bool
 is_byte b = nat_lt b 256
 
+-- each number of the list is a byte
 abbrev pub are_bytes : List ℕ → Bool
 are_bytes bytes = list_all is_byte bytes
 
@@ -66,9 +70,11 @@ are_bytes bytes = list_all is_byte bytes
 abbrev pub is_id : ℕ → Bool
 is_id n = nat_le n 0xffff_ffff
 
+-- a mode has at most 16 bits
 abbrev pub is_mode : ℕ → Bool
 is_mode n = nat_le n 0xffff
 
+-- a descriptor is at most 255
 abbrev pub is_descriptor : ℕ → Bool
 is_descriptor n = nat_le n 255
 
@@ -76,20 +82,25 @@ is_descriptor n = nat_le n 255
 abbrev pub is_value : ℕ → ℕ → List ℕ → Bool
 is_value least most v = nat_le least (length v) && nat_le (length v) most && are_bytes v
 
+-- the octal digits of a number
 abbrev pub octal : ℕ → List ℕ
 octal n = digits 8 false n
 
+-- bytes as a word: `hex:`, and two lower-case digits for each byte
 abbrev pub hex_text : List ℕ → List ℕ
 hex_text bytes = codes "hex:" ++ encode_lower bytes
 
 -- ---- words
 
+-- the name of an attribute, 1 to 255 visible bytes
 abbrev pub name_of : List ℕ → Option (List ℕ)
 name_of text = if is_word 255 text then Some text else None
 
+-- whether a descriptor is mapped for execution, by the word for it
 abbrev pub mapping_of : List ℕ → Option Bool
 mapping_of text = look_up ((codes "read", false) ∷ (codes "exec", true) ∷ []) text
 
+-- the word for how a descriptor is mapped
 abbrev pub mapping_word : Bool → List ℕ
 mapping_word true = codes "exec"
 mapping_word false = codes "read"

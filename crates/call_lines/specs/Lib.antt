@@ -1,7 +1,7 @@
 pub mod Places
 pub mod Lines
 pub mod Form
-pub mod Behind
+pub mod Arguments
 pub mod Table
 pub mod Calls
 pub mod Rules

@@ -7,24 +7,28 @@ use Rattle.text_forms.specs.Words.{is_visible}
 abbrev pub Line : Type 0
 Line = List (List ℕ)
 
-abbrev pub behind_space : List ℕ → List ℕ
-behind_space w = 32 ∷ w
+-- the word after a space
+abbrev pub after_space : List ℕ → List ℕ
+after_space w = 32 ∷ w
 
 -- the words, each preceded by a space
 abbrev pub spaced : Line → List ℕ
-spaced ws = flat_map behind_space ws
+spaced ws = flat_map after_space ws
 
 -- the text of the line without its newline
 abbrev pub words_text : Line → List ℕ
 words_text [] = []
 words_text (w ∷ ws) = w ++ spaced ws
 
+-- the text of the line with its newline
 abbrev pub line_text : Line → List ℕ
 line_text l = words_text l ++ 10 ∷ []
 
+-- the text of lines, one after another
 abbrev pub lines_text : List Line → List ℕ
 lines_text ls = flat_map line_text ls
 
+-- all bytes of the word are visible
 abbrev pub is_plain : List ℕ → Bool
 is_plain w = list_all is_visible w
 

@@ -5,6 +5,7 @@ use Rattle.std.specs.Cmp.Lexicographic.{slice_cmp}
 use Rattle.std.specs.Ordering.{nat_cmp}
 use Rattle.std.specs.Str.{bytes_eq}
 
+-- the index increased by one, if there is one
 abbrev pub one_on : Option ℕ → Option ℕ
 one_on None = None
 one_on (Some n) = Some (n + 1)

@@ -6,14 +6,15 @@ use Rattle.call_steps.specs.declared.call.Call.TheVariants as call
 use Rattle.policy_text.specs.Grammar.{rule_of}
 use Rattle.call_steps.specs.policy.RuleValue.{RuleValue}
 use Rattle.policy_text.specs.Spelling.{is_visible_word, rule_text, rule_words}
-use Rattle.call_lines.specs.Behind.{Behind, Rule, Said, Words}
+use Rattle.call_lines.specs.Arguments.{Arguments, Rule, Said, Words}
 
+-- the rule's text is read as the same rule, and each of its words is visible
 pub record IsReadRule (r : RuleValue) : Type 0 where
   pub again : rule_of (rule_text r) ≡ Ok r
   pub visible : list_all is_visible_word (rule_words r) ≡ true
 
 -- the rule that is said, if any, is read as the same rule
-abbrev pub SaysReadRule : (b : Behind) → Said b → Type 0
+abbrev pub SaysReadRule : (a : Arguments) → Said a → Type 0
 SaysReadRule Rule r = IsReadRule r
 SaysReadRule (Words fs) v = Unit {0}
 

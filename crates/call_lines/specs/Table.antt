@@ -1,4 +1,4 @@
--- The table of the calls: for each its first word, the forms of the words behind it, and the call.
+-- The table of the calls: for each its first word, the forms of the words after it, and the call.
 use Rattle.std.specs.Prelude.{ℕ, List, [], ◌∷◌, codes, map, Option, Some, None}
 use Rattle.call_steps.specs.declared.call.Call.{Call}
 use Rattle.call_steps.specs.declared.call.Call.TheVariants as call
@@ -6,7 +6,7 @@ use Rattle.call_steps.specs.events.declared.deed.Change.TheVariants as change
 use Rattle.call_steps.specs.events.pages.Content.{most_bytes}
 use Rattle.text_forms.specs.Tables.{look_up}
 use Rattle.call_lines.specs.Form.{Descriptor, Small, Offset, Portion, Mode, Id, Mapping, Name, Bytes, Path}
-use Rattle.call_lines.specs.Behind.{Forms, Alone, Way, ◌▸◌, Behind, Rule, Words, Of, OfSaid, Said, each_by}
+use Rattle.call_lines.specs.Arguments.{Forms, Alone, Way, ◌▸◌, Arguments, Rule, Words, Of, OfSaid, Said, each_by}
 use Rattle.call_lines.specs.declared.table.CallWord.{CallWord}
 use Rattle.call_lines.specs.declared.table.CallWord.TheVariants as word
 
@@ -18,15 +18,18 @@ most_write = most_bytes
 abbrev pub most_set : ℕ
 most_set = 8192
 
+-- a row of the table: the line of one kind of call
 pub record Row : Type 0 where
   -- the first word
   pub word : List ℕ
-  pub behind : Behind
-  -- the call, from what stands behind the first word
-  pub call : OfSaid behind Call
+  -- the form of what comes after it
+  pub arguments : Arguments
+  -- the call, from what the arguments say
+  pub call : OfSaid arguments Call
 
+-- a row whose arguments are words
 abbrev pub line : List ℕ → (fs : Forms) → Of fs Call → Row
-line word fs call = record { word = word; behind = Words fs; call = call }
+line word fs call = record { word = word; arguments = Words fs; call = call }
 
 -- the table of the calls
 abbrev pub row : CallWord → Row
@@ -50,7 +53,7 @@ row word.Chown = line (codes "chown") (Path ▸ Id ▸ Id ▸ Alone)
     (λ inode uid gid. call.SetMeta inode (change.Owner uid gid))
 row word.Post = line (codes "post") (Small ▸ Alone) call.Post
 row word.Wait = line (codes "wait") (Small ▸ Alone) call.Wait
-row word.AddRule = record { word = codes "addrule"; behind = Rule; call = call.AddRule }
+row word.AddRule = record { word = codes "addrule"; arguments = Rule; call = call.AddRule }
 row word.Module = line (codes "module") (Path ▸ Alone) call.Module
 row word.Firmware = line (codes "firmware") (Path ▸ Alone) call.Firmware
 
@@ -67,13 +70,14 @@ call_word_of text = look_up (map (λ w. ((row w).word, w)) all_words) text
 
 -- ---- what the line of a call says
 
--- a row of the table, and what stands behind its word
+-- a row of the table, and what the arguments of its line say
 pub record Spoken : Type 0 where
   pub word : CallWord
-  pub said : Said (row word).behind
+  pub said : Said (row word).arguments
 
-abbrev pub by : (w : CallWord) → OfSaid (row w).behind Spoken
-by w = each_by (row w).behind (λ s. record { word = w; said = s })
+-- what a line of the row says, from the values of its arguments, one after another
+abbrev pub by : (w : CallWord) → OfSaid (row w).arguments Spoken
+by w = each_by (row w).arguments (λ s. record { word = w; said = s })
 
 -- a function of what the line of a call says
 abbrev pub told : {X : Type 0} → (Spoken → X) → Call → X
@@ -97,5 +101,6 @@ told f (call.AddRule rule) = f (by word.AddRule rule)
 told f (call.Module inode) = f (by word.Module inode)
 told f (call.Firmware inode) = f (by word.Firmware inode)
 
+-- what the line of a call says
 abbrev pub spoken : Call → Spoken
 spoken = told (λ s. s)

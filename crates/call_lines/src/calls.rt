@@ -6,7 +6,7 @@ ghost use Rattle.script_words.specs.Gives.{LineGives};
 ghost use Rattle.call_lines.specs.declared.table.CallWord.TheVariants as word;
 ghost use Rattle.call_lines.specs.Calls.{added_rule, call_of, line_call};
 
-use crate::behind::{Alone, Forms, Then, Way};
+use crate::arguments::{Alone, Forms, Then, Way};
 use crate::form::{Descriptor, Id, Mapping, Mode, Name, Offset, Path, Portion, Small, Value};
 use crate::paths::Paths;
 use crate::table::CallWord;

@@ -2,7 +2,7 @@
 
 ghost use Rattle.std.specs.Prelude.{◌≡◌, [], ◌∷◌, ◌++◌, codes, decimal, map, OnOk};
 ghost use Rattle.policy_text.specs.Spelling.{rule_words};
-ghost use Rattle.call_lines.specs.Behind.{trunc_words, way_words};
+ghost use Rattle.call_lines.specs.Arguments.{trunc_words, way_words};
 ghost use Rattle.call_lines.specs.Calls.{call_line};
 ghost use Rattle.call_lines.specs.Form.{hex_text, mapping_word, octal, path_at};
 ghost use Rattle.call_lines.specs.Lines.{spaced, words_text};

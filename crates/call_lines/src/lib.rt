@@ -1,11 +1,11 @@
 //! The lines of calls in a script: the table of the calls, reading a line by it, and the canonical
 //! line.
 //!
-//! `specs/Table` has a row for each call: its first word, the forms of the words behind it, and the
+//! `specs/Table` has a row for each call: its first word, the forms of the words after it, and the
 //! call that they make. `specs/Form` says of each form how a word of it is read and written.
 #![tactic(auto)]
 
-mod behind;
+mod arguments;
 mod calls;
 mod canonical;
 mod form;

@@ -27,7 +27,7 @@ use Rattle.script_text.specs.declared.head.Head.TheVariants as head
 use Rattle.script_text.specs.declared.blocks.TaskBlock.{TaskBlock}
 use Rattle.script_text.proofs.Lasts.{all_changed, length_changed}
 use Rattle.script_print.specs.Lines.{Line, begins_line, is_plain, line_text}
-use Rattle.script_print.proofs.Lines.{text_behind}
+use Rattle.script_print.proofs.Lines.{text_after}
 use Rattle.script_print.proofs.Words.{id_back, id_plain, path_plain}
 use Rattle.load_gen.specs.Accepted.{never_waits, waits}
 use Rattle.load_gen.specs.Draws.{drawn, next}
@@ -117,16 +117,16 @@ module _ (tasks n : ℕ) (d : Draft) (h : InTask tasks n d) (few : n < 3072) whe
 
   one_call : (w : List ℕ) (ws : Line) (k : CallWord) (c : Call) → IsLight c
       → begins_line w ≡ true → is_plain w ≡ true → list_all is_plain ws ≡ true
-      → head_of w ≡ Some (head.Call k) → call_of k (text_behind ws) (take 9 ws) d.paths ≡ Ok c
+      → head_of w ≡ Some (head.Call k) → call_of k (text_after ws) (take 9 ws) d.paths ≡ Ok c
       → Makes d (line_text (w ∷ ws)) (InTask tasks (n + 1))
   unfolding with_head
   one_call w ws k c light begins plain others is read =
       by_line w ws (head.Call k) d (behind c) (InTask tasks (n + 1)) begins plain others is h.at
-      (line_made k c (text_behind ws) (take 9 ws) light read) (behind_is c light)
+      (line_made k c (text_after ws) (take 9 ws) light read) (behind_is c light)
 
   -- the line that opens a file is read
   open_line : (f : ℕ) (way : List ℕ) (how : How) → f < 64 → is_plain way ≡ true
-      → call_of word.Open (text_behind (codes "0" ∷ path_of f ∷ way ∷ []))
+      → call_of word.Open (text_after (codes "0" ∷ path_of f ∷ way ∷ []))
       (codes "0" ∷ path_of f ∷ way ∷ []) d.paths ≡ Ok (call.Open 0 f how false)
       → Makes d (line_text (codes "open" ∷ codes "0" ∷ path_of f ∷ way ∷ []))
       (InTask tasks (n + 1))

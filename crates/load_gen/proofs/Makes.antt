@@ -7,7 +7,7 @@ use Rattle.script_text.specs.Grammar.{with_head}
 use Rattle.script_text.specs.Heads.{head_of, rank, stands}
 use Rattle.script_text.specs.declared.head.Head.{Head}
 use Rattle.script_print.specs.Lines.{Line, begins_line, is_plain, line_text, lines_text}
-use Rattle.script_print.proofs.Lines.{text_behind}
+use Rattle.script_print.proofs.Lines.{text_after}
 use Rattle.script_print.proofs.Pieces.{lines_more}
 use Rattle.script_print.proofs.Steps.{Reads, followed, nothing, one_line}
 
@@ -61,7 +61,7 @@ weaker d t P Q f m = record {
 pub by_line : (w : List ℕ) (ws : Line) (h : Head) (d e : Draft) (Q : Draft → Type 0)
     → begins_line w ≡ true → is_plain w ≡ true → list_all is_plain ws ≡ true
     → head_of w ≡ Some h → stands h d ≡ true
-    → with_head h (text_behind ws) (take 9 ws) (record d { at = rank h }) ≡ Ok e → Q e
+    → with_head h (text_after ws) (take 9 ws) (record d { at = rank h }) ≡ Ok e → Q e
     → Makes d (line_text (w ∷ ws)) Q
 by_line w ws h d e Q begins plain others is at makes holds = record {
   lines = (w ∷ ws) ∷ [];

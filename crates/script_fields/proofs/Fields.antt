@@ -1,14 +1,17 @@
 -- Lines with too few words.
 use Rattle.std.proofs.Common.{◌≡◌, ℕ, ◌<◌, List, [], ◌∷◌, length, map, Bor, arith}
 
+-- the words of a line, borrowed
 abbrev Words : Type 0
 Words = List (Bor (List ℕ))
 
+-- the bytes of each word
 abbrev texts : Words → List (List ℕ)
 texts ws = map (λ w. w.now) ws
 
 -- a reader that refuses each smaller number of words refuses all words that are too few
 module _ {X : Type 0} (made : List (List ℕ) → X) (bad : X) where
+  -- a reader that refuses each number of words up to three refuses fewer than four
   pub below_four : made [] ≡ bad
       → ((a : List ℕ) → made (a ∷ []) ≡ bad)
       → ((a b : List ℕ) → made (a ∷ b ∷ []) ≡ bad)
@@ -20,6 +23,7 @@ module _ {X : Type 0} (made : List (List ℕ) → X) (bad : X) where
   below_four r0 r1 r2 r3 (a ∷ b ∷ c ∷ []) bound = r3 a.now b.now c.now
   below_four r0 r1 r2 r3 (a ∷ b ∷ c ∷ d ∷ more) bound = absurd (omega (arith, bound))
 
+  -- a reader that refuses each number of words up to six refuses fewer than seven
   pub below_seven : made [] ≡ bad
       → ((a : List ℕ) → made (a ∷ []) ≡ bad)
       → ((a b : List ℕ) → made (a ∷ b ∷ []) ≡ bad)
@@ -39,6 +43,7 @@ module _ {X : Type 0} (made : List (List ℕ) → X) (bad : X) where
   below_seven r0 r1 r2 r3 r4 r5 r6 (a ∷ b ∷ c ∷ d ∷ e ∷ f ∷ g ∷ more) bound =
       absurd (omega (arith, bound))
 
+  -- a reader that refuses each number of words up to seven refuses fewer than eight
   pub below_eight : made [] ≡ bad
       → ((a : List ℕ) → made (a ∷ []) ≡ bad)
       → ((a b : List ℕ) → made (a ∷ b ∷ []) ≡ bad)

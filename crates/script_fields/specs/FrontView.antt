@@ -2,6 +2,7 @@
 use Rattle.script_fields.specs.declared.front.Front as rust
 use Rattle.script_fields.specs.FileFields.{Front}
 
+-- each field of the Rattle type, its text as bytes
 abbrev pub front_view : rust.Front → Front
 front_view f = record {
   path = f.path.now;

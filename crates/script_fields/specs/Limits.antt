@@ -4,9 +4,11 @@ use Rattle.inode_pages.specs.Content as content
 use Rattle.policy_rules.specs.Limits as policy
 use Rattle.xattr_store.specs.Attrs as attrs
 
+-- the file systems
 abbrev pub most_supers : ℕ
 most_supers = 16
 
+-- the files, the absent ones among them
 abbrev pub most_files : ℕ
 most_files = 256
 
@@ -22,6 +24,7 @@ most_added = 16
 abbrev pub most_rules : ℕ
 most_rules = policy.most_rules
 
+-- the tasks
 abbrev pub most_tasks : ℕ
 most_tasks = 64
 
@@ -29,9 +32,11 @@ most_tasks = 64
 abbrev pub most_calls : ℕ
 most_calls = 32768
 
+-- the turns of a schedule
 abbrev pub most_turns : ℕ
 most_turns = 1048576
 
+-- the threads of a run
 abbrev pub most_threads : ℕ
 most_threads = 16
 
@@ -39,12 +44,15 @@ most_threads = 16
 abbrev pub most_bytes : ℕ
 most_bytes = 33554432
 
+-- the bytes of a content
 abbrev pub most_content : ℕ
 most_content = content.most_bytes
 
+-- the bytes of an attribute's value
 abbrev pub most_value : ℕ
 most_value = attrs.most_value
 
+-- the bytes of the HMAC's key
 abbrev pub most_key : ℕ
 most_key = 128
 

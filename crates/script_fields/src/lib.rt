@@ -1,4 +1,4 @@
-//! The fields of a script's lines: what the words behind the first say in the lines of settings,
+//! The fields of a script's lines: what the words after the first say in the lines of settings,
 //! file systems, files, tasks and endings, and the limits on them.
 //!
 //! Nothing here depends on the lines before. The lines of calls stand in `call_lines`; what a line

@@ -18,7 +18,7 @@ use Rattle.script_text.specs.Grammar.{add}
 use Rattle.script_text.specs.Heads.{is_over}
 use Rattle.script_text.specs.Settings.{Made}
 use Rattle.call_lines.proofs.Holding.{both_true, left_true, right_true}
-pub use Rattle.call_lines.proofs.Rules.{joined_is, text_behind}
+pub use Rattle.call_lines.proofs.Rules.{joined_is, text_after}
 use Rattle.call_lines.specs.Lines.{Line, begins_line, is_plain, is_read_line, lines_text, words_text}
 
 -- ---- the words of a line
@@ -55,13 +55,13 @@ cut_some (b ∷ bs) rest h =
     rw (e, cut_some bs rest (right_true (is_visible b) (is_plain bs) h)) refl
 
 pub cut_words_text : (w : List ℕ) (ws : Line) → is_plain w ≡ true
-    → cut_line (words_text (w ∷ ws)) ≡ (w, text_behind ws)
+    → cut_line (words_text (w ∷ ws)) ≡ (w, text_after ws)
 cut_words_text w [] h =
     ap cut_line (append-nil w) ∙ ap (head_and_text w) (cut_none w h)
 cut_words_text w (v ∷ ws) h =
     ap (head_and_text (words_text (w ∷ v ∷ ws))) (cut_some w (words_text (v ∷ ws)) h)
 
-pub fields_words_text : (ws : Line) → list_all is_plain ws ≡ true → all_fields (text_behind ws) ≡ ws
+pub fields_words_text : (ws : Line) → list_all is_plain ws ≡ true → all_fields (text_after ws) ≡ ws
 fields_words_text [] h = refl
 fields_words_text (w ∷ ws) h =
     ap words (joined_is w ws) ∙ words_back w ws (all_weaker is_plain is_clean clean (w ∷ ws) h)

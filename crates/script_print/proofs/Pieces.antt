@@ -7,7 +7,7 @@ use Rattle.std.proofs.lemmas.List.Concat.{flat_map-append}
 use Rattle.policy_text.specs.rules.RuleValue.{RuleValue}
 use Rattle.policy_text.specs.Spelling.{rule_text, rule_words}
 use Rattle.script_text.proofs.Lasts.{each_behind}
-use Rattle.call_lines.specs.Lines.{Line, behind_space, line_text, lines_text, spaced, words_text}
+use Rattle.call_lines.specs.Lines.{Line, after_space, line_text, lines_text, spaced, words_text}
 use Rattle.call_lines.proofs.Rules.{added_put}
 
 -- the text of lines, one for each element
@@ -129,7 +129,7 @@ pub front_put : (start o1 o2 o3 o4 o5 o6 k p f : List ℕ) (ms cs : Line) → o1
     → o2 ≡ o1 ++ 32 ∷ p → o3 ≡ o2 ++ 32 ∷ f → o4 ≡ o3 ++ spaced ms → o5 ≡ o4 ++ spaced cs
     → o6 ≡ o5 ++ 10 ∷ [] → o6 ≡ start ++ line_text (k ∷ p ∷ f ∷ (ms ++ cs))
 front_put start o1 o2 o3 o4 o5 o6 k p f ms cs e1 e2 e3 e4 e5 e6 =
-    rw (e6, e5, e4, e3, e2, e1, flat_map-append behind_space ms cs) (simp append_assoc)
+    rw (e6, e5, e4, e3, e2, e1, flat_map-append after_space ms cs) (simp append_assoc)
 
 -- pieces of a text, grouped as they are appended
 five_pieces : (start o1 o2 o3 o4 o5 o6 w m u key n v s e : List ℕ)

@@ -15,7 +15,7 @@ use Rattle.script_text.specs.Settings.{Made}
 use Rattle.script_text.specs.declared.head.Head.{Head}
 use Rattle.call_lines.proofs.Holding.{both_true}
 use Rattle.call_lines.specs.Lines.{Line, begins_line, is_plain, is_read_line, lines_text, words_text}
-use Rattle.call_lines.proofs.Rules.{text_behind}
+use Rattle.call_lines.proofs.Rules.{text_after}
 use Rattle.script_print.proofs.Lines.{cut_words_text, fields_words_text, folded, lines_of, run}
 
 -- the lines are read word by word, and lead from draft d to draft e
@@ -57,13 +57,13 @@ placed_at h text d e = rw e refl
 added : (w : List ℕ) (ws : Line) (h : Head) (d : Draft) → is_plain w ≡ true
     → list_all is_plain ws ≡ true → head_of w ≡ Some h → stands h d ≡ true
     → add d (words_text (w ∷ ws))
-    ≡ with_head h (text_behind ws) (take 9 ws) (record d { at = rank h })
+    ≡ with_head h (text_after ws) (take 9 ws) (record d { at = rank h })
 unfolding add
 added w ws h d plain others is at =
     ap (λ (p : List ℕ × Option (List ℕ)). headed p d) (cut_words_text w ws plain)
-    ∙ headed_by (text_behind ws) d (head_of w) h is
-    ∙ placed_at h (text_behind ws) d at
-    ∙ ap (λ (vs : Line). with_head h (text_behind ws) (take 9 vs) (record d { at = rank h }))
+    ∙ headed_by (text_after ws) d (head_of w) h is
+    ∙ placed_at h (text_after ws) d at
+    ∙ ap (λ (vs : Line). with_head h (text_after ws) (take 9 vs) (record d { at = rank h }))
     (fields_words_text ws others)
 
 only : (r : Made) (e : Draft) → r ≡ Ok e → (r >>= λ x. run x []) ≡ Ok e
@@ -73,7 +73,7 @@ only r e is = ap (λ (s : Made). s >>= λ x. run x []) is
 pub one_line : (w : List ℕ) (ws : Line) (h : Head) (d e : Draft)
     → begins_line w ≡ true → is_plain w ≡ true → list_all is_plain ws ≡ true
     → head_of w ≡ Some h → stands h d ≡ true
-    → with_head h (text_behind ws) (take 9 ws) (record d { at = rank h }) ≡ Ok e
+    → with_head h (text_after ws) (take 9 ws) (record d { at = rank h }) ≡ Ok e
     → Reads d ((w ∷ ws) ∷ []) e
 one_line w ws h d e begins plain others is at makes = record {
   lines = both_true (is_read_line (w ∷ ws)) true

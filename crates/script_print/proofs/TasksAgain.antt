@@ -28,7 +28,7 @@ use Rattle.call_lines.proofs.Rows.{first_word, told-spoken}
 use Rattle.script_text.specs.Heads.{head_of, head_with, section_of}
 use Rattle.script_print.specs.Rules.{AreReadRules, HasReadRule}
 use Rattle.script_print.specs.Spelling.{admin_words, task_line, task_lines}
-use Rattle.call_lines.proofs.Rules.{text_behind}
+use Rattle.call_lines.proofs.Rules.{text_after}
 use Rattle.script_print.proofs.Many.{IsAt, Leads, again_at, by_map, many}
 use Rattle.script_print.proofs.PathsAgain.{AreFound, paths_known}
 use Rattle.script_print.proofs.Steps.{Reads, followed, one_line}
@@ -211,7 +211,7 @@ module _ (base : Draft) (found : AreFound base.script.files base.paths) (tasks :
       let reads : P (line_by base.paths (spoken c)) =
       one_line (row w).word ws (head.Call w) (calling x) (calling y)
       first.begins first.plain back.plain kind refl
-      (line_back w c x (text_behind ws) (take 9 ws) back.back made) in
+      (line_back w c x (text_after ws) (take 9 ws) back.back made) in
       record {
         to = y;
         reads = subst P (sym (told-spoken (line_by base.paths) c)) reads;

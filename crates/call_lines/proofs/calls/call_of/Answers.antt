@@ -22,7 +22,8 @@ returns-in-Write c =
 pub returns-in-Ftruncate : goal.returns-in-Ftruncate
 returns-in-Ftruncate c =
     at_words c.ftruncate_of.result c.args.word word.Ftruncate (option_copied c.args.text)
-    (map (λ w. w.now) c.args.words.now) c.args.paths.now c.in-Ftruncate.is refl c.ftruncate_of.ensures
+    (map (λ w. w.now) c.args.words.now) c.args.paths.now c.in-Ftruncate.is refl
+    c.ftruncate_of.ensures
 
 pub returns-in-Close : goal.returns-in-Close
 returns-in-Close c =
@@ -62,7 +63,8 @@ returns-in-SetAttr c =
 pub returns-in-RemoveAttr : goal.returns-in-RemoveAttr
 returns-in-RemoveAttr c =
     at_words c.removexattr_of.result c.args.word word.RemoveAttr (option_copied c.args.text)
-    (map (λ w. w.now) c.args.words.now) c.args.paths.now c.in-RemoveAttr.is refl c.removexattr_of.ensures
+    (map (λ w. w.now) c.args.words.now) c.args.paths.now c.in-RemoveAttr.is refl
+    c.removexattr_of.ensures
 
 pub returns-in-Chmod : goal.returns-in-Chmod
 returns-in-Chmod c =

@@ -1,4 +1,4 @@
--- What stands behind the first word of a call's line.
+-- The arguments of a call: what comes after the first word of its line.
 use Rattle.std.specs.Prelude.{ℕ, Bool, true, false, ◌&&◌, ◌||◌, not, List, [], ◌∷◌, ◌++◌, codes, Option, Some, None, Result, Ok, Err, ok_or, if◌then◌else◌}
 use Rattle.std.specs.Str.{bytes_eq}
 use Rattle.call_steps.specs.events.Files.{is_exec, is_writer}
@@ -21,6 +21,7 @@ pub data Forms : Type 0 where
   Alone : Forms
   -- a way of opening, and its flags
   Way : Forms
+  -- a word of the first form, and then words of the others
   ◌▸◌ : Form → Forms → Forms
 
 -- ---- ways of opening
@@ -42,14 +43,17 @@ opened way create trunc =
     else if bytes_eq way (codes "rw") then Some (how.Write true create, trunc)
     else None
 
+-- how a file is opened, if the flags have their form
 abbrev pub opened_by : List ℕ → Option (Bool × Bool) → Option (How × Bool)
 opened_by way None = None
 opened_by way (Some flags) = opened way flags.0 flags.1
 
+-- how a file is opened and whether it is truncated, by the word for the way and the flags
 abbrev pub way_of : List (List ℕ) → Option (How × Bool)
 way_of [] = None
 way_of (way ∷ flags) = opened_by way (flags_of flags)
 
+-- the canonical words of a way of opening; there are none for an execution
 abbrev pub way_words : How → List (List ℕ)
 way_words (how.Read true) = codes "r" ∷ codes "create" ∷ []
 way_words (how.Read false) = codes "r" ∷ []
@@ -59,6 +63,7 @@ way_words (how.Write false true) = codes "w" ∷ codes "create" ∷ []
 way_words (how.Write false false) = codes "w" ∷ []
 way_words how.Exec = []
 
+-- the word `trunc` if the file is truncated, or else none
 abbrev pub trunc_words : Bool → List (List ℕ)
 trunc_words true = codes "trunc" ∷ []
 trunc_words false = []
@@ -83,6 +88,7 @@ both (Ok x) r = r >>= λ y. Ok (x, y)
 both (Err cause.Unknown) r = r >>= λ y. Err cause.Unknown
 both (Err c) r = Err c
 
+-- what no words say; any word is refused
 abbrev pub no_words : List (List ℕ) → Result (Unit {0}) LineCause
 no_words [] = Ok tt
 no_words (w ∷ ws) = Err cause.BadField
@@ -113,54 +119,64 @@ are_fit files (f ▸ fs) v = (form f).fits files v.0 && are_fit files fs v.1
 
 -- ---- words, or the text of a rule
 
-pub data Behind : Type 0 where
+-- the form of a call's arguments
+pub data Arguments : Type 0 where
   -- the rest of the line is a rule
-  Rule : Behind
-  Words : Forms → Behind
+  Rule : Arguments
+  Words : Forms → Arguments
 
-abbrev pub Said : Behind → Type 0
+-- what arguments of this form say
+abbrev pub Said : Arguments → Type 0
 Said Rule = RuleValue
 Said (Words fs) = Values fs
 
 -- what the text after the first word says, which has these words
-abbrev pub said_of : List (List ℕ) → (b : Behind) → Option (List ℕ) → List (List ℕ)
-    → Result (Said b) LineCause
+abbrev pub said_of : List (List ℕ) → (a : Arguments) → Option (List ℕ) → List (List ℕ)
+    → Result (Said a) LineCause
 said_of paths Rule text words = rule_of text
 said_of paths (Words fs) text words = values_of paths fs words
 
-abbrev pub words_behind : List (List ℕ) → (b : Behind) → Said b → Line
-words_behind paths Rule r = rule_words r
-words_behind paths (Words fs) v = words_of paths fs v
+-- the canonical words of the arguments
+abbrev pub argument_words : List (List ℕ) → (a : Arguments) → Said a → Line
+argument_words paths Rule r = rule_words r
+argument_words paths (Words fs) v = words_of paths fs v
 
-abbrev pub is_fit : ℕ → (b : Behind) → Said b → Bool
+-- whether arguments can say this in a script with this many files
+abbrev pub is_fit : ℕ → (a : Arguments) → Said a → Bool
 is_fit files Rule r = true
 is_fit files (Words fs) v = are_fit files fs v
 
 -- ---- a function of what is said, one argument after another
 
+-- a function to X that takes what the words say, one value after another
 abbrev pub Of : Forms → Type 0 → Type 0
 Of Alone X = X
 Of Way X = How → Bool → X
 Of (f ▸ fs) X = Value f → Of fs X
 
+-- the result of such a function for what the words say
 abbrev pub applied : {X : Type 0} (fs : Forms) → Of fs X → Values fs → X
 applied Alone x u = x
 applied Way f o = f o.0 o.1
 applied (f ▸ fs) g v = applied fs (g v.0) v.1
 
+-- a function of all that the words say, as one that takes one value after another
 abbrev pub each : {X : Type 0} (fs : Forms) → (Values fs → X) → Of fs X
 each Alone g = g tt
 each Way g = λ how trunc. g (how, trunc)
 each (f ▸ fs) g = λ x. each fs (λ v. g (x, v))
 
-abbrev pub OfSaid : Behind → Type 0 → Type 0
+-- a function to X that takes what the arguments say, one value after another
+abbrev pub OfSaid : Arguments → Type 0 → Type 0
 OfSaid Rule X = RuleValue → X
 OfSaid (Words fs) X = Of fs X
 
-abbrev pub made_by : {X : Type 0} (b : Behind) → OfSaid b X → Said b → X
+-- the result of such a function for what the arguments say
+abbrev pub made_by : {X : Type 0} (a : Arguments) → OfSaid a X → Said a → X
 made_by Rule f r = f r
 made_by (Words fs) f v = applied fs f v
 
-abbrev pub each_by : {X : Type 0} (b : Behind) → (Said b → X) → OfSaid b X
+-- a function of all that the arguments say, as one that takes one value after another
+abbrev pub each_by : {X : Type 0} (a : Arguments) → (Said a → X) → OfSaid a X
 each_by Rule g = g
 each_by (Words fs) g = each fs g

@@ -1,8 +1,8 @@
-//! Words of forms, one after another.
+//! The arguments of a call: words of forms, one after another.
 
 ghost use Rattle.std.specs.Prelude.{◌≡◌, map};
 ghost use Rattle.script_words.specs.Gives.{LineGives};
-ghost use Rattle.call_lines.specs.Behind.{flags_of, opened, way_of};
+ghost use Rattle.call_lines.specs.Arguments.{flags_of, opened, way_of};
 
 use crate::form::Form;
 use crate::paths::Paths;
@@ -32,7 +32,7 @@ pub trait Forms {
 pub struct Alone;
 
 impl Forms for Alone {
-    ghost use Rattle.call_lines.specs.Behind.{no_words};
+    ghost use Rattle.call_lines.specs.Arguments.{no_words};
 
     type Values = ();
 
@@ -52,7 +52,7 @@ pub struct Way;
 impl Forms for Way {
     ghost use Rattle.std.specs.Prelude.{ok_or};
     ghost use Rattle.script_words.specs.declared.fault.LineCause.TheVariants.{BadField};
-    ghost use Rattle.call_lines.specs.Behind.{way_of};
+    ghost use Rattle.call_lines.specs.Arguments.{way_of};
 
     type Values = (How, bool);
 
@@ -69,7 +69,7 @@ pub struct Then<F, R> {
 }
 
 impl<F: Form, R: Forms> Forms for Then<F, R> {
-    ghost use Rattle.call_lines.specs.Behind.{word_first};
+    ghost use Rattle.call_lines.specs.Arguments.{word_first};
 
     type Values = (F::Value, R::Values);
 
