@@ -15,7 +15,7 @@ use Rattle.script_text.specs.steps.hashes.Algo.{algo_by_name}
 use Rattle.script_text.specs.script_lines.declared.fault.Fault.{Fault}
 use Rattle.script_text.specs.script_lines.declared.fault.LineCause.{LineCause}
 use Rattle.script_text.specs.script_lines.declared.fault.LineCause.TheVariants as cause
-use Rattle.script_text.specs.script_lines.Forms.{behind_by, id_of, rule_of}
+use Rattle.script_text.specs.script_lines.Forms.{after_key_by, id_of, rule_of}
 use Rattle.script_text.specs.script_lines.Line.{cut_line, fields, is_skipped}
 use Rattle.script_text.specs.script_lines.Read.{fault_at, from_ended, step_over, text_of}
 use Rattle.script_text.specs.script_lines.Value.{value_of}
@@ -148,8 +148,8 @@ four_words (u ∷ []) is = absurd (omega (arith, is))
 four_words (u ∷ e ∷ []) is = absurd (omega (arith, is))
 four_words (u ∷ e ∷ g ∷ []) is = absurd (omega (arith, is))
 four_words (u ∷ e ∷ g ∷ f ∷ []) is =
-    plain_of (behind_by id_of (codes "uid=") u) (behind_by id_of (codes "euid=") e)
-    (behind_by id_of (codes "gid=") g) (behind_by id_of (codes "egid=") f)
+    plain_of (after_key_by id_of (codes "uid=") u) (after_key_by id_of (codes "euid=") e)
+    (after_key_by id_of (codes "gid=") g) (after_key_by id_of (codes "egid=") f)
     (id_formed (codes "uid=") u) (id_formed (codes "euid=") e) (id_formed (codes "gid=") g)
     (id_formed (codes "egid=") f)
 four_words (u ∷ e ∷ g ∷ f ∷ x ∷ more) is = absurd (omega (arith, is))

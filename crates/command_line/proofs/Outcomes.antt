@@ -211,8 +211,8 @@ unfolding clap_on_literals
 gen_words rest = entered_words (codes "gen") rest gen_turns gen_stops
 
 -- the walk after the number
-abbrev behind_number : Text → Walk
-behind_number number =
+abbrev after_number : Text → Walk
+after_number number =
     walk_at (record { rows = []; pending = Some (codes "number", number ∷ []); skip = 0 }) 2
 
 number_turns : (number : Text) → is_option number ≡ false
@@ -220,7 +220,7 @@ number_turns : (number : Text) → is_option number ≡ false
 number_turns number e = value_turn gen_leaf [] number 1 nothing_held e refl
 
 number_walked : (number : Text) → is_option number ≡ false
-    → walked gen_leaf.rules [] (walk_from nothing_held) number ≡ behind_number number
+    → walked gen_leaf.rules [] (walk_from nothing_held) number ≡ after_number number
 number_walked number e = value_walked gen_leaf.rules [] number 1 nothing_held e refl
 
 -- the faults at the end of the subcommand's words
@@ -260,7 +260,7 @@ number_stray number v more e f =
     (number_turns number e)
     ∙ ap (λ (k : Kinds). or_else (or_else k rest) (at_end end))
     (ap (λ (x : Walk). turn_fault gen_leaf [] x v) (number_walked number e)
-    ∙ value_turn gen_leaf [] v 2 (behind_number number).held f refl)
+    ∙ value_turn gen_leaf [] v 2 (after_number number).held f refl)
 
 gen_alone : by_end (level_fault gen_leaf [] nothing_held [] false []) (stopped_at (codes "gen") [])
     ≡ MissingRequiredArgument ∷ []

@@ -87,8 +87,8 @@ stray_turn s names word bare e none =
     (stray_fault s)) bare
 
 -- the other faults at one level, found after the walk over its words
-abbrev pub behind_walk : Shape → Names → List Text → Bool → Kinds → Kinds
-behind_walk s names words met below =
+abbrev pub after_walk : Shape → Names → List Text → Bool → Kinds → Kinds
+after_walk s names words met below =
     let end = (walk s.rules names nothing_held words).held in
     or_else below (or_else (settle_fault s.rules s.args_override_self end)
     (or_else (defaults_fault (settled s.rules end).rows s.rules)
@@ -103,5 +103,5 @@ unfolding walk_fault
 stray_words s names word rest met below k ks bare e none stray =
     ap (λ (first : Kinds). or_else (or_else first (walk_fault s names
     (walked s.rules names (walk_from nothing_held) word) rest))
-    (behind_walk s names (word ∷ rest) met below))
+    (after_walk s names (word ∷ rest) met below))
     (stray_turn s names word bare e none ∙ stray)

@@ -68,9 +68,9 @@ flat_at f (y ∷ ys) (suc i) x h e =
     ∙ sym (append_assoc (f y) (flat_map f (take i ys)) (f x ++ flat_map f (drop (suc i) ys)))
 
 -- if whole parts were taken and then a part of the next, a part of all the bytes was taken
-pub TookPart-behind : (a b d : Option (List ℕ)) (all done piece rest : List ℕ)
+pub TookPart-after : (a b d : Option (List ℕ)) (all done piece rest : List ℕ)
     → all ≡ done ++ (piece ++ rest) → Appends a b done → TookPart b d piece → TookPart a d all
-TookPart-behind a b d all done piece rest e taken part =
+TookPart-after a b d all done piece rest e taken part =
     let n = part.0 in
     let front : take (length done + n) all ≡ done ++ take n piece =
     ap (take (length done + n)) e ∙ take_past done (piece ++ rest) n _ refl

@@ -77,33 +77,34 @@ placed_of None = Added 0
 placed_of (Some t) = placed_in t
 
 -- the journal after a row: a blocked deed leaves no event
-abbrev pub behind : Deed → Option Told → List Event → List Event
-behind d None before = before
-behind d (Some t) before = record { who = nobody; deed = d; told = t } ∷ before
+abbrev pub after_row : Deed → Option Told → List Event → List Event
+after_row d None before = before
+after_row d (Some t) before = record { who = nobody; deed = d; told = t } ∷ before
 
 -- the journal of an inode that has just been created
 abbrev pub born : Inode → List Event
 born inode = record { who = nobody; deed = deed.Birth; told = told.Image inode.birth } ∷ []
 
 -- the journal after the rows
-abbrev pub behind_all : Rows → List Event → List Event
-behind_all [] before = before
-behind_all (r ∷ rest) before = behind_all rest (behind r.0 r.1 before)
+abbrev pub after_all : Rows → List Event → List Event
+after_all [] before = before
+after_all (r ∷ rest) before = after_all rest (after_row r.0 r.1 before)
 
 -- the journal of an inode after its birth and the rows
 abbrev pub after : Inode → Rows → List Event
-after inode rows = behind_all rows (born inode)
+after inode rows = after_all rows (born inode)
 
 -- each deed is permitted after those before it
 abbrev pub may_all : Inode → List Event → Rows → Bool
 may_all inode before [] = true
-may_all inode before (r ∷ rest) = may inode before r.0 && may_all inode (behind r.0 r.1 before) rest
+may_all inode before (r ∷ rest) =
+    may inode before r.0 && may_all inode (after_row r.0 r.1 before) rest
 
 -- the outcomes that the journal before each row determines
 abbrev pub says_all : Inode → List Event → Rows → List (Option Told)
 says_all inode before [] = []
 says_all inode before (r ∷ rest) =
-    says inode before (placed_of r.1) r.0 ∷ says_all inode (behind r.0 r.1 before) rest
+    says inode before (placed_of r.1) r.0 ∷ says_all inode (after_row r.0 r.1 before) rest
 
 -- after the birth, each deed is permitted, and has the outcome that the journal before it
 -- determines

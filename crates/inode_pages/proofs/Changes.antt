@@ -11,7 +11,7 @@ use Rattle.inode_pages.specs.Content.{bytes_at, overwritten, piece_at, most_byte
 use Rattle.inode_pages.specs.Pages.{ArePagesOf, IsPaged}
 use Rattle.inode_pages.proofs.Lookups.{get-append_left, get-append_right, get-drop, get-take}
 use Rattle.inode_pages.proofs.Paging.{paged}
-use Rattle.inode_pages.proofs.Writes.{piece_before, piece_behind, length-written}
+use Rattle.inode_pages.proofs.Writes.{length-written, piece_after, piece_before}
 
 -- the pages, with as many of them replaced as there are new ones, from the number `first` on
 patched : List (List ℕ) → ℕ → List (List ℕ) → List (List ℕ)
@@ -51,10 +51,10 @@ module _ (pages new : List (List ℕ)) (first : ℕ) (within : first ≤ length 
       ∙ ap (λ n. slice_get (take first pages ++ new) (n + j)) (sym length_of_first)
       ∙ get-append_right (take first pages) new j
 
-  patched_behind : (j : ℕ) → slice_get (patched pages first new) (first + length new + j)
+  patched_after : (j : ℕ) → slice_get (patched pages first new) (first + length new + j)
       ≡ slice_get pages (first + length new + j)
   unfolding patched
-  patched_behind j =
+  patched_after j =
       ap (λ n. slice_get (take first pages ++ new ++ drop (first + length new) pages) (n + j))
       (sym length_of_front)
       ∙ get-append_right (take first pages ++ new) (drop (first + length new) pages) j
@@ -79,7 +79,7 @@ module _ (content bytes : List ℕ) (pages new : List (List ℕ)) (from first : 
       patched_before pages new first within k before ∙ are.each k (omega arith)
       ∙ ap Some (sym (piece_before content from bytes (4096 * k) 4096 (omega (arith, start))
       (omega (arith, start)))))
-      (λ (behind : first ≤ k). ⊎_elim
+      (λ (further : first ≤ k). ⊎_elim
       (λ (inside : k < first + length new).
       let at : first + (k - first) ≡ k = omega arith in
       ap (slice_get (patched pages first new)) (sym at)
@@ -88,9 +88,9 @@ module _ (content bytes : List ℕ) (pages new : List (List ℕ)) (from first : 
       (λ (past : first + length new ≤ k).
       let at : first + length new + (k - (first + length new)) ≡ k = omega arith in
       ap (slice_get (patched pages first new)) (sym at)
-      ∙ patched_behind pages new first within (k - (first + length new))
+      ∙ patched_after pages new first within (k - (first + length new))
       ∙ ap (slice_get pages) at ∙ are.each k (omega arith)
-      ∙ ap Some (sym (piece_behind content from bytes (4096 * k) 4096 (omega arith))))
+      ∙ ap Some (sym (piece_after content from bytes (4096 * k) 4096 (omega arith))))
       (cases_lt k (first + length new)))
       (cases_lt k first)
 
@@ -178,7 +178,7 @@ cut_within content pages last len are shorter odd is = record {
       get-append_left (take (len / 4096) pages) (last ∷ []) k (omega (arith, whole))
       ∙ get-take (len / 4096) pages k before ∙ are.each k (omega (arith, within))
       ∙ ap Some (sym (piece_of_front content len k (omega arith))))
-      (λ (behind : len / 4096 ≤ k).
+      (λ (further : len / 4096 ≤ k).
       let here : len / 4096 ≡ k = omega (arith, long) in
       let at : length (take (len / 4096) pages) + 0 ≡ k = omega (arith, whole) in
       ap (slice_get (take (len / 4096) pages ++ last ∷ [])) (sym at)

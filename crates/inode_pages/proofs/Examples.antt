@@ -14,8 +14,8 @@ written_inside = refl
 written_across : overwritten (97 ∷ 98 ∷ 99 ∷ []) 2 (120 ∷ 121 ∷ []) ≡ 97 ∷ 98 ∷ 120 ∷ 121 ∷ []
 written_across = refl
 
-written_behind : overwritten (97 ∷ 98 ∷ 99 ∷ []) 4 (120 ∷ []) ≡ 97 ∷ 98 ∷ 99 ∷ 0 ∷ 120 ∷ []
-written_behind = refl
+written_after : overwritten (97 ∷ 98 ∷ 99 ∷ []) 4 (120 ∷ []) ≡ 97 ∷ 98 ∷ 99 ∷ 0 ∷ 120 ∷ []
+written_after = refl
 
 -- a read that extends past the end
 read_past : bytes_at (97 ∷ 98 ∷ 99 ∷ []) 1 9 ≡ 98 ∷ 99 ∷ []

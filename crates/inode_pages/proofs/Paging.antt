@@ -55,9 +55,9 @@ pub set_parts : {X : Type 0} (xs : List X) (k : ℕ) (y : X) → k < length xs �
 set_parts [] k y within = absurd (omega arith)
 set_parts (x ∷ xs) zero y within = refl
 set_parts {X = X} (x ∷ xs) (suc k) y within =
-    let behind : suc (k + 1) ≡ suc k + 1 = omega arith in
+    let after : suc (k + 1) ≡ suc k + 1 = omega arith in
     ap (λ (l : List X). x ∷ l) (set_parts xs k y (omega arith))
-    ∙ ap (λ (n : ℕ). x ∷ (take k xs ++ y ∷ drop n (x ∷ xs))) behind
+    ∙ ap (λ (n : ℕ). x ∷ (take k xs ++ y ∷ drop n (x ∷ xs))) after
 
 -- the part of a piece from an offset in it on
 pub rest_of_piece : (content : List ℕ) (at : ℕ)

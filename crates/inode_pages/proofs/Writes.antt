@@ -160,10 +160,10 @@ piece_before content from bytes s n before within =
     ∙ (λ i. overwritten (bytes_at content s n) (at i) (take (none i) (drop (s - from) bytes)))
     ∙ written_within (bytes_at content s n) n full
 
-pub piece_behind : (content : List ℕ) (from : ℕ) (bytes : List ℕ) (s n : ℕ)
+pub piece_after : (content : List ℕ) (from : ℕ) (bytes : List ℕ) (s n : ℕ)
     → from + length bytes ≤ s
     → bytes_at (overwritten content from bytes) s n ≡ bytes_at content s n
-piece_behind content from bytes s n behind =
+piece_after content from bytes s n after =
     let at : min (from - s) n ≡ 0 = omega arith in
     let none : drop (s - from) bytes ≡ [] = drop_all (s - from) bytes (omega arith) in
     bytes_at-written content from bytes s n

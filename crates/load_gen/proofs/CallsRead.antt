@@ -85,10 +85,10 @@ free_with c light t h =
     rw (list_all-append (λ x. not (waits x)) t.calls (c ∷ []), h, light.free) refl
 
 module _ (tasks n : ℕ) (d : Draft) (h : InTask tasks n d) (few : n < 3072) where
-  abbrev behind : Call → Draft
-  behind c = called c (record d { at = 12 })
+  abbrev after : Call → Draft
+  after c = called c (record d { at = 12 })
 
-  call_made : (c : Call) → IsLight c → with_call c (record d { at = 12 }) ≡ Ok (behind c)
+  call_made : (c : Call) → IsLight c → with_call c (record d { at = 12 }) ≡ Ok (after c)
   unfolding with_call
   call_made c light =
       let free : nat_lt d.calls most_calls ≡ true =
@@ -99,12 +99,12 @@ module _ (tasks n : ℕ) (d : Draft) (h : InTask tasks n d) (few : n < 3072) whe
 
   line_made : (k : CallWord) (c : Call) (text : Option (List ℕ)) (words : Line) → IsLight c
       → call_of k text words d.paths ≡ Ok c
-      → with_call_line k text words (record d { at = 12 }) ≡ Ok (behind c)
+      → with_call_line k text words (record d { at = 12 }) ≡ Ok (after c)
   unfolding with_call_line
   line_made k c text words light is = rw is (call_made c light)
 
-  behind_is : (c : Call) → IsLight c → InTask tasks (n + 1) (behind c)
-  behind_is c light = record {
+  after_is : (c : Call) → IsLight c → InTask tasks (n + 1) (after c)
+  after_is c light = record {
     at = refl;
     files = h.files;
     finds = h.finds;
@@ -121,8 +121,8 @@ module _ (tasks n : ℕ) (d : Draft) (h : InTask tasks n d) (few : n < 3072) whe
       → Makes d (line_text (w ∷ ws)) (InTask tasks (n + 1))
   unfolding with_head
   one_call w ws k c light begins plain others is read =
-      by_line w ws (head.Call k) d (behind c) (InTask tasks (n + 1)) begins plain others is h.at
-      (line_made k c (text_after ws) (take 9 ws) light read) (behind_is c light)
+      by_line w ws (head.Call k) d (after c) (InTask tasks (n + 1)) begins plain others is h.at
+      (line_made k c (text_after ws) (take 9 ws) light read) (after_is c light)
 
   -- the line that opens a file is read
   open_line : (f : ℕ) (way : List ℕ) (how : How) → f < 64 → is_plain way ≡ true

@@ -57,5 +57,5 @@ last_below-none test (suc end) i is below =
             | inl same ↦ ap test same ∙ fails
             | inr (inl before) ↦ earlier (ap (λ (c : Bool). cond c (Some end) (last_below test end))
                 (sym fails) ∙ is) before
-            | inr (inr behind) ↦ absurd (omega arith)
+            | inr (inr after) ↦ absurd (omega arith)
           ]

@@ -17,7 +17,7 @@ use Rattle.run_model.specs.Scene.{Program, Scene, mode_of}
 use Rattle.report_text.specs.Printed.{printed, printed_by}
 use Rattle.run_model.specs.EndedValue.{grows}
 use Rattle.report_laws.proofs.Minds.{place_in, next_mind, mind_after, step_plain, who_plain}
-use Rattle.report_laws.proofs.Own.{Alike, Meet, al, pr, no_birth, is_no_birth, empty, event_length, length_alike, length_map, map_append, middle, own_behind, rules_least, step_alike, suited_behind, left}
+use Rattle.report_laws.proofs.Own.{Alike, Meet, al, empty, event_length, is_no_birth, left, length_alike, length_map, map_append, middle, no_birth, own_after, pr, rules_least, step_alike, suited_after}
 
 -- the second of two tests that both hold
 right : (a b : Bool) → (a && b) ≡ true → b ≡ true
@@ -59,28 +59,28 @@ module _ (scene : Scene) (a b : Run) (n : ℕ) (p : Program) (meet : Meet scene 
       ∙ sym (step_plain p tb.mind) in
       let who : w ≡ who_at n p tb.mind = who_plain n p ta.mind ∙ ap (who_at n p) before.minds
       ∙ sym (who_plain n p tb.mind) in
-      let suits_a = suited_behind scene a p fa (x ∷ ga) (subst (AreSuited scene a p) ea sa) in
-      let suits_b = suited_behind scene b p fb (y ∷ gb) (subst (AreSuited scene b p) eb sb) in
+      let suits_a = suited_after scene a p fa (x ∷ ga) (subst (AreSuited scene a p) ea sa) in
+      let suits_b = suited_after scene b p fb (y ∷ gb) (subst (AreSuited scene b p) eb sb) in
       let hy : Suits scene b p (rules_known scene p gb) s y =
       subst (λ z. Suits scene b p (rules_known scene p gb) z y) (sym step) suits_b.0 in
       let whole_a = λ (i : ℕ). ap (own (mode_of scene) n p i) ea
-      ∙ (own_behind scene n p i fa (x ∷ ga)).1 in
+      ∙ (own_after scene n p i fa (x ∷ ga)).1 in
       let mine : (i : ℕ) → own (mode_of scene) n p i gb ++ event_in i w s y
       ≡ own (mode_of scene) n p i (y ∷ gb) = λ i. λ j. own (mode_of scene) n p i gb
       ++ event_in i (who j) (step j) y in
       let whole_b = λ (i : ℕ). ap (own (mode_of scene) n p i) eb
-      ∙ (own_behind scene n p i fb (y ∷ gb)).1
-      ∙ sym (ap (λ l. l ++ (own_behind scene n p i fb (y ∷ gb)).0) (mine i)) in
+      ∙ (own_after scene n p i fb (y ∷ gb)).1
+      ∙ sym (ap (λ l. l ++ (own_after scene n p i fb (y ∷ gb)).0) (mine i)) in
       let shown = λ (i : ℕ) (below : i < length scene.stations).
       middle (pr scene) (own (mode_of scene) n p i ga) (own (mode_of scene) n p i gb)
       (event_in i w s x) (event_in i w s y)
-      (own_behind scene n p i fa (x ∷ ga)).0 (own_behind scene n p i fb (y ∷ gb)).0
+      (own_after scene n p i fa (x ∷ ga)).0 (own_after scene n p i fb (y ∷ gb)).0
       (length_alike (own (mode_of scene) n p i ga) (own (mode_of scene) n p i gb) (before.events i))
       (event_length i w s x y)
       (sym (ap (map (pr scene)) (whole_a i)) ∙ same i below ∙ ap (map (pr scene)) (whole_b i)) in
       let births = λ (i : ℕ) (below : i < length scene.stations).
       all_middle no_birth (own (mode_of scene) n p i ga) (event_in i w s x)
-      (own_behind scene n p i fa (x ∷ ga)).0
+      (own_after scene n p i fa (x ∷ ga)).0
       (subst (λ l. list_all no_birth l ≡ true) (whole_a i) (nb i below)) in
       let here = step_alike scene a b p meet (rules_known scene p ga) (rules_known scene p gb) w s x
       y suits_a.0 hy
@@ -114,7 +114,7 @@ module _ (scene : Scene) (a b : Run) (n : ℕ) (p : Program) (meet : Meet scene 
         let eb : hb ≡ fb ++ gb = sym (take-append-drop k hb) in
         let fits : length ha ≤ length hb = leb-true _ _ le in
         let len : length ha ≡ length gb = omega (arith, length-drop k hb, fits) in
-        let r = own_behind scene n p i fb gb in
+        let r = own_after scene n p i fb gb in
         let alike = alike_from ha gb [] fb refl eb len in
         let whole : own (mode_of scene) n p i hb ≡ own (mode_of scene) n p i gb ++ r.0 =
         ap (own (mode_of scene) n p i) eb ∙ r.1 in
@@ -137,7 +137,7 @@ module _ (scene : Scene) (a b : Run) (n : ℕ) (p : Program) (meet : Meet scene 
         let ea : ha ≡ fa ++ ga = sym (take-append-drop k ha) in
         let fits : length hb ≤ length ha = grind (arith, nat_tests) in
         let len : length ga ≡ length hb = omega (arith, length-drop k ha, fits) in
-        let r = own_behind scene n p i fa ga in
+        let r = own_after scene n p i fa ga in
         let alike = alike_from ga hb fa [] ea refl len in
         let whole : own (mode_of scene) n p i ha ≡ own (mode_of scene) n p i ga ++ r.0 =
         ap (own (mode_of scene) n p i) ea ∙ r.1 in

@@ -234,10 +234,10 @@ born_all inode [] h = tt
 born_all inode (e ∷ es) h = (born_here inode es e.who e.deed e.told h.0, born_all inode es h.1)
 
 -- what holds of all elements of a list holds of those after a front
-all_behind : {X : Type 0} (P : X → Type 0) (u v : List X) → AllByRecursion P (u ++ v)
+all_after : {X : Type 0} (P : X → Type 0) (u v : List X) → AllByRecursion P (u ++ v)
     → AllByRecursion P v
-all_behind P [] v h = h
-all_behind P (x ∷ u) v h = all_behind P u v h.1
+all_after P [] v h = h
+all_after P (x ∷ u) v h = all_after P u v h.1
 
 -- the events so far, newest first, are those from place k on and then those before it
 past_parts : (k : ℕ) (x : List Event) → past x ≡ past (drop k x) ++ past (take k x)
@@ -271,10 +271,10 @@ pub same_meta : (scene : Scene) (inode : Inode) (k : ℕ) (x y : List Event)
     → metadata (past (take k x)) ≡ metadata (past (take k y))
 same_meta scene inode k x y hx hy e =
     let f = printed scene.settings.template (grows scene) in
-    let bx = all_behind (IsBorn inode.birth) (past (drop k x)) (past (take k x))
+    let bx = all_after (IsBorn inode.birth) (past (drop k x)) (past (take k x))
     (subst (AllByRecursion (IsBorn inode.birth)) (past_parts k x)
     (born_all inode (past x) hx)) in
-    let by = all_behind (IsBorn inode.birth) (past (drop k y)) (past (take k y))
+    let by = all_after (IsBorn inode.birth) (past (drop k y)) (past (take k y))
     (subst (AllByRecursion (IsBorn inode.birth)) (past_parts k y)
     (born_all inode (past y) hy)) in
     let shown : map f (past (take k x)) ≡ map f (past (take k y)) =

@@ -333,18 +333,18 @@ rules_least scene a p (x ∷ h) s =
     (rules_least scene a p h s.1)
 
 -- the older part of a history that suits a run suits the run
-pub suited_behind : (scene : Scene) (a : Run) (p : Program) (front h : List Answer)
+pub suited_after : (scene : Scene) (a : Run) (p : Program) (front h : List Answer)
     → AreSuited scene a p (front ++ h) → AreSuited scene a p h
-suited_behind scene a p [] h s = s
-suited_behind scene a p (x ∷ front) h s = suited_behind scene a p front h s.1
+suited_after scene a p [] h s = s
+suited_after scene a p (x ∷ front) h s = suited_after scene a p front h s.1
 
 -- the events of later steps come after those of earlier ones
-pub own_behind : (scene : Scene) (n : ℕ) (p : Program) (i : ℕ) (front h : List Answer)
+pub own_after : (scene : Scene) (n : ℕ) (p : Program) (i : ℕ) (front h : List Answer)
     → (rest : List (ℕ × Event))
     × (own (mode_of scene) n p i (front ++ h) ≡ own (mode_of scene) n p i h ++ rest)
-own_behind scene n p i [] h = ([], sym (append-nil (own (mode_of scene) n p i h)))
-own_behind scene n p i (x ∷ front) h =
-    let r = own_behind scene n p i front h in
+own_after scene n p i [] h = ([], sym (append-nil (own (mode_of scene) n p i h)))
+own_after scene n p i (x ∷ front) h =
+    let r = own_after scene n p i front h in
     let m = (thought (mode_of scene) p (front ++ h)).mind in
     let e = event_in i (who_at n p m) (step_at p m) x in
     (r.0 ++ e, ap (λ l. l ++ e) r.1 ∙ append_assoc (own (mode_of scene) n p i h) r.0 e)

@@ -13,12 +13,12 @@ use Rattle.inode_events.specs.declared.deed.Deed.TheVariants as deed
 use Rattle.report_text.specs.Words.{Line, acts_words, appraise_words, deed_words, flag_words, measure_words, or_dash}
 use Rattle.report_text.specs.Texts.{acts_text, appraise_text, flag_text, measure_text, rules_text}
 
-abbrev behind : Line → List ℕ
-behind [] = []
-behind (w ∷ ws) = 32 ∷ join_with_byte 32 (w ∷ ws)
+abbrev after : Line → List ℕ
+after [] = []
+after (w ∷ ws) = 32 ∷ join_with_byte 32 (w ∷ ws)
 
 tail_join : (a y u h : Bool)
-    → behind (appraise_words a y ++ flag_words (codes "audit") u ++ flag_words (codes "hash") h)
+    → after (appraise_words a y ++ flag_words (codes "audit") u ++ flag_words (codes "hash") h)
     ≡ appraise_text a y ++ flag_text (codes " audit") u ++ flag_text (codes " hash") h
 tail_join true true true true = refl
 tail_join true true true false = refl
@@ -42,7 +42,7 @@ parts : (m d t x : List ℕ) → 32 ∷ (m ++ 32 ∷ (d ++ 32 ∷ (t ++ x)))
 parts m d t x = simp append_assoc
 
 measured_join : (m d t : List ℕ) (ws : Line) → 32 ∷ join_with_byte 32 (m ∷ d ∷ t ∷ ws)
-    ≡ ((32 ∷ m ++ 32 ∷ []) ++ d ++ 32 ∷ [] ++ t) ++ behind ws
+    ≡ ((32 ∷ m ++ 32 ∷ []) ++ d ++ 32 ∷ [] ++ t) ++ after ws
 measured_join m d t [] = ap (λ l. 32 ∷ (m ++ 32 ∷ (d ++ 32 ∷ l))) (sym (append-nil t))
     ∙ parts m d t []
 measured_join m d t (w ∷ ws) = parts m d t (32 ∷ join_with_byte 32 (w ∷ ws))
@@ -84,9 +84,9 @@ dash_join : (w : List ℕ) (ws : Line) → join_with_byte 32 (w ∷ or_dash ws) 
 dash_join w [] = refl
 dash_join w (v ∷ ws) = refl
 
-acts_behind : (w : List ℕ) (t : Template) (a : Action) → join_with_byte 32 (w ∷ acts_words t a) ≡ w
+acts_after : (w : List ℕ) (t : Template) (a : Action) → join_with_byte 32 (w ∷ acts_words t a) ≡ w
     ++ acts_text t a
-acts_behind w t a =
+acts_after w t a =
     dash_join w (measure_words a.measure a.pcr (unwrap_or a.template t)
     ++ appraise_words a.appraise (is_any a.need) ++ flag_words (codes "audit") a.audit
     ++ flag_words (codes "hash") a.hash)
@@ -101,11 +101,11 @@ pub check_text : (t : Template) (g : Bool) (file : ℕ) (f : Func) (a : Action) 
     ++ (numeral file ++ 32 ∷ (func_word f ++ (rules_text g n ++ acts_text t a)))
 check_text t true file f a n =
     ap (λ l. codes "check " ++ (numeral file ++ 32 ∷ (func_word f ++ (codes " rules " ++ l))))
-    (acts_behind (numeral n) t a)
+    (acts_after (numeral n) t a)
     ∙ ap (λ l. codes "check " ++ (numeral file ++ 32 ∷ l))
     (regroup (func_word f) (codes " rules ") (numeral n) (acts_text t a))
 check_text t false file f a n = ap (λ l. codes "check " ++ (numeral file ++ 32 ∷ l))
-    (acts_behind (func_word f) t a)
+    (acts_after (func_word f) t a)
 
 gather : (o k b d s f r a : List ℕ) → ((((o ++ (k ++ (b ++ d))) ++ s) ++ f) ++ r) ++ a
     ≡ o ++ (k ++ (b ++ (d ++ (s ++ (f ++ (r ++ a))))))

@@ -29,10 +29,10 @@ pcr_join pcr h ws = elim (cases_Bool (nat_lt pcr 10)) [
 ]
 
 -- a word, and others that each follow a space
-join_behind : {F : Type 0} (spell : F → List ℕ) (w : List ℕ) (fs : List F)
+join_after : {F : Type 0} (spell : F → List ℕ) (w : List ℕ) (fs : List F)
     → join_with_byte 32 (w ∷ map spell fs) ≡ w ++ flat_map (λ f. codes " " ++ spell f) fs
-join_behind spell w [] = sym (append-nil w)
-join_behind spell w (f ∷ fs) = ap (λ l. w ++ 32 ∷ l) (join_behind spell (spell f) fs)
+join_after spell w [] = sym (append-nil w)
+join_after spell w (f ∷ fs) = ap (λ l. w ++ 32 ∷ l) (join_after spell (spell f) fs)
 
 regroup : (p h w f : List ℕ) → (p ++ 32 ∷ (h ++ 32 ∷ (w ++ f))) ++ 10 ∷ []
     ≡ ((p ++ codes " " ++ h ++ codes " " ++ w) ++ f) ++ codes "\n"
@@ -46,7 +46,7 @@ entry_line e =
     ap (λ l. l ++ 10 ∷ [])
     (pcr_join e.pcr sum (template_word e.template ∷ map spell (template_fields e.template))
     ∙ ap (λ l. pcr_text e.pcr ++ 32 ∷ (sum ++ 32 ∷ l))
-    (join_behind spell (template_word e.template) (template_fields e.template)))
+    (join_after spell (template_word e.template) (template_fields e.template)))
     ∙ regroup (pcr_text e.pcr) sum (template_word e.template) (fields_text e)
 
 join_more : (w : List ℕ) (ws : Line) → is_filled ws ≡ true → join_with_byte 32 (w ∷ ws) ≡ w ++ 32

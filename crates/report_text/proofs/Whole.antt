@@ -286,8 +286,8 @@ skip_to list banks (suc n) x =
     ∙ skip_to list banks n (pcr_lines_at banks n (list_any (λ e. e.pcr == n) list) ++ x)
     ∙ skip_at banks n (list_any (λ e. e.pcr == n) list) x
 
-abbrev behind_pcrs : Ended → List Line
-behind_pcrs e = appended_lines e.grows e.base e.rules
+abbrev past_pcrs : Ended → List Line
+past_pcrs e = appended_lines e.grows e.base e.rules
     ++ (all_inode_lines e.template e.grows 0 e.inodes ++ (all_task_lines 0 e.tasks ++ ending))
 
 no_pcr : (g : Bool) (base : ℕ) (rules : List RuleEntry) (t : Template) (inodes : List EndedInode)
@@ -302,9 +302,9 @@ no_pcr false base rules t (i ∷ ins) tasks = refl
 
 -- ---- the whole
 
-abbrev behind_head : List Line → List Line
-behind_head (mark ∷ run ∷ list ∷ ls) = ls
-behind_head _ = []
+abbrev after_head : List Line → List Line
+after_head (mark ∷ run ∷ list ∷ ls) = ls
+after_head _ = []
 
 appended_tell : (g : Bool) (base : ℕ) (a b : List RuleEntry) (x y : List Line)
     → AllByRecursion (λ (r : RuleEntry). IsRule r.rule) a
@@ -322,21 +322,22 @@ lines_tell : (a b : Ended) → Fits a → Fits b → IsOneScript a b → report_
     → IsTold a b
 lines_tell a b p q s e =
     let count = numeral_injective (length a.list) (length b.list) (cc) in
-    let tails : map entry_words a.list ++ (pcr_lines a.list a.banks ++ behind_pcrs a)
-    ≡ map entry_words b.list ++ (pcr_lines b.list b.banks ++ behind_pcrs b) = ap behind_head e
+    let tails : map entry_words a.list ++ (pcr_lines a.list a.banks ++ past_pcrs a)
+    ≡ map entry_words b.list ++ (pcr_lines b.list b.banks ++ past_pcrs b) = ap after_head e
     in
     let list = parts_by_length (map entry_words a.list) (map entry_words b.list)
-    (pcr_lines a.list a.banks ++ behind_pcrs a) (pcr_lines b.list b.banks ++ behind_pcrs b)
+    (pcr_lines a.list a.banks ++ past_pcrs a) (pcr_lines b.list b.banks ++ past_pcrs b)
     (length_map entry_words a.list ∙ count ∙ sym (length_map entry_words b.list)) tails in
-    let back = λ (c : Ended). skip_to c.list c.banks 24 (behind_pcrs c)
+    let back = λ (c : Ended). skip_to c.list c.banks 24 (past_pcrs c)
     ∙ no_pcr c.grows c.base c.rules c.template c.inodes c.tasks in
-    let behind : behind_pcrs a ≡ behind_pcrs b = sym (back a) ∙ ap after_pcrs list.1 ∙ back b in
-    let behind2 : appended_lines a.grows a.base a.rules
+    let after : past_pcrs a ≡ past_pcrs b = sym (back a) ∙ ap after_pcrs list.1 ∙ back b in
+    let after2 : appended_lines a.grows a.base a.rules
     ++ (all_inode_lines a.template a.grows 0 a.inodes ++ (all_task_lines 0 a.tasks ++ ending))
     ≡ appended_lines a.grows a.base b.rules
     ++ (all_inode_lines a.template a.grows 0 b.inodes ++ (all_task_lines 0 b.tasks ++ ending)) =
-    rw (s.grows, s.base, s.template) (rw (s.grows, s.base, s.template) at behind) in
-    let rules = appended_tell a.grows a.base a.rules b.rules _ _ p.rules q.rules s.none_of_a (λ g. s.none_of_b (sym s.grows ∙ g)) behind2 in
+    rw (s.grows, s.base, s.template) (rw (s.grows, s.base, s.template) at after) in
+    let rules = appended_tell a.grows a.base a.rules b.rules _ _ p.rules q.rules s.none_of_a
+    (λ g. s.none_of_b (sym s.grows ∙ g)) after2 in
     let inodes = inodes_tell a.template a.grows 0 a.inodes b.inodes _ _ p.inodes q.inodes s.inodes
     rules.1 in
     let tasks = tasks_tell 0 a.tasks b.tasks p.replies q.replies s.tasks inodes.1 in
@@ -486,9 +487,9 @@ report_kept e h =
       number_kept (length e.list),
       number_kept (count_by (λ x. x.violation) e.list),
     )
-    (rows_append (map entry_words e.list) (pcr_lines e.list e.banks ++ behind_pcrs e)
+    (rows_append (map entry_words e.list) (pcr_lines e.list e.banks ++ past_pcrs e)
     (entries_kept e.list h.names)
-    (rows_append (pcr_lines e.list e.banks) (behind_pcrs e)
+    (rows_append (pcr_lines e.list e.banks) (past_pcrs e)
     (pcr_to_kept e.list e.banks 24)
     (rows_append (appended_lines e.grows e.base e.rules)
     (all_inode_lines e.template e.grows 0 e.inodes ++ (all_task_lines 0 e.tasks ++ ending))

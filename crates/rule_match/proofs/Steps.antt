@@ -117,18 +117,18 @@ module _ (rules : List RuleValue) (a : Access) (c : Candidates) (start : ℕ)
       ≡ lines_from g (line + 1) (drop (line + 1) rules)
   passed_lines g line is least =
       let at = earliest_within line is in
-      let behind : start + (line + 1 - start) ≡ line + 1 = omega (arith, at.0) in
+      let further : start + (line + 1 - start) ≡ line + 1 = omega (arith, at.0) in
       lines_passed g start (drop start rules) line at.0
       (omega (arith, at.1, length-drop start rules)) least
       ∙ ap (lines_from g (line + 1)) (drop-drop (line + 1 - start) start rules
-      ∙ ap (λ (n : ℕ). drop n rules) behind)
+      ∙ ap (λ (n : ℕ). drop n rules) further)
 
-  pub stands_behind : (next : Candidates) (line : ℕ) → earliest_of c ≡ Some line
+  pub stands_after : (next : Candidates) (line : ℕ) → earliest_of c ≡ Some line
       → next.both.now ≡ lines_after line c.both.now → next.func.now ≡ lines_after line c.func.now
       → next.magic.now ≡ lines_after line c.magic.now → next.neither.now
       ≡ lines_after line c.neither.now
       → StandsAt (line + 1) rules a next
-  stands_behind next line is both func magic neither =
+  stands_after next line is both func magic neither =
       let halves = earlier_min (earlier_of (head_of c.both.now) (head_of c.func.now))
       (earlier_of (head_of c.magic.now) (head_of c.neither.now)) line
       (λ l e. let same : line ≡ l = same_Some line l (sym is ∙ e) in omega arith) in
@@ -172,8 +172,8 @@ found_all rules a n d whole found =
 -- fewer lines remain after a line is passed
 fewer : (n line : ℕ) (o : Option ℕ) → line < n → ((l : ℕ) → o ≡ Some l → line + 1 ≤ l)
     → option_map_or (λ l. n - l) o 0 < n - line
-fewer n line None within behind = omega arith
-fewer n line (Some l) within behind = omega (arith, behind l refl)
+fewer n line None within further = omega arith
+fewer n line (Some l) within further = omega (arith, further l refl)
 
 module _ (rules : List RuleValue) (a : Access) (c : Candidates) (d : Deciders)
     (w : Walks rules a c d) where
@@ -198,16 +198,16 @@ module _ (rules : List RuleValue) (a : Access) (c : Candidates) (d : Deciders)
       → (lines_left rules next < lines_left rules c) × Walks rules a next found
   goes_on line r next found is read after both func magic neither =
       let within = next_within line is in
-      let stands = stands_behind rules a c w.start w.within w.stands next line (sym is) both func
+      let stands = stands_after rules a c w.start w.within w.stands next line (sym is) both func
       magic neither in
-      let behind : line + 1 ≤ length rules = omega arith in (
+      let further : line + 1 ≤ length rules = omega arith in (
         subst (λ (n : ℕ). lines_left rules next < n)
             (ap (λ o. option_map_or (λ l. length rules - l) o 0) is)
             (fewer (length rules) line (earliest_of next) within
-            (λ l e. (earliest_within rules a next (line + 1) behind stands l e).0)),
+            (λ l e. (earliest_within rules a next (line + 1) further stands l e).0)),
         record {
           start = line + 1;
-          within = behind;
+          within = further;
           stands = stands;
           found =
               next_found line r found is read after;

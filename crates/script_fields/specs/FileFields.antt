@@ -3,7 +3,7 @@ use Rattle.std.specs.Prelude.{ℕ, List, [], ◌∷◌, codes, Option, Some, Non
 use Rattle.text_forms.specs.Numbers.{is_short_numeral}
 use Rattle.text_forms.specs.Paths.{is_path}
 use Rattle.text_forms.specs.Tokens.{is_filled}
-use Rattle.script_words.specs.Forms.{behind_by, id_of, ino_of, mode_of}
+use Rattle.script_words.specs.Forms.{after_key_by, id_of, ino_of, mode_of}
 use Rattle.script_words.specs.Value.{value_of}
 use Rattle.script_fields.specs.Limits.{most_content}
 
@@ -35,10 +35,10 @@ front_with _ _ _ _ _ _ _ = None
 -- the front that seven words say
 abbrev pub front_of : List ℕ → List ℕ → List ℕ → List ℕ → List ℕ → List ℕ → List ℕ → Option Front
 front_of p f i g u o m =
-    front_with (path_of p) (behind_by numeral_of (codes "fs=") f)
-    (behind_by ino_of (codes "ino=") i) (behind_by id_of (codes "gen=") g)
-    (behind_by id_of (codes "uid=") u) (behind_by id_of (codes "gid=") o)
-    (behind_by mode_of (codes "mode=") m)
+    front_with (path_of p) (after_key_by numeral_of (codes "fs=") f)
+    (after_key_by ino_of (codes "ino=") i) (after_key_by id_of (codes "gen=") g)
+    (after_key_by id_of (codes "uid=") u) (after_key_by id_of (codes "gid=") o)
+    (after_key_by mode_of (codes "mode=") m)
 
 -- the content of a file
 abbrev pub content_of : List ℕ → Option (List ℕ)

@@ -5,7 +5,7 @@ use Rattle.text_forms.specs.FileSystems.{magic_of, uuid_of}
 use Rattle.text_forms.specs.Tables.{look_up}
 use Rattle.text_forms.specs.Tokens.{is_filled}
 use Rattle.text_forms.specs.Words.{is_word}
-use Rattle.script_words.specs.Forms.{behind_by}
+use Rattle.script_words.specs.Forms.{after_key_by}
 
 -- whether the file system counts versions
 abbrev pub versions_of : List ℕ → Option Bool
@@ -24,8 +24,8 @@ super_with _ _ _ _ = None
 -- the file system that four words say
 abbrev pub super_of : List ℕ → List ℕ → List ℕ → List ℕ → Option Super
 super_of m u n v =
-    super_with (behind_by magic_of (codes "magic=") m) (behind_by uuid_of (codes "uuid=") u)
-    (behind_by name_of (codes "name=") n) (versions_of v)
+    super_with (after_key_by magic_of (codes "magic=") m) (after_key_by uuid_of (codes "uuid=") u)
+    (after_key_by name_of (codes "name=") n) (versions_of v)
 
 -- `fs magic=MAGIC uuid=UUID name=WORD versions`, or `noversions` as the last word
 abbrev pub super_in : List (List ℕ) → Option Super

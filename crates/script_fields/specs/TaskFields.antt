@@ -7,7 +7,7 @@ use Rattle.text_forms.specs.Lines.{◌>>=◌}
 use Rattle.text_forms.specs.Numbers.{is_short_numeral, short_number_of}
 use Rattle.script_words.specs.declared.fault.LineCause.{LineCause}
 use Rattle.script_words.specs.declared.fault.LineCause.TheVariants as cause
-use Rattle.script_words.specs.Forms.{behind_by, id_of, if_any, place_among}
+use Rattle.script_words.specs.Forms.{after_key_by, id_of, if_any, place_among}
 use Rattle.script_fields.specs.Limits.{most_threads, most_turns}
 
 -- the credentials, if each of their words has its form
@@ -25,9 +25,9 @@ admin_of _ = None
 -- the credentials that the words say, `admin` among them if it is the fifth
 abbrev pub cred_of : List ℕ → List ℕ → List ℕ → List ℕ → List (List ℕ) → Option Cred
 cred_of u e g f more =
-    cred_with (behind_by id_of (codes "uid=") u) (behind_by id_of (codes "euid=") e)
-    (behind_by id_of (codes "gid=") g)
-    (behind_by id_of (codes "egid=") f) (admin_of more)
+    cred_with (after_key_by id_of (codes "uid=") u) (after_key_by id_of (codes "euid=") e)
+    (after_key_by id_of (codes "gid=") g)
+    (after_key_by id_of (codes "egid=") f) (admin_of more)
 
 -- `task uid=NUM euid=NUM gid=NUM egid=NUM`, optionally followed by `admin`
 abbrev pub cred_in : List (List ℕ) → Option Cred

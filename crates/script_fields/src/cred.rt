@@ -3,7 +3,7 @@
 ghost use Rattle.std.specs.Prelude.{◌≡◌, map};
 ghost use Rattle.script_fields.specs.TaskFields.{admin_of, cred_in, cred_of};
 
-use crate::words::id_behind;
+use crate::words::id_after;
 use inode_meta::Cred;
 
 /// The credentials in the words of a task, `admin` among them if it is the fifth.
@@ -19,10 +19,10 @@ pub fn cred_in(fields: &[&[u8]]) -> Option<Cred>
 fn cred_of(uid: &[u8], euid: &[u8], gid: &[u8], egid: &[u8], more: &[&[u8]]) -> Option<Cred>
     ensures { result ≡ cred_of uid.now euid.now gid.now egid.now (map (λ w. w.now) more.now) }
 {
-    let uid = id_behind(b"uid=", uid)?;
-    let euid = id_behind(b"euid=", euid)?;
-    let gid = id_behind(b"gid=", gid)?;
-    let egid = id_behind(b"egid=", egid)?;
+    let uid = id_after(b"uid=", uid)?;
+    let euid = id_after(b"euid=", euid)?;
+    let gid = id_after(b"gid=", gid)?;
+    let egid = id_after(b"egid=", egid)?;
     let admin = admin_of(more)?;
     Some(Cred {
         uid,

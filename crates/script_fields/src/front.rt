@@ -3,12 +3,12 @@
 ghost use Rattle.std.specs.Prelude.{◌≡◌, codes, map, ok_or, option_map};
 ghost use Rattle.std.specs.Option.{option_copied};
 ghost use Rattle.script_words.specs.declared.fault.LineCause.TheVariants as cause;
-ghost use Rattle.script_words.specs.Forms.{behind_by, ino_of, mode_of};
+ghost use Rattle.script_words.specs.Forms.{after_key_by, ino_of, mode_of};
 ghost use Rattle.script_words.specs.Gives.{LineGives};
 ghost use Rattle.script_fields.specs.FileFields.{content_of, file_in, front_in, front_of, numeral_of, path_of};
 ghost use Rattle.script_fields.specs.FrontView.{front_view};
 
-use crate::words::{id_behind, is_filled};
+use crate::words::{id_after, is_filled};
 use inode_pages::Content;
 use script_words::{LineCause, LineErr, content_of, ino_of, mode_of};
 use std::alloc::Global;
@@ -78,12 +78,12 @@ fn front_of<'a>(
         gid.now mode.now }
 {
     let path = path_of(path)?;
-    let fs = numeral_behind(fs)?;
-    let ino = ino_behind(ino)?;
-    let generation = id_behind(b"gen=", generation)?;
-    let uid = id_behind(b"uid=", uid)?;
-    let gid = id_behind(b"gid=", gid)?;
-    let mode = mode_behind(mode)?;
+    let fs = numeral_after(fs)?;
+    let ino = ino_after(ino)?;
+    let generation = id_after(b"gen=", generation)?;
+    let uid = id_after(b"uid=", uid)?;
+    let gid = id_after(b"gid=", gid)?;
+    let mode = mode_after(mode)?;
     Some(Front {
         path,
         fs,
@@ -101,8 +101,8 @@ fn path_of(text: &[u8]) -> Option<&[u8]>
     if is_path(text) { Some(text) } else { None }
 }
 
-fn numeral_behind(text: &[u8]) -> Option<&[u8]>
-    ensures { option_copied result ≡ behind_by numeral_of (codes "fs=") text.now }
+fn numeral_after(text: &[u8]) -> Option<&[u8]>
+    ensures { option_copied result ≡ after_key_by numeral_of (codes "fs=") text.now }
 {
     let number = text.strip_prefix(b"fs=")?;
     if is_short_numeral(number, 10) {
@@ -112,22 +112,22 @@ fn numeral_behind(text: &[u8]) -> Option<&[u8]>
     }
 }
 
-fn ino_behind(text: &[u8]) -> Option<u64>
-    ensures { result ≡ behind_by ino_of (codes "ino=") text.now }
+fn ino_after(text: &[u8]) -> Option<u64>
+    ensures { result ≡ after_key_by ino_of (codes "ino=") text.now }
 {
     ino_of(text.strip_prefix(b"ino=")?)
 }
 
-fn mode_behind(text: &[u8]) -> Option<u16>
-    ensures { result ≡ behind_by mode_of (codes "mode=") text.now }
+fn mode_after(text: &[u8]) -> Option<u16>
+    ensures { result ≡ after_key_by mode_of (codes "mode=") text.now }
 {
     mode_of(text.strip_prefix(b"mode=")?)
 }
 
 /// The content of a file, after its key.
-pub fn content_behind(alloc: Global, text: &[u8]) -> Result<Content, LineErr>
+pub fn content_after(alloc: Global, text: &[u8]) -> Result<Content, LineErr>
     ensures { LineGives result
-        (ok_or (behind_by content_of (codes "content=") text.now) cause.BadField) }
+        (ok_or (after_key_by content_of (codes "content=") text.now) cause.BadField) }
 {
     let value = text.strip_prefix(b"content=").ok_or(LineCause::BadField)?;
     content_of(alloc, value)

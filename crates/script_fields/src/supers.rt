@@ -4,7 +4,7 @@ ghost use Rattle.std.specs.Prelude.{◌≡◌, codes, map, ok_or};
 ghost use Rattle.std.specs.Option.{option_copied};
 ghost use Rattle.text_forms.specs.FileSystems.{magic_of, uuid_of};
 ghost use Rattle.script_words.specs.declared.fault.LineCause.TheVariants as cause;
-ghost use Rattle.script_words.specs.Forms.{behind_by};
+ghost use Rattle.script_words.specs.Forms.{after_key_by};
 ghost use Rattle.script_words.specs.Gives.{LineGives};
 ghost use Rattle.script_fields.specs.SuperFields.{name_of, super_in, super_of, versions_of};
 
@@ -39,9 +39,9 @@ fn super_of(
     ensures { LineGives result
         (ok_or (super_of magic.now uuid.now name.now versions.now) cause.BadField) }
 {
-    let magic = magic_behind(magic).ok_or(LineCause::BadField)?;
-    let uuid = uuid_behind(uuid).ok_or(LineCause::BadField)?;
-    let name = name_behind(name).ok_or(LineCause::BadField)?;
+    let magic = magic_after(magic).ok_or(LineCause::BadField)?;
+    let uuid = uuid_after(uuid).ok_or(LineCause::BadField)?;
+    let name = name_after(name).ok_or(LineCause::BadField)?;
     let versions = versions_of(versions).ok_or(LineCause::BadField)?;
     let name = Bytes::from_slice(alloc, name)?;
     Ok(Super {
@@ -52,20 +52,20 @@ fn super_of(
     })
 }
 
-fn magic_behind(text: &[u8]) -> Option<u64>
-    ensures { result ≡ behind_by magic_of (codes "magic=") text.now }
+fn magic_after(text: &[u8]) -> Option<u64>
+    ensures { result ≡ after_key_by magic_of (codes "magic=") text.now }
 {
     magic_of(text.strip_prefix(b"magic=")?)
 }
 
-fn uuid_behind(text: &[u8]) -> Option<u128>
-    ensures { result ≡ behind_by uuid_of (codes "uuid=") text.now }
+fn uuid_after(text: &[u8]) -> Option<u128>
+    ensures { result ≡ after_key_by uuid_of (codes "uuid=") text.now }
 {
     uuid_of(text.strip_prefix(b"uuid=")?)
 }
 
-fn name_behind(text: &[u8]) -> Option<&[u8]>
-    ensures { option_copied result ≡ behind_by name_of (codes "name=") text.now }
+fn name_after(text: &[u8]) -> Option<&[u8]>
+    ensures { option_copied result ≡ after_key_by name_of (codes "name=") text.now }
 {
     let name = text.strip_prefix(b"name=")?;
     if is_word(name, 255) { Some(name) } else { None }

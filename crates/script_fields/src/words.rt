@@ -3,7 +3,7 @@
 ghost use Rattle.std.specs.Prelude.{◌≡◌, map, option_map};
 ghost use Rattle.std.specs.Option.{option_copied};
 ghost use Rattle.text_forms.specs.Tokens.{is_filled};
-ghost use Rattle.script_words.specs.Forms.{behind_by, id_of};
+ghost use Rattle.script_words.specs.Forms.{after_key_by, id_of};
 ghost use Rattle.script_fields.specs.FileFields.{two};
 ghost use Rattle.script_fields.specs.SettingFields.{one};
 ghost use Rattle.script_fields.specs.SuperFields.{name_of};
@@ -49,8 +49,8 @@ pub fn name_of(text: &[u8]) -> Option<&[u8]>
 }
 
 /// The number of a user or a group, or a generation, after its key.
-pub fn id_behind(key: &[u8], text: &[u8]) -> Option<u32>
-    ensures { result ≡ behind_by id_of key.now text.now }
+pub fn id_after(key: &[u8], text: &[u8]) -> Option<u32>
+    ensures { result ≡ after_key_by id_of key.now text.now }
 {
     id_of(text.strip_prefix(key)?)
 }

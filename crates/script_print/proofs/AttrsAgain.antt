@@ -20,7 +20,7 @@ use Rattle.script_text.specs.Settings.{one_if}
 use Rattle.script_text.specs.declared.blocks.FileBlock.{FileBlock}
 use Rattle.script_text.specs.declared.head.Head.TheVariants as head
 use Rattle.call_lines.proofs.Holding.{left_true, right_true}
-use Rattle.script_text.proofs.Lasts.{change_behind, last_behind}
+use Rattle.script_text.proofs.Lasts.{change_after, last_after}
 use Rattle.call_lines.proofs.ValueForms.{is_value}
 use Rattle.call_lines.specs.Form.{hex_text}
 use Rattle.script_print.specs.Spelling.{attr_line}
@@ -130,11 +130,11 @@ module _ (base : Draft) (files : List FileBlock) (b : FileBlock) (limit : ℕ)
       let is : is_value 0 most_value a.1 ≡ true =
       rw (at_most 0 (length a.1) (omega arith), at_most (length a.1) most_value few) all in
       let last : has_attr a.0 (here x) ≡ false =
-      ap (has_attr_in a.0) (last_behind files (with_attrs b x.done))
+      ap (has_attr_in a.0) (last_after files (with_attrs b x.done))
       ∙ ap (λ o. is_some o) (not_there a.0 x.done before) in
       let changed : change_last (attrs_put a.0 a.1) (files ++ with_attrs b x.done ∷ [])
       ≡ files ++ with_attrs b (x.done ++ a ∷ []) ∷ [] =
-      change_behind (attrs_put a.0 a.1) files (with_attrs b x.done)
+      change_after (attrs_put a.0 a.1) files (with_attrs b x.done)
       ∙ ap (λ (l : List Pair). files ++ with_attrs b l ∷ []) (put_end a.0 a.1 x.done before) in
       rw (
         word,

@@ -6,7 +6,7 @@ use Rattle.std.proofs.lemmas.List.{append-nil, map-append, take_more}
 use Rattle.std.proofs.lemmas.List.Concat.{flat_map-append}
 use Rattle.policy_text.specs.rules.RuleValue.{RuleValue}
 use Rattle.policy_text.specs.Spelling.{rule_text, rule_words}
-use Rattle.script_text.proofs.Lasts.{each_behind}
+use Rattle.script_text.proofs.Lasts.{each_after}
 use Rattle.call_lines.specs.Lines.{Line, after_space, line_text, lines_text, spaced, words_text}
 use Rattle.call_lines.proofs.Rules.{added_put}
 
@@ -40,10 +40,10 @@ put_more o p done ls text h e k =
     k ∙ ap (λ t. t ++ text) h ∙ ap (λ t. lines_text done ++ t) e ∙ sym (lines_more done ls)
 
 -- lines appended to lines that follow some text
-put_behind : (start o p : List ℕ) (done ls : List Line) (text : List ℕ)
+put_after : (start o p : List ℕ) (done ls : List Line) (text : List ℕ)
     → o ≡ start ++ lines_text done → text ≡ lines_text ls → p ≡ o ++ text
     → p ≡ start ++ lines_text (done ++ ls)
-put_behind start o p done ls text h e k =
+put_after start o p done ls text h e k =
     k ∙ ap (λ t. t ++ text) h ∙ append_assoc start (lines_text done) text
     ∙ ap (λ t. start ++ (lines_text done ++ t)) e
     ∙ ap (λ t. start ++ t) (sym (lines_more done ls))
@@ -83,9 +83,9 @@ pub four_put : (start o1 o2 o3 o4 : List ℕ) (a b c : List Line) (text : List �
     → o3 ≡ o2 ++ lines_text c → o4 ≡ o3 ++ line_text l
     → o4 ≡ start ++ lines_text (a ++ (b ++ (c ++ l ∷ [])))
 four_put start o1 o2 o3 o4 a b c text l e1 t e2 e3 e4 =
-    let h2 = put_behind start o1 o2 a b text e1 t e2 in
-    let h3 = put_behind start o2 o3 (a ++ b) c (lines_text c) h2 refl e3 in
-    let h4 = put_behind start o3 o4 ((a ++ b) ++ c) (l ∷ []) (line_text l) h3 (one_line_text l) e4
+    let h2 = put_after start o1 o2 a b text e1 t e2 in
+    let h3 = put_after start o2 o3 (a ++ b) c (lines_text c) h2 refl e3 in
+    let h4 = put_after start o3 o4 ((a ++ b) ++ c) (l ∷ []) (line_text l) h3 (one_line_text l) e4
     in
     h4 ∙ ap (λ ls. start ++ lines_text ls) (grouped_four a b c (l ∷ []))
 
@@ -172,7 +172,7 @@ pub all_more : {X : Type 0} (P : X → Type 0) (xs : List X) (i : ℕ) (x : X) �
     → x ≡ get_or xs i x → AllByRecursion P (take i xs) → P x
     → AllByRecursion P (take (i + 1) xs)
 all_more P xs i x lt is h k =
-    subst (λ l. AllByRecursion P l) (sym (taken xs i x lt is)) (each_behind P (take i xs) x h k)
+    subst (λ l. AllByRecursion P l) (sym (taken xs i x lt is)) (each_after P (take i xs) x h k)
 
 -- the values that are made of the elements so far, and one more
 pub map_more : {X Y Z : Type 0} (f : X → Z) (g : Y → Z) (xs : List X) (i : ℕ) (x : X)

@@ -18,7 +18,7 @@ use Rattle.script_text.specs.fields.TaskFields.{cred_in}
 use Rattle.script_text.specs.declared.blocks.TaskBlock.{TaskBlock}
 use Rattle.script_text.specs.declared.head.Head.TheVariants as head
 use Rattle.call_lines.proofs.Holding.{left_true, right_true}
-use Rattle.script_text.proofs.Lasts.{change_behind}
+use Rattle.script_text.proofs.Lasts.{change_after}
 use Rattle.call_lines.specs.Calls.{call_line, call_of, line_by, words_after}
 use Rattle.call_lines.specs.Lines.{Line, is_plain}
 use Rattle.call_lines.specs.Table.{row, spoken}
@@ -159,8 +159,8 @@ module _ (base : Draft) (found : AreFound base.script.files base.paths) (tasks :
     pub sum : x.sum + sum_by call_bytes cs ≤ most.sum
     pub whole : x.done ++ cs ≡ t.calls
 
-  abbrev behind : Call → Called → Called
-  behind c x = record {
+  abbrev after : Call → Called → Called
+  after c x = record {
     done = x.done ++ c ∷ [];
     calls = x.calls + 1;
     appended = x.appended + appending c;
@@ -169,7 +169,7 @@ module _ (base : Draft) (found : AreFound base.script.files base.paths) (tasks :
 
   made_back : (c : Call) (x : Called) → x.calls < most_calls
       → length base.script.rules + x.appended + one_if (appends c) ≤ most_rules
-      → x.sum + call_bytes c ≤ most_bytes → with_call c (calling x) ≡ Ok (calling (behind c x))
+      → x.sum + call_bytes c ≤ most_bytes → with_call c (calling x) ≡ Ok (calling (after c x))
   unfolding with_call
   made_back c x calls appended sum =
       let block : TaskBlock = record { cred = t.cred; calls = x.done } in
@@ -178,14 +178,14 @@ module _ (base : Draft) (found : AreFound base.script.files base.paths) (tasks :
         free_for (appends c) (length base.script.rules + x.appended) appended,
         not_above (x.sum + call_bytes c) most_bytes sum,
       )
-      (ap (λ (ts : List TaskBlock). Ok (record (calling (behind c x)) {
+      (ap (λ (ts : List TaskBlock). Ok (record (calling (after c x)) {
         script = record base.script { tasks = ts };
-      })) (change_behind (task_with c) tasks block))
+      })) (change_after (task_with c) tasks block))
 
   line_back : (w : CallWord) (c : Call) (x : Called) (text : Option (List ℕ)) (words : Line)
       → call_of w text words base.paths ≡ Ok c
-      → with_call c (calling x) ≡ Ok (calling (behind c x))
-      → with_call_line w text words (calling x) ≡ Ok (calling (behind c x))
+      → with_call c (calling x) ≡ Ok (calling (after c x))
+      → with_call_line w text words (calling x) ≡ Ok (calling (after c x))
   unfolding with_call_line
   line_back w c x text words is made = rw is made
 
@@ -202,7 +202,7 @@ module _ (base : Draft) (found : AreFound base.script.files base.paths) (tasks :
       let first = first_word w in
       let sums = sum_by-cons call_bytes c cs in
       let rules = sum_by-cons appending c cs in
-      let y : Called = behind c x in
+      let y : Called = after c x in
       let made = made_back c x (omega (arith, h.calls, few.calls))
       (omega (arith, h.appended, rules, few.appended)) (omega (arith, h.sum, sums, few.sum)) in
       let kind : head_of (row w).word ≡ Some (head.Call w) =

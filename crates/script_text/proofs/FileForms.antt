@@ -21,7 +21,7 @@ use Rattle.text_forms.specs.Tokens.{is_filled}
 use Rattle.text_forms.specs.Words.{is_word}
 use Rattle.uuid.specs.Text.{by_index, byte_of_digits, digits_of, has_hyphens, is_hex_digit, parsed_simple, value_of as digit_of}
 use Rattle.script_words.specs.declared.fault.LineCause.TheVariants as cause
-use Rattle.script_words.specs.Forms.{behind, behind_by, id_of, ino_of, mode_of, read_by}
+use Rattle.script_words.specs.Forms.{after_key, after_key_by, id_of, ino_of, mode_of, read_by}
 use Rattle.script_words.specs.Value.{value_of}
 use Rattle.script_fields.specs.FileFields.{Front, content_of, file_in, front_in, front_of, front_with, numeral_of, path_of}
 use Rattle.script_text.specs.Forms.{IsDigestOf, IsOnSome, are_bytes, is_byte, is_format, is_id, is_ino, is_key, is_mode, is_super, is_uuid}
@@ -78,10 +78,10 @@ by_key : {A : Type 0} (P : A → Type 0) (form : List ℕ → Option A)
 by_key P form h None = tt
 by_key P form h (Some text) = h text
 
-pub behind_key : {A : Type 0} (P : A → Type 0) (form : List ℕ → Option A) (key : List ℕ)
+pub by_after_key : {A : Type 0} (P : A → Type 0) (form : List ℕ → Option A) (key : List ℕ)
     → ((text : List ℕ) → IfSome (form text) P) → (text : List ℕ)
-    → IfSome (behind_by form key text) P
-behind_key P form key h text = by_key P form h (behind key text)
+    → IfSome (after_key_by form key text) P
+by_after_key P form key h text = by_key P form h (after_key key text)
 
 -- ---- file systems
 
@@ -176,11 +176,12 @@ super_formed_of None u n v hm hu hn = tt
 pub super_formed : (words : List (List ℕ)) → IfSome (super_in words) (λ s. is_super s ≡ true)
 super_formed (m ∷ u ∷ n ∷ v ∷ more) =
     unless_more (λ s. is_super s ≡ true) (is_filled more) (super_of m u n v)
-    (super_formed_of (behind_by magic_of (codes "magic=") m) (behind_by uuid_of (codes "uuid=") u)
-    (behind_by name_of (codes "name=") n) (versions_of v)
-    (behind_key (λ x. is_ino x ≡ true) magic_of (codes "magic=") magic_formed m)
-    (behind_key (λ x. is_uuid x ≡ true) uuid_of (codes "uuid=") uuid_formed u)
-    (behind_key (λ w. is_word 255 w ≡ true) name_of (codes "name=") name_formed n))
+    (super_formed_of (after_key_by magic_of (codes "magic=") m)
+    (after_key_by uuid_of (codes "uuid=") u)
+    (after_key_by name_of (codes "name=") n) (versions_of v)
+    (by_after_key (λ x. is_ino x ≡ true) magic_of (codes "magic=") magic_formed m)
+    (by_after_key (λ x. is_uuid x ≡ true) uuid_of (codes "uuid=") uuid_formed u)
+    (by_after_key (λ w. is_word 255 w ≡ true) name_of (codes "name=") name_formed n))
 super_formed (m ∷ u ∷ n ∷ []) = tt
 super_formed (m ∷ u ∷ []) = tt
 super_formed (m ∷ []) = tt
@@ -226,20 +227,20 @@ front_formed_of (Some p) (Some f) None g u o m hp hi hg hu ho hm = tt
 front_formed_of (Some p) None i g u o m hp hi hg hu ho hm = tt
 front_formed_of None f i g u o m hp hi hg hu ho hm = tt
 
-pub id_formed : (key text : List ℕ) → Ids (behind_by id_of key text)
+pub id_formed : (key text : List ℕ) → Ids (after_key_by id_of key text)
 id_formed key text =
-    behind_key (λ n. is_id n ≡ true) id_of key (number_within 10 0xffff_ffff) text
+    by_after_key (λ n. is_id n ≡ true) id_of key (number_within 10 0xffff_ffff) text
 
 front_formed : (p f i g u o m : List ℕ) → IfSome (front_of p f i g u o m) IsFront
 front_formed p f i g u o m =
-    front_formed_of (path_of p) (behind_by numeral_of (codes "fs=") f)
-    (behind_by ino_of (codes "ino=") i) (behind_by id_of (codes "gen=") g)
-    (behind_by id_of (codes "uid=") u) (behind_by id_of (codes "gid=") o)
-    (behind_by mode_of (codes "mode=") m) (path_formed p)
-    (behind_key (λ n. is_ino n ≡ true) ino_of (codes "ino=")
+    front_formed_of (path_of p) (after_key_by numeral_of (codes "fs=") f)
+    (after_key_by ino_of (codes "ino=") i) (after_key_by id_of (codes "gen=") g)
+    (after_key_by id_of (codes "uid=") u) (after_key_by id_of (codes "gid=") o)
+    (after_key_by mode_of (codes "mode=") m) (path_formed p)
+    (by_after_key (λ n. is_ino n ≡ true) ino_of (codes "ino=")
     (number_within 10 0xffff_ffff_ffff_ffff) i)
     (id_formed (codes "gen=") g) (id_formed (codes "uid=") u) (id_formed (codes "gid=") o)
-    (behind_key (λ n. is_mode n ≡ true) mode_of (codes "mode=") (number_within 8 0xffff) m)
+    (by_after_key (λ n. is_mode n ≡ true) mode_of (codes "mode=") (number_within 8 0xffff) m)
 
 pub front_in_formed : (words : List (List ℕ)) → IfSome (front_in words) IsFront
 front_in_formed (p ∷ f ∷ i ∷ g ∷ u ∷ o ∷ m ∷ more) =
@@ -276,7 +277,7 @@ abbrev pub is_content : List ℕ → Bool
 is_content c = is_value 0 most_content c
 
 pub content_formed : (text : List ℕ)
-    → IfSome (behind_by content_of (codes "content=") text) (λ c. is_content c ≡ true)
+    → IfSome (after_key_by content_of (codes "content=") text) (λ c. is_content c ≡ true)
 content_formed text =
-    behind_key (λ c. is_content c ≡ true) content_of (codes "content=")
+    by_after_key (λ c. is_content c ≡ true) content_of (codes "content=")
     (value_within 0 most_content) text

@@ -14,7 +14,7 @@ use Rattle.text_forms.specs.Tokens.{is_filled}
 use Rattle.text_forms.specs.Words.{is_word}
 use Rattle.xattr_store.specs.Attrs.{Pair, put}
 use Rattle.script_words.specs.declared.fault.LineCause.TheVariants as cause
-use Rattle.script_words.specs.Forms.{behind_by, field, place_among}
+use Rattle.script_words.specs.Forms.{after_key_by, field, place_among}
 use Rattle.script_words.specs.Value.{value_of}
 use Rattle.script_text.specs.Draft.{Draft, change_last}
 use Rattle.script_text.specs.Files.{attr_put, attrs_put, block_of, counted_length, filed, has_attr, is_counted, on_super, sealed, setup_of, with_absent, with_attr, with_block, with_file, with_front, with_pair, with_seal}
@@ -28,25 +28,25 @@ use Rattle.script_text.specs.declared.blocks.FileBlock.{FileBlock}
 use Rattle.script_text.proofs.AttrForms.{attrs_more, attrs_sealed, sum_put, sum_sealed}
 use Rattle.script_text.proofs.FileForms.{IsFront, content_formed, file_in_formed, front_in_formed, is_content}
 use Rattle.call_lines.proofs.Holding.{at_some, both_true, given, left_true, not_false, right_true, tested}
-use Rattle.script_text.proofs.Lasts.{apart_behind, each_behind, each_changed, last_behind, last_changed, length_changed, map_changed, sum_changed}
+use Rattle.script_text.proofs.Lasts.{apart_after, each_after, each_changed, last_after, last_changed, length_changed, map_changed, sum_changed}
 use Rattle.call_lines.proofs.ValueForms.{is_value, value_within}
 use Rattle.script_text.proofs.Kept.{AreListed, IsDraft, IsOpen, Keeps, below}
 use Rattle.script_text.proofs.MoreFiles.{tasks_of_more}
 
-files_behind : (b : FileBlock) (d : Draft) → IsDraft d → IsFile d.script.supers b
+files_after : (b : FileBlock) (d : Draft) → IsDraft d → IsFile d.script.supers b
     → has_place d.paths b.path ≡ false → length d.paths + 1 ≤ most_files
     → AreFiles d.script.supers (d.script.files ++ b ∷ [])
-files_behind b d h file new room = record {
-  each = each_behind (IsFile d.script.supers) d.script.files b h.6.each file;
+files_after b d h file new room = record {
+  each = each_after (IsFile d.script.supers) d.script.files b h.6.each file;
   apart = rw (map-append path_of_block d.script.files (b ∷ []))
-      (apart_behind has_place [] (map path_of_block d.script.files) b.path h.6.apart
+      (apart_after has_place [] (map path_of_block d.script.files) b.path h.6.apart
       (ap (λ (ps : List (List ℕ)). has_place ps b.path) (sym h.7.are) ∙ new));
   few = omega (arith, length-append d.script.files (b ∷ []), room, h.7.same);
 }
 
-listed_behind : (b : FileBlock) (d : Draft) → IsDraft d
+listed_after : (b : FileBlock) (d : Draft) → IsDraft d
     → AreListed (d.paths ++ b.path ∷ []) (d.script.files ++ b ∷ [])
-listed_behind b d h = record {
+listed_after b d h = record {
   are = ap (λ (ps : List (List ℕ)). ps ++ b.path ∷ []) h.7.are
       ∙ sym (map-append path_of_block d.script.files (b ∷ []));
   same = omega (
@@ -71,14 +71,14 @@ filed_kept b d h file none new room few =
       h.3,
       h.4,
       h.5,
-      files_behind b d h file new room,
-      listed_behind b d h,
+      files_after b d h file new room,
+      listed_after b d h,
       tasks_of_more (length d.script.files) (length (d.script.files ++ b ∷ []))
           (omega (arith, more))
           d.script.tasks h.8,
       h.9,
       h.10,
-      rw (last_behind d.script.files b) last,
+      rw (last_after d.script.files b) last,
       record {
         counted = omega arith;
         all = omega (arith, sum_by_push file_bytes d.script.files b, no_bytes, h.12.all);
@@ -150,14 +150,14 @@ pub file_kept : (words : List (List ℕ)) (d : Draft) → IsDraft d → Keeps (w
 unfolding with_file
 file_kept words d h =
     given IsDraft (file_in words) cause.BadField
-    (λ f. field (behind_by content_of (codes "content=") f.1) λ content.
+    (λ f. field (after_key_by content_of (codes "content=") f.1) λ content.
     with_front f.0 true content d)
-    (λ f e. given IsDraft (behind_by content_of (codes "content=") f.1) cause.BadField
+    (λ f e. given IsDraft (after_key_by content_of (codes "content=") f.1) cause.BadField
     (λ content. with_front f.0 true content d)
     (λ content k. front_kept f.0 true content d h
     (at_some (λ g. IsFront g.0) (file_in words) f (file_in_formed words) e)
     (at_some (λ c. is_content c ≡ true)
-    (behind_by content_of (codes "content=") f.1) content (content_formed f.1) k) refl))
+    (after_key_by content_of (codes "content=") f.1) content (content_formed f.1) k) refl))
 
 pub absent_kept : (words : List (List ℕ)) (d : Draft) → IsDraft d → Keeps (with_absent words d)
 unfolding with_absent

@@ -22,7 +22,7 @@ use Rattle.script_text.specs.declared.blocks.FileBlock.{FileBlock}
 use Rattle.script_text.specs.declared.blocks.TaskBlock.{TaskBlock}
 use Rattle.script_text.proofs.FileForms.{digest_formed, format_formed, key_formed, on_more, super_formed, template_named, zeros_are}
 use Rattle.call_lines.proofs.Holding.{at_some, bound, given, not_false, tested}
-use Rattle.script_text.proofs.Lasts.{apart_behind, each_weaker}
+use Rattle.script_text.proofs.Lasts.{apart_after, each_weaker}
 
 -- the paths are those of the files
 pub record AreListed (paths : List (List ℕ)) (files : List FileBlock) : Type 0 where
@@ -184,12 +184,12 @@ key_kept (w ∷ v ∷ more) d h = tt
 pub below : (n most : ℕ) → nat_lt n most ≡ true → n + 1 ≤ most
 below n most h = grind (arith, nat_tests)
 
-names_behind : (names : List (List ℕ)) (w : List ℕ) → AreNames names → is_added_name w ≡ true
+names_after : (names : List (List ℕ)) (w : List ℕ) → AreNames names → is_added_name w ≡ true
     → list_any (bytes_eq w) (five_names ++ names) ≡ false → length names + 1 ≤ most_added
     → AreNames (names ++ w ∷ [])
-names_behind names w h form new few = record {
+names_after names w h form new few = record {
   forms = rw (list_all-append is_added_name names (w ∷ []), h.forms, form) refl;
-  new = apart_behind is_among five_names names w h.new new;
+  new = apart_after is_among five_names names w h.new new;
   few = omega (arith, few, length-append names (w ∷ []));
 }
 
@@ -217,7 +217,7 @@ added_kept w d h =
       h.0,
       h.1,
       h.2,
-      names_behind d.script.added w h.3 (not_false (is_added_name w) form) new
+      names_after d.script.added w h.3 (not_false (is_added_name w) form) new
           (below (length d.script.added) most_added (not_false _ few)),
       h.4,
       h.5,

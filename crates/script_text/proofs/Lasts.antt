@@ -17,22 +17,22 @@ by_last P none some [] = none
 by_last P none some (x ∷ xs) =
     by_last (λ ys. P (x ∷ ys)) (some [] x) (λ ys y. some (x ∷ ys) y) xs
 
-get_behind : {A : Type 0} (xs : List A) (x : A) → slice_get (xs ++ x ∷ []) (length xs) ≡ Some x
-get_behind [] x = refl
-get_behind (y ∷ ys) x = get_behind ys x
+get_last : {A : Type 0} (xs : List A) (x : A) → slice_get (xs ++ x ∷ []) (length xs) ≡ Some x
+get_last [] x = refl
+get_last (y ∷ ys) x = get_last ys x
 
 before_last : {A : Type 0} (xs : List A) (x : A) → length (xs ++ x ∷ []) - 1 ≡ length xs
 before_last xs x = omega (arith, length-append xs (x ∷ []))
 
-pub last_behind : {A : Type 0} (xs : List A) (x : A) → last_of (xs ++ x ∷ []) ≡ Some x
-last_behind xs x =
-    ap (λ (n : ℕ). slice_get (xs ++ x ∷ []) n) (before_last xs x) ∙ get_behind xs x
+pub last_after : {A : Type 0} (xs : List A) (x : A) → last_of (xs ++ x ∷ []) ≡ Some x
+last_after xs x =
+    ap (λ (n : ℕ). slice_get (xs ++ x ∷ []) n) (before_last xs x) ∙ get_last xs x
 
-pub change_behind : {A : Type 0} (f : A → A) (xs : List A) (x : A)
+pub change_after : {A : Type 0} (f : A → A) (xs : List A) (x : A)
     → change_last f (xs ++ x ∷ []) ≡ xs ++ f x ∷ []
 unfolding change_last
-change_behind f xs x =
-    ap (changed f (xs ++ x ∷ [])) (last_behind xs x)
+change_after f xs x =
+    ap (changed f (xs ++ x ∷ [])) (last_after xs x)
     ∙ ap (λ (front : List _). front ++ f x ∷ [])
     (ap (λ (n : ℕ). take n (xs ++ x ∷ [])) (before_last xs x) ∙ take-append_seam xs (x ∷ []))
 
@@ -42,10 +42,10 @@ change_none f = refl
 
 -- ---- a property of each element
 
-pub each_behind : {A : Type 0} (P : A → Type 0) (xs : List A) (x : A) → AllByRecursion P xs → P x
+pub each_after : {A : Type 0} (P : A → Type 0) (xs : List A) (x : A) → AllByRecursion P xs → P x
     → AllByRecursion P (xs ++ x ∷ [])
-each_behind P [] x all h = (h, tt)
-each_behind P (y ∷ ys) x all h = (all.0, each_behind P ys x all.1 h)
+each_after P [] x all h = (h, tt)
+each_after P (y ∷ ys) x all h = (all.0, each_after P ys x all.1 h)
 
 pub each_before : {A : Type 0} (P : A → Type 0) (xs : List A) (x : A)
     → AllByRecursion P (xs ++ x ∷ []) → AllByRecursion P xs × P x
@@ -58,15 +58,15 @@ each_weaker P Q f [] all = tt
 each_weaker P Q f (x ∷ xs) all = (f x all.0, each_weaker P Q f xs all.1)
 
 -- a word that isn't among those before it stays apart from them when it is appended
-pub apart_behind : (among : List (List ℕ) → List ℕ → Bool) (before ws : List (List ℕ)) (w : List ℕ)
+pub apart_after : (among : List (List ℕ) → List ℕ → Bool) (before ws : List (List ℕ)) (w : List ℕ)
     → are_apart among before ws ≡ true → among (before ++ ws) w ≡ false
     → are_apart among before (ws ++ w ∷ []) ≡ true
-apart_behind among before [] w h new =
+apart_after among before [] w h new =
     let here : among before w ≡ false =
     ap (λ (vs : List (List ℕ)). among vs w) (sym (append-nil before)) ∙ new in
     rw here refl
-apart_behind among before (v ∷ vs) w h new = elim (cases_Bool (not (among before v))) [
-  | inl e ↦ rw e (apart_behind among (before ++ v ∷ []) vs w (rw e at h)
+apart_after among before (v ∷ vs) w h new = elim (cases_Bool (not (among before v))) [
+  | inl e ↦ rw e (apart_after among (before ++ v ∷ []) vs w (rw e at h)
       (ap (λ (us : List (List ℕ)). among us w) (append_assoc before (v ∷ []) vs) ∙ new))
   | inr e ↦ absurd (false≢true (rw e at h))
 ]
@@ -77,7 +77,7 @@ module _ {A : Type 0} (f : A → A) where
   pub length_changed : (xs : List A) → length (change_last f xs) ≡ length xs
   length_changed =
       by_last (λ ys. length (change_last f ys) ≡ length ys) (rw (change_none f) refl)
-      (λ ys y. rw (change_behind f ys y)
+      (λ ys y. rw (change_after f ys y)
       (length-append ys (f y ∷ []) ∙ sym (length-append ys (y ∷ []))))
 
   -- a property of each element is preserved if the changed last element satisfies it
@@ -87,16 +87,16 @@ module _ {A : Type 0} (f : A → A) where
       by_last (λ ys. AllByRecursion P ys → IfSome (last_of ys) Q
       → AllByRecursion P (change_last f ys))
       (λ all last. rw (change_none f) tt)
-      (λ ys y all last. rw (change_behind f ys y)
+      (λ ys y all last. rw (change_after f ys y)
       (let parts = each_before P ys y all in
-      each_behind P ys (f y) parts.0 (h y parts.1 (rw (last_behind ys y) at last))))
+      each_after P ys (f y) parts.0 (h y parts.1 (rw (last_after ys y) at last))))
 
   pub all_changed : (p : A → Bool) → ((x : A) → p x ≡ true → p (f x) ≡ true) → (xs : List A)
       → list_all p xs ≡ true → list_all p (change_last f xs) ≡ true
   all_changed p h =
       by_last (λ ys. list_all p ys ≡ true → list_all p (change_last f ys) ≡ true)
       (λ all. rw (change_none f) refl)
-      (λ ys y all. rw (change_behind f ys y) (
+      (λ ys y all. rw (change_after f ys y) (
       let parts : (list_all p ys && (p y && true)) ≡ true =
       rw (list_all-append p ys (y ∷ [])) at all in
       let front : list_all p ys ≡ true = left_true (list_all p ys) (p y && true) parts in
@@ -110,8 +110,8 @@ module _ {A : Type 0} (f : A → A) where
   last_changed Q R h =
       by_last (λ ys. IfSome (last_of ys) Q → IfSome (last_of (change_last f ys)) R)
       (λ last. rw (change_none f) tt)
-      (λ ys y last. rw (change_behind f ys y)
-      (rw (last_behind ys (f y)) (h y (rw (last_behind ys y) at last))))
+      (λ ys y last. rw (change_after f ys y)
+      (rw (last_after ys (f y)) (h y (rw (last_after ys y) at last))))
 
   -- changing the last element increases a sum by at most its own increase
   pub sum_changed : (g : A → ℕ) (n : ℕ) → ((x : A) → g (f x) ≤ g x + n) → (xs : List A)
@@ -119,7 +119,7 @@ module _ {A : Type 0} (f : A → A) where
   sum_changed g n h =
       by_last (λ ys. sum_by g (change_last f ys) ≤ sum_by g ys + n)
       (rw (change_none f) (omega arith))
-      (λ ys y. rw (change_behind f ys y)
+      (λ ys y. rw (change_after f ys y)
       (omega (arith, sum_by_push g ys (f y), sum_by_push g ys y, h y)))
 
   -- mapping by a function that the change preserves gives the same list
@@ -127,6 +127,6 @@ module _ {A : Type 0} (f : A → A) where
       → map v (change_last f xs) ≡ map v xs
   map_changed v h =
       by_last (λ ys. map v (change_last f ys) ≡ map v ys) (rw (change_none f) refl)
-      (λ ys y. rw (change_behind f ys y)
+      (λ ys y. rw (change_after f ys y)
       (map-append v ys (f y ∷ []) ∙ ap (λ b. map v ys ++ b ∷ []) (h y)
       ∙ sym (map-append v ys (y ∷ []))))

@@ -14,7 +14,7 @@ use Rattle.text_forms.specs.Lines.{◌>>=◌}
 use Rattle.text_forms.specs.Numbers.{is_short_numeral, short_number_of}
 use Rattle.text_forms.proofs.Visible.{all_weaker}
 use Rattle.script_words.specs.declared.fault.LineCause.TheVariants as cause
-use Rattle.script_words.specs.Forms.{behind_by, id_of, place_among, rule_of}
+use Rattle.script_words.specs.Forms.{after_key_by, id_of, place_among, rule_of}
 use Rattle.call_lines.specs.Calls.{call_of}
 use Rattle.script_text.specs.Draft.{Draft, change_last}
 use Rattle.script_text.specs.Forms.{appended_by, calls_of, is_cred, is_ending, is_line_call, is_task, task_bytes}
@@ -134,8 +134,8 @@ cred_formed_of None e g f a hu he hg hf = tt
 
 cred_formed : (words : List (List ℕ)) → IfSome (cred_in words) (λ c. is_cred c ≡ true)
 cred_formed (u ∷ e ∷ g ∷ f ∷ more) =
-    cred_formed_of (behind_by id_of (codes "uid=") u) (behind_by id_of (codes "euid=") e)
-    (behind_by id_of (codes "gid=") g) (behind_by id_of (codes "egid=") f) (admin_of more)
+    cred_formed_of (after_key_by id_of (codes "uid=") u) (after_key_by id_of (codes "euid=") e)
+    (after_key_by id_of (codes "gid=") g) (after_key_by id_of (codes "egid=") f) (admin_of more)
     (id_formed (codes "uid=") u) (id_formed (codes "euid=") e) (id_formed (codes "gid=") g)
     (id_formed (codes "egid=") f)
 cred_formed (u ∷ e ∷ g ∷ []) = tt

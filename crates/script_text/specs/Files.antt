@@ -11,7 +11,7 @@ use Rattle.text_forms.specs.Lines.{◌>>=◌}
 use Rattle.xattr_store.specs.Attrs.{put, value}
 use Rattle.xattr_store.specs.Names.{evm_name, ima_name}
 use Rattle.script_words.specs.declared.fault.LineCause.TheVariants as cause
-use Rattle.script_words.specs.Forms.{behind_by, field, place_among}
+use Rattle.script_words.specs.Forms.{after_key_by, field, place_among}
 use Rattle.script_words.specs.Value.{value_of}
 use Rattle.script_text.specs.Draft.{Draft, change_last, last_of}
 use Rattle.script_fields.specs.Limits.{most_attrs, most_bytes, most_files, most_value}
@@ -73,7 +73,7 @@ with_front f present content d =
 
 unfoldable pub with_file : List (List ℕ) → Draft → Made
 with_file words d =
-    field (file_in words) λ f. field (behind_by content_of (codes "content=") f.1) λ content.
+    field (file_in words) λ f. field (after_key_by content_of (codes "content=") f.1) λ content.
     with_front f.0 true content d
 
 unfoldable pub with_absent : List (List ℕ) → Draft → Made

@@ -21,7 +21,7 @@ use inode_meta::Meta;
 use inode_pages::Content;
 use label_values::{MAX_LABEL, write_label};
 use policy_text::Super;
-use script_fields::{Front, content_behind, file_in, front_in, name_of, sum_of, two};
+use script_fields::{Front, content_after, file_in, front_in, name_of, sum_of, two};
 use script_words::{LineCause, LineErr, place_among, value_of};
 use std::alloc::{AllocError as OutOfMemory, Global};
 use std::mem;
@@ -39,7 +39,7 @@ impl Draft {
         ensures { LineMakes result (with_file (map (λ w. w.now) fields.now) self.old) self.new }
     {
         let (front, content) = file_in(fields).ok_or(LineCause::BadField)?;
-        let content = content_behind(alloc, content)?;
+        let content = content_after(alloc, content)?;
         self.with_front(alloc, &front, true, content)
     }
 

@@ -11,15 +11,15 @@ use Rattle.script_words.specs.declared.fault.LineCause.{LineCause}
 use Rattle.script_words.specs.declared.fault.LineCause.TheVariants as cause
 
 -- the text after a key, if it begins with that key
-abbrev pub behind : List ℕ → List ℕ → Option (List ℕ)
-behind key text = if starts text key then Some (drop (length key) text) else None
+abbrev pub after_key : List ℕ → List ℕ → Option (List ℕ)
+after_key key text = if starts text key then Some (drop (length key) text) else None
 
 abbrev pub read_by : {A : Type 0} → (List ℕ → Option A) → Option (List ℕ) → Option A
 read_by form None = None
 read_by form (Some text) = form text
 
-abbrev pub behind_by : {A : Type 0} → (List ℕ → Option A) → List ℕ → List ℕ → Option A
-behind_by form key text = read_by form (behind key text)
+abbrev pub after_key_by : {A : Type 0} → (List ℕ → Option A) → List ℕ → List ℕ → Option A
+after_key_by form key text = read_by form (after_key key text)
 
 abbrev pub descriptor_of : List ℕ → Option ℕ
 descriptor_of text = short_number_of 10 255 text

@@ -48,10 +48,10 @@ summed_same (gathered.Sums chosen sha1) a b x y h = (
 )
 
 -- the journal after one more event
-behind : (list list2 : List Event) (who : Who) (d : Deed) (t : Told)
+after : (list list2 : List Event) (who : Who) (d : Deed) (t : Told)
     → list2 ≡ list ++ made who d (Some t)
     → past list2 ≡ record { who = who; deed = d; told = t } ∷ past list
-behind list list2 who d t e =
+after list list2 who d t e =
     ap past e ∙ past_more list (record { who = who; deed = d; told = t })
 
 module _ (inode : Inode) (list : List Event) (g g2 : Gathered) (page : List ℕ)
@@ -85,13 +85,13 @@ module _ (inode : Inode) (list : List Event) (g g2 : Gathered) (page : List ℕ)
       → HashesAfter inode list2 g2 (deed.Chunk file) (piece_told p)
   piece_left file who list2 piece.More e h = record {
     collection = more false;
-    is_open = ap (collecting inode) (behind list list2 who (deed.Chunk file) told.More e)
+    is_open = ap (collecting inode) (after list list2 who (deed.Chunk file) told.More e)
         ∙ is_more false;
     has = taken_same g2 paged (more false) refl same_bytes (h c.collection c.has);
   }
   piece_left file who list2 piece.Last e h = record {
     collection = more true;
-    is_open = ap (collecting inode) (behind list list2 who (deed.Chunk file) told.Last e)
+    is_open = ap (collecting inode) (after list list2 who (deed.Chunk file) told.Last e)
         ∙ is_more true;
     has = summed_same g2 paged (more true) refl same_bytes (h c.collection c.has);
   }
@@ -103,13 +103,13 @@ module _ (inode : Inode) (list : List Event) (g g2 : Gathered) (page : List ℕ)
       → HashesAfter inode list2 g2 (deed.CloseChunk file) (piece_told p)
   close_piece_left file who list2 piece.More e h = record {
     collection = more false;
-    is_open = ap (collecting inode) (behind list list2 who (deed.CloseChunk file) told.More e)
+    is_open = ap (collecting inode) (after list list2 who (deed.CloseChunk file) told.More e)
         ∙ is_more false;
     has = taken_same g2 paged (more false) refl same_bytes (h c.collection c.has);
   }
   close_piece_left file who list2 piece.Last e h = record {
     collection = more true;
-    is_open = ap (collecting inode) (behind list list2 who (deed.CloseChunk file) told.Last e)
+    is_open = ap (collecting inode) (after list list2 who (deed.CloseChunk file) told.Last e)
         ∙ is_more true;
     has = summed_same g2 paged (more true) refl same_bytes (h c.collection c.has);
   }
@@ -122,7 +122,7 @@ pub take_left : (inode : Inode) (list list2 : List Event) (file : ℕ) (who : Wh
     → HashesAfter inode list2 (gathered.Running h) (deed.Take file) told.Begun
 take_left inode list list2 file who h algo e a x = record {
   collection = collection_of file false (chosen_algo inode (past list)) (length (past list));
-  is_open = ap (collecting inode) (behind list list2 who (deed.Take file) told.Begun e);
+  is_open = ap (collecting inode) (after list list2 who (deed.Take file) told.Begun e);
   has = subst (λ (k : Algo). HasHashed h k []) a x;
 }
 
@@ -132,7 +132,7 @@ pub close_left : (inode : Inode) (list list2 : List Event) (file : ℕ) (who : W
     → HashesAfter inode list2 (gathered.Running h) (deed.CloseTake file) told.Begun
 close_left inode list list2 file who h algo e a x = record {
   collection = collection_of file true inode.settings.hash (length (past list));
-  is_open = ap (collecting inode) (behind list list2 who (deed.CloseTake file) told.Begun e);
+  is_open = ap (collecting inode) (after list list2 who (deed.CloseTake file) told.Begun e);
   has = subst (λ (k : Algo). HasHashed h k []) a x;
 }
 

@@ -27,17 +27,17 @@ looks_init stations passes = record {
   };
   even = refl;
   below = λ i q l h. absurd (omega arith);
-  behind = λ i l. refl;
-  behind_stations = λ i l. refl;
+  after = λ i l. refl;
+  after_stations = λ i l. refl;
 }
 
-set_behind : {A : Type 0} (xs : List A) (n i : ℕ) (x : A) → n < i
+set_after : {A : Type 0} (xs : List A) (n i : ℕ) (x : A) → n < i
     → slice_get (slice_set xs n x) i ≡ slice_get xs i
-set_behind [] n i x l = refl
-set_behind (y ∷ ys) zero zero x l = absurd (omega arith)
-set_behind (y ∷ ys) zero (suc i) x l = refl
-set_behind (y ∷ ys) (suc n) zero x l = absurd (omega arith)
-set_behind (y ∷ ys) (suc n) (suc i) x l = set_behind ys n i x (omega arith)
+set_after [] n i x l = refl
+set_after (y ∷ ys) zero zero x l = absurd (omega arith)
+set_after (y ∷ ys) zero (suc i) x l = refl
+set_after (y ∷ ys) (suc n) zero x l = absurd (omega arith)
+set_after (y ∷ ys) (suc n) (suc i) x l = set_after ys n i x (omega arith)
 
 -- after one more look
 pub looks_more : (n : ℕ) (stations stations2 : List StationValue) (old new : List (Passed Event))
@@ -53,12 +53,12 @@ looks_more n stations stations2 old new s s2 q q2 h at there kept looked = recor
   };
   even = length-set new n q2 ∙ h.even;
   below = λ i z l e. looked_at i z l (set_parts new n i q2 z e (slice_get_within new n q there));
-  behind = λ i l. set_behind new n i q2 (omega arith) ∙ h.behind i (omega arith);
-  behind_stations = λ i l.
-      set_behind stations2 n i s2 (omega arith) ∙ h.behind_stations i (omega arith);
+  after = λ i l. set_after new n i q2 (omega arith) ∙ h.after i (omega arith);
+  after_stations = λ i l.
+      set_after stations2 n i s2 (omega arith) ∙ h.after_stations i (omega arith);
 } where
   was : slice_get stations n ≡ Some s
-  was = sym (h.behind_stations n (omega arith)) ∙ at
+  was = sym (h.after_stations n (omega arith)) ∙ at
 
   kept_at : (i : ℕ) (z : StationValue)
       → ((i ≡ n) × (z ≡ s2)) ⊎ ((n ≢ i) × (slice_get stations2 i ≡ Some z))
@@ -75,7 +75,7 @@ looks_more n stations stations2 old new s s2 q q2 h at there kept looked = recor
       → LookedAt stations old i z
   looked_at i z l (inl x) = record {
     before = q;
-    at = ap (slice_get old) x.0 ∙ sym (h.behind n (omega arith)) ∙ there;
+    at = ap (slice_get old) x.0 ∙ sym (h.after n (omega arith)) ∙ there;
     station = s;
     station_at = ap (slice_get stations) x.0 ∙ was;
     looked = subst (IsLooked s q) (sym x.1) looked;

@@ -52,5 +52,5 @@ pub record HaveLookedTo (n : ℕ) (stations stations2 : List StationValue)
   pub even : length new ≡ length old
   pub below : (i : ℕ) (q : Passed Event) → i < n → slice_get new i ≡ Some q
       → LookedAt stations old i q
-  pub behind : (i : ℕ) → n ≤ i → slice_get new i ≡ slice_get old i
-  pub behind_stations : (i : ℕ) → n ≤ i → slice_get stations2 i ≡ slice_get stations i
+  pub after : (i : ℕ) → n ≤ i → slice_get new i ≡ slice_get old i
+  pub after_stations : (i : ℕ) → n ≤ i → slice_get stations2 i ≡ slice_get stations i

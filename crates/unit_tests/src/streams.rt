@@ -99,7 +99,7 @@ impl Write for Stuck {
 }
 
 #[test]
-fn a_stream_of_the_system_is_put_behind_the_traits(rt: HostRuntime) -> Result<(), Fail> {
+fn a_stream_of_the_system_is_put_after_the_traits(rt: HostRuntime) -> Result<(), Fail> {
     let input: &[u8] = b"seven b";
     let read = read_all(rt.alloc(), &mut StdSource::new(input), 7);
     assert!(rt; read.is_ok_and(|bytes| bytes.as_slice() == input));

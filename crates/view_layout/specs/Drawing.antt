@@ -27,7 +27,7 @@ use Rattle.view_layout.specs.Lanes.{bottom_from, lanes_from, lanes_top, row_top,
 use Rattle.view_journal.specs.Notes.{mark_of}
 use Rattle.view_journal.specs.State.{is_write}
 
--- ---- what stands behind the events
+-- ---- what stands after the events
 
 -- the right edge of the last column
 abbrev pub end_from : ℕ → List Column → ℕ

@@ -1,4 +1,4 @@
-// What stands behind the events of a drawing.
+// What stands after the events of a drawing.
 
 ghost use Rattle.std.specs.Prelude.{◌≡◌, ◌++◌, ◌==◌, ◌<◌, ◌^◌, OnOk};
 ghost use Rattle.std.specs.List.{flat_map, list_any};

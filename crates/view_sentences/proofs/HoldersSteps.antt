@@ -12,7 +12,7 @@ use Rattle.view_sentences.specs.Sentences.{last_write}
 use Rattle.view_sentences.specs.declared.holders.Holding.{Holding}
 use Rattle.view_sentences.proofs.Walks.{held_from-push}
 
--- the places so far, with one more behind them if it counts
+-- the places so far, with one more after them if it counts
 pushed : (b : Bool) (place : ℕ) (places : List ℕ)
     → cond b (reverse places ++ place ∷ []) (reverse places)
     ≡ reverse (cond b (place ∷ places) places)

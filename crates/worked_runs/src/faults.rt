@@ -164,7 +164,7 @@ fn cuts_are_refused<R: Threads + Wait + Sync>(
 }
 
 // The script after a comment line of so many bytes.
-fn behind_a_comment<R: Threads + Wait + Sync>(
+fn after_a_comment<R: Threads + Wait + Sync>(
     rt: &R,
     alloc: Global,
     case: &Case<'_>,
@@ -188,9 +188,9 @@ fn limits_hold<R: Threads + Wait + Sync>(
     let comment = MOST_INPUT
         .saturating_sub(case.input.len())
         .saturating_sub(1);
-    let most = behind_a_comment(rt, alloc, case, comment)?;
-    let more = behind_a_comment(rt, alloc, case, comment.saturating_add(1))?;
-    let far = behind_a_comment(rt, alloc, case, MOST_INPUT)?;
+    let most = after_a_comment(rt, alloc, case, comment)?;
+    let more = after_a_comment(rt, alloc, case, comment.saturating_add(1))?;
+    let far = after_a_comment(rt, alloc, case, MOST_INPUT)?;
     Ok(
         most.is(DONE, case.out.as_bytes(), "")
             && more.is(TOO_LONG, b"", "input too long\n")

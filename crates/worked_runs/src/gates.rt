@@ -1,6 +1,6 @@
 // Gates: one that sees which steps pass it, and one at which two tasks, or two callers, wait for
 // each other.
-use crate::outcome::answer_behind;
+use crate::outcome::answer_after;
 use ima_top::DONE;
 use ima_top::buffers::{measure_all, parse};
 use ima_top::outer::{Gate, Who};
@@ -81,7 +81,7 @@ fn is_passed_by<R: Threads + Wait + Sync>(
         other: AtomicBool::new(false),
     };
     let input = format!(in alloc; "{script}{ending}\n")?;
-    let got = answer_behind(rt, alloc, words, input.as_bytes(), &gate)?;
+    let got = answer_after(rt, alloc, words, input.as_bytes(), &gate)?;
     let all = gate.at.load(Ordering::SeqCst) == steps.len();
     Ok(got.status == DONE && all && !gate.other.load(Ordering::SeqCst))
 }
@@ -224,7 +224,7 @@ fn meet<R: Threads + Wait + Sync>(
 ) -> Result<Option<bool>, OutOfMemory> {
     let gate = Meeting::new();
     let input = format!(in alloc; "{text}{ending}\n")?;
-    let got = answer_behind(rt, alloc, words, input.as_bytes(), &gate)?;
+    let got = answer_after(rt, alloc, words, input.as_bytes(), &gate)?;
     if got.status != DONE {
         return Ok(None);
     }

@@ -109,7 +109,7 @@ fn first_other<R: Threads + Wait + Sync>(
     for _ in 0..times {
         let gate = Order::of(steps);
         let input = case.input.as_bytes();
-        let got = outcome::answer_behind(rt, alloc, case.words, input, &gate)?;
+        let got = outcome::answer_after(rt, alloc, case.words, input, &gate)?;
         if !case.holds(&got) || !gate.is_held() {
             return Ok(Some(got));
         }

@@ -34,11 +34,11 @@ pub fn answer<R: Threads + Wait + Sync>(
     words: &str,
     input: &[u8],
 ) -> Result<Outcome, OutOfMemory> {
-    answer_behind(rt, alloc, words, input, &FreeGate)
+    answer_after(rt, alloc, words, input, &FreeGate)
 }
 
 /// The outcome of the words on this input, if each turn of a task passes this gate first.
-pub fn answer_behind<G: Gate + Sync, R: Threads + Wait + Sync>(
+pub fn answer_after<G: Gate + Sync, R: Threads + Wait + Sync>(
     rt: &R,
     alloc: Global,
     words: &str,
@@ -48,7 +48,7 @@ pub fn answer_behind<G: Gate + Sync, R: Threads + Wait + Sync>(
     let mut script = MemSource::new(input.to_vec(alloc)?, 4096, none(alloc));
     let out = MemSink::new(alloc, 2_000_000, 4096, none(alloc))?;
     let note = MemSink::new(alloc, 200, 200, none(alloc))?;
-    served_behind(rt, alloc, words, &mut script, out, note, gate)
+    served_after(rt, alloc, words, &mut script, out, note, gate)
 }
 
 /// The outcome of the words, which spaces separate, over this source and these sinks.
@@ -60,11 +60,11 @@ pub fn served<R: Threads + Wait + Sync>(
     out: MemSink,
     note: MemSink,
 ) -> Result<Outcome, OutOfMemory> {
-    served_behind(rt, alloc, words, script, out, note, &FreeGate)
+    served_after(rt, alloc, words, script, out, note, &FreeGate)
 }
 
 // The outcome of the words over this source and these sinks, with this gate.
-fn served_behind<G: Gate + Sync, R: Threads + Wait + Sync>(
+fn served_after<G: Gate + Sync, R: Threads + Wait + Sync>(
     rt: &R,
     alloc: Global,
     words: &str,

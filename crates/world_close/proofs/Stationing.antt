@@ -8,7 +8,7 @@ use Rattle.ima_templates.specs.declared.entry.Entry.{Entry}
 use Rattle.inode_events.specs.EndedInode.{EndedInodeValue}
 use Rattle.policy_cell.specs.declared.cell.RuleEntry.{RuleEntry}
 use Rattle.world_model.specs.World.{StationValue}
-use Rattle.world_close.specs.Closed.{AreClosed, AreClosedBehind, IsPushed, StationClosed, ended_station}
+use Rattle.world_close.specs.Closed.{AreClosed, AreClosedAfter, IsPushed, StationClosed, ended_station}
 use Rattle.world_close.specs.Rows.{AreNamed}
 use Rattle.world_close.proofs.Gets.{get_left, get_last}
 
@@ -29,8 +29,8 @@ pub closed_more : (all left front : List StationValue) (s : StationValue)
     (inodes inodes2 : List EndedInodeValue) (book book2 : List (Passed Entry))
     (rules rules2 : List (Passed RuleEntry)) → left ≡ front ++ s ∷ []
     → inodes2 ≡ inodes ++ ended_station s ∷ [] → IsPushed s book book2
-    → rules2 ≡ rules ++ s.rules ∷ [] → AreClosedBehind all left inodes book rules
-    → AreClosedBehind all front inodes2 book2 rules2
+    → rules2 ≡ rules ++ s.rules ∷ [] → AreClosedAfter all left inodes book rules
+    → AreClosedAfter all front inodes2 book2 rules2
 closed_more all left front s inodes inodes2 book book2 rules rules2 is i b r old = record {
   done = s ∷ old.done;
   split = old.split ∙ ap (λ (l : List StationValue). l ++ old.done) is
@@ -46,7 +46,7 @@ closed_more all left front s inodes inodes2 book book2 rules rules2 is i b r old
 }
 
 -- no inode is closed at first
-pub closed_none : (all : List StationValue) → AreClosedBehind all all [] [] []
+pub closed_none : (all : List StationValue) → AreClosedAfter all all [] [] []
 closed_none all = record {
   done = [];
   split = sym (append-nil all);
@@ -56,7 +56,7 @@ closed_none all = record {
 -- all inodes are closed once none remains
 pub closed_all : (all left : List StationValue) (inodes : List EndedInodeValue)
     (book : List (Passed Entry)) (rules : List (Passed RuleEntry)) → left ≡ []
-    → AreClosedBehind all left inodes book rules
+    → AreClosedAfter all left inodes book rules
     → AreClosed all (reverse inodes) (reverse book) (reverse rules)
 closed_all all left inodes book rules none old =
     subst (λ (l : List StationValue). AreClosed l (reverse inodes) (reverse book) (reverse rules))

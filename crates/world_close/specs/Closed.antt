@@ -62,7 +62,7 @@ pub record AreClosed (stations : List StationValue) (inodes : List EndedInodeVal
   pub closed : AllZip StationClosed stations book
 
 -- the stations after `left` are closed, from the last one to the first
-pub record AreClosedBehind (all left : List StationValue) (inodes : List EndedInodeValue)
+pub record AreClosedAfter (all left : List StationValue) (inodes : List EndedInodeValue)
     (book : List (Passed Entry)) (rules : List (Passed RuleEntry)) : Type 0 where
   pub done : List StationValue
   pub split : all ≡ left ++ done

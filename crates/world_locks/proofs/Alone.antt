@@ -51,10 +51,10 @@ module _ (old between : CellValue) (pass pass1 : Passed Event)
   }
 
   -- after the look the deed may be done
-  pub may_behind : (d : Deed)
+  pub may_after : (d : Deed)
       → (HasLooked old.inode pass.number pass.seen old.list pass.mine → MayBy old pass.number d)
       → MayBy between pass1.number d
-  may_behind d may =
+  may_after d may =
       let x : MayBy old pass.number d = may has_looked in
       record {
         may = subst (λ (i : Inode). May i (past between.list) d) (sym look.same.inode)
@@ -64,10 +64,10 @@ module _ (old between : CellValue) (pass pass1 : Passed Event)
       }
 
   -- the effect of the deed after the look is one on the cell before the look
-  leaves_behind : (new : CellValue) (list list2 : List Entry) (pass2 : Passed Event) (who : Who)
+  leaves_after : (new : CellValue) (list list2 : List Entry) (pass2 : Passed Event) (who : Who)
       (d : Deed) (o : Option Told) → Leaves between new list list2 pass1 pass2 who d o
       → Leaves old new list list2 pass pass2 who d o
-  leaves_behind new list list2 pass2 who d o x =
+  leaves_after new list list2 pass2 who d o x =
       leaves_looked old between new list list2 pass pass1 pass2 who d o look.list look.same
       look.mine look.same_pass x
 
@@ -80,10 +80,10 @@ module _ (old between : CellValue) (pass pass1 : Passed Event)
         → OnErr r (Stays between new pass1 pass2) → (list : List Entry)
         → Leaves old new list list pass pass2 who d (told_by f r)
     leaves_alone (Ok x) a s list =
-        leaves_behind new list list pass2 who d (Some (f x))
+        leaves_after new list list pass2 who d (Some (f x))
         (acts_leave between new list list pass1 pass2 who d (Some (f x)) (a list))
     leaves_alone (Err e) a s list =
-        leaves_behind new list list pass2 who d None
+        leaves_after new list list pass2 who d None
         (stays_leave between new list list pass1 pass2 who d s refl look.seen)
 
     -- the outcome is the one on the cell before the look

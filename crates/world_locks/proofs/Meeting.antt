@@ -45,10 +45,10 @@ set_set (x ∷ xs) zero a b = refl
 set_set (x ∷ xs) (suc i) a b = ap (λ ys. x ∷ ys) (set_set xs i a b)
 
 -- at and after its end a list has no element
-pub nothing_behind : {A : Type 0} (xs : List A) (i : ℕ) → length xs ≤ i → slice_get xs i ≡ None
-nothing_behind [] i h = refl
-nothing_behind (x ∷ xs) zero h = absurd (omega arith)
-nothing_behind (x ∷ xs) (suc i) h = nothing_behind xs i (omega arith)
+pub nothing_after : {A : Type 0} (xs : List A) (i : ℕ) → length xs ≤ i → slice_get xs i ≡ None
+nothing_after [] i h = refl
+nothing_after (x ∷ xs) zero h = absurd (omega arith)
+nothing_after (x ∷ xs) (suc i) h = nothing_after xs i (omega arith)
 
 -- ---- a step on an inode that is there
 
@@ -153,7 +153,7 @@ pub none_met : {E : Type 0} (frame : Frame) (i : ℕ) (passes : PassesValue) (wh
     (g : Gathered) → length frame.sites ≤ i
     → EventMet {E = E} frame i who d passes passes g g (Ok None)
 none_met frame i passes who d g h =
-    let none : slice_get frame.sites i ≡ None = nothing_behind frame.sites i h in
+    let none : slice_get frame.sites i ≡ None = nothing_after frame.sites i h in
     record {
       old = state_seen passes;
       event = subst (λ (x : Option Site). EventIn frame i x who d (state_seen passes)
@@ -208,7 +208,7 @@ unasked_met {E} frame i passes who cred asked h = record {
   old = state_seen passes;
   check = λ g. subst (λ (x : Option Site). CheckIn {E = E} frame i x who cred asked
       (state_seen passes) (state_seen passes) passes passes g (Ok None))
-      (sym (nothing_behind frame.sites i h))
+      (sym (nothing_after frame.sites i h))
       (record { state = refl; left = refl; gathered = refl; told = refl });
 }
 

@@ -53,20 +53,20 @@ at_seen (x ∷ xs) (suc k) q h = at_seen xs k q h
 
 module _ (frame : Frame) (t : Tasked) (h : List Answer) (s : State) (passes : PassesValue)
     (x : HasPlayed frame t h) (l : HasLookedAtAll frame t s passes) where
-  abbrev Behind : ℕ → Passed Event → Type 0
-  Behind k q = InodeLooked frame (t.number + 1) k s.journals t.passes.inodes q
+  abbrev Looked : ℕ → Passed Event → Type 0
+  Looked k q = InodeLooked frame (t.number + 1) k s.journals t.passes.inodes q
 
   -- the pass of journal k after the look
-  behind : (k : ℕ) (q : Passed Event) → slice_get t.passes.inodes k ≡ Some q
-      → (q2 : Passed Event) × ((slice_get passes.inodes k ≡ Some q2) × Behind k q2)
-  behind k q g =
+  after : (k : ℕ) (q : Passed Event) → slice_get t.passes.inodes k ≡ Some q
+      → (q2 : Passed Event) × ((slice_get passes.inodes k ≡ Some q2) × Looked k q2)
+  after k q g =
       let lt : k < length t.passes.inodes = slice_get_within t.passes.inodes k q g in
       let le : length passes.inodes ≡ length t.passes.inodes = l.even in
       let y = get_within passes.inodes k (omega arith) in
       (y.0, (y.1, l.inodes k y.0 y.1))
 
   -- a look never makes a pass forget an entry
-  seen_more : (k : ℕ) (q : Passed Event) (e : Behind k q) → IsPrefix e.before.seen q.seen
+  seen_more : (k : ℕ) (q : Passed Event) (e : Looked k q) → IsPrefix e.before.seen q.seen
   seen_more k q e =
       let lt : k < length t.passes.inodes = slice_get_within t.passes.inodes k e.before e.at in
       let le : length t.passes.inodes ≡ length frame.sites = x.passes.even in
@@ -79,8 +79,8 @@ module _ (frame : Frame) (t : Tasked) (h : List Answer) (s : State) (passes : Pa
   sees_more = record {
     journals = λ k j g.
         let o = seen_at t.passes.inodes k j g in
-        let b = behind k o.0 o.1.0 in
-        let e : Behind k b.0 = b.1.1 in
+        let b = after k o.0 o.1.0 in
+        let e : Looked k b.0 = b.1.1 in
         let same : e.before ≡ o.0 = same_Some e.before o.0 (sym e.at ∙ o.1.0) in
         record {
           longer = b.0.seen;
@@ -96,7 +96,7 @@ module _ (frame : Frame) (t : Tasked) (h : List Answer) (s : State) (passes : Pa
   passes_left = record {
     even = l.even ∙ x.passes.even;
     inodes = λ k s2 q a g.
-        let e : Behind k q = l.inodes k q g in
+        let e : Looked k q = l.inodes k q g in
         let o = x.passes.inodes k s2 e.before a e.at in
         (e.name ∙ o.0, e.number ∙ o.1);
     sems = (l.sems.name ∙ x.passes.sems.0, l.sems.number ∙ x.passes.sems.1);
@@ -107,12 +107,12 @@ module _ (frame : Frame) (t : Tasked) (h : List Answer) (s : State) (passes : Pa
   events_left : (k : ℕ) (q : Passed Event) → slice_get passes.inodes k ≡ Some q
       → q.mine ≡ own (mode_in frame) t.number t.mind.program k h
   events_left k q g =
-      let e : Behind k q = l.inodes k q g in e.mine ∙ x.events k e.before e.at
+      let e : Looked k q = l.inodes k q g in e.mine ∙ x.events k e.before e.at
 
   placed_left : (k : ℕ) (q : Passed Event) → slice_get passes.inodes k ≡ Some q
       → All (λ z. z.0 < length q.seen) q.mine
   placed_left k q g =
-      let e : Behind k q = l.inodes k q g in
+      let e : Looked k q = l.inodes k q g in
       let le : length e.before.seen ≤ length q.seen =
       prefix_length e.before.seen q.seen (seen_more k q e) in
       subst (λ (xs : List (ℕ × Event)). All (λ z. z.0 < length q.seen) xs) (sym e.mine)
@@ -124,7 +124,7 @@ module _ (frame : Frame) (t : Tasked) (h : List Answer) (s : State) (passes : Pa
       → HashesFor frame passes.inodes t.gathered o
   hashes_left (Some (Does i d)) st = λ s2 q a b.
       let p = t.mind.program in
-      let e : Behind i q = l.inodes i q b in
+      let e : Looked i q = l.inodes i q b in
       let on : IsStepOn i d (step_at p t.mind.thought.mind) =
       subst (IsStepOn i d) (sym st) (refl, refl) in
       let ready : IsReady (inode_in frame s2) (t.number + 1) e.journal t.gathered t.mind.checked

@@ -163,7 +163,7 @@ module _ (settings : Settings) (boot : Entry) (inodes : List (List ℕ × Image)
       (max 1 (tasks + length inodes) - (tasks + length inodes)) idle → AreIdle frame idle
   are_idle idle idles = record {
     count = ap (λ (n : ℕ). tasks + n + length idle) even
-        ∙ behind (tasks + length inodes) (length idle) idles.even
+        ∙ after (tasks + length inodes) (length idle) idles.even
         ∙ ap (λ (n : ℕ). max 1 (tasks + n)) (sym even);
     each = λ k q at.
         let is = same_Some q (fresh rules.appended.name (tasks + length inodes + k))
@@ -174,8 +174,8 @@ module _ (settings : Settings) (boot : Entry) (inodes : List (List ℕ × Image)
           ap (λ (p : Passed RuleEntry). p.mine) is,
         );
   } where
-    behind : (n m : ℕ) → m ≡ max 1 n - n → n + m ≡ max 1 n
-    behind n m e = let above = below_max n in omega arith
+    after : (n m : ℕ) → m ≡ max 1 n - n → n + m ≡ max 1 n
+    after n m e = let above = below_max n in omega arith
 
   -- ---- the tasks
 
@@ -251,15 +251,15 @@ module _ (settings : Settings) (boot : Entry) (inodes : List (List ℕ × Image)
       );
       book = (
         ap (λ (q : Passed Entry). q.name) (of_book k p at),
-        ap (λ (q : Passed Entry). q.number) (of_book k p at) ∙ behind k,
+        ap (λ (q : Passed Entry). q.number) (of_book k p at) ∙ after k,
       );
       rules = (
         ap (λ (q : Passed RuleEntry). q.name) (rule k p at),
         ap (λ (q : Passed RuleEntry). q.number) (rule k p at),
       );
     } where
-      behind : (k : ℕ) → length inodes + k + 1 ≡ 1 + length (map site_of stations) + k
-      behind k = omega (arith, even)
+      after : (k : ℕ) → length inodes + k + 1 ≡ 1 + length (map site_of stations) + k
+      after k = omega (arith, even)
 
     are_unused : (k : ℕ) (p : PassesValue) → slice_get passes k ≡ Some p → AreUnused p
     are_unused k p at = record {

@@ -2,7 +2,7 @@ use Rattle.std.proofs.Common.{suc, drop, sym, ◌∙◌, subst}
 use Rattle.std.specs.List.{flat_map}
 use Rattle.std.proofs.lemmas.Result.{err_from_is_err_and}
 use Rattle.ima_io.specs.Bytes.{TookPart}
-use Rattle.ima_io.proofs.Parts.{TookPart-behind, flat_at}
+use Rattle.ima_io.proofs.Parts.{TookPart-after, flat_at}
 use Rattle.ima_io.proofs.whole.write_pieces.Goals as goal
 
 pub returns-in_err-write_all-clause-part : goal.returns-in_err-write_all-clause-part
@@ -11,7 +11,7 @@ returns-in_err-write_all-clause-part g c =
     let pieces = c.as_slice-piece-items.result.now in
     let i = c.loop-piece.piece-index in
     let piece = c.piece-item.result in
-    rw (p.1) (TookPart-behind _ _ _ c.args.pieces.now _ piece.items
+    rw (p.1) (TookPart-after _ _ _ c.args.pieces.now _ piece.items
     (flat_map (λ v. v.items) (drop (suc i) pieces))
     (sym c.as_slice-piece-items.ensures
     ∙ flat_at (λ v. v.items) pieces i piece c.loop-piece-test.true c.piece-item.is)

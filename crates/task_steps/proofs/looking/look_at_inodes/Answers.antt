@@ -13,10 +13,10 @@ look_at-requires c =
     let pass_within : c.loop-i.i < length c.loop-i.passes.items =
     omega (arith, c.loop-i.invariant.even) in
     c.requires.names c.loop-i.i c.index_mut.result.now c.index_mut-in-loop-i.result.now
-    (sym (c.loop-i.invariant.behind_stations c.loop-i.i (omega arith))
+    (sym (c.loop-i.invariant.after_stations c.loop-i.i (omega arith))
     ∙ at_index c.loop-i.stations.items c.loop-i.i c.index_mut.result.now c.index_mut.result.now
     within c.index_mut.ensures.value)
-    (sym (c.loop-i.invariant.behind c.loop-i.i (omega arith))
+    (sym (c.loop-i.invariant.after c.loop-i.i (omega arith))
     ∙ at_index c.loop-i.passes.items c.loop-i.i c.index_mut-in-loop-i.result.now
     c.index_mut-in-loop-i.result.now pass_within c.index_mut-in-loop-i.ensures.value)
 

@@ -1,5 +1,5 @@
 use Rattle.std.proofs.Common.{◌≡◌, length, vec_len}
-use Rattle.world_close.specs.Closed.{AreClosedBehind}
+use Rattle.world_close.specs.Closed.{AreClosedAfter}
 use Rattle.world_close.specs.Rows.{AreNamed, RowsFit}
 use Rattle.world_close.proofs.stations.close_stations.Given as goal
 
@@ -11,7 +11,7 @@ invariant-loop-station g l = record {
   count : length l.rows.items ≡ length l.fn.rows.items;
   fit : RowsFit (length l.left.items) g.names l.rows.items;
   named : AreNamed g.names (length l.rows.items) l.left.items;
-  closed : AreClosedBehind l.fn.stations.items l.left.items l.inodes.items l.book.items
+  closed : AreClosedAfter l.fn.stations.items l.left.items l.inodes.items l.book.items
       l.rules.items;
 }
 

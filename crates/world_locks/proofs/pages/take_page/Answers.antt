@@ -3,7 +3,7 @@ use Rattle.std.proofs.Common.{ℕ, List}
 use Rattle.inode_cell.specs.answers.Answers.{piece_told}
 use Rattle.inode_cell.specs.answers.declared.answers.Piece.{Piece}
 use Rattle.task_mind.specs.Steps.{deed_in}
-use Rattle.world_locks.proofs.Alone.{CellLooked, has_looked, leaves_alone, may_behind, told_alone}
+use Rattle.world_locks.proofs.Alone.{CellLooked, has_looked, leaves_alone, may_after, told_alone}
 use Rattle.world_locks.proofs.pages.take_page.Goals as goal
 
 pub next_page-requires-clause-may : goal.next_page-requires-clause-may
@@ -20,7 +20,7 @@ next_page-requires-clause-may c =
       legal = c.look.ensures.legal;
       owned = c.look.ensures.owned;
     } in
-    may_behind c.args.cell.now c.look.new.self c.args.pass.now c.look.new.pass look
+    may_after c.args.cell.now c.look.new.self c.args.pass.now c.look.new.pass look
     (deed_in c.args.doing) c.requires.may
 
 pub returns-clause-looked : goal.returns-clause-looked

@@ -33,7 +33,7 @@ returns-clause-idle c =
     let name = c.in_ok-rules.rules.appended.name in
     let callers = c.appenders_of-appenders.ensures in
     let above = below_max (c.args.tasks + c.args.count) in
-    let behind = fresh_drop name (λ k. c.args.tasks + k) c.args.count
+    let after = fresh_drop name (λ k. c.args.tasks + k) c.args.count
     (c.appenders_of-appenders.result - c.args.tasks)
     (max 1 (c.args.tasks + c.args.count) - (c.args.tasks + c.args.count))
     c.in_ok-counters.counters.items c.in_ok-idle.idle.items (omega arith)
@@ -45,4 +45,4 @@ returns-clause-idle c =
     c.in_ok-rules.ensures.count c.in_ok-rules.ensures.passes)) in
     fresh_as name (λ k. c.args.tasks + (c.args.count + k)) (λ k. c.args.tasks + c.args.count + k)
     (max 1 (c.args.tasks + c.args.count) - (c.args.tasks + c.args.count))
-    c.in_ok-idle.idle.items (λ k. omega arith) behind
+    c.in_ok-idle.idle.items (λ k. omega arith) after
