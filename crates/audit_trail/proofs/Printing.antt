@@ -16,10 +16,6 @@ use Rattle.audit_trail.specs.Trail.{digest_word, record_line, trail_lines}
 
 -- ---- a record
 
-place_gather : (o i s k z w : List ℕ) → ((((o ++ i) ++ s) ++ k) ++ z) ++ w
-    ≡ o ++ ((i ++ (s ++ k)) ++ (z ++ w))
-place_gather o i s k z w = simp append_assoc
-
 front_gather : (o w s p t n path : List ℕ) → ((((((o ++ w) ++ s) ++ p) ++ t) ++ n) ++ s) ++ path
     ≡ o ++ (w ++ (s ++ (p ++ (t ++ (n ++ (s ++ path))))))
 front_gather o w s p t n path = simp append_assoc

@@ -1,9 +1,9 @@
 -- Hashing a read page by page.
-use Rattle.std.proofs.Common.{◌≡◌, ℕ, ◌+◌, ◌-◌, ◌≤◌, List, [], ◌++◌, length, take, drop, sym, ap, ◌∙◌, arith, append-nil}
+use Rattle.std.proofs.Common.{◌≡◌, ℕ, ◌+◌, ◌-◌, ◌≤◌, List, [], ◌++◌, length, take, drop, ap, ◌∙◌, arith, append-nil}
 use Rattle.std.specs.Prelude.{min}
 use Rattle.std.proofs.Math.ListN.{drop_of_length-le}
 use Rattle.std.proofs.Math.Seq.{take-add}
-use Rattle.std.proofs.lemmas.List.{drop-drop, length-drop, length-take, take_min}
+use Rattle.std.proofs.lemmas.List.{drop-drop, length-drop, length-take}
 use Rattle.inode_pages.specs.Content.{bytes_at}
 
 -- the first n + m bytes from a place are the first n followed by the next m
@@ -32,11 +32,3 @@ part_filled content old new from room count fits is counts within =
       length-bytes_at content from (length old),
     )) in
     is ∙ (λ i. bytes_at content from (fits i) ++ all i) ∙ append-nil (bytes_at content from room)
-
--- reading as many bytes as there are, up to `len`, gives the same bytes as reading `len`
-pub bytes_there : (content : List ℕ) (from len count : ℕ)
-    → count ≡ min len (length content - from)
-    → bytes_at content from count ≡ bytes_at content from len
-bytes_there content from len count is =
-    ap (λ (n : ℕ). take n (drop from content)) (is ∙ ap (min len) (sym (length-drop from content)))
-    ∙ take_min len (drop from content)

@@ -17,9 +17,6 @@ pub written_alone : (bytes : List ℕ) → overwritten [] 0 bytes ≡ bytes
 written_alone bytes = ap (λ (xs : List ℕ). bytes ++ xs) (drop-nil (0 + length bytes))
     ∙ append-nil bytes
 
-pub written_nothing : (content : List ℕ) → overwritten content 0 [] ≡ content
-written_nothing content = refl
-
 -- a write at a later offset leaves the first byte, or makes it zero
 written_later : (x : ℕ) (content : List ℕ) (from : ℕ) (bytes : List ℕ)
     → overwritten (x ∷ content) (suc from) bytes ≡ x ∷ overwritten content from bytes

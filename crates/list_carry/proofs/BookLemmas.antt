@@ -108,20 +108,6 @@ failed (err.Refused c) true whole said f = absurd (cc said)
 failed (err.Refused c) false whole said f =
     ap if_new (f refl) ∙ said
 
--- what a call that failed says of the test, it says of the list
-pub failed_list : (e : CarryErr) (first : Entry) (others list : List Entry)
-    → list ≡ first ∷ others
-    → Loads (Err e) (if_new (all_new (first ∷ []) others))
-    → Loads (Err e) (if_distinct list)
-failed_list e first others list is said =
-    subst (λ (l : List Entry). Loads (Err e) (if_distinct l)) (sym is)
-    (at e (all_new (first ∷ []) others) said) where
-      at : (x : CarryErr) (b : Bool) → Loads (Err x) (if_new b)
-          → Loads (Err x) (cond b (Ok (first ∷ others)) (Err cause.Twice))
-      at err.OutOfMemory b told = tt
-      at (err.Refused c) true told = absurd (cc told)
-      at (err.Refused c) false told = let is_c : cause.Twice ≡ c = cc told in λ i. Err (is_c i)
-
 -- a list whose entries are all new is loaded
 pub whole_list : (first : Entry) (others list : List Entry) → list ≡ first ∷ others
     → Loads {X = Unit {0}} (Ok tt) (if_new (all_new (first ∷ []) others))

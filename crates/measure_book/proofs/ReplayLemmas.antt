@@ -4,7 +4,6 @@ use Rattle.std.specs.List.{fold}
 use Rattle.std.proofs.lemmas.List.Sums.{fold-append}
 use Rattle.inode_meta.specs.declared.measurement.Bank.{Bank}
 use Rattle.pcr_bank.specs.declared.banks.Banks.{Banks}
-use Rattle.pcr_bank.specs.Bank.{zero_register}
 use Rattle.pcr_bank.specs.Banks.{new_banks, register}
 use Rattle.pcr_bank.proofs.BanksLemmas.{IsWhole, IsWhole-extend_banks, IsWhole-new_banks, register-extend_banks, register-new_banks}
 use Rattle.ima_templates.specs.declared.entry.Entry.{Entry}
@@ -15,12 +14,6 @@ use Rattle.measure_book.specs.Replay.{banks_of, extended_by, register_after, rep
 pub banks_of-push : (list : List Entry) (e : Entry)
     → banks_of (list ++ e ∷ []) ≡ extended_by (banks_of list) e
 banks_of-push list e = fold-append extended_by new_banks list (e ∷ [])
-
--- the replay of a list with one more entry
-pub replay-push : (list : List Entry) (e : Entry) (bank : Bank) (pcr : ℕ)
-    → replay (list ++ e ∷ []) bank pcr ≡ register_after bank pcr (replay list bank pcr) e
-replay-push list e bank pcr =
-    fold-append (register_after bank pcr) (zero_register bank) list (e ∷ [])
 
 -- the value of each register after one entry
 register-extended_by : (banks : Banks) (e : Entry) (bank : Bank) (pcr : ℕ) → IsWhole banks

@@ -1,9 +1,9 @@
 -- Ways and orders that are added to a list: one that is met for the first time, and one for which
 -- another already stands.
-use Rattle.std.proofs.Common.{◌≡◌, ◌⊎◌, ℕ, zero, suc, ◌+◌, ◌*◌, Contains, List, [], ◌∷◌, ◌++◌, Option, Some, None, slice_get, slice_set, refl, ap, sym, subst, ◌∙◌, arith, inl, inr, Bool, true, false, if◌then◌else◌}
+use Rattle.std.proofs.Common.{◌≡◌, ◌⊎◌, ℕ, zero, suc, ◌+◌, ◌*◌, Contains, List, [], ◌∷◌, ◌++◌, Option, Some, slice_get, slice_set, refl, ap, sym, subst, ◌∙◌, arith, inl, inr, Bool, true, false, if◌then◌else◌}
 use Rattle.std.proofs.lemmas.List.Elements.{Contains-append_left, Contains-push, Contains-push_cases}
 use Rattle.std.proofs.lemmas.Option.{none-some, same_Some}
-use Rattle.order_counts.specs.Layers.{AddsIf, Advances, AllAdvance, AreAlike, BothOrNone, IsAdded, IsJoined, LeadAlike, Spreads, StandsFor, joined, with_turn}
+use Rattle.order_counts.specs.Layers.{AddsIf, Advances, AllAdvance, IsAdded, IsJoined, LeadAlike, Spreads, StandsFor, joined, with_turn}
 use Rattle.order_counts.specs.Orders.{comes_before}
 use Rattle.order_counts.specs.Rows.{Counted, weighed}
 use Rattle.order_counts.proofs.Before.{not_both, not_itself}
@@ -11,20 +11,6 @@ use Rattle.order_counts.proofs.Lists.{weighed-append}
 use Rattle.order_counts.proofs.Spread.{first_in, in_cases, in_none, later_in}
 
 -- ---- equal states are alike
-
-both_itself : {M : Type 0} (o : Option M) → BothOrNone (λ (a b : M). a ≡ b) o o
-both_itself None = tt
-both_itself (Some x) = refl
-
-pub equal_alike : {M O : Type 0} (go : M → ℕ → Option M) (tasks : List ℕ) (start : M)
-    (outcome : M → O) → AreAlike go tasks start outcome (λ a b. a ≡ b)
-equal_alike {M} go tasks start outcome = record {
-  itself = λ turns a leads. refl;
-  along = λ a b c p q. p ∙ q;
-  moves = λ a b p n. subst (λ (x : M). BothOrNone (λ (c d : M). c ≡ d) (go a n) (go x n)) p
-      (both_itself (go a n));
-  ends = λ a b p rest. ap outcome p;
-}
 
 module _ (Same : List ℕ → List ℕ → Type 0) where
   -- a member stands for itself

@@ -24,10 +24,6 @@ some-or : {X : Type 0} (o p : Option X) → is_some o ≡ true → option_or o p
 some-or None p some = absurd cc
 some-or (Some x) p some = refl
 
-no_family : (i : Bool) → (i && false) ≡ false
-no_family true = refl
-no_family false = refl
-
 module _ (a : Access) where
   -- one family's deciding line doesn't change with rules that don't match
   skipped : (f : Family) (front back : List RuleValue) (o : Option ℕ)

@@ -17,21 +17,11 @@ use Rattle.script_text.specs.Draft.{Draft}
 use Rattle.script_text.specs.Grammar.{add}
 use Rattle.script_text.specs.Heads.{is_over}
 use Rattle.script_text.specs.Settings.{Made}
-use Rattle.call_lines.proofs.Holding.{both_true, left_true, right_true}
+use Rattle.call_lines.proofs.Holding.{left_true, right_true}
 pub use Rattle.call_lines.proofs.Rules.{joined_is, text_after}
 use Rattle.call_lines.specs.Lines.{Line, begins_line, is_plain, is_read_line, lines_text, words_text}
 
 -- ---- the words of a line
-
-pub plain_line : (w : List ℕ) (ws : Line) → begins_line w ≡ true → is_plain w ≡ true
-    → list_all is_plain ws ≡ true → is_read_line (w ∷ ws) ≡ true
-plain_line w ws begins here others =
-    both_true (begins_line w) (list_all is_plain (w ∷ ws)) begins
-    (both_true (is_plain w) (list_all is_plain ws) here others)
-
-pub plain_more : (w : List ℕ) (ws : Line) → is_plain w ≡ true → list_all is_plain ws ≡ true
-    → list_all is_plain (w ∷ ws) ≡ true
-plain_more w ws here others = both_true (is_plain w) (list_all is_plain ws) here others
 
 clean_byte : (b : ℕ) → is_visible b ≡ true → is_clean_byte b ≡ true
 clean_byte b h = grind (arith, nat_tests)

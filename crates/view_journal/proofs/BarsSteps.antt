@@ -2,14 +2,14 @@
 use Rattle.std.proofs.Common.{◌≡◌, ◌≢◌, ℕ, zero, suc, ◌+◌, ◌-◌, ◌<◌, ◌==◌, Bool, true, false, cond, ◌&&◌, List, [], ◌∷◌, ◌++◌, length, drop, get_or, reverse, Option, Some, None, refl, sym, ap, ◌∙◌, arith, inl, inr}
 use Rattle.std.proofs.lemmas.Bool.{cases_Bool, eqb-false, eqb-true, ne_eqb}
 use Rattle.std.proofs.lemmas.Grind.{get_or-set_at}
-use Rattle.std.proofs.lemmas.List.{at_drop_more, get_or-set_other, length-drop, length-reverse, length-set, reverse-append, reverse-reverse, drop_all}
+use Rattle.std.proofs.lemmas.List.{at_drop_more, get_or-set_other, length-drop, length-reverse, length-set, reverse-append, drop_all}
 use Rattle.std.specs.Prelude.{nat_lt, unwrap_or}
 use Rattle.std.specs.List.{list_any}
 use Rattle.report_read.specs.words.declared.event.Event.{Event}
 use Rattle.report_read.specs.words.declared.event.Kind.{Kind}
 use Rattle.view_journal.specs.declared.bars.Bar.{Bar}
 use Rattle.view_journal.specs.declared.window.Window.{Window}
-use Rattle.view_journal.specs.Bars.{IsWalked, bar_by, bars_at, bars_from, drop_from, drop_in, is_file, kept, meets, most_bars, shown_bars, with_drop, with_reversed}
+use Rattle.view_journal.specs.Bars.{IsWalked, bar_by, bars_at, bars_from, drop_from, drop_in, is_file, kept, meets, most_bars, with_drop, with_reversed}
 use Rattle.view_journal.specs.Files.{dropped, opened}
 
 -- the first drop of a file from a place on
@@ -130,10 +130,3 @@ walked_start ws journal drops found size h is =
       bars = is
           ∙ ap (λ (x : List Event). reverse (kept ws (bars_from (length journal) x))) (sym none);
     }
-
--- and ends with the bars of the whole journal
-pub walked_whole : (ws : List Window) (journal : List Event) (drops : List ℕ)
-    (found : List Bar) → IsWalked ws journal 0 drops found
-    → reverse found ≡ shown_bars ws journal
-walked_whole ws journal drops found w =
-    ap (λ (x : List Bar). reverse x) w.bars ∙ reverse-reverse (kept ws (bars_from 0 journal))

@@ -1,10 +1,10 @@
 -- Walks over a journal in a loop: one more event at each place.
-use Rattle.std.proofs.Common.{◌≡◌, ℕ, ◌+◌, ◌<◌, ◌^◌, length, refl, arith}
-use Rattle.view_journal.specs.Walk.{IsSmall, Walk, start, walked}
+use Rattle.std.proofs.Common.{◌≡◌, ℕ, ◌+◌, ◌<◌, ◌^◌, length, arith}
+use Rattle.view_journal.specs.Walk.{IsSmall, Walk, walked}
 use Rattle.report_read.specs.words.declared.event.Deed.TheVariants as deed
 use Rattle.report_read.specs.words.declared.event.Event.{Event}
 use Rattle.report_read.specs.words.declared.event.Outcome.TheVariants as outcome
-use Rattle.view_journal.proofs.Small.{held_next, small_next, starts_small}
+use Rattle.view_journal.proofs.Small.{held_next, small_next}
 
 -- an event for where there is none
 abbrev pub no_event : Event
@@ -19,9 +19,6 @@ no_event = record {
 pub record IsAt (place : ℕ) (w : Walk) : Type 0 where
   pub held : length w.held ≡ place
   pub small : IsSmall w
-
-pub starts_at : IsAt 0 start
-starts_at = record { held = refl; small = starts_small }
 
 -- one more event
 pub next_at : (place : ℕ) (w next : Walk) (e : Event) → next ≡ walked e w → IsAt place w

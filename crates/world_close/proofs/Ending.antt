@@ -1,14 +1,12 @@
 -- The final state of a world when its lists are closed.
-use Rattle.std.proofs.Common.{◌≡◌, ℕ, Bool, List, length, refl, ap, sym, ◌∙◌, subst, Some, None}
+use Rattle.std.proofs.Common.{◌≡◌, ℕ, Bool, List, length, ap, sym, ◌∙◌, subst, Some, None}
 use Rattle.std.specs.Prelude.{◌==◌, All, Option, false, map}
 use mathlib.Core.List.{map-map}
-use Rattle.run_model.specs.steps.declared.call.Call.{Call}
 use Rattle.run_model.specs.steps.declared.call.Call.TheVariants as call
 use Rattle.ima_templates.specs.IsEntry.{IsEntry}
 use Rattle.ima_templates.specs.declared.entry.Entry.{Entry}
 use Rattle.inode_events.specs.declared.told.Event.{Event}
 use Rattle.run_model.specs.rules.declared.cell.RuleEntry.{RuleEntry}
-use Rattle.run_model.specs.Ended.{waits_in_vain}
 use Rattle.run_model.specs.EndedValue.{EndedValue}
 use Rattle.run_model.specs.Scene.{Scene}
 use Rattle.run_model.specs.Turns.{Moment, State}
@@ -16,7 +14,7 @@ use Rattle.world_close.specs.worlds.Frame.{Frame, scene_of}
 use Rattle.world_close.specs.worlds.Runs.{AreTasks, moment_of, programs_of, thought_of}
 use Rattle.world_close.specs.worlds.Tasks.{Tasked}
 use Rattle.world_close.specs.worlds.World.{StationValue}
-use Rattle.world_close.specs.minds.Value.{TaskValue, awaited_by}
+use Rattle.world_close.specs.minds.Value.{TaskValue}
 use Rattle.world_close.specs.Closed.{AreStations, WorldClosed}
 use Rattle.world_close.specs.Finished.{HaveMade, state_at}
 use Rattle.world_close.proofs.Finishing.{finished}
@@ -30,12 +28,6 @@ use Rattle.world_close.specs.Settled.{HasEnded, HaveSameMinds, mind_of}
 abbrev pub vain : (ℕ → ℕ) → Option ℕ → Bool
 vain left_of None = false
 vain left_of (Some sem) = left_of sem == 0
-
-pub vain_is : (left_of : ℕ → ℕ) (c : Option Call)
-    → vain left_of (awaited_by c) ≡ waits_in_vain left_of c
-vain_is left_of None = refl
-vain_is left_of (Some (call.Wait sem)) = refl
-vain_is left_of (Some c) = refl
 
 -- ---- the world
 

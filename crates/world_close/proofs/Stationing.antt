@@ -1,14 +1,14 @@
 -- The inodes are closed from the last one to the first.
-use Rattle.std.proofs.Common.{◌≡◌, ℕ, ◌+◌, List, [], ◌∷◌, ◌++◌, length, refl, ap, sym, ◌∙◌, arith, Some, subst}
-use Rattle.std.specs.Prelude.{map, reverse, slice_get}
+use Rattle.std.proofs.Common.{◌≡◌, ℕ, ◌+◌, List, [], ◌∷◌, ◌++◌, length, ap, sym, ◌∙◌, subst}
+use Rattle.std.specs.Prelude.{reverse, slice_get}
 use Rattle.std.specs.List.{AllZip}
-use Rattle.std.proofs.lemmas.List.{append_assoc, append-nil, reverse-append}
+use Rattle.std.proofs.lemmas.List.{append_assoc, reverse-append}
 use Rattle.grow_list.specs.Shown.{ListName, Passed}
 use Rattle.ima_templates.specs.declared.entry.Entry.{Entry}
 use Rattle.inode_events.specs.EndedInode.{EndedInodeValue}
 use Rattle.policy_cell.specs.declared.cell.RuleEntry.{RuleEntry}
 use Rattle.world_model.specs.World.{StationValue}
-use Rattle.world_close.specs.Closed.{AreClosed, AreClosedAfter, IsPushed, StationClosed, ended_station}
+use Rattle.world_close.specs.Closed.{AreClosedAfter, IsPushed, StationClosed, ended_station}
 use Rattle.world_close.specs.Rows.{AreNamed}
 use Rattle.world_close.proofs.Gets.{get_left, get_last}
 
@@ -44,20 +44,3 @@ closed_more all left front s inodes inodes2 book book2 rules rules2 is i b r old
         (sym (ap reverse b.is ∙ reverse-append book (b.pass ∷ []))) (b.closed, old.are.closed);
   };
 }
-
--- no inode is closed at first
-pub closed_none : (all : List StationValue) → AreClosedAfter all all [] [] []
-closed_none all = record {
-  done = [];
-  split = sym (append-nil all);
-  are = record { inodes_are = refl; rules_are = refl; closed = tt };
-}
-
--- all inodes are closed once none remains
-pub closed_all : (all left : List StationValue) (inodes : List EndedInodeValue)
-    (book : List (Passed Entry)) (rules : List (Passed RuleEntry)) → left ≡ []
-    → AreClosedAfter all left inodes book rules
-    → AreClosed all (reverse inodes) (reverse book) (reverse rules)
-closed_all all left inodes book rules none old =
-    subst (λ (l : List StationValue). AreClosed l (reverse inodes) (reverse book) (reverse rules))
-    (sym (old.split ∙ ap (λ (l : List StationValue). l ++ old.done) none)) old.are
