@@ -16,7 +16,7 @@ use Rattle.measure_book.specs.Replay.{banks_of}
 use Rattle.script_text.specs.steps.templates.Same.{IsDistinct}
 use Rattle.script_text.specs.steps.templates.declared.entry.Entry.{Entry}
 use Rattle.buffer_measure.specs.Answers.{IsAnswer, Rises, added_in}
-use Rattle.buffer_measure.specs.Kept.{AreDone, Constants, IsBookOf, IsDone, answers_in, pass_of}
+use Rattle.buffer_measure.specs.Workers.{AreDone, Constants, IsBookOf, IsDone, answers_in, pass_of}
 use Rattle.buffer_measure.specs.Run.{AreAnswers, IsRunOf}
 use Rattle.buffer_text.specs.Text.{Buffer, CallerValue}
 use Rattle.buffer_measure.specs.Answered.{HaveAnswers}

@@ -11,7 +11,7 @@ use Rattle.report_text.specs.Numerals.{numeral}
 use Rattle.report_text.specs.Ranges.{IsClean}
 use Rattle.report_text.specs.Report.{entry_words, pcr_lines}
 use Rattle.report_text.specs.Words.{Line}
-use Rattle.report_text.proofs.Kept.{number_kept, visible}
+use Rattle.report_text.proofs.CleanWords.{number_kept, visible}
 use Rattle.report_text.proofs.Numerals.{numeral_injective}
 use Rattle.report_text.proofs.Whole.{entries_kept, pcr_to_kept, rows_append}
 use Rattle.script_text.specs.events.forms.Tokens.{is_filled}

@@ -3,7 +3,7 @@ pub mod Entries
 pub mod Answers
 pub mod Run
 pub mod Answered
-pub mod Kept
+pub mod Workers
 pub mod Print
 pub mod Parts
 pub mod Alone

@@ -3,7 +3,7 @@
 
 ghost use Rattle.std.specs.Prelude.{◌≡◌, IfOk};
 ghost use Rattle.buffer_measure.specs.Answers.{answer_of};
-ghost use Rattle.buffer_measure.specs.Kept.{IsBookOf};
+ghost use Rattle.buffer_measure.specs.Workers.{IsBookOf};
 ghost use Rattle.buffer_measure.specs.Answered.{IsAdded, IsSamePass};
 
 use crate::answer::Answer;
@@ -15,28 +15,28 @@ use std::marker::{Brand, Model, PhantomData};
 /// Names the constants of a list under a lock: the list itself, and the text whose callers share
 /// it.
 pub trait Name: Send + Sync {
-    ghost use Rattle.buffer_measure.specs.Kept.{Constants};
+    ghost use Rattle.buffer_measure.specs.Workers.{Constants};
 
     ghost constants: { Constants };
 }
 
 impl Name for Brand {
-    ghost use Rattle.buffer_measure.specs.Kept.{no_constants};
+    ghost use Rattle.buffer_measure.specs.Workers.{no_constants};
 
     ghost constants = { no_constants };
 }
 
 /// The measurement list, with the invariant that it belongs to the constants that `N` names.
 #[derive(Drop)]
-pub struct KeptBook<N: Name> {
+pub struct TaggedBook<N: Name> {
     book: Book,
     of: PhantomData<N>,
 }
 
-impl<N: Name> Model for KeptBook<N> {
+impl<N: Name> Model for TaggedBook<N> {
     ghost use Rattle.report_text.specs.model.growing.Shown.{Grown};
     ghost use Rattle.script_text.specs.steps.templates.declared.entry.Entry.{Entry};
-    ghost use Rattle.buffer_measure.specs.Kept.{IsBookOf};
+    ghost use Rattle.buffer_measure.specs.Workers.{IsBookOf};
 
     ghost Value = { Grown Entry };
 
@@ -45,13 +45,13 @@ impl<N: Name> Model for KeptBook<N> {
     ghost invariant = { λ b. IsBookOf N.constants b.book };
 }
 
-impl<N: Name> KeptBook<N> {
+impl<N: Name> TaggedBook<N> {
     /// Wraps the list of these constants.
-    pub fn new(book: Book) -> KeptBook<N>
+    pub fn new(book: Book) -> TaggedBook<N>
         requires { IsBookOf N.constants book }
         ensures { result ≡ book }
     {
-        KeptBook {
+        TaggedBook {
             book,
             of: PhantomData,
         }
@@ -62,7 +62,7 @@ impl<N: Name> KeptBook<N> {
         ensures kept { IsBookOf N.constants result }
         ensures value { result ≡ self }
     {
-        let KeptBook { book, of: _ } = self;
+        let TaggedBook { book, of: _ } = self;
         book
     }
 

@@ -1,11 +1,11 @@
 //! The run of a text of buffers.
 
 ghost use Rattle.std.specs.Prelude.{◌<◌, ◌≤◌, IfOk, length};
-ghost use Rattle.buffer_measure.specs.Kept.{AreDone, AreReady, HasStarted, IsBookOf, IsShared};
+ghost use Rattle.buffer_measure.specs.Workers.{AreDone, AreReady, HasStarted, IsBookOf, IsShared};
 ghost use Rattle.buffer_text.specs.Limits.{most_callers};
 ghost use Rattle.buffer_measure.specs.Run.{IsRunOf};
 
-use crate::book::{KeptBook, Name};
+use crate::book::{Name, TaggedBook};
 use crate::entries::boot_entry;
 use crate::run::BufferRun;
 use crate::workers::{Worker, parted, run_callers, workers_of};
@@ -91,7 +91,7 @@ fn run_all<N: Name, G: Gate + Sync, R: Threads + Wait + Sync>(
     ensures { IfOk result (λ run. IsRunOf N.constants.text run) }
 {
     let mut workers = workers;
-    let book = Mutex::new(KeptBook::<N>::new(book));
+    let book = Mutex::new(TaggedBook::<N>::new(book));
     run_callers(
         rt,
         alloc,

@@ -3,12 +3,12 @@
 ghost use Rattle.std.specs.Prelude.{◌≡◌, ◌+◌, ◌<◌, ◌^◌, true, Some, All, IfOk, IfSome, length, map};
 ghost use Rattle.report_text.specs.model.growing.Shown.{fresh};
 ghost use Rattle.buffer_text.specs.Forms.{is_buffer};
-ghost use Rattle.buffer_measure.specs.Kept.{AreDone, AreReady, IsDone, IsReady, IsShared, answers_in, caller_of, pass_of};
+ghost use Rattle.buffer_measure.specs.Workers.{AreDone, AreReady, IsDone, IsReady, IsShared, answers_in, caller_of, pass_of};
 ghost use Rattle.buffer_measure.specs.Answered.{HaveAnswers, IsAnswered, IsSamePass};
 
 use crate::answer::Answer;
 use crate::answers::Answers;
-use crate::book::{KeptBook, Name};
+use crate::book::{Name, TaggedBook};
 use crate::entries::entry_for;
 use crate::rules::wanted;
 use buffer_text::{BufferBytes, BufferCaller, VALUE};
@@ -64,7 +64,7 @@ fn answer_line<N: Name, R: Wait>(
     hash: Algo,
     register: Option<u8>,
     line: (Bytes, BufferBytes),
-    book: &Mutex<KeptBook<N>>,
+    book: &Mutex<TaggedBook<N>>,
     pass: &mut Pass<Entry>,
 ) -> Result<Answer, OutOfMemory>
     requires name { pass.old.name ≡ N.constants.name }
@@ -90,7 +90,7 @@ fn answer_lines<N: Name, G: Gate, R: Wait>(
     register: Option<u8>,
     lines: Vec<(Bytes, BufferBytes)>,
     task: u32,
-    book: &Mutex<KeptBook<N>>,
+    book: &Mutex<TaggedBook<N>>,
     gate: &G,
     pass: &mut Pass<Entry>,
 ) -> Result<Answers, OutOfMemory>
@@ -129,7 +129,7 @@ fn run_caller<N: Name, G: Gate, R: Wait>(
     hash: Algo,
     rules: &Policy,
     number: usize,
-    book: &Mutex<KeptBook<N>>,
+    book: &Mutex<TaggedBook<N>>,
     gate: &G,
     worker: &mut Worker,
 )
@@ -162,7 +162,7 @@ pub fn run_callers<N: Name, G: Gate + Sync, R: Threads + Wait + Sync>(
     hash: Algo,
     rules: &Policy,
     threads: usize,
-    book: &Mutex<KeptBook<N>>,
+    book: &Mutex<TaggedBook<N>>,
     gate: &G,
     workers: &mut [Worker],
 )

@@ -9,11 +9,11 @@ use Rattle.std.proofs.lemmas.List.Sums.{sum_by-cons}
 use Rattle.grow_list.specs.Entries.{entries_from, entries_of, has_place}
 use Rattle.grow_list.specs.Shown.{Grown, Passed, HasItsOwn, HasEach, Accounts, fresh}
 use Rattle.grow_list.specs.Views.{listed, entries_in}
-use Rattle.grow_list.specs.declared.known.Known.{Known}
+use Rattle.grow_list.specs.declared.views.SeatView.{SeatView}
 use Rattle.grow_list.specs.Meetings.{Tallies}
 use Rattle.grow_list.specs.Steps.{IsComplete}
-use Rattle.grow_list.specs.declared.known.Listed.{Listed}
-use Rattle.grow_list.specs.declared.known.Held.{Held}
+use Rattle.grow_list.specs.declared.views.Listed.{Listed}
+use Rattle.grow_list.specs.declared.views.Held.{Held}
 use mathlib.Core.List.{IsPrefix}
 
 module _ {E : Type 0} where
@@ -163,13 +163,13 @@ module _ {E : Type 0} where
   )
 
   -- a pass that agrees with a view agrees with an equal view
-  pub tallies_at : (v w : Known E) (h : Held E) → v ≡ w → Tallies (listed v) h
+  pub tallies_at : (v w : SeatView E) (h : Held E) → v ≡ w → Tallies (listed v) h
       → Tallies (listed w) h
-  tallies_at v w h e t = subst (λ (x : Known E). Tallies (listed x) h) e t
+  tallies_at v w h e t = subst (λ (x : SeatView E). Tallies (listed x) h) e t
 
-  pub accounts_at : (v w : Known E) (passes : List (Passed E)) → v ≡ w
+  pub accounts_at : (v w : SeatView E) (passes : List (Passed E)) → v ≡ w
       → All (Accounts (listed v)) passes → All (Accounts (listed w)) passes
-  accounts_at v w passes e all = subst (λ (x : Known E). All (Accounts (listed x)) passes) e all
+  accounts_at v w passes e all = subst (λ (x : SeatView E). All (Accounts (listed x)) passes) e all
 
   -- the list begins with what each pass saw
   pub all_saw : (g : Grown E) (l : Listed E) (passes : List (Passed E)) → l.list ≡ g.list

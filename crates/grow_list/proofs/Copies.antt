@@ -4,11 +4,11 @@ use mathlib.Core.Option.{some, some-ne-none, some-injective}
 use lib.ListN.{get_elem?}
 use Rattle.atomic_table.specs.Table.{Splits, Joins}
 use Rattle.atomic_table.proofs.Lists.{at_set, set_again}
-use Rattle.grow_list.specs.declared.known.Listed.{Listed}
-use Rattle.grow_list.specs.declared.known.Held.{Held}
-use Rattle.grow_list.specs.declared.known.Known.{Known}
-use Rattle.grow_list.specs.declared.known.Known.TheVariants.{Spent, OfList, OfPass, ListBeside, PassBeside}
-use Rattle.grow_list.specs.Rule.{Story, Fits, Kept}
+use Rattle.grow_list.specs.declared.views.Listed.{Listed}
+use Rattle.grow_list.specs.declared.views.Held.{Held}
+use Rattle.grow_list.specs.declared.views.SeatView.{SeatView}
+use Rattle.grow_list.specs.declared.views.SeatView.TheVariants.{Spent, OfList, OfPass, ListBeside, PassBeside}
+use Rattle.grow_list.specs.Rule.{Story, Fits, HasStory}
 use Rattle.grow_list.proofs.Stories.{each_set}
 
 module _ {A : Type 0} where
@@ -27,7 +27,8 @@ module _ {A : Type 0} where
 
 module _ {E : Type 0} where
   -- A split: a copy's seat is new, so it is neither the list's own seat nor one that drew a number.
-  copy_fits : (t : Story E) (seat : ℕ) (views : List (Known E)) (v : Known E) → seat < length views
+  copy_fits : (t : Story E) (seat : ℕ) (views : List (SeatView E)) (v : SeatView E)
+      → seat < length views
       → ((n : ℕ) → n < t.next → t.owner n < length views) → Fits t seat v → Fits t (length views) v
   copy_fits t seat views Spent there owned f = tt
   copy_fits t seat views (OfList l) there owned f = (f.0, λ e. absurd (omega arith))
@@ -40,7 +41,7 @@ module _ {E : Type 0} where
     f.2,
   )
 
-  pub copies : (k seat : ℕ) (v : Known E) → Splits {S = Unit {0}} (Kept k) seat v v v
+  pub copies : (k seat : ℕ) (v : SeatView E) → Splits {S = Unit {0}} (HasStory k) seat v v v
   copies k seat v s h at =
       let same : set s.views seat v ≡ s.views = set_again s.views seat v at in
       let there = at_length s.views seat v at in record {
@@ -60,17 +61,17 @@ module _ {E : Type 0} where
         counted = h.counted;
         each = λ j u e. ⊎_elim
             (λ (was : get_elem? (set s.views seat v) j ≡ some u). h.each j u
-            (subst (λ (l : List (Known E)). get_elem? l j ≡ some u) same was))
+            (subst (λ (l : List (SeatView E)). get_elem? l j ≡ some u) same was))
             (λ (new : (j ≡ length (set s.views seat v)) × (v ≡ u)). subst
-            (λ (y : ℕ × Known E). Fits h.story y.0 y.1)
+            (λ (y : ℕ × SeatView E). Fits h.story y.0 y.1)
             (λ i. ((ap length (sym same) ∙ sym new.0) i, new.1 i))
             (copy_fits h.story seat s.views v there h.owned (h.each seat v at)))
             (at_end (set s.views seat v) v u j e);
       }
 
-  joins : (k seat : ℕ) (v : Known E) (other : ℕ) (w both : Known E)
+  joins : (k seat : ℕ) (v : SeatView E) (other : ℕ) (w both : SeatView E)
       → ((t : Story E) → Fits t seat v → Fits t other w → Fits t seat both)
-      → Joins {S = Unit {0}} (Kept k) seat v other w both Spent
+      → Joins {S = Unit {0}} (HasStory k) seat v other w both Spent
   joins k seat v other w both meet s h at apart there = record {
     story = h.story;
     callers_are = h.callers_are;
@@ -95,11 +96,11 @@ module _ {E : Type 0} where
           (at_set s.views seat other both w there)
 
   pub comes : (k seat : ℕ) (l : Listed E) (other : ℕ) (p : Held E)
-      → Joins {S = Unit {0}} (Kept k) seat (OfList l) other (OfPass p) (ListBeside l p) Spent
+      → Joins {S = Unit {0}} (HasStory k) seat (OfList l) other (OfPass p) (ListBeside l p) Spent
   comes k seat l other p = joins k seat (OfList l) other (OfPass p) (ListBeside l p)
       (λ t f g. (f.0, f.1, g.0))
 
   pub visits : (k seat : ℕ) (p : Held E) (other : ℕ) (l : Listed E)
-      → Joins {S = Unit {0}} (Kept k) seat (OfPass p) other (OfList l) (PassBeside p l) Spent
+      → Joins {S = Unit {0}} (HasStory k) seat (OfPass p) other (OfList l) (PassBeside p l) Spent
   visits k seat p other l = joins k seat (OfPass p) other (OfList l) (PassBeside p l)
       (λ t f g. (f.0, f.1, g.0))

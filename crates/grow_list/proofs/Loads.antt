@@ -9,13 +9,13 @@ use Rattle.std.proofs.lemmas.Bool.{and_parts, cond_below, cond_above, eqb-true, 
 use Rattle.std.proofs.lemmas.Option.{none-some, same_Some}
 use Rattle.std.proofs.lemmas.List.Elements.{All-weaker, All-same}
 use Rattle.atomic_table.specs.Table.{State, keeps, stepped, Allows}
-use Rattle.grow_list.specs.declared.known.Listed.{Listed}
-use Rattle.grow_list.specs.declared.known.Held.{Held}
-use Rattle.grow_list.specs.declared.known.Known.{Known}
-use Rattle.grow_list.specs.declared.known.Known.TheVariants.{OfList, OfPass, ListBeside, PassBeside}
+use Rattle.grow_list.specs.declared.views.Listed.{Listed}
+use Rattle.grow_list.specs.declared.views.Held.{Held}
+use Rattle.grow_list.specs.declared.views.SeatView.{SeatView}
+use Rattle.grow_list.specs.declared.views.SeatView.TheVariants.{OfList, OfPass, ListBeside, PassBeside}
 use Rattle.grow_list.specs.Entries.{entries_of}
 use Rattle.grow_list.specs.Views.{longest, marks, entries_in, heard, learned}
-use Rattle.grow_list.specs.Rule.{Story, WasList, IsList, WasPass, Counts, Kept}
+use Rattle.grow_list.specs.Rule.{Story, WasList, IsList, WasPass, Counts, HasStory}
 use Rattle.grow_list.specs.Steps.{Agrees, Owns, IsComplete}
 use Rattle.grow_list.proofs.Prefixes.{prefix_refl, prefix_same, prefix_length, prefix_whole, prefix_longest}
 use Rattle.grow_list.proofs.Counting.{entries-prefix}
@@ -27,9 +27,9 @@ marks_is n (Some m) e = ap Some (sym (eqb-true n m e))
 
 module _ {E : Type 0} where
   -- The list's seat hears a pass, and the mark stays.
-  hears_only : (k : ℕ) (s : State (Unit {0}) (Known E)) (h : Kept k s) (l : Listed E) (p : Held E)
-      (c : List (ℕ × Unit {0})) → get_elem? s.views 0 ≡ some (ListBeside l p)
-      → Kept k (stepped s 0 (slice_index s.words 0) 0 c (OfList l) keeps)
+  hears_only : (k : ℕ) (s : State (Unit {0}) (SeatView E)) (h : HasStory k s) (l : Listed E)
+      (p : Held E) (c : List (ℕ × Unit {0})) → get_elem? s.views 0 ≡ some (ListBeside l p)
+      → HasStory k (stepped s 0 (slice_index s.words 0) 0 c (OfList l) keeps)
   hears_only k s h l p c at = let f = h.each 0 (ListBeside l p) at
       in stays k s h 0 0 c (OfList l) (f.0, f.1)
 
@@ -75,10 +75,10 @@ module _ {E : Type 0} where
             length-append (t.mine n) (x ∷ []),
           )
 
-  clears : (k : ℕ) (s : State (Unit {0}) (Known E)) (h : Kept k s) (l : Listed E) (p : Held E)
-      (c : List (ℕ × Unit {0})) → get_elem? s.views 0 ≡ some (ListBeside l p)
+  clears : (k : ℕ) (s : State (Unit {0}) (SeatView E)) (h : HasStory k s) (l : Listed E)
+      (p : Held E) (c : List (ℕ × Unit {0})) → get_elem? s.views 0 ≡ some (ListBeside l p)
       → l.pending ≡ Some p.number → length (entries_in p.number l) ≤ length p.mine
-      → Kept k (stepped s 0 (slice_index s.words 0) 0 c (OfList (unmarked l)) keeps)
+      → HasStory k (stepped s 0 (slice_index s.words 0) 0 c (OfList (unmarked l)) keeps)
   unfolding unmarked cleared
   clears k s h l p c at mark short =
       let t = h.story in
@@ -123,11 +123,11 @@ module _ {E : Type 0} where
             λ n. prefix_refl (h.story.mine n);
       }
 
-  hears_kept : (k : ℕ) (s : State (Unit {0}) (Known E)) (h : Kept k s) (l : Listed E) (p : Held E)
-      (c : List (ℕ × Unit {0})) → get_elem? s.views 0 ≡ some (ListBeside l p)
+  hears_kept : (k : ℕ) (s : State (Unit {0}) (SeatView E)) (h : HasStory k s) (l : Listed E)
+      (p : Held E) (c : List (ℕ × Unit {0})) → get_elem? s.views 0 ≡ some (ListBeside l p)
       → (b : Bool)
       → (marks p.number l.pending && leb (length (entries_in p.number l)) (length p.mine)) ≡ b
-      → Kept k (stepped s 0 (slice_index s.words 0) 0 c
+      → HasStory k (stepped s 0 (slice_index s.words 0) 0 c
       (OfList (record {
         list = l.list;
         numbers = l.numbers;
@@ -144,8 +144,8 @@ module _ {E : Type 0} where
   hears_kept k s h l p c at false e = hears_only k s h l p c at
 
   pub hears : (k slots : ℕ) (l : Listed E) (p : Held E) (c : List (ℕ × Unit {0}))
-      → Allows (Kept k) slots 0 (ListBeside l p, c) 0 (λ n. n) (λ n w. (w ≡ (OfList (heard l p), c))
-      × Agrees l p)
+      → Allows (HasStory k) slots 0 (ListBeside l p, c) 0 (λ n. n)
+      (λ n w. (w ≡ (OfList (heard l p), c)) × Agrees l p)
   hears k slots l p c s h homes at small =
       let t = h.story in
       let f = h.each 0 (ListBeside l p) at in
@@ -251,10 +251,10 @@ module _ {E : Type 0} where
       (others m ne))
       (cases_eq m n)
 
-  learns_kept : (k : ℕ) (s : State (Unit {0}) (Known E)) (h : Kept k s) (seat : ℕ) (p : Held E)
-      (l : Listed E) (c : List (ℕ × Unit {0})) → seat ≡ p.seat → get_elem? s.views seat
+  learns_kept : (k : ℕ) (s : State (Unit {0}) (SeatView E)) (h : HasStory k s) (seat : ℕ)
+      (p : Held E) (l : Listed E) (c : List (ℕ × Unit {0})) → seat ≡ p.seat → get_elem? s.views seat
       ≡ some (PassBeside p l)
-      → Kept k (stepped s 0 (slice_index s.words 0) seat c (OfPass (learned p l)) keeps)
+      → HasStory k (stepped s 0 (slice_index s.words 0) seat c (OfPass (learned p l)) keeps)
   unfolding with_mine
   learns_kept k s h seat p l c own at =
       let t = h.story in
@@ -308,7 +308,7 @@ module _ {E : Type 0} where
 
   pub learns : (k slots seat : ℕ) (p : Held E) (l : Listed E) (c : List (ℕ × Unit {0})) → seat
       ≡ p.seat
-      → Allows (Kept k) slots seat (PassBeside p l, c) 0 (λ n. n)
+      → Allows (HasStory k) slots seat (PassBeside p l, c) 0 (λ n. n)
       (λ n w. (w ≡ (OfPass (learned p l), c)) × Owns p l)
   learns k slots seat p l c own s h homes at small =
       let f = h.each seat (PassBeside p l) at in (
@@ -325,7 +325,8 @@ module _ {E : Type 0} where
 
   -- the closing load keeps the rule
   pub closes : (k slots : ℕ) (l : Listed E) (c : List (ℕ × Unit {0}))
-      → Allows (Kept k) slots 0 (OfList l, c) 0 (λ n. n) (λ n w. (w ≡ (OfList l, c)) × IsComplete l)
+      → Allows (HasStory k) slots 0 (OfList l, c) 0 (λ n. n)
+      (λ n w. (w ≡ (OfList l, c)) × IsComplete l)
   closes k slots l c s h homes at small =
       let t = h.story in
       let f = h.each 0 (OfList l) at in

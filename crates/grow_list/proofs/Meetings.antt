@@ -3,8 +3,8 @@ use Rattle.std.proofs.Common.{◌≡◌, ℕ, ◌<◌, ◌≤◌, List, [], ◌�
 use mathlib.Core.List.{IsPrefix}
 use Rattle.std.proofs.lemmas.List.Elements.{All-same}
 use Rattle.std.proofs.lemmas.Bool.{cond_below, cond_above, cases_lt, le-leb, and_from}
-use Rattle.grow_list.specs.declared.known.Listed.{Listed}
-use Rattle.grow_list.specs.declared.known.Held.{Held}
+use Rattle.grow_list.specs.declared.views.Listed.{Listed}
+use Rattle.grow_list.specs.declared.views.Held.{Held}
 use Rattle.grow_list.specs.Views.{longest, marks, entries_in, longer, heard, learned}
 use Rattle.grow_list.specs.Steps.{Agrees, Owns}
 use Rattle.grow_list.specs.Meetings.{Tallies, caught_up, grown, enlarged}

@@ -8,13 +8,13 @@ use Rattle.std.proofs.lemmas.List.{set-get_or}
 use Rattle.std.proofs.lemmas.Option.{none-some}
 use Rattle.atomic_table.specs.Table.{State, keeps, stepped}
 use Rattle.atomic_table.proofs.Lists.{at_set}
-use Rattle.grow_list.specs.declared.known.Listed.{Listed}
-use Rattle.grow_list.specs.declared.known.Held.{Held}
-use Rattle.grow_list.specs.declared.known.Known.{Known}
-use Rattle.grow_list.specs.declared.known.Known.TheVariants.{Spent, OfList, OfPass, ListBeside, PassBeside}
+use Rattle.grow_list.specs.declared.views.Listed.{Listed}
+use Rattle.grow_list.specs.declared.views.Held.{Held}
+use Rattle.grow_list.specs.declared.views.SeatView.{SeatView}
+use Rattle.grow_list.specs.declared.views.SeatView.TheVariants.{Spent, OfList, OfPass, ListBeside, PassBeside}
 use Rattle.grow_list.specs.Entries.{entries_of}
 use Rattle.grow_list.specs.Views.{entries_in}
-use Rattle.grow_list.specs.Rule.{Story, WasList, IsList, WasPass, Fits, Counts, Kept}
+use Rattle.grow_list.specs.Rule.{Story, WasList, IsList, WasPass, Fits, Counts, HasStory}
 use Rattle.grow_list.proofs.Prefixes.{prefix_trans}
 
 -- the second story continues the first
@@ -61,7 +61,7 @@ module _ {E : Type 0} where
   }
 
   -- a view still fits a longer story, if its seat's own part of the story doesn't change
-  pub fits_on : (t u : Story E) (seat : ℕ) (v : Known E) → Grows t u → (seat ≡ 0 → SameList t u)
+  pub fits_on : (t u : Story E) (seat : ℕ) (v : SeatView E) → Grows t u → (seat ≡ 0 → SameList t u)
       → ((n : ℕ) → n < t.next → t.owner n ≡ seat → u.mine n ≡ t.mine n) → Fits t seat v
       → Fits u seat v
   fits_on t u seat Spent g list pass f = tt
@@ -78,21 +78,21 @@ module _ {E : Type 0} where
   )
 
   -- after the view of one seat changes, the views of the others still fit
-  pub each_set : (t u : Story E) (views : List (Known E)) (seat : ℕ) (w : Known E)
-      → ((j : ℕ) (v : Known E) → j ≢ seat → Fits t j v → Fits u j v) → Fits u seat w
-      → ((j : ℕ) (v : Known E) → get_elem? views j ≡ some v → Fits t j v) → (j : ℕ) (v : Known E)
-      → get_elem? (set views seat w) j ≡ some v → Fits u j v
+  pub each_set : (t u : Story E) (views : List (SeatView E)) (seat : ℕ) (w : SeatView E)
+      → ((j : ℕ) (v : SeatView E) → j ≢ seat → Fits t j v → Fits u j v) → Fits u seat w
+      → ((j : ℕ) (v : SeatView E) → get_elem? views j ≡ some v → Fits t j v)
+      → (j : ℕ) (v : SeatView E) → get_elem? (set views seat w) j ≡ some v → Fits u j v
   each_set t u views seat w on mine each j v e =
       ⊎_elim
-      (λ (x : (j ≡ seat) × (w ≡ v)). subst (λ (y : ℕ × Known E). Fits u y.0 y.1)
+      (λ (x : (j ≡ seat) × (w ≡ v)). subst (λ (y : ℕ × SeatView E). Fits u y.0 y.1)
       (λ i. (sym x.0 i, x.1 i)) mine)
       (λ (x : (j ≢ seat) × (get_elem? views j ≡ some v)). on j v x.0 (each j v x.1))
       (at_set views seat j w v e)
 
   -- a load changes the view of one seat, and not the story
-  pub stays : (k : ℕ) (s : State (Unit {0}) (Known E)) (h : Kept k s) (i seat : ℕ)
-      (c : List (ℕ × Unit {0})) (w : Known E) → Fits h.story seat w
-      → Kept k (stepped s i (slice_index s.words i) seat c w keeps)
+  pub stays : (k : ℕ) (s : State (Unit {0}) (SeatView E)) (h : HasStory k s) (i seat : ℕ)
+      (c : List (ℕ × Unit {0})) (w : SeatView E) → Fits h.story seat w
+      → HasStory k (stepped s i (slice_index s.words i) seat c w keeps)
   stays k s h i seat c w fits = record {
     story = h.story;
     callers_are = h.callers_are;

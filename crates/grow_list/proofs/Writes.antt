@@ -9,13 +9,13 @@ use Rattle.std.proofs.lemmas.Option.{none-some, same_Some}
 use Rattle.std.proofs.lemmas.List.Elements.{All-push, All-weaker, All-nil}
 use Rattle.atomic_table.specs.Table.{State, Act, keeps, stepped, Valid, carried_after, opening, Me, Allows}
 use Rattle.atomic_table.proofs.Lists.{exchanged}
-use Rattle.grow_list.specs.declared.known.Listed.{Listed}
-use Rattle.grow_list.specs.declared.known.Held.{Held}
-use Rattle.grow_list.specs.declared.known.Known.{Known}
-use Rattle.grow_list.specs.declared.known.Known.TheVariants.{OfList, OfPass, ListBeside}
+use Rattle.grow_list.specs.declared.views.Listed.{Listed}
+use Rattle.grow_list.specs.declared.views.Held.{Held}
+use Rattle.grow_list.specs.declared.views.SeatView.{SeatView}
+use Rattle.grow_list.specs.declared.views.SeatView.TheVariants.{OfList, OfPass, ListBeside}
 use Rattle.grow_list.specs.Entries.{entries_of}
 use Rattle.grow_list.specs.Views.{newborn, newcomer, longer}
-use Rattle.grow_list.specs.Rule.{Story, Fits, Counts, Kept}
+use Rattle.grow_list.specs.Rule.{Story, Fits, Counts, HasStory}
 use Rattle.grow_list.proofs.Prefixes.{prefix_none, prefix_refl, prefix_append, prefix_same}
 use Rattle.grow_list.proofs.Counting.{entries-same, entries-other}
 use Rattle.grow_list.proofs.Stories.{Grows, fits_on, each_set, stays, settled}
@@ -55,10 +55,11 @@ module _ {E : Type 0} where
       whole : entries_of n t.numbers t.list ≡ t.mine n
       whole = settled t n none counts
 
-  adds_kept : (k : ℕ) (s : State (Unit {0}) (Known E)) (h : Kept k s) (l : Listed E) (p : Held E)
+  adds_kept : (k : ℕ) (s : State (Unit {0}) (SeatView E)) (h : HasStory k s) (l : Listed E)
+      (p : Held E)
       (e : E) (c : List (ℕ × Unit {0})) (new : ℕ) → l.pending ≡ None → new ≡ length l.list + 1
       → get_elem? s.views 0 ≡ some (ListBeside l p)
-      → Kept k (stepped s 0 new 0 c (OfList (longer l p.number (e ∷ []))) keeps)
+      → HasStory k (stepped s 0 new 0 c (OfList (longer l p.number (e ∷ []))) keeps)
   unfolding with_entry
   adds_kept k s h l p e c new none due at =
       let t = h.story in
@@ -124,7 +125,7 @@ module _ {E : Type 0} where
 
   pub adds : (k slots : ℕ) (l : Listed E) (p : Held E) (e : E) (c : List (ℕ × Unit {0})) (new : ℕ)
       → l.pending ≡ None → new ≡ length l.list + 1
-      → Allows (Kept k) slots 0 (ListBeside l p, c) 0 (λ _. new)
+      → Allows (HasStory k) slots 0 (ListBeside l p, c) 0 (λ _. new)
       (λ _ w. w ≡ (OfList (longer l p.number (e ∷ [])), c))
   adds k slots l p e c new none due s h homes at small = (
     OfList (longer l p.number (e ∷ [])),
@@ -148,10 +149,10 @@ module _ {E : Type 0} where
     mine = t.mine;
   }
 
-  draws_kept : (k : ℕ) (s : State (Unit {0}) (Known E)) (h : Kept k s) (seat : ℕ) (l : Listed E)
-      (c : List (ℕ × Unit {0})) (due new : ℕ) → new ≡ due + 1 → due < l.callers
+  draws_kept : (k : ℕ) (s : State (Unit {0}) (SeatView E)) (h : HasStory k s) (seat : ℕ)
+      (l : Listed E) (c : List (ℕ × Unit {0})) (due new : ℕ) → new ≡ due + 1 → due < l.callers
       → slice_index s.words 1 ≡ due → get_elem? s.views seat ≡ some (OfList l)
-      → Kept k (stepped s 1 new seat c (OfPass (newcomer seat due l.callers)) keeps)
+      → HasStory k (stepped s 1 new seat c (OfPass (newcomer seat due l.callers)) keeps)
   unfolding with_owner
   draws_kept k s h seat l c due new next within found at =
       let t = h.story in
@@ -211,12 +212,12 @@ module _ {E : Type 0} where
 
   pub draws : (k slots seat : ℕ) (l : Listed E) (c : List (ℕ × Unit {0})) (due new : ℕ) → new
       ≡ due + 1 → due < l.callers
-      → Allows (Kept k) slots seat (OfList l, c) 1 (λ n. either (eqb n due) new n) (λ n w. n ≡ due
-      → w ≡ (OfPass (newcomer seat due l.callers), c))
+      → Allows (HasStory k) slots seat (OfList l, c) 1 (λ n. either (eqb n due) new n)
+      (λ n w. n ≡ due → w ≡ (OfPass (newcomer seat due l.callers), c))
   draws k slots seat l c due new next within s h homes at small =
-      exchanged (slice_index s.words 1) due new (λ (x : ℕ). (w : Known E) × (a : Act (Unit {0}))
-      × Valid s.homes c a × Kept k (stepped s 1 x seat c w a)
-      × (slice_index s.words 1 ≡ due → ◌≡◌ {A = Me (Unit {0}) (Known E)} (w, carried_after c a)
+      exchanged (slice_index s.words 1) due new (λ (x : ℕ). (w : SeatView E) × (a : Act (Unit {0}))
+      × Valid s.homes c a × HasStory k (stepped s 1 x seat c w a)
+      × (slice_index s.words 1 ≡ due → ◌≡◌ {A = Me (Unit {0}) (SeatView E)} (w, carried_after c a)
       (OfPass (newcomer seat due l.callers), c)))
       (λ hit. (
         OfPass (newcomer seat due l.callers),
@@ -235,7 +236,7 @@ module _ {E : Type 0} where
 
   -- the rule holds at the start
   pub begins : (callers : ℕ)
-      → Kept {E = E} callers (opening {S = Unit {0}} (0 ∷ 0 ∷ []) [] (newborn callers))
+      → HasStory {E = E} callers (opening {S = Unit {0}} (0 ∷ 0 ∷ []) [] (newborn callers))
   begins callers = record {
     story = t;
     callers_are = refl;
@@ -262,7 +263,7 @@ module _ {E : Type 0} where
         mine = λ n. [];
       }
 
-      one : (seat : ℕ) (v : Known E) → get_elem? (newborn callers ∷ []) seat ≡ some v
+      one : (seat : ℕ) (v : SeatView E) → get_elem? (newborn callers ∷ []) seat ≡ some v
           → Fits t seat v
       one zero v e = subst (Fits t 0) (some-injective (newborn callers) v e) (
         record {

@@ -2,27 +2,28 @@
 use Rattle.std.specs.Prelude.{◌≡◌, ℕ, ◌<◌, None, [], ◌∷◌, ◌++◌, length, All}
 use mathlib.Core.List.{IsPrefix}
 use Rattle.atomic_table.specs.declared.shared.Seat.{Seat}
-use Rattle.grow_list.specs.declared.known.Listed.{Listed}
-use Rattle.grow_list.specs.declared.known.Held.{Held}
-use Rattle.grow_list.specs.declared.known.Known.{Known}
-use Rattle.grow_list.specs.declared.known.Known.TheVariants.{OfList, OfPass}
+use Rattle.grow_list.specs.declared.views.Listed.{Listed}
+use Rattle.grow_list.specs.declared.views.Held.{Held}
+use Rattle.grow_list.specs.declared.views.SeatView.{SeatView}
+use Rattle.grow_list.specs.declared.views.SeatView.TheVariants.{OfList, OfPass}
 use Rattle.grow_list.specs.Views.{listed, held, entries_in}
 
 -- the seat has moved to this view, at the same table
-pub record IsMoved {E : Type 0} (old new : Seat (Unit {0}) (Known E)) (view : Known E) : Type 0
+pub record IsMoved {E : Type 0} (old new : Seat (Unit {0}) (SeatView E))
+    (view : SeatView E) : Type 0
   where
     pub table_id : new.table_id ≡ old.table_id
     pub id : new.id ≡ old.id
     pub me : new.me ≡ (view, old.me.1)
 
 -- the list's own seat, with nothing pending
-pub record IsListSeat {E : Type 0} (seat : Seat (Unit {0}) (Known E)) : Type 0 where
+pub record IsListSeat {E : Type 0} (seat : Seat (Unit {0}) (SeatView E)) : Type 0 where
   pub first : seat.id ≡ 0
   pub view : seat.me.0 ≡ OfList (listed seat.me.0)
   pub settled : (listed seat.me.0).pending ≡ None
 
 -- a pass's own seat
-pub record IsPassSeat {E : Type 0} (seat : Seat (Unit {0}) (Known E)) : Type 0 where
+pub record IsPassSeat {E : Type 0} (seat : Seat (Unit {0}) (SeatView E)) : Type 0 where
   pub own : seat.id ≡ (held seat.me.0).seat
   pub view : seat.me.0 ≡ OfPass (held seat.me.0)
 

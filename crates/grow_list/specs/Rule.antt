@@ -4,10 +4,10 @@ use mathlib.Core.List.{IsPrefix}
 use mathlib.Core.Option.{some}
 use lib.ListN.{get_elem?}
 use Rattle.atomic_table.specs.Table.{State}
-use Rattle.grow_list.specs.declared.known.Listed.{Listed}
-use Rattle.grow_list.specs.declared.known.Held.{Held}
-use Rattle.grow_list.specs.declared.known.Known.{Known}
-use Rattle.grow_list.specs.declared.known.Known.TheVariants.{Spent, OfList, OfPass, ListBeside, PassBeside}
+use Rattle.grow_list.specs.declared.views.Listed.{Listed}
+use Rattle.grow_list.specs.declared.views.Held.{Held}
+use Rattle.grow_list.specs.declared.views.SeatView.{SeatView}
+use Rattle.grow_list.specs.declared.views.SeatView.TheVariants.{Spent, OfList, OfPass, ListBeside, PassBeside}
 use Rattle.grow_list.specs.Entries.{entries_of}
 use Rattle.grow_list.specs.Views.{entries_in}
 
@@ -45,7 +45,7 @@ pub record WasPass {E : Type 0} (t : Story E) (p : Held E) : Type 0 where
   pub mine : IsPrefix p.mine (t.mine p.number)
 
 -- The list's own seat is the first one, and a pass's own seat is the one that drew its number.
-abbrev pub Fits : {E : Type 0} → Story E → ℕ → Known E → Type 0
+abbrev pub Fits : {E : Type 0} → Story E → ℕ → SeatView E → Type 0
 Fits t seat Spent = Unit {0}
 Fits t seat (OfList l) = WasList t l × (seat ≡ 0 → IsList t l)
 Fits t seat (OfPass p) = WasPass t p × (seat ≡ p.seat → t.mine p.number ≡ p.mine)
@@ -58,7 +58,7 @@ abbrev pub Counts : {E : Type 0} → Option ℕ → ℕ → List (ℕ × E) → 
 Counts {E} pending n entries mine =
     (entries ≡ mine) ⊎ ((pending ≡ Some n) × ((x : ℕ × E) × (entries ≡ mine ++ x ∷ [])))
 
-pub record Kept {E : Type 0} (callers : ℕ) (s : State (Unit {0}) (Known E)) : Type 0 where
+pub record HasStory {E : Type 0} (callers : ℕ) (s : State (Unit {0}) (SeatView E)) : Type 0 where
   pub story : Story E
   pub callers_are : story.callers ≡ callers
   pub words : s.words ≡ length story.list ∷ story.next ∷ []
@@ -72,4 +72,4 @@ pub record Kept {E : Type 0} (callers : ℕ) (s : State (Unit {0}) (Known E)) : 
   pub undrawn : (n : ℕ) → story.next ≤ n → story.mine n ≡ []
   pub counted : (n : ℕ) → Counts story.pending n (entries_of n story.numbers story.list)
       (story.mine n)
-  pub each : (seat : ℕ) (v : Known E) → get_elem? s.views seat ≡ some v → Fits story seat v
+  pub each : (seat : ℕ) (v : SeatView E) → get_elem? s.views seat ≡ some v → Fits story seat v

@@ -3,9 +3,9 @@ use Rattle.std.specs.Prelude.{◌≡◌, ℕ, ◌<◌, ◌==◌, List, [], All, 
 use mathlib.Core.List.{IsPrefix}
 use Rattle.atomic_table.specs.Seated.{TableId}
 use Rattle.atomic_table.specs.declared.shared.Seat.{Seat}
-use Rattle.grow_list.specs.declared.known.Known.{Known}
+use Rattle.grow_list.specs.declared.views.SeatView.{SeatView}
 use Rattle.grow_list.specs.Entries.{entries_of}
-use Rattle.grow_list.specs.declared.known.Listed.{Listed}
+use Rattle.grow_list.specs.declared.views.Listed.{Listed}
 use Rattle.grow_list.specs.Views.{held, entries_in}
 
 -- the identity of a list: plain data, and different lists have different names
@@ -68,7 +68,7 @@ abbrev pub Accounts : {E : Type 0} → Listed E → Passed E → Type 0
 Accounts l p = IsPrefix p.seen l.list × (entries_in p.number l ≡ p.mine)
 
 -- the pass agrees with the view of its seat
-pub record IsPassAt {E : Type 0} (p : Passed E) (seat : Seat (Unit {0}) (Known E)) : Type 0 where
+pub record IsPassAt {E : Type 0} (p : Passed E) (seat : Seat (Unit {0}) (SeatView E)) : Type 0 where
   pub name : p.name ≡ seat.table_id
   pub number : p.number ≡ (held seat.me.0).number
   pub seen : p.seen ≡ (held seat.me.0).seen

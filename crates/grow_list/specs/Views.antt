@@ -1,9 +1,9 @@
 -- The views of seats, and the views that result when seats meet.
 use Rattle.std.specs.Prelude.{ℕ, ◌==◌, nat_lt, nat_le, ◌&&◌, Bool, false, if◌then◌else◌, Option, None, Some, List, [], ◌∷◌, ◌++◌, length}
-use Rattle.grow_list.specs.declared.known.Listed.{Listed}
-use Rattle.grow_list.specs.declared.known.Held.{Held}
-use Rattle.grow_list.specs.declared.known.Known.{Known}
-use Rattle.grow_list.specs.declared.known.Known.TheVariants.{Spent, OfList, OfPass, ListBeside, PassBeside}
+use Rattle.grow_list.specs.declared.views.Listed.{Listed}
+use Rattle.grow_list.specs.declared.views.Held.{Held}
+use Rattle.grow_list.specs.declared.views.SeatView.{SeatView}
+use Rattle.grow_list.specs.declared.views.SeatView.TheVariants.{Spent, OfList, OfPass, ListBeside, PassBeside}
 use Rattle.grow_list.specs.Entries.{entries_of}
 
 -- the longer of two lists, one of which is a prefix of the other
@@ -23,7 +23,7 @@ module _ {E : Type 0} where
   no_pass = record { seat = 0; number = 0; callers = 0; seen = []; mine = [] }
 
   -- the view of the list's seat at the start
-  abbrev pub newborn : ℕ → Known E
+  abbrev pub newborn : ℕ → SeatView E
   newborn callers = OfList (record { list = []; numbers = []; callers = callers; pending = None })
 
   -- a pass that has just drawn its number
@@ -32,14 +32,14 @@ module _ {E : Type 0} where
       record { seat = seat; number = number; callers = callers; seen = []; mine = [] }
 
   -- the list and the pass, as far as a view knows them
-  abbrev pub listed : Known E → Listed E
+  abbrev pub listed : SeatView E → Listed E
   listed Spent = no_list
   listed (OfList l) = l
   listed (OfPass p) = no_list
   listed (ListBeside l p) = l
   listed (PassBeside p l) = l
 
-  abbrev pub held : Known E → Held E
+  abbrev pub held : SeatView E → Held E
   held Spent = no_pass
   held (OfList l) = no_pass
   held (OfPass p) = p
@@ -47,7 +47,7 @@ module _ {E : Type 0} where
   held (PassBeside p l) = p
 
   -- the views of the list and of a pass, joined in the seat of the first
-  abbrev pub met : Known E → Known E → Known E
+  abbrev pub met : SeatView E → SeatView E → SeatView E
   met (OfList l) (OfPass p) = ListBeside l p
   met (OfPass p) (OfList l) = PassBeside p l
   met v w = v

@@ -4,9 +4,9 @@
 //! before is still in the list.
 #![tactic(auto)]
 
-mod known;
 mod list;
 mod meeting;
+mod views;
 
 pub use list::{Grow, Pass};
 pub use std::alloc::AllocError as OutOfMemory;

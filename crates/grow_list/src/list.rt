@@ -6,8 +6,8 @@ ghost use Rattle.grow_list.specs.Meetings.{IsListSeat, IsPassSeat, IsMoved};
 ghost use Rattle.grow_list.specs.Views.{listed};
 ghost use Rattle.grow_list.specs.Shown.{IsSameList, HasItsOwn, HasEach, Accounts, fresh, IsPassAt};
 
-use crate::known::{Growing, Known};
 use crate::meeting::{Board, Place, end, enter, meet, part, take_number};
+use crate::views::{Growing, SeatView};
 use atomic_table::Table;
 use std::alloc::{AllocError as OutOfMemory, Global};
 use std::marker::Model;
@@ -19,7 +19,7 @@ use std::marker::Model;
 pub struct Grow<E> {
     entries: Vec<E>,
     callers: u32,
-    table: Table<(), Known<E>, u32, Growing, Global>,
+    table: Table<(), SeatView<E>, u32, Growing, Global>,
     seat: Place<E>,
 }
 

@@ -2,23 +2,23 @@
 //! how a number is drawn.
 ghost use Rattle.std.specs.Prelude.{◌≡◌, ◌+◌, ◌^◌, ◌<◌, None, [], ◌∷◌, length, IfOk};
 ghost use Rattle.std.specs.Bool.{OnTrue};
-ghost use Rattle.grow_list.specs.declared.known.Known.TheVariants.{OfList, OfPass, ListBeside, PassBeside};
+ghost use Rattle.grow_list.specs.declared.views.SeatView.TheVariants.{OfList, OfPass, ListBeside, PassBeside};
 ghost use Rattle.grow_list.specs.Views.{listed, held, newcomer, longer, heard, learned};
 ghost use Rattle.grow_list.specs.Steps.{Agrees, Owns, IsComplete};
 ghost use Rattle.grow_list.specs.Meetings.{IsMoved, IsListSeat, IsPassSeat, Tallies, caught_up, grown, enlarged};
 
-use crate::known::{
-    Adding, Adds, Closes, Copies, Drawing, Draws, Growing, Hears, Known, Learns, Meets,
+use crate::views::{
+    Adding, Adds, Closes, Copies, Drawing, Draws, Growing, Hears, Learns, Meets, SeatView,
 };
 use atomic_table::{Seat, Shared};
 use std::alloc::AllocError as OutOfMemory;
 use std::marker::Brand;
 
 /// The table and its two words, on which the seats of the list and of its passes take their steps.
-pub type Board<E> = Shared<(), Known<E>, u32, Growing>;
+pub type Board<E> = Shared<(), SeatView<E>, u32, Growing>;
 
 /// The seat of a list or of a pass.
-pub type Place<E> = Seat<(), Known<E>>;
+pub type Place<E> = Seat<(), SeatView<E>>;
 
 // Joins a copy of the pass's seat to the list's.
 fn come<E>(board: &Board<E>, list: &mut Place<E>, pass: &mut Place<E>)
@@ -91,7 +91,7 @@ fn add<E, N: Adding<E>>(board: &Board<E>, list: &mut Place<E>, entry: &E, new_le
 }
 
 // The pass takes in the pending entry, and then the mark is cleared.
-fn settle<E>(board: &Board<E>, list: &mut Place<E>, pass: &mut Place<E>)
+fn take_in<E>(board: &Board<E>, list: &mut Place<E>, pass: &mut Place<E>)
     requires seats { (list.old.table_id ≡ board.now.table_id)
         × (pass.old.table_id ≡ board.now.table_id) }
     requires words { board.now.table_id.words ≡ 2 }
@@ -152,7 +152,7 @@ pub fn enter<E>(
     meet(board, list, pass);
     come(board, list, pass);
     add::<E, Brand>(board, list, entry, new_length);
-    settle(board, list, pass);
+    take_in(board, list, pass);
 }
 
 // The seat draws the number `due`, if this is the next number. It always is.

@@ -6,7 +6,7 @@ pub mod Entries
 pub mod Data
 pub mod Feeds
 pub mod Appends
-pub mod Kept
+pub mod FieldsAgree
 pub mod Digests
 pub mod Same
 pub use Rattle.hash_algos.specs as hashes

@@ -43,11 +43,11 @@ impl Model for Entry {
     ghost Value = { EntryValue };
 
     ghost use Rattle.ima_templates.specs.IsEntry.{fields_of};
-    ghost use Rattle.ima_templates.specs.Kept.{IsKept};
+    ghost use Rattle.ima_templates.specs.FieldsAgree.{FieldsAgree};
 
     ghost view = { fields_of };
 
-    ghost invariant = { IsKept };
+    ghost invariant = { FieldsAgree };
 }
 
 /// The outcome of adding an entry, with an index in the list, counted from 0.

@@ -16,8 +16,8 @@ use Rattle.inode_events.specs.State.{content, content_after, metadata}
 use Rattle.inode_events.specs.declared.deed.Deed.{Deed}
 use Rattle.inode_events.specs.declared.told.Event.{Event}
 use Rattle.inode_events.specs.declared.told.Told.{Told}
-use Rattle.inode_state.specs.Known.{IsKnown}
-use Rattle.inode_state.specs.declared.known.Known.{Known}
+use Rattle.inode_state.specs.Facts.{AreFacts}
+use Rattle.inode_state.specs.declared.facts.Facts.{Facts}
 use Rattle.inode_state.specs.laws_of_journals.Own.{IsBy}
 use Rattle.inode_answers.specs.Changes.{rewritten}
 use Rattle.inode_cell.specs.Value.{CellValue, IsSameCell}
@@ -48,7 +48,7 @@ pub record MayBy (cell : CellValue) (number : ℕ) (d : Deed) : Type 0 where
   pub by : IsBy number d (past cell.list)
 
 -- a step that adds nothing to the measurement list and leaves content and attributes
-pub record IsPlain (inode : Inode) (p : List Event) (who : Who) (d : Deed) (t : Told) (k : Known) :
+pub record IsPlain (inode : Inode) (p : List Event) (who : Who) (d : Deed) (t : Told) (k : Facts) :
     Type 0 where
   pub may : May inode p d
   pub by : IsBy (caller_in who.task d) d p
@@ -56,11 +56,11 @@ pub record IsPlain (inode : Inode) (p : List Event) (who : Who) (d : Deed) (t : 
   pub told : says inode p (Added 0) d ≡ Some t
   pub content : content_after d t (content p) ≡ content p
   pub attributes : attributes_after inode d t p (integrity inode p) ≡ attributes inode p
-  pub known : IsKnown inode p (record { who = who; deed = d; told = t }) k
+  pub facts : AreFacts inode p (record { who = who; deed = d; told = t }) k
 
 -- a step that adds nothing to the measurement list, leaves the content and rewrites attributes; at
 -- a close, `digest` is the one for the label
-pub record IsChange (inode : Inode) (p : List Event) (who : Who) (d : Deed) (t : Told) (k : Known)
+pub record IsChange (inode : Inode) (p : List Event) (who : Who) (d : Deed) (t : Told) (k : Facts)
     (digest : Option Digest) : Type 0 where
   pub may : May inode p d
   pub by : IsBy (caller_in who.task d) d p
@@ -69,4 +69,4 @@ pub record IsChange (inode : Inode) (p : List Event) (who : Who) (d : Deed) (t :
   pub content : content_after d t (content p) ≡ content p
   pub attributes : attributes_after inode d t p (integrity inode p)
       ≡ rewritten inode.settings.evm d digest (metadata p) (attributes inode p)
-  pub known : IsKnown inode p (record { who = who; deed = d; told = t }) k
+  pub facts : AreFacts inode p (record { who = who; deed = d; told = t }) k

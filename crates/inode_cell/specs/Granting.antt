@@ -16,11 +16,11 @@ use Rattle.inode_events.specs.declared.told.Event.{Event}
 use Rattle.inode_events.specs.declared.told.Grant.{Grant}
 use Rattle.inode_events.specs.declared.told.Told.TheVariants as told
 use Rattle.inode_state.specs.Collecting.{IsAsked}
-use Rattle.inode_state.specs.Known.{IsKnown}
+use Rattle.inode_state.specs.Facts.{AreFacts}
 use Rattle.inode_state.specs.declared.collecting.Asked.{Asked}
 use Rattle.inode_state.specs.declared.collecting.Collecting.{Collecting}
 use Rattle.inode_state.specs.declared.in_force.Sums.{Sums}
-use Rattle.inode_state.specs.declared.known.Known.{Known}
+use Rattle.inode_state.specs.declared.facts.Facts.{Facts}
 
 -- the digests, with a begin of 0, which no grant reads
 abbrev pub digests_in : Sums → Digests
@@ -28,7 +28,7 @@ digests_in sums = record { digest = sums.digest; sha1 = sums.sha1; begin = 0 }
 
 -- the deed grants the file by these digests, and `a` is what the file's last check asked for
 pub record IsGranting (inode : Inode) (p : List Event) (who : Who) (d : Deed) (file : ℕ) (a :
-    Asked) (sums : Sums) (k : Known) : Type 0 where
+    Asked) (sums : Sums) (k : Facts) : Type 0 where
   pub check : IsAsked (last_check file p) a
   pub sha1 : sums.sha1.algo ≡ Sha1
   pub tells : (placed : Placed) → says inode p placed d ≡ Some (told.Grant (grant_of inode file
@@ -38,7 +38,7 @@ pub record IsGranting (inode : Inode) (p : List Event) (who : Who) (d : Deed) (f
   pub leaves : (g : Grant) → attributes_after inode d (told.Grant g) p (integrity inode p) ≡
       fixed_by inode g.labelled (Some sums.digest) (metadata p) (attributes inode p)
   pub keeps : (g : Grant) → content_after d (told.Grant g) (content p) ≡ content p
-  pub known : (g : Grant) → IsKnown inode p (record { who = who; deed = d; told = told.Grant g }) k
+  pub facts : (g : Grant) → AreFacts inode p (record { who = who; deed = d; told = told.Grant g }) k
 
 -- the digests without the begin of their collection
 abbrev pub sums_in : Digests → Sums

@@ -17,7 +17,7 @@ use ima_templates::Entry;
 use inode_events::{Deed, Event, Told};
 use inode_meta::Who;
 use inode_pages::Content;
-use inode_state::{KeptJournal, Known};
+use inode_state::{Facts, InodeJournal};
 use std::alloc::{AllocError as OutOfMemory, Global};
 use std::marker::Model;
 use xattr_store::Attrs;
@@ -25,7 +25,7 @@ use xattr_store::Attrs;
 /// One inode: its journal, its content and attributes, and its pass of the measurement list.
 #[derive(Drop)]
 pub struct InodeCell {
-    pub(crate) kept: KeptJournal,
+    pub(crate) kept: InodeJournal,
     pub(crate) book: Pass<Entry>,
     pub(crate) content: Content,
     pub(crate) attrs: Attrs,
@@ -52,16 +52,16 @@ impl InodeCell {
         who: Who,
         deed: Deed,
         told: Told,
-        known: &Known,
+        facts: &Facts,
     )
         requires name { pass.old.name ≡ self.old.journal }
         requires number { pass.old.number ≡ caller_in who.task deed }
         requires room { 1 ≤ self.old.spare }
-        requires plain { IsPlain self.old.inode (past self.old.list) who deed told known.now }
+        requires plain { IsPlain self.old.inode (past self.old.list) who deed told facts.now }
         ensures { (list : List AnyEntry) → Acts self.old self.new list list pass.old pass.new who
             deed (Some told) }
     {
-        self.kept.enter(pass, Event { who, deed, told }, known);
+        self.kept.enter(pass, Event { who, deed, told }, facts);
     }
 
     // A step that adds nothing to the measurement list, leaves the content and rewrites attributes.
@@ -72,14 +72,14 @@ impl InodeCell {
         who: Who,
         deed: Deed,
         told: Told,
-        known: &Known,
+        facts: &Facts,
         digest: Option<&Digest>,
     ) -> Result<(), OutOfMemory>
         requires name { pass.old.name ≡ self.old.journal }
         requires number { pass.old.number ≡ caller_in who.task deed }
         requires room { 1 ≤ self.old.spare }
         requires rewriting { IsRewriting deed (option_copied digest) }
-        requires changes { IsChange self.old.inode (past self.old.list) who deed told known.now
+        requires changes { IsChange self.old.inode (past self.old.list) who deed told facts.now
             (option_copied digest) }
         ensures acts { OnOk result ((list : List AnyEntry) → Acts self.old self.new list list
             pass.old pass.new who deed (Some told)) }
@@ -88,7 +88,7 @@ impl InodeCell {
         let meta = self.kept.state().meta;
         let evm = &self.kept.settings().evm;
         rewrite(evm, &mut self.attrs, &meta, &deed, digest)?;
-        self.kept.enter(pass, Event { who, deed, told }, known);
+        self.kept.enter(pass, Event { who, deed, told }, facts);
         Ok(())
     }
 

@@ -19,7 +19,7 @@ use ima_templates::{Entry, violation};
 use inode_answers::{Checked, Found, found, found_told, place_of};
 use inode_events::{Deed, Event};
 use inode_meta::{Cred, Who};
-use inode_state::{Kind, Known, counts_as};
+use inode_state::{Facts, Kind, counts_as};
 use measure_book::Book;
 use rule_match::Index;
 use rule_match::policy::{Access, Action, Func, Super};
@@ -132,7 +132,7 @@ impl InodeCell {
         };
         let told = found_told(found);
         self.kept
-            .enter(pass, Event { who, deed, told }, &Known::checking(writing));
+            .enter(pass, Event { who, deed, told }, &Facts::checking(writing));
         Ok(found)
     }
 }

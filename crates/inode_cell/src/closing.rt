@@ -14,7 +14,7 @@ use hash_algos::Digest;
 use inode_answers::CloseTaken;
 use inode_events::{Deed, Event, Told};
 use inode_meta::Who;
-use inode_state::Known;
+use inode_state::Facts;
 use label_values::{Label, read_label};
 use std::alloc::AllocError as OutOfMemory;
 
@@ -35,8 +35,8 @@ impl InodeCell {
         ensures err { OnErr result (Stays self.old self.new pass.old pass.new) }
     {
         self.reserve()?;
-        let known = Known::dropping(self.kept.how_at(file));
-        self.step(pass, who, Deed::Close { file }, Told::Dropped, &known);
+        let facts = Facts::dropping(self.kept.how_at(file));
+        self.step(pass, who, Deed::Close { file }, Told::Dropped, &facts);
         Ok(())
     }
 
@@ -80,12 +80,12 @@ impl InodeCell {
         self.reserve()?;
         let algo = self.kept.settings().hash;
         if self.owes_label() {
-            let known = Known::closing(None, algo);
-            self.step(pass, who, Deed::CloseTake { file }, Told::Begun, &known);
+            let facts = Facts::closing(None, algo);
+            self.step(pass, who, Deed::CloseTake { file }, Told::Begun, &facts);
             Ok(CloseTaken::Begun(algo))
         } else {
-            let known = Known::closing(self.kept.how_at(file), algo);
-            self.step(pass, who, Deed::CloseTake { file }, Told::Dropped, &known);
+            let facts = Facts::closing(self.kept.how_at(file), algo);
+            self.step(pass, who, Deed::CloseTake { file }, Told::Dropped, &facts);
             Ok(CloseTaken::Dropped)
         }
     }
@@ -110,14 +110,14 @@ impl InodeCell {
         ensures err { OnErr result (Stays self.old self.new pass.old pass.new) }
     {
         self.reserve()?;
-        let known = Known::dropping(self.kept.how_at(file));
+        let facts = Facts::dropping(self.kept.how_at(file));
         if self.kept.state().counts.writers == 1 {
             let deed = Deed::CloseFinish { file };
             let told = Told::LabelledDropped;
-            self.step_with(pass, who, deed, told, &known, Some(&sums.0))?;
+            self.step_with(pass, who, deed, told, &facts, Some(&sums.0))?;
             Ok(true)
         } else {
-            self.step(pass, who, Deed::CloseFinish { file }, Told::Dropped, &known);
+            self.step(pass, who, Deed::CloseFinish { file }, Told::Dropped, &facts);
             Ok(false)
         }
     }

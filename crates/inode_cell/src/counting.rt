@@ -13,7 +13,7 @@ use grow_list::Pass;
 use inode_answers::{Counted, counted_told, creates};
 use inode_events::{Deed, Event, How};
 use inode_meta::Who;
-use inode_state::{Kind, Known, counts_as};
+use inode_state::{Facts, Kind, counts_as};
 use std::alloc::AllocError as OutOfMemory;
 
 // The result of a count whose event would be at `place`.
@@ -58,8 +58,8 @@ impl InodeCell {
             state.counts.execs,
             self.kept.len(),
         );
-        let known = Known::nothing();
-        self.step(pass, who, Deed::Count { how }, counted_told(answer), &known);
+        let facts = Facts::nothing();
+        self.step(pass, who, Deed::Count { how }, counted_told(answer), &facts);
         Ok(answer)
     }
 }

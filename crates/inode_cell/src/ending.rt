@@ -25,7 +25,7 @@ use hash_algos::Digest;
 use ima_templates::Entry;
 use inode_events::{EndedInode, Event, Image, Settings};
 use inode_pages::Content;
-use inode_state::{InForce, KeptJournal, State};
+use inode_state::{InForce, InodeJournal, State};
 use std::alloc::{AllocError as OutOfMemory, Global};
 use xattr_store::{Attrs, Bytes};
 
@@ -71,7 +71,7 @@ impl InodeCell {
         let content = image.content.share(alloc)?;
         let attrs = image.attrs.copy()?;
         let path = Bytes::from_slice(alloc, path)?;
-        let (kept, passes) = KeptJournal::start(alloc, path, settings, image, tasks)?;
+        let (kept, passes) = InodeJournal::start(alloc, path, settings, image, tasks)?;
         let cell = InodeCell {
             kept,
             book,

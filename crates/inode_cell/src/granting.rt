@@ -5,7 +5,7 @@ ghost use Rattle.inode_events.specs.Callers.{caller_in};
 ghost use Rattle.inode_events.specs.Stage.{stage};
 ghost use Rattle.inode_events.specs.declared.told.Told.{Told as AnyTold};
 ghost use Rattle.inode_meta.specs.declared.step.Who.{Who as AnyWho};
-ghost use Rattle.inode_state.specs.Known.{IsKnown};
+ghost use Rattle.inode_state.specs.Facts.{AreFacts};
 ghost use Rattle.inode_cell.specs.Granting.{Collects, asked_in};
 ghost use Rattle.inode_cell.specs.Acts.{Acts, MayBy, Stays};
 ghost use Rattle.inode_answers.specs.Answers.{BeginsBy, taken_told};
@@ -29,7 +29,7 @@ use ima_templates::{Entry, Placed, build};
 use inode_answers::{Taken, admits, is_mend, mend_on, placed_if_measured, signature_in};
 use inode_events::{Deed, Event, Grant, Told};
 use inode_meta::{EvmStatus, Mode, Need, Slot, Who};
-use inode_state::{Asked, Collecting, Kind, Known, Sums, copied, counts_as, key_of};
+use inode_state::{Asked, Collecting, Facts, Kind, Sums, copied, counts_as, key_of};
 use label_values::{Mend, Verdict, read_label};
 use measure_book::Book;
 use rule_match::policy::Action;
@@ -169,7 +169,7 @@ impl InodeCell {
         file: u64,
         asked: &Asked,
         sums: &Sums,
-        known: &Known,
+        facts: &Facts,
         book: &mut Book,
     ) -> Result<Grant, OutOfMemory>
         requires name { pass.old.name ≡ self.old.journal }
@@ -177,7 +177,7 @@ impl InodeCell {
         requires book_name { self.old.book ≡ book.old.name }
         requires may { MayBy self.old pass.old.number deed }
         requires grants { IsGranting self.old.inode (past self.old.list) who deed file asked.now
-            sums.now known.now }
+            sums.now facts.now }
         ensures acts { IfOk result (λ g. Acts self.old self.new book.old.list book.new.list
             pass.old pass.new who deed (Some (Told.Grant g))) }
         ensures book { (book.new.name ≡ book.old.name) × (book.new.callers ≡ book.old.callers) }
@@ -201,7 +201,7 @@ impl InodeCell {
             labelled: mends,
         };
         let told = Told::Grant(grant);
-        self.kept.enter(pass, Event { who, deed, told }, known);
+        self.kept.enter(pass, Event { who, deed, told }, facts);
         Ok(grant)
     }
 
@@ -235,11 +235,11 @@ impl InodeCell {
             return Ok(Taken::Blocked);
         }
         let algo = self.chosen_algo();
-        let known = self.taking(file, slot, action, algo);
+        let facts = self.taking(file, slot, action, algo);
         match self.in_force() {
             None => {
                 self.reserve()?;
-                self.step(pass, who, Deed::Take { file }, Told::Begun, &known);
+                self.step(pass, who, Deed::Take { file }, Told::Begun, &facts);
                 Ok(Taken::Begun(algo))
             }
             Some(sums) => {
@@ -248,20 +248,20 @@ impl InodeCell {
                     action: *action,
                 };
                 let deed = Deed::Take { file };
-                let grant = self.grant(pass, who, deed, file, &asked, &sums, &known, book)?;
+                let grant = self.grant(pass, who, deed, file, &asked, &sums, &facts, book)?;
                 Ok(Taken::Answer(grant))
             }
         }
     }
 
     // The facts that come with the event of a take.
-    fn taking(&self, file: u64, slot: Slot, action: &Action, algo: Algo) -> Known
+    fn taking(&self, file: u64, slot: Slot, action: &Action, algo: Algo) -> Facts
         requires may { stage self.now.inode file (past self.now.list) ≡ asked_stage }
         requires slot { slot ≡ slot_of (last_check file (past self.now.list)).func }
         requires action { action.now ≡ (last_check file (past self.now.list)).action }
         requires algo { algo ≡ chosen_algo self.now.inode (past self.now.list) }
         ensures { (who : AnyWho) (t : AnyTold)
-            → IsKnown self.now.inode (past self.now.list) (record {
+            → AreFacts self.now.inode (past self.now.list) (record {
               who = who;
               deed = Deed.Take
                   file;
@@ -273,7 +273,7 @@ impl InodeCell {
             slot,
             action: *action,
         };
-        Known::granting(writing, algo, asked, None)
+        Facts::granting(writing, algo, asked, None)
     }
 
     /// Ends the collection of a take, with its digests by the chosen algorithm and by SHA-1. They
@@ -307,9 +307,9 @@ impl InodeCell {
             slot: asked.slot,
             action: asked.action,
         };
-        let known = Known::granting(writing, Algo::Sha1, copy, Some(sums.copy()));
+        let facts = Facts::granting(writing, Algo::Sha1, copy, Some(sums.copy()));
         let deed = Deed::Finish { file };
-        self.grant(pass, who, deed, file, &asked, &sums, &known, book)
+        self.grant(pass, who, deed, file, &asked, &sums, &facts, book)
     }
 
     // What the file's last check asked for. The file's collection has its last piece.

@@ -13,7 +13,7 @@ use grow_list::Pass;
 use inode_answers::{Set, by_status, copied, is_no_label, is_too_long, set_outcome};
 use inode_events::{BoxedBytes, BoxedValue, Change, Deed, Event, Told};
 use inode_meta::{Cred, EvmStatus, Who};
-use inode_state::Known;
+use inode_state::Facts;
 use std::alloc::{AllocError as OutOfMemory, Global};
 use xattr_store::{Bytes, EVM_NAME, IMA_NAME, MAX_VALUE};
 
@@ -77,17 +77,17 @@ impl InodeCell {
         match self.meta_answer() {
             Set::Done => {
                 let deed = Deed::SetMeta { change };
-                self.step_with(pass, who, deed, Told::Done, &Known::nothing(), None)?;
+                self.step_with(pass, who, deed, Told::Done, &Facts::nothing(), None)?;
                 Ok(Set::Done)
             }
             refusal => {
-                let known = Known::nothing();
+                let facts = Facts::nothing();
                 self.step(
                     pass,
                     who,
                     Deed::SetMeta { change },
                     set_outcome(refusal),
-                    &known,
+                    &facts,
                 );
                 Ok(refusal)
             }
@@ -141,12 +141,12 @@ impl InodeCell {
         match self.attr_answer(name.as_slice(), value.get(), admin) {
             Set::Done => {
                 let deed = Deed::SetAttr { name, value, admin };
-                self.step_with(pass, who, deed, Told::Done, &Known::nothing(), None)?;
+                self.step_with(pass, who, deed, Told::Done, &Facts::nothing(), None)?;
                 Ok(Set::Done)
             }
             refusal => {
                 let deed = Deed::SetAttr { name, value, admin };
-                self.step(pass, who, deed, set_outcome(refusal), &Known::nothing());
+                self.step(pass, who, deed, set_outcome(refusal), &Facts::nothing());
                 Ok(refusal)
             }
         }

@@ -20,7 +20,7 @@ use inode_events::{BoxedBytes, Deed, Event, Told};
 use inode_hashing::hashed_at;
 use inode_meta::Who;
 use inode_pages::{Page, PageErr};
-use inode_state::Known;
+use inode_state::Facts;
 use std::alloc::AllocError as OutOfMemory;
 
 impl InodeCell {
@@ -61,7 +61,7 @@ impl InodeCell {
     {
         self.reserve()?;
         let (piece, page) = self.next_piece(&deed)?;
-        self.step(pass, who, deed, piece_told(piece), &Known::nothing());
+        self.step(pass, who, deed, piece_told(piece), &Facts::nothing());
         Ok((piece, page))
     }
 
@@ -145,7 +145,7 @@ impl InodeCell {
             who,
             Deed::Read { file, from, len },
             told,
-            &Known::nothing(),
+            &Facts::nothing(),
         );
         Ok(got)
     }
@@ -178,11 +178,11 @@ impl InodeCell {
             Ok(()) => {
                 let told = Told::Done;
                 self.kept
-                    .enter(pass, Event { who, deed, told }, &Known::nothing());
+                    .enter(pass, Event { who, deed, told }, &Facts::nothing());
                 Ok(Wrote::Done)
             }
             Err(PageErr::TooBig) => {
-                self.step(pass, who, deed, Told::TooBig, &Known::nothing());
+                self.step(pass, who, deed, Told::TooBig, &Facts::nothing());
                 Ok(Wrote::TooBig)
             }
             Err(PageErr::OutOfMemory) => Err(OutOfMemory),
@@ -211,11 +211,11 @@ impl InodeCell {
             Ok(()) => {
                 let told = Told::Done;
                 self.kept
-                    .enter(pass, Event { who, deed, told }, &Known::nothing());
+                    .enter(pass, Event { who, deed, told }, &Facts::nothing());
                 Ok(Wrote::Done)
             }
             Err(PageErr::TooBig) => {
-                self.step(pass, who, deed, Told::TooBig, &Known::nothing());
+                self.step(pass, who, deed, Told::TooBig, &Facts::nothing());
                 Ok(Wrote::TooBig)
             }
             Err(PageErr::OutOfMemory) => Err(OutOfMemory),

@@ -5,7 +5,7 @@ use Rattle.grow_list.specs.Entries.{has_place}
 use Rattle.grow_list.specs.Shown.{Grown, HasEach, Passed}
 use Rattle.grow_list.proofs.Others.{bit, beside, count_by-cons, HasEach-others as each_of, HasOthers-rest as rest_of}
 use Rattle.inode_events.specs.declared.told.Event.{Event}
-use Rattle.inode_state.specs.Value.{HasOthers, KeptValue, beside_own}
+use Rattle.inode_state.specs.Value.{HasOthers, JournalValue, beside_own}
 
 -- the own pass has added only the birth
 pub record HasBirth (list : Grown Event) (own : Passed Event) : Type 0 where
@@ -15,11 +15,11 @@ pub record HasBirth (list : Grown Event) (own : Passed Event) : Type 0 where
   pub mine : own.mine ≡ (0, birth) ∷ []
 
 -- the list of a journal, without what its passes don't depend on
-abbrev grown_of : KeptValue → Grown Event
+abbrev grown_of : JournalValue → Grown Event
 grown_of j = record { name = j.name; callers = j.callers; spare = 0; list = []; numbers = [] }
 
 -- the own pass and the others are all passes of the list
-pub HasEach-others : (list : Grown Event) (book : KeptValue) (own : Passed Event) (passes : List
+pub HasEach-others : (list : Grown Event) (book : JournalValue) (own : Passed Event) (passes : List
     (Passed Event)) → book.name ≡ list.name → book.callers ≡ list.callers
     → HasBirth list own → HasOthers book passes → HasEach list (own ∷ passes)
 HasEach-others list book own passes name callers booted others =
@@ -27,7 +27,7 @@ HasEach-others list book own passes name callers booted others =
     (record { of_list = others.of_journal; one_each = others.one_each })
 
 -- all passes without the own one are the others
-pub HasOthers-rest : (list : Grown Event) (book : KeptValue) (own : Passed Event) (passes : List
+pub HasOthers-rest : (list : Grown Event) (book : JournalValue) (own : Passed Event) (passes : List
     (Passed Event)) → book.name ≡ list.name → book.callers ≡ list.callers
     → own.number ≡ 0 → HasEach list (own ∷ passes) → HasOthers book passes
 HasOthers-rest list book own passes name callers number each =

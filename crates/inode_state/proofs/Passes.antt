@@ -6,7 +6,7 @@ use Rattle.std.proofs.lemmas.Option.{same_Some}
 use Rattle.grow_list.specs.Shown.{ListName, Passed, fresh}
 use Rattle.grow_list.proofs.Others.{bit, count_by-cons}
 use Rattle.inode_events.specs.declared.told.Event.{Event}
-use Rattle.inode_state.specs.Value.{HasOthers, KeptValue, having_seen, new_pass}
+use Rattle.inode_state.specs.Value.{HasOthers, JournalValue, having_seen, new_pass}
 
 module _ {X : Type 0} (f : X → X) where
   -- the items after the first k were replaced
@@ -40,7 +40,7 @@ module _ {X : Type 0} (f : X → X) where
 -- ---- the passes of a journal that has shown them its birth
 
 -- after they have seen the list, the passes are still those of the journal, each once
-pub HasOthers-seen : (j : KeptValue) (list : List Event) (passes : List (Passed Event))
+pub HasOthers-seen : (j : JournalValue) (list : List Event) (passes : List (Passed Event))
     → HasOthers j passes → HasOthers j (map (having_seen list) passes)
 HasOthers-seen j list passes others = record {
   of_journal = all passes others.of_journal;

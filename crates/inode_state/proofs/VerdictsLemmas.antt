@@ -31,8 +31,8 @@ use Rattle.journal_laws.proofs.Small.{event}
 use Rattle.inode_state.specs.Collecting.{Asks, IsAsked}
 use Rattle.inode_state.specs.Verdicts.{AreVerdicts, found, given_under, kept_with, key_for, key_seen, verdicts_after, verdicts_next, voids_all}
 use Rattle.inode_state.specs.declared.collecting.Asked.{Asked}
-use Rattle.inode_state.specs.declared.keys.Key.{Key as KeyKept}
-use Rattle.inode_state.specs.declared.verdicts.Kept.{Kept}
+use Rattle.inode_state.specs.declared.keys.Key.{Key as StateKey}
+use Rattle.inode_state.specs.declared.verdicts.KeyedVerdict.{KeyedVerdict}
 
 -- ---- equal keys are the same key
 
@@ -101,22 +101,24 @@ one_key a b e =
 abbrev GivesAgain : Option Verdict → Option Verdict → Type 0
 GivesAgain old given = (v : Verdict) → old ≡ Some v → (given ≡ None) ⊎ (given ≡ Some v)
 
-with_one : (k : Key) (x : Kept) (kept : List Kept)
+with_one : (k : Key) (x : KeyedVerdict) (kept : List KeyedVerdict)
     → found k (kept ++ x ∷ []) ≡ option_or (found k kept) (cond (same_key k (key_seen x.key)) (Some
     x.verdict) None)
 with_one k x kept =
-    ap (option_map (λ (y : Kept). y.verdict)) (find-append (λ (y : Kept). same_key k (key_seen
-    y.key)) kept (x ∷ []))
-    ∙ at (find (λ (y : Kept). same_key k (key_seen y.key)) kept) (same_key k (key_seen x.key)) where
-      at : (o : Option Kept) (b : Bool) → option_map (λ (y : Kept). y.verdict) (option_or o (cond b
-          (Some x) None)) ≡ option_or (option_map (λ (y : Kept). y.verdict) o) (cond b (Some
+    ap (option_map (λ (y : KeyedVerdict). y.verdict))
+    (find-append (λ (y : KeyedVerdict). same_key k (key_seen y.key)) kept (x ∷ []))
+    ∙ at (find (λ (y : KeyedVerdict). same_key k (key_seen y.key)) kept)
+    (same_key k (key_seen x.key)) where
+      at : (o : Option KeyedVerdict) (b : Bool)
+          → option_map (λ (y : KeyedVerdict). y.verdict) (option_or o (cond b
+          (Some x) None)) ≡ option_or (option_map (λ (y : KeyedVerdict). y.verdict) o) (cond b (Some
           x.verdict) None)
       at (Some y) b = refl
       at None true = refl
       at None false = refl
 
-given_on : (in_force : Key → Option Verdict) (kept : List Kept) (key : KeyKept) (given : Option
-    Verdict) → ((k : Key) → in_force k ≡ found k kept)
+given_on : (in_force : Key → Option Verdict) (kept : List KeyedVerdict) (key : StateKey)
+    (given : Option Verdict) → ((k : Key) → in_force k ≡ found k kept)
     → GivesAgain (in_force (key_seen key)) given → (k : Key)
     → cond (same_key k (key_seen key)) (option_or given (in_force k)) (in_force k) ≡ found k
     (kept_with key given kept)
@@ -203,7 +205,7 @@ asked_key check a h = let s = h.slot in let t = h.action in λ i. record {
 }
 
 granted_on : (i : Inode) (p : List Event) (file : ℕ) (grant : Grant) (asked : Option Asked) (kept :
-    List Kept)
+    List KeyedVerdict)
     → (a : Asked) × ((asked ≡ Some a) × IsAsked (last_check file p) a)
     → GivesAgain (verdict_in_force i (key_of (last_check file p)) p) grant.verdict
     → AreVerdicts i p kept → (k : Key) → verdict_kept k file grant.verdict p (verdict_in_force i k
@@ -218,7 +220,7 @@ granted_on i p file grant asked kept h again all k =
     ∙ ap (λ (o : Option Asked). found k (given_under o grant.verdict kept)) (sym h.1.0)
 
 next_on : (i : Inode) (p : List Event) (who : Who) (d : Deed) (t : Told) (asked : Option Asked)
-    (kept : List Kept) → Follows i p who d t → Asks d p asked
+    (kept : List KeyedVerdict) → Follows i p who d t → Asks d p asked
     → AreVerdicts i p kept → (k : Key) → verdict_given k d t p (verdict_in_force i k p) ≡ found k
     (verdicts_next d t asked kept)
 next_on i p who (deed.Take file) (told.Grant grant) asked kept f a all k =
@@ -235,7 +237,7 @@ voids_same (deed.SetMeta change) told.Done p f voids e = refl
 voids_same d t p f voids e = e
 
 pub verdicts_on : (i : Inode) (p : List Event) (who : Who) (d : Deed) (t : Told) (voids : Bool)
-    (asked : Option Asked) (kept : List Kept) → Follows i p who d t
+    (asked : Option Asked) (kept : List KeyedVerdict) → Follows i p who d t
     → voids ≡ voids_digest d t p (in_force i p) → Asks d p asked → AreVerdicts i p kept
     → AreVerdicts i (event who d t ∷ p) (verdicts_after d t voids asked kept)
 verdicts_on i p who d t voids asked kept f v a all k =

@@ -9,8 +9,8 @@ use Rattle.inode_events.specs.declared.told.Event.{Event}
 use Rattle.inode_state.specs.State.{IsState}
 use Rattle.inode_state.specs.declared.state.State.{State}
 use Rattle.journal_laws.specs.Own.{IsOwned}
-use Rattle.inode_state.specs.Value.{KeptValue, birth_in}
-use Rattle.inode_state.specs.declared.journal.KeptJournal.TheInside.{Inside}
+use Rattle.inode_state.specs.Value.{JournalValue, birth_in}
+use Rattle.inode_state.specs.declared.journal.InodeJournal.TheInside.{Inside}
 
 abbrev pub inode_in : Inside → Inode
 inode_in c = record { path = c.path; settings = c.settings; birth = birth_in c.journal.list }
@@ -20,7 +20,7 @@ abbrev pub spare_in : Inside → ℕ
 spare_in c = min c.journal.spare (vec_capacity c.state.verdicts.kept - vec_len
     c.state.verdicts.kept)
 
-abbrev pub value_of : Inside → KeptValue
+abbrev pub value_of : Inside → JournalValue
 value_of c = record {
   inode = inode_in c;
   name = c.journal.name;
@@ -47,5 +47,5 @@ pub record Keeps (inode : Inode) (g : Grown Event) (own : Passed Event) (s : Sta
   -- the state is the one that the journal defines
   pub state : IsState inode (past g.list) s
 
-abbrev pub IsKept : Inside → Type 0
-IsKept c = Keeps (inode_in c) c.journal c.own c.state
+abbrev pub FieldsAgree : Inside → Type 0
+FieldsAgree c = Keeps (inode_in c) c.journal c.own c.state

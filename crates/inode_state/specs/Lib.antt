@@ -4,7 +4,7 @@ pub mod Writes
 pub mod Collecting
 pub mod InForce
 pub mod Verdicts
-pub mod Known
+pub mod Facts
 pub mod State
 pub mod Value
 pub mod Fields

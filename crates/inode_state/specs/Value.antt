@@ -11,7 +11,7 @@ use Rattle.inode_events.specs.declared.told.Told.TheVariants as told
 
 -- the inode, the name of its journal, the number of callers, the number of further events for which
 -- there is room, and the events, oldest first
-pub record KeptValue : Type 0 where
+pub record JournalValue : Type 0 where
   pub inode : Inode
   pub name : ListName
   pub callers : ℕ
@@ -19,7 +19,7 @@ pub record KeptValue : Type 0 where
   pub list : List Event
 
 -- the same journal; only its room may differ
-pub record IsSameJournal (old new : KeptValue) : Type 0 where
+pub record IsSameJournal (old new : JournalValue) : Type 0 where
   pub inode : new.inode ≡ old.inode
   pub name : new.name ≡ old.name
   pub callers : new.callers ≡ old.callers
@@ -52,7 +52,7 @@ birth_of image = record { who = nobody; deed = deed.Birth; told = told.Image ima
 -- ---- passes
 
 -- the passes are all of the journal's except its own, each once
-pub record HasOthers (j : KeptValue) (passes : List (Passed Event)) : Type 0 where
+pub record HasOthers (j : JournalValue) (passes : List (Passed Event)) : Type 0 where
   pub of_journal : All (λ p. p.name ≡ j.name) passes
   pub one_each : (n : ℕ) → n < j.callers → count_by (λ p. p.number == n) passes ≡ beside_own n
 

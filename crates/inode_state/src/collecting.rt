@@ -5,7 +5,7 @@ ghost use Rattle.inode_events.specs.Integrity.{collecting};
 ghost use Rattle.inode_events.specs.declared.told.Event.{Event as AnyEvent};
 ghost use Rattle.inode_state.specs.Collecting.{Asks, Chooses, begun_seen, collecting_next, more_seen, pieces_taken, shortened, shorts_seen};
 
-use crate::known::Known;
+use crate::facts::Facts;
 use hash_algos::Algo;
 use inode_events::{Deed, Event, Told};
 use inode_meta::Slot;
@@ -84,18 +84,18 @@ fn more(old: Option<Collecting>, complete: bool) -> Option<Collecting>
 pub fn collecting_after(
     e: &Event,
     place: u64,
-    known: &Known,
+    facts: &Facts,
     old: Option<Collecting>,
 ) -> Option<Collecting>
     requires { pieces_taken old + 1 < 2 ^ 64 }
-    ensures { result ≡ collecting_next e.now.deed e.now.told place known.now.algo known.now.asked
+    ensures { result ≡ collecting_next e.now.deed e.now.told place facts.now.algo facts.now.asked
         old }
 {
     match (&e.deed, &e.told) {
         (Deed::Take { file }, Told::Begun) => {
-            begun(*file, copied(&known.asked), known.algo, place)
+            begun(*file, copied(&facts.asked), facts.algo, place)
         }
-        (Deed::CloseTake { file }, Told::Begun) => begun(*file, None, known.algo, place),
+        (Deed::CloseTake { file }, Told::Begun) => begun(*file, None, facts.algo, place),
         (Deed::Chunk { .. } | Deed::CloseChunk { .. }, Told::More) => more(old, false),
         (Deed::Chunk { .. } | Deed::CloseChunk { .. }, Told::Last) => more(old, true),
         (Deed::Finish { .. }, Told::Grant(_)) => None,

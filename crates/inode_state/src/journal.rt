@@ -7,14 +7,14 @@ ghost use Rattle.inode_events.specs.Legal.{Legal, May};
 ghost use Rattle.inode_events.specs.Stage.{is_gone, stage};
 ghost use Rattle.inode_events.specs.Says.{placed_in, says};
 ghost use Rattle.inode_events.specs.Past.{past};
-ghost use Rattle.inode_state.specs.Known.{IsKnown};
+ghost use Rattle.inode_state.specs.Facts.{AreFacts};
 ghost use Rattle.inode_state.specs.State.{IsState};
 ghost use Rattle.journal_laws.specs.OwnLaws.{TellsByMine};
 ghost use Rattle.journal_laws.specs.Own.{IsBy, IsOwned};
 ghost use Rattle.inode_state.specs.Value.{HasOthers, IsSameJournal, beside_own, birth_of, new_pass};
 
 use crate::showing::show;
-use crate::{Known, State, counted};
+use crate::{Facts, State, counted};
 use grow_list::{Grow, Pass};
 use inode_events::{BoxedImage, Deed, Event, How, Image, Settings, Told};
 use inode_meta::Who;
@@ -24,7 +24,7 @@ use xattr_store::Bytes;
 
 /// The journal of one inode, with the inode's state after its last event.
 #[derive(Drop)]
-pub struct KeptJournal {
+pub struct InodeJournal {
     path: Bytes,
     settings: Settings,
     journal: Grow<Event>,
@@ -32,19 +32,19 @@ pub struct KeptJournal {
     state: State,
 }
 
-impl Model for KeptJournal {
-    ghost use Rattle.inode_state.specs.Value.{KeptValue};
+impl Model for InodeJournal {
+    ghost use Rattle.inode_state.specs.Value.{JournalValue};
 
-    ghost Value = { KeptValue };
+    ghost Value = { JournalValue };
 
-    ghost use Rattle.inode_state.specs.Fields.{IsKept, value_of};
+    ghost use Rattle.inode_state.specs.Fields.{FieldsAgree, value_of};
 
     ghost view = { value_of };
 
-    ghost invariant = { IsKept };
+    ghost invariant = { FieldsAgree };
 }
 
-impl KeptJournal {
+impl InodeJournal {
     /// The path of the inode, in bytes.
     pub fn path(&self) -> &[u8]
         ensures { result.now ≡ self.now.inode.path }
@@ -104,7 +104,7 @@ impl KeptJournal {
 
     /// Adds an event in room that was reserved, and updates the state to match. The pass is that of
     /// the event's caller, and has then seen the journal.
-    pub fn enter(&mut self, pass: &mut Pass<Event>, event: Event, known: &Known)
+    pub fn enter(&mut self, pass: &mut Pass<Event>, event: Event, facts: &Facts)
         requires name { pass.old.name ≡ self.old.name }
         requires number { pass.old.number ≡ caller_of event }
         requires room { 1 ≤ self.old.spare }
@@ -112,7 +112,7 @@ impl KeptJournal {
         requires told { says self.old.inode (past self.old.list) (placed_in event.told) event.deed
             ≡ Some event.told }
         requires by { IsBy (caller_of event) event.deed (past self.old.list) }
-        requires known { IsKnown self.old.inode (past self.old.list) event known.now }
+        requires facts { AreFacts self.old.inode (past self.old.list) event facts.now }
         ensures list { self.new.list ≡ self.old.list ++ event ∷ [] }
         ensures inode { self.new.inode ≡ self.old.inode }
         ensures same { (self.new.name ≡ self.old.name) × (self.new.callers ≡ self.old.callers) }
@@ -124,7 +124,7 @@ impl KeptJournal {
         self.journal.push(pass, event);
         let place = self.journal.len() - 1;
         match self.journal.at(place) {
-            Some(event) => self.state.advance(event, place, known),
+            Some(event) => self.state.advance(event, place, facts),
             None => unreachable!(),
         }
     }
@@ -157,7 +157,7 @@ impl KeptJournal {
         settings: Settings,
         image: Image,
         tasks: u32,
-    ) -> Result<(KeptJournal, Vec<Pass<Event>>), OutOfMemory>
+    ) -> Result<(InodeJournal, Vec<Pass<Event>>), OutOfMemory>
         requires { tasks + 1 < 2 ^ 32 }
         ensures inode { IfOk result (λ r. r.0.inode ≡ record {
           path = path;
@@ -178,7 +178,7 @@ impl KeptJournal {
         let birth = born(alloc, image)?;
         journal.push(&mut own, birth);
         show(&mut journal, &mut passes);
-        let kept = KeptJournal {
+        let kept = InodeJournal {
             path,
             settings,
             journal,
@@ -205,7 +205,7 @@ impl KeptJournal {
         ensures owned { IsOwned (past self.list) }
         ensures within { All (λ e. caller_of e < self.callers) self.list }
     {
-        let KeptJournal {
+        let InodeJournal {
             path,
             settings: _,
             journal,

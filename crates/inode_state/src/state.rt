@@ -5,13 +5,13 @@ ghost use Rattle.inode_events.specs.Legal.{EachFollows};
 ghost use Rattle.inode_events.specs.declared.told.Event.{Event as AnyEvent};
 ghost use Rattle.inode_meta.specs.declared.step.Who.{Who as AnyWho};
 ghost use Rattle.inode_state.specs.Collecting.{pieces_taken};
-ghost use Rattle.inode_state.specs.Known.{IsKnown};
+ghost use Rattle.inode_state.specs.Facts.{AreFacts};
 ghost use Rattle.inode_state.specs.State.{IsState, changed_now};
 
 use crate::collecting::{Collecting, collecting_after};
 use crate::counts::Counts;
+use crate::facts::Facts;
 use crate::in_force::{InForce, in_force_after, is_stale, voids_digest};
-use crate::known::Known;
 use crate::marks::{Marks, is_last_drop};
 use crate::metadata::metadata_after;
 use crate::verdicts::Verdicts;
@@ -78,25 +78,25 @@ impl State {
     }
 
     /// Updates the state by the event `e` at `place`.
-    pub fn advance(&mut self, e: &Event, place: u64, known: &Known)
+    pub fn advance(&mut self, e: &Event, place: u64, facts: &Facts)
         requires writers { self.old.counts.writers + 1 < 2 ^ 64 }
         requires readers { self.old.counts.readers + 1 < 2 ^ 64 }
         requires execs { self.old.counts.execs + 1 < 2 ^ 64 }
         requires pieces { pieces_taken self.old.collecting + 1 < 2 ^ 64 }
         requires room { vec_len self.old.verdicts.kept + 1 ≤ vec_capacity self.old.verdicts.kept }
         ensures { (i : AnyInode) (p : List AnyEvent) → place ≡ length p → EachFollows i (e.now ∷ p)
-            → IsKnown i p e.now known.now → IsState i p self.old → IsState i (e.now ∷ p) self.new }
+            → AreFacts i p e.now facts.now → IsState i p self.old → IsState i (e.now ∷ p) self.new }
     {
         let last = is_last_drop(e, self.counts.writers);
         let voids = voids_digest(e, last, self.is_changed());
         let old = self.in_force.take();
-        self.in_force = in_force_after(e, voids, &self.collecting, &known.sums, old);
-        self.verdicts.advance(e, voids, &known.asked);
+        self.in_force = in_force_after(e, voids, &self.collecting, &facts.sums, old);
+        self.verdicts.advance(e, voids, &facts.asked);
         let collecting = self.collecting.take();
-        self.collecting = collecting_after(e, place, known, collecting);
+        self.collecting = collecting_after(e, place, facts, collecting);
         self.meta = metadata_after(e, self.meta);
         self.writes = self.writes.after(e, place, self.counts.writers);
-        self.marks = self.marks.after(e, last, known.writing);
-        self.counts = self.counts.after(e, known.gone);
+        self.marks = self.marks.after(e, last, facts.writing);
+        self.counts = self.counts.after(e, facts.gone);
     }
 }

@@ -11,7 +11,7 @@ use std::alloc::{AllocError as OutOfMemory, Global};
 
 /// A verdict in force, with its key.
 #[derive(Clone, Copy, Debug, PartialEq, Eq)]
-pub struct Kept {
+pub struct KeyedVerdict {
     /// The slot, label and algorithms for which the verdict was given.
     pub key: Key,
     /// The outcome of the appraisal.
@@ -23,7 +23,7 @@ pub struct Kept {
 #[derive(Drop)]
 pub struct Verdicts {
     /// In the order in which they were given, each key once.
-    pub kept: Vec<Kept>,
+    pub kept: Vec<KeyedVerdict>,
 }
 
 // Whether the event voids all verdicts. `voids` says whether it voids the digest in force.
@@ -72,7 +72,7 @@ impl Verdicts {
         if let Some(verdict) = verdict
             && self.get(key).is_none()
         {
-            self.kept.push_reserved(Kept { key, verdict });
+            self.kept.push_reserved(KeyedVerdict { key, verdict });
         }
     }
 

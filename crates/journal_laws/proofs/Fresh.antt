@@ -77,7 +77,7 @@ pub record Fresh (i : Inode) (p : List Event) : Type 0 where
 -- ---- events that leave these parts
 
 -- the event leaves content, label and writes as they are
-pub record Still (i : Inode) (p q : List Event) : Type 0 where
+pub record LeavesContent (i : Inode) (p q : List Event) : Type 0 where
   pub longer : length q ≡ suc (length p)
   pub since : (place : ℕ) → modified_since place q ≡ modified_since place p
   pub writers : writers p ≤ writers q
@@ -92,7 +92,7 @@ digest_same i p q c l =
     ∙ ap (λ (x : Option (List ℕ)). digest_of (collect_algo x i.settings.hash) (content p)) l
 
 -- a still event keeps the invariant of the open collection
-pub collection_still : (i : Inode) (p q : List Event) → Still i p q
+pub collection_still : (i : Inode) (p q : List Event) → LeavesContent i p q
     → (in_force i p ≡ None → in_force i q ≡ None)
     → (o : Option Collection) → CollectionIs i p o → CollectionIs i q o
 collection_still i p q still alone None h = tt
@@ -112,7 +112,7 @@ collection_still i p q still alone (Some c) h = (
 )
 
 -- a still event keeps the invariant of the digests in force
-pub digests_still : (i : Inode) (p q : List Event) → Still i p q → (o : Option Digests)
+pub digests_still : (i : Inode) (p q : List Event) → LeavesContent i p q → (o : Option Digests)
     → DigestsIs i p o → DigestsIs i q o
 digests_still i p q still None h = tt
 digests_still i p q still (Some f) h = (
@@ -136,7 +136,7 @@ fresh_unless i k p q s s' e f None h = tt
 fresh_unless i k p q s s' e f (Some v) h = λ w. h (sym e ∙ w) ∙ sym (f k.need k.algos)
 
 -- a still event keeps the invariant of verdicts, whatever is in force
-pub verdict_still : (i : Inode) (k : Key) (p q : List Event) → Still i p q
+pub verdict_still : (i : Inode) (k : Key) (p q : List Event) → LeavesContent i p q
     → (present p ≡ true → (need : Need) (algos : Option AlgoSet)
     → fresh_verdict i need algos q ≡ fresh_verdict i need algos p)
     → (v : Option Verdict) (o : Option Digests) → (present p ≡ false → o ≡ None)
@@ -179,7 +179,7 @@ pieces_join n k xs bytes e =
     ∙ ap (λ (m : ℕ). take m xs) (sym f)
 
 -- taking the next piece keeps the invariant of the collection
-pub piece_taken : (i : Inode) (p q : List Event) (complete : Bool) → Still i p q
+pub piece_taken : (i : Inode) (p q : List Event) (complete : Bool) → LeavesContent i p q
     → (in_force i p ≡ None → in_force i q ≡ None)
     → (o : Option Collection)
     → (complete ≡ true → (c : Collection) → o ≡ Some c
@@ -292,7 +292,7 @@ write_fresh i p q g w settled writing s h = record {
 
 -- the event leaves the digest and the verdicts in force
 pub record Leaves (i : Inode) (p q : List Event) : Type 0 where
-  pub still : Still i p q
+  pub still : LeavesContent i p q
   pub fresh : present p ≡ true → (need : Need) (algos : Option AlgoSet)
       → fresh_verdict i need algos q ≡ fresh_verdict i need algos p
   pub digests : in_force i q ≡ in_force i p

@@ -36,7 +36,7 @@ use Rattle.journal_laws.proofs.Small.{event, or_none}
 use Rattle.journal_laws.specs.Standing.{collecting_stage}
 use Rattle.journal_laws.proofs.Stages.{Busy, Stages, StageIs, free_at, stage_busy, stages}
 use Rattle.journal_laws.proofs.Tallies.{tally-less}
-use Rattle.journal_laws.proofs.Fresh.{CollectionIs, DigestsIs, Fresh, FreshUnless, Still, VerdictIs, digest_same, finish_grants, digests_still, fresh_unless, given_fresh, kept_fresh, last_told, leaves_fresh, piece_taken, take_begins, take_grants, unmodified, void_fresh, write_fresh}
+use Rattle.journal_laws.proofs.Fresh.{CollectionIs, DigestsIs, Fresh, FreshUnless, LeavesContent, VerdictIs, digest_same, finish_grants, digests_still, fresh_unless, given_fresh, kept_fresh, last_told, leaves_fresh, piece_taken, take_begins, take_grants, unmodified, void_fresh, write_fresh}
 use Rattle.inode_events.specs.Integrity.{fixed_by, is_stale}
 use Rattle.inode_events.specs.State.{metadata}
 use Rattle.inode_meta.specs.declared.identity.Meta.{Meta}
@@ -121,7 +121,7 @@ take_granted i p who g grant false e h v fr =
           let attrs : fixed_by i grant.labelled
           (option_map (λ (y : Digests). y.digest) (in_force i p)) (metadata p)
           (attributes i p) ≡ attributes i p = unlabelled i grant.labelled _ _ _ e in
-          let still : Still i p (event who (deed.Take g) (told.Grant grant) ∷ p) =
+          let still : LeavesContent i p (event who (deed.Take g) (told.Grant grant) ∷ p) =
           record {
             longer = refl;
             since = λ place. refl;

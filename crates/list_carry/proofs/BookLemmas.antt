@@ -14,7 +14,7 @@ use Rattle.ima_templates.specs.declared.entry.Placed.TheVariants.{Added, Already
 use Rattle.ima_templates.specs.declared.entry.Entry.{Entry}
 use Rattle.measure_book.specs.Book.{numbers_after}
 use Rattle.list_carry.specs.Books.{Extends, GoesOn}
-use Rattle.list_carry.specs.Kept.{IsResumed}
+use Rattle.list_carry.specs.Resumed.{IsResumed}
 use Rattle.list_carry.specs.Reading.{Loads, all_new, if_distinct, if_new}
 use Rattle.list_carry.specs.declared.causes.CarryCause.TheVariants as cause
 use Rattle.list_carry.specs.declared.causes.CarryErr.{CarryErr}

@@ -4,7 +4,7 @@ pub mod Entries
 pub mod Form
 pub mod Reading
 pub mod Books
-pub mod Kept
+pub mod Resumed
 pub mod Text
 pub mod TextInside
 pub mod Draft

@@ -27,11 +27,11 @@ impl Model for Carried {
 
     ghost Value = { List Entry };
 
-    ghost use Rattle.list_carry.specs.Kept.{IsKept, list_of};
+    ghost use Rattle.list_carry.specs.Resumed.{FieldsAgree, list_of};
 
     ghost view = { list_of };
 
-    ghost invariant = { IsKept };
+    ghost invariant = { FieldsAgree };
 }
 
 /// The book that goes on from the list: its own pass, with the number 0, has added the first entry,

@@ -22,31 +22,32 @@ use Rattle.order_alike.proofs.InodeRetold.{told_with}
 -- ---- outcomes that report no reply
 
 -- the outcome is the same with any reply
-record IsKept (q : Placed) (t : Told) : Type 0 where
+record IsReplyFree (q : Placed) (t : Told) : Type 0 where
   same : told_with q t ≡ t
 
 module _ (q : Placed) where
   -- by computing
-  kept_is : (t : Told) → told_with q t ≡ t → IsKept q t
-  kept_is t h = record { same = h }
+  free_is : (t : Told) → told_with q t ≡ t → IsReplyFree q t
+  free_is t h = record { same = h }
 
   -- it is
-  kept_same : (t : Told) → IsKept q t → t ≡ told_with q t
-  kept_same t k = sym k.same
+  free_same : (t : Told) → IsReplyFree q t → t ≡ told_with q t
+  free_same t k = sym k.same
 
   -- a choice between two such outcomes
-  kept_cond : (b : Bool) (x y : Told) → IsKept q x → IsKept q y → IsKept q (cond b x y)
-  kept_cond true x y h k = h
-  kept_cond false x y h k = k
+  free_cond : (b : Bool) (x y : Told) → IsReplyFree q x → IsReplyFree q y
+      → IsReplyFree q (cond b x y)
+  free_cond true x y h k = h
+  free_cond false x y h k = k
 
   -- a change that EVM allows or forbids
-  kept_status : (x : Result (Unit {0}) EvmStatus) → IsKept q (status_told x)
-  kept_status (Ok y) = record { same = refl }
-  kept_status (Err y) = record { same = refl }
+  free_status : (x : Result (Unit {0}) EvmStatus) → IsReplyFree q (status_told x)
+  free_status (Ok y) = record { same = refl }
+  free_status (Err y) = record { same = refl }
 
   -- the outcome of a step with such an outcome
-  said_kept : (t : Told) → IsKept q t → Some t ≡ option_map (told_with q) (Some t)
-  said_kept t k = ap Some (kept_same t k)
+  said_free : (t : Told) → IsReplyFree q t → Some t ≡ option_map (told_with q) (Some t)
+  said_free t k = ap Some (free_same t k)
 
   -- a step that waits for the integrity mutex
   said_unless : (c : Option Collection) (t2 t : Told) → t2 ≡ told_with q t
@@ -58,7 +59,7 @@ module _ (q : Placed) where
   said_chunk : (content : List ℕ) (c : Option Collection)
       → chunk_told content c ≡ option_map (told_with q) (chunk_told content c)
   said_chunk content None = refl
-  said_chunk content (Some c) = said_kept _ (search (kept_cond, kept_is))
+  said_chunk content (Some c) = said_free _ (search (free_cond, free_is))
 
   -- ---- outcomes that report one
 
@@ -109,7 +110,7 @@ module _ (q : Placed) where
     -- any step
     pub said_with : (inode : Inode) (p : List Event) (d : Deed)
         → says inode p q d ≡ option_map (told_with q) (says inode p q0 d)
-    said_with inode p (deed.Count how) = said_kept _ (search (kept_cond, kept_is))
+    said_with inode p (deed.Count how) = said_free _ (search (free_cond, free_is))
     said_with inode p (deed.Check file func action rules) =
         ap Some (said_check (is_writing file p) action.measure (readers p) (writers p)
         (must_measure p))
@@ -117,19 +118,19 @@ module _ (q : Placed) where
         said_unless (collecting inode p) _ _ (said_take inode file (in_force inode p) p)
     said_with inode p (deed.Chunk file) = said_chunk (content p) (collecting inode p)
     said_with inode p (deed.Finish file) = said_finish inode file (collecting inode p) p
-    said_with inode p (deed.Write file from bytes) = said_kept _ (search (kept_cond, kept_is))
-    said_with inode p (deed.Trunc file len) = said_kept _ (search (kept_cond, kept_is))
+    said_with inode p (deed.Write file from bytes) = said_free _ (search (free_cond, free_is))
+    said_with inode p (deed.Trunc file len) = said_free _ (search (free_cond, free_is))
     said_with inode p (deed.SetAttr name bytes admin) =
         said_unless (collecting inode p) _ _
-        (kept_same (set_attr_told inode name bytes admin p)
-        (search (kept_cond, kept_is, kept_status) depth 20))
+        (free_same (set_attr_told inode name bytes admin p)
+        (search (free_cond, free_is, free_status) depth 20))
     said_with inode p (deed.SetMeta change) =
         said_unless (collecting inode p) _ _
-        (kept_same (set_meta_told inode p) (search (kept_cond, kept_is, kept_status)))
+        (free_same (set_meta_told inode p) (search (free_cond, free_is, free_status)))
     said_with inode p (deed.CloseTake file) =
         said_unless (collecting inode p) _ _
-        (kept_same (close_take_told (is_label_due inode p) (writers p))
-        (search (kept_cond, kept_is)))
+        (free_same (close_take_told (is_label_due inode p) (writers p))
+        (search (free_cond, free_is)))
     said_with inode p (deed.CloseChunk file) = said_chunk (content p) (collecting inode p)
-    said_with inode p (deed.CloseFinish file) = said_kept _ (search (kept_cond, kept_is))
+    said_with inode p (deed.CloseFinish file) = said_free _ (search (free_cond, free_is))
     said_with inode p d = refl

@@ -52,9 +52,9 @@ led-more go o a n m h =
 module _ (Same : List ℕ → List ℕ → Type 0)
     (along : (a b c : List ℕ) → Same a b → Same b c → Same a c) where
   -- what stands for an order still does after one more was added
-  pub still : (old new : List Counted) (c : Counted) → IsAdded Same old c new → (order : List ℕ)
-      → StandsFor Same old order → StandsFor Same new order
-  still old new c added order s =
+  pub stands_after : (old new : List Counted) (c : Counted) → IsAdded Same old c new
+      → (order : List ℕ) → StandsFor Same old order → StandsFor Same new order
+  stands_after old new c added order s =
       let t = added.kept s.it s.inside in
       record {
         it = t.it;

@@ -8,7 +8,7 @@ use Rattle.order_counts.specs.Layers.{AddsIf, AllAdvance, AreAlike, BothOrNone, 
 use Rattle.order_counts.specs.Orders.{comes_before, is_among, is_order, led, rests}
 use Rattle.order_counts.specs.Rows.{AreRows, Counted}
 use Rattle.order_counts.proofs.Before.{not_after, not_after_longer, not_itself}
-use Rattle.order_counts.proofs.Spread.{SameOutcome, SameState, all_add, first_in, in_cases, in_none, later_in, led-more, still}
+use Rattle.order_counts.proofs.Spread.{SameOutcome, SameState, all_add, first_in, in_cases, in_none, later_in, led-more, stands_after}
 use Rattle.order_counts.proofs.Turns.{from_some, get_at, order_from, order_rest}
 use Rattle.order_counts.proofs.Ways.{rests-alike, ways_are_orders}
 
@@ -61,7 +61,7 @@ module _ {M O : Type 0} (go : M → ℕ → Option M) (tasks : List ℕ) (start 
       → (turns : List ℕ) → StandsFor State old turns → StandsFor State new turns
   adds_keep None old new c adds turns s =
       subst (λ (cs : List Counted). StandsFor State cs turns) (sym adds) s
-  adds_keep (Some m) old new c adds turns s = still State state-along old new c adds turns s
+  adds_keep (Some m) old new c adds turns s = stands_after State state-along old new c adds turns s
 
   spread_keeps : (m : M) (c : Counted) (ns : List ℕ) (old new : List Counted)
       → Spreads go Alike start m c ns old new
@@ -76,7 +76,7 @@ module _ {M O : Type 0} (go : M → ℕ → Option M) (tasks : List ℕ) (start 
       → (turns : List ℕ) → StandsFor Result old turns → StandsFor Result new turns
   ends_keep false old new c h turns s =
       subst (λ (cs : List Counted). StandsFor Result cs turns) (sym h) s
-  ends_keep true old new c h turns s = still Result result-along old new c h turns s
+  ends_keep true old new c h turns s = stands_after Result result-along old new c h turns s
 
   -- what a turn adds stands for the way with that turn
   adds_has : (o : Option M) (old new : List Counted) (c : Counted) → AddsIf State o old c new

@@ -2,7 +2,7 @@ pub mod Placing
 pub mod Walking
 pub mod Reading
 pub mod Printing
-pub mod Still
+pub mod Idle
 pub mod Moving
 pub mod Telling
 pub mod Schedules

@@ -15,7 +15,7 @@ use Rattle.order_outcomes.specs.counts.Rows.{Counted}
 use Rattle.order_outcomes.specs.reports.model.Rounds.{all_tasks}
 use Rattle.order_outcomes.specs.reports.model.Turns.{Moment}
 use Rattle.order_outcomes.specs.scripts.Limits.{most_turns}
-use Rattle.order_runs.specs.Steps.{HasOutcome, IsAdvanced, IsKept, IsLayer, IsRoot, IsRowAdded, IsSpread, IsStep, begun, counted_rows, counted_ways, led_on}
+use Rattle.order_runs.specs.Steps.{HasOutcome, IsAdvanced, IsLayer, IsRoot, IsRowAdded, IsSpread, IsStep, IsWayOf, begun, counted_rows, counted_ways, led_on}
 use Rattle.order_runs.specs.Tables.{IsTableFrom}
 use Rattle.order_runs.specs.declared.part.Part.{Part}
 use Rattle.order_runs.specs.declared.rows.Row.{Row}
@@ -34,7 +34,7 @@ pub if_not : (a b : Bool) → a ≡ not b → a ≡ false → b ≡ true
 if_not a true h is = refl
 if_not a false h is = absurd (true≢false (sym h ∙ is))
 
-module _ (part : Part) (way : Way) (k : IsKept part way) (next next' : List Way) (any : Bool)
+module _ (part : Part) (way : Way) (k : IsWayOf part way) (next next' : List Way) (any : Bool)
     (spread : (m : Moment) → led_on part way.counted.order ≡ Some m
     → IsSpread part way m next next' any) where
   here : IsSpread part way k.at next next' any
@@ -82,7 +82,7 @@ module _ (part : Part) where
   pub step_none : (rows : List Row) → IsStep part [] rows [] rows
   step_none rows = record {
     advances = λ outcomes. (refl, refl);
-    kept = All-nil (IsKept part);
+    kept = All-nil (IsWayOf part);
     outcomes = λ outcomes. outcomes;
     apart = λ outcomes apart. apart;
   }
@@ -124,7 +124,7 @@ module _ (part : Part) where
         (begins (moved part.play) (all_tasks part.play) (begun part) (outcome_at part.play)
         (IsAlike part.play)
         (alike_from part.play (begun part)));
-    kept = All-cons (IsKept part) way [] r.1 (All-nil (IsKept part));
+    kept = All-cons (IsWayOf part) way [] r.1 (All-nil (IsWayOf part));
     outcomes = All-nil (HasOutcome part);
     apart = λ a b x y below at_x at_y same. none-some x at_x;
   }
@@ -147,18 +147,18 @@ module _ (part : Part) where
   -- these ways have k turns after the first ones
   short : (k : ℕ) (ws : List Way)
       → ((c : Counted) → Contains (counted_ways ws) c → length c.order ≡ k)
-      → All (IsKept part) ws → length part.first.items + k < most_turns
+      → All (IsWayOf part) ws → length part.first.items + k < most_turns
       → All (λ (w : Way). length w.point.turns < most_turns) ws
   short k [] long kept few = All-nil (λ (w : Way). length w.point.turns < most_turns)
   short k (w ∷ ws) long kept few =
-      let here : IsKept part w = All-head (IsKept part) w ws kept in
+      let here : IsWayOf part w = All-head (IsWayOf part) w ws kept in
       let all = ap length here.turns in
       let sum = length-append part.first.items w.counted.order in
       let more = long w.counted (first_in w.counted (counted_ways ws)) in
       All-cons (λ (v : Way). length v.point.turns < most_turns) w ws
       (omega (arith, all, sum, more, few))
       (short k ws (λ c inside. long c (later_in w.counted (counted_ways ws) c inside))
-      (All-tail (IsKept part) w ws kept) few)
+      (All-tail (IsWayOf part) w ws kept) few)
 
   -- the ways of a layer have as many turns as the layer, after the first ones
   pub layer_short : (k : ℕ) (layer : List Way) (rows : List Row) → IsLayer part k layer rows

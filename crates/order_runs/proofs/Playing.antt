@@ -14,11 +14,11 @@ use Rattle.order_outcomes.specs.scripts.Forms.{IsScript}
 use Rattle.order_outcomes.specs.scripts.ScriptValue.{ScriptValue}
 use Rattle.order_outcomes.specs.reports.model.steps.declared.ending.Ending.{Ending}
 use Rattle.script_start.specs.Started.{HasStarted}
-use Rattle.task_core.specs.worlds.Frame.{Frame, scene_of}
+use Rattle.task_core.specs.worlds.WorldConsts.{WorldConsts, scene_of}
 use Rattle.task_core.specs.worlds.Runs.{program_of, programs_of}
 use Rattle.task_core.specs.worlds.Tasks.{Tasked}
 use Rattle.task_core.specs.worlds.World.{WorldValue}
-use Rattle.task_core.specs.worlds.WorldRuns.{StillRuns, moment_in, scene_in}
+use Rattle.task_core.specs.worlds.WorldRuns.{SameRun, moment_in, scene_in}
 use Rattle.world_close.specs.Finished.{IsFinished}
 use Rattle.order_runs.specs.Plays.{IsRunTo, IsSchedule, IsScriptOf, moment_by}
 use Rattle.order_sights.specs.Sights.{IsSight}
@@ -55,11 +55,11 @@ module _ (scene : Scene) (turns : List ℕ) (s : ScriptValue) (is : IsScriptOf s
   -- ---- after the turns
 
   module _ (world2 : WorldValue) (tasks2 : List Tasked)
-      (still : StillRuns world world2 tasks tasks2)
+      (still : SameRun world world2 tasks tasks2)
       (run : moment_in world2 tasks2
       ≡ turns_of (scene_in world tasks) (moment_in world tasks) turns) where
     scene_after : scene_in world2 tasks2 ≡ scene
-    scene_after = (λ k. scene_of (still.frame k) (still.programs k)) ∙ scene_started
+    scene_after = (λ k. scene_of (still.consts k) (still.programs k)) ∙ scene_started
 
     pub run_to : IsRunTo scene turns world2 tasks2
     run_to = record {
@@ -69,7 +69,7 @@ module _ (scene : Scene) (turns : List ℕ) (s : ScriptValue) (is : IsScriptOf s
       each = still.each;
       count = tasks_of scene world2 tasks2 scene_after
           ∙ sym (tasks_of scene world tasks scene_started) ∙ h.count
-          ∙ sym (ap (λ (f : Frame). f.tasks) still.frame);
+          ∙ sym (ap (λ (f : WorldConsts). f.tasks) still.consts);
     }
 
 -- ---- sights
@@ -81,16 +81,16 @@ turns_fit scene m [] fits = fits
 turns_fit scene m (n ∷ ns) fits = turns_fit scene (turn scene m n) ns (turn_fits scene m n fits)
 
 -- two runs by the same turns, one of them closed
-pub sighted : (scene : Scene) (turns : List ℕ) (closing : WorldValue) (crew : List Tasked)
-    (s : Sight) → IsRunTo scene turns closing crew
-    → s.ended ≡ ended_of (scene_in closing crew) (run_at (moment_in closing crew))
-    → IsFinished (scene_in closing crew) (moment_in closing crew)
+pub sighted : (scene : Scene) (turns : List ℕ) (closing : WorldValue) (closing_tasks : List Tasked)
+    (s : Sight) → IsRunTo scene turns closing closing_tasks
+    → s.ended ≡ ended_of (scene_in closing closing_tasks) (run_at (moment_in closing closing_tasks))
+    → IsFinished (scene_in closing closing_tasks) (moment_in closing closing_tasks)
     → IsRunTo scene turns s.world s.tasks.items → IsSight scene (moment_by scene turns) s
-sighted scene turns closing crew s run ended finished run2 = record {
+sighted scene turns closing closing_tasks s run ended finished run2 = record {
   scene_is = run2.scene_is;
   moment_is = run2.moment_is;
   left = ended ∙ (λ k. left_at (run.scene_is k) (run.moment_is k));
   finished = subst (λ (m : Moment). IsFinished scene m) run.moment_is
-      (subst (λ (x : Scene). IsFinished x (moment_in closing crew)) run.scene_is finished);
+      (subst (λ (x : Scene). IsFinished x (moment_in closing closing_tasks)) run.scene_is finished);
   even = (turns_fit scene (start_of scene) turns (start_fits scene)).journals;
 }

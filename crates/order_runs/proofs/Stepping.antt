@@ -15,7 +15,7 @@ use Rattle.order_outcomes.specs.reports.model.Rounds.{numbers}
 use Rattle.order_outcomes.specs.reports.model.Turns.{Moment, start_of}
 use Rattle.order_outcomes.specs.Outcome.{outcome_of}
 use Rattle.order_runs.specs.Points.{IsMoved, IsPointAt, IsPointOf}
-use Rattle.order_runs.specs.Steps.{AreAdded, HasOutcome, IsKept, IsMetAs, IsRoot, IsTurned, IsWayAdded, begun, counted_ways, led_on, opening}
+use Rattle.order_runs.specs.Steps.{AreAdded, HasOutcome, IsMetAs, IsRoot, IsTurned, IsWayAdded, IsWayOf, begun, counted_ways, led_on, opening}
 use Rattle.order_runs.specs.declared.part.Part.{Part}
 use Rattle.order_runs.specs.declared.points.Point.{Point}
 use Rattle.order_runs.specs.declared.rows.Row.{Row}
@@ -52,7 +52,7 @@ opens part way r =
 -- ---- one turn more
 
 -- the outcome of what is seen of a way is that of its moment
-pub outcome_there : (part : Part) (way : Way) → IsKept part way → (row : Row)
+pub outcome_there : (part : Part) (way : Way) → IsWayOf part way → (row : Row)
     → row.counted ≡ way.counted → row.outcome ≡ outcome_of way.point.sight.ended
     → HasOutcome part row
 outcome_there part way k row same told = (
@@ -63,7 +63,7 @@ outcome_there part way k row same told = (
   ),
 )
 
-module _ (part : Part) (way : Way) (k : IsKept part way) (n : ℕ) where
+module _ (part : Part) (way : Way) (k : IsWayOf part way) (n : ℕ) where
   -- what holds at the moment of the way holds at each to which it leads
   at_moment : (r : Option Way) (m : Moment) → led_on part way.counted.order ≡ Some m
       → IsTurned part way n (moved part.play k.at n) r
@@ -115,24 +115,24 @@ module _ (part : Part) where
   abbrev pub Same : List ℕ → List ℕ → Type 0
   Same a b = LeadAlike (moved part.play) (IsAlike part.play) (begun part) a b
 
-  kept_itself : (w : Way) → IsKept part w → Same w.counted.order w.counted.order
+  kept_itself : (w : Way) → IsWayOf part w → Same w.counted.order w.counted.order
   kept_itself w k = (k.at, (k.at, (k.leads, (k.leads, inl refl))))
 
-  all_itself : (ws : List Way) → All (IsKept part) ws → (e : Counted)
+  all_itself : (ws : List Way) → All (IsWayOf part) ws → (e : Counted)
       → Contains (counted_ways ws) e → Same e.order e.order
   all_itself [] kept e inside = absurd (in_none e inside)
   all_itself (w ∷ ws) kept e inside =
       by (in_cases w.counted (counted_ways ws) e inside)
-      (all_itself ws (All-tail (IsKept part) w ws kept) e)
+      (all_itself ws (All-tail (IsWayOf part) w ws kept) e)
     where
       by : (w.counted ≡ e) ⊎ Contains (counted_ways ws) e
           → (Contains (counted_ways ws) e → Same e.order e.order) → Same e.order e.order
       by (inl is) rest = subst (λ (c : Counted). Same c.order c.order) is
-          (kept_itself w (All-head (IsKept part) w ws kept))
+          (kept_itself w (All-head (IsWayOf part) w ws kept))
       by (inr later) rest = rest later
 
   -- a way that is pushed
-  adds_way : (old : List Way) → All (IsKept part) old → (w : Way) → IsKept part w
+  adds_way : (old : List Way) → All (IsWayOf part) old → (w : Way) → IsWayOf part w
       → IsAdded Same (counted_ways old) w.counted (counted_ways (old ++ w ∷ []))
   adds_way old kept w k =
       subst (λ (cs : List Counted). IsAdded Same (counted_ways old) w.counted cs)
@@ -140,13 +140,13 @@ module _ (part : Part) where
       (pushed Same (counted_ways old) w.counted (all_itself old kept) (kept_itself w k))
 
   -- the way as which another is met, with the counts of both
-  module _ (old : List Way) (kept : All (IsKept part) old) (w : Way) (k : IsKept part w)
+  module _ (old : List Way) (kept : All (IsWayOf part) old) (w : Way) (k : IsWayOf part w)
       (new : List Way) (h : IsMetAs old w new) where
     abbrev merged : Way
     merged = record h.before { counted = joined h.before.counted w.counted }
 
-    before_kept : IsKept part h.before
-    before_kept = All-contains (IsKept part) old h.before kept (
+    before_kept : IsWayOf part h.before
+    before_kept = All-contains (IsWayOf part) old h.before kept (
       h.place,
       slice_get_within old h.place h.before h.at,
       get_or_from_slice_get old h.place h.before h.before h.at,
@@ -185,7 +185,7 @@ module _ (part : Part) where
         ∙ ap (option_map (λ (x : Way). x.counted)) h.at) (all_itself old kept) as_before as_way
         (joined_is h.before.counted w.counted))
 
-    merged_kept : IsKept part merged
+    merged_kept : IsWayOf part merged
     merged_kept = record {
       at = before_kept.at;
       leads = ap (led_on part) same_order ∙ before_kept.leads;
@@ -195,11 +195,11 @@ module _ (part : Part) where
       point = before_kept.point;
     }
 
-    met_kept : All (IsKept part) new
-    met_kept = subst (λ (ws : List Way). All (IsKept part) ws) (sym h.set)
-        (All-set (IsKept part) old h.place merged merged_kept kept)
+    met_kept : All (IsWayOf part) new
+    met_kept = subst (λ (ws : List Way). All (IsWayOf part) ws) (sym h.set)
+        (All-set (IsWayOf part) old h.place merged merged_kept kept)
 
-  way_adds : (old : List Way) → All (IsKept part) old → (w : Way) → IsKept part w
+  way_adds : (old : List Way) → All (IsWayOf part) old → (w : Way) → IsWayOf part w
       → (new : List Way) → IsWayAdded old w new
       → IsAdded Same (counted_ways old) w.counted (counted_ways new)
   way_adds old kept w k new (inl is) =
@@ -207,16 +207,16 @@ module _ (part : Part) where
       (sym is) (adds_way old kept w k)
   way_adds old kept w k new (inr h) = met_added old kept w k new h
 
-  way_kept : (old : List Way) → All (IsKept part) old → (w : Way) → IsKept part w
-      → (new : List Way) → IsWayAdded old w new → All (IsKept part) new
+  way_kept : (old : List Way) → All (IsWayOf part) old → (w : Way) → IsWayOf part w
+      → (new : List Way) → IsWayAdded old w new → All (IsWayOf part) new
   way_kept old kept w k new (inl is) =
-      subst (λ (ws : List Way). All (IsKept part) ws) (sym is)
-      (All-push (IsKept part) old w kept k)
+      subst (λ (ws : List Way). All (IsWayOf part) ws) (sym is)
+      (All-push (IsWayOf part) old w kept k)
   way_kept old kept w k new (inr h) = met_kept old kept w k new h
 
   -- what a turn adds
   turn_adds : (way : Way) (n : ℕ) (o : Option Moment) (r : Option Way)
-      → IsTurned part way n o r → (old new : List Way) → All (IsKept part) old
+      → IsTurned part way n o r → (old new : List Way) → All (IsWayOf part) old
       → AreAdded old r new
       → AddsIf Same o (counted_ways old) (with_turn way.counted n) (counted_ways new)
   turn_adds way n None None t old new kept a = ap counted_ways a
@@ -229,9 +229,9 @@ module _ (part : Part) where
   -- the ways are kept with the longer one
   pub with_kept : (way : Way) (n : ℕ) (o : Option Moment) (r : Option Way)
       → IsTurned part way n o r → (old new : List Way) → AreAdded old r new
-      → All (IsKept part) old → All (IsKept part) new
+      → All (IsWayOf part) old → All (IsWayOf part) new
   with_kept way n None None t old new a kept =
-      subst (λ (ws : List Way). All (IsKept part) ws) (sym a) kept
+      subst (λ (ws : List Way). All (IsWayOf part) ws) (sym a) kept
   with_kept way n None (Some w) t old new a kept = absurd t
   with_kept way n (Some m) None t old new a kept = absurd t
   with_kept way n (Some m) (Some w) t old new a kept = way_kept old kept w t.1 new a
@@ -276,7 +276,7 @@ module _ (part : Part) where
         ∙ ap not (sym (rests-append (numbers n) n m))
         ∙ ap (λ j. not (rests (moved part.play) (numbers j) m)) (sym (add-one n))
 
-    pub spreads_more : (old mid new : List Way) → All (IsKept part) mid → AreAdded mid r new
+    pub spreads_more : (old mid new : List Way) → All (IsWayOf part) mid → AreAdded mid r new
         → Spreads (moved part.play) (IsAlike part.play) (begun part) m way.counted (numbers n)
         (counted_ways old) (counted_ways mid)
         → Spreads (moved part.play) (IsAlike part.play) (begun part) m way.counted (numbers (n + 1))

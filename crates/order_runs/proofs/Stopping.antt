@@ -15,7 +15,7 @@ use Rattle.order_outcomes.specs.reports.model.Rounds.{all_tasks}
 use Rattle.order_outcomes.specs.reports.model.Scene.{Scene}
 use Rattle.order_outcomes.specs.reports.model.Turns.{Moment}
 use Rattle.order_outcomes.specs.scripts.Limits.{most_turns}
-use Rattle.order_runs.specs.Steps.{HasOutcomeFrom, IsKept, IsLayer, IsSpread, IsStep, begun, counted_rows, counted_ways, led_on, opening}
+use Rattle.order_runs.specs.Steps.{HasOutcomeFrom, IsLayer, IsSpread, IsStep, IsWayOf, begun, counted_rows, counted_ways, led_on, opening}
 use Rattle.order_runs.specs.Stops.{BeginsOverrun, HasLongWay, HasManyOrders, HasTooMany, HasTooManyFrom, IsCrowded, IsOverrun, counts_of, orders_from, ways_from}
 use Rattle.order_runs.specs.Tables.{IsTable, IsTableFrom}
 use Rattle.order_runs.specs.declared.part.Part.{Part}
@@ -112,14 +112,14 @@ module _ (part : Part) where
 
   -- ---- ways and rows
 
-  kept_lead : (ws : List Way) → All (IsKept part) ws → Leads (counted_ways ws)
+  kept_lead : (ws : List Way) → All (IsWayOf part) ws → Leads (counted_ways ws)
   kept_lead [] kept c inside = absurd (in_none c inside)
   kept_lead (w ∷ ws) kept c inside =
       by (in_cases w.counted (counted_ways ws) c inside)
-      (kept_lead ws (All-tail (IsKept part) w ws kept) c)
+      (kept_lead ws (All-tail (IsWayOf part) w ws kept) c)
     where
-      here : IsKept part w
-      here = All-head (IsKept part) w ws kept
+      here : IsWayOf part w
+      here = All-head (IsWayOf part) w ws kept
 
       by : (w.counted ≡ c) ⊎ Contains (counted_ways ws) c
           → (Contains (counted_ways ws) c
@@ -130,13 +130,13 @@ module _ (part : Part) where
       by (inr later) rest = rest later
 
   -- each way counts at least 1
-  kept_count : (ws : List Way) → All (IsKept part) ws
+  kept_count : (ws : List Way) → All (IsWayOf part) ws
       → length ws ≤ counts_of (counted_ways ws)
   kept_count [] kept = omega arith
   kept_count (w ∷ ws) kept =
-      let here : IsKept part w = All-head (IsKept part) w ws kept in
+      let here : IsWayOf part w = All-head (IsWayOf part) w ws kept in
       let some = here.some in
-      let rest = kept_count ws (All-tail (IsKept part) w ws kept) in
+      let rest = kept_count ws (All-tail (IsWayOf part) w ws kept) in
       let whole : counts_of (counted_ways (w ∷ ws))
       ≡ w.counted.count * 1 + counts_of (counted_ways ws) = refl in
       omega (arith, some, rest, whole)
@@ -281,7 +281,7 @@ module _ (part : Part) where
 
   -- ---- what has stopped a step
 
-  pub overruns : (way : Way) (kept : IsKept part way) (next next' : List Way) (any : Bool)
+  pub overruns : (way : Way) (kept : IsWayOf part way) (next next' : List Way) (any : Bool)
       → ((m : Moment) → led_on part way.counted.order ≡ Some m
       → IsSpread part way m next next' any) → any ≡ false → (rows : List Row) (row : Row)
       → row.counted ≡ way.counted

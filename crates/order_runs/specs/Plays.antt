@@ -99,5 +99,5 @@ pub record IsRunTo (scene : Scene) (turns : List ℕ) (world : WorldValue) (task
     : Type 0 where
   pub scene_is : runs.scene_in world tasks ≡ scene
   pub moment_is : runs.moment_in world tasks ≡ moment_by scene turns
-  pub each : AreTasks world.frame tasks
-  pub count : length tasks ≡ world.frame.tasks
+  pub each : AreTasks world.consts tasks
+  pub count : length tasks ≡ world.consts.tasks

@@ -33,7 +33,7 @@ led_on part turns = led (moved part.play) (Some (begun part)) turns
 
 -- Each turn of the way moves its task. What is seen of it is the run of all its turns, which begin
 -- with the first ones
-pub record IsKept (part : Part) (way : Way) : Type 0 where
+pub record IsWayOf (part : Part) (way : Way) : Type 0 where
   pub at : Moment
   pub leads : led_on part way.counted.order ≡ Some at
   pub some : 0 < way.counted.count
@@ -42,7 +42,7 @@ pub record IsKept (part : Part) (way : Way) : Type 0 where
 
 -- the way that ends with the first turns
 abbrev pub IsRoot : Part → Way → Type 0
-IsRoot part way = (way.counted ≡ root) × IsKept part way
+IsRoot part way = (way.counted ≡ root) × IsWayOf part way
 
 abbrev pub counted_ways : List Way → List Counted
 counted_ways ways = map (λ (w : Way). w.counted) ways
@@ -51,7 +51,7 @@ counted_ways ways = map (λ (w : Way). w.counted) ways
 abbrev pub IsTurned : Part → Way → ℕ → Option Moment → Option Way → Type 0
 IsTurned part way task None None = Unit {0}
 IsTurned part way task (Some m) (Some longer) =
-    (longer.counted ≡ with_turn way.counted task) × IsKept part longer
+    (longer.counted ≡ with_turn way.counted task) × IsWayOf part longer
 IsTurned part way task _ _ = ⊥
 
 -- the second way can be met as the first, and doesn't come before it
@@ -86,10 +86,10 @@ AreAdded old (Some way) new = IsWayAdded old way new
 -- the ways on from one way, which ends if there are none
 pub record IsSpread (part : Part) (way : Way) (m : Moment) (old new : List Way) (any : Bool)
     : Type 0 where
-  pub spreads : All (IsKept part) old
+  pub spreads : All (IsWayOf part) old
       → Spreads (moved part.play) (IsAlike part.play) (begun part) m way.counted
       (all_tasks part.play) (counted_ways old) (counted_ways new)
-  pub kept : All (IsKept part) old → All (IsKept part) new
+  pub kept : All (IsWayOf part) old → All (IsWayOf part) new
   pub none : any ≡ not (rests (moved part.play) (all_tasks part.play) m)
 
 -- ---- rows
@@ -135,11 +135,11 @@ AreApart rows = (a b : ℕ) (x y : Row) → a < b → slice_get rows a ≡ Some 
 -- the ways on from one way and the rows after them
 pub record IsAdvanced (part : Part) (way : Way) (next : List Way) (rows : List Row)
     (next' : List Way) (rows' : List Row) : Type 0 where
-  pub advances : All (IsKept part) next → All (HasOutcome part) rows
+  pub advances : All (IsWayOf part) next → All (HasOutcome part) rows
       → Advances (moved part.play) (all_tasks part.play) (begun part) (outcome_at part.play)
       (IsAlike part.play) way.counted (counted_ways next) (counted_rows rows) (counted_ways next')
       (counted_rows rows')
-  pub kept : All (IsKept part) next → All (IsKept part) next'
+  pub kept : All (IsWayOf part) next → All (IsWayOf part) next'
   pub outcomes : All (HasOutcome part) rows → All (HasOutcome part) rows'
   pub apart : All (HasOutcome part) rows → AreApart rows → AreApart rows'
 
@@ -150,7 +150,7 @@ pub record IsStep (part : Part) (layer : List Way) (rows : List Row) (next : Lis
       → AllAdvance (moved part.play) (all_tasks part.play) (begun part) (outcome_at part.play)
       (IsAlike part.play) (counted_ways layer) [] (counted_rows rows) (counted_ways next)
       (counted_rows rows')
-  pub kept : All (IsKept part) next
+  pub kept : All (IsWayOf part) next
   pub outcomes : All (HasOutcome part) rows → All (HasOutcome part) rows'
   pub apart : All (HasOutcome part) rows → AreApart rows → AreApart rows'
 
@@ -158,6 +158,6 @@ pub record IsStep (part : Part) (layer : List Way) (rows : List Row) (next : Lis
 pub record IsLayer (part : Part) (k : ℕ) (layer : List Way) (rows : List Row) : Type 0 where
   pub stands : StandsAt (moved part.play) (all_tasks part.play) (begun part) (outcome_at part.play)
       (IsAlike part.play) k (counted_ways layer) (counted_rows rows)
-  pub kept : All (IsKept part) layer
+  pub kept : All (IsWayOf part) layer
   pub outcomes : All (HasOutcome part) rows
   pub apart : AreApart rows

@@ -96,8 +96,8 @@ impl Play {
         requires { IsSchedule self.now turns.now }
         ensures { IfOk result (IsSight self.now (moment_by self.now turns.now)) }
     {
-        let (closing, crew) = self.run(alloc, turns, gate)?;
-        let ended = closing.close(crew)?;
+        let (closing, closing_tasks) = self.run(alloc, turns, gate)?;
+        let ended = closing.close(closing_tasks)?;
         let (world, tasks) = self.run(alloc, turns, gate)?;
         Ok(Sight {
             ended,

@@ -3,7 +3,7 @@
 ghost use Rattle.std.specs.Prelude.{◌≡◌, ℕ, suc, ◌+◌, ◌<◌, ◌≤◌, ◌^◌, [], ◌∷◌, ◌++◌, All, length, slice_get, IfErr, IfOk, IsSomeAnd, MatchOption, OnOk};
 ghost use Rattle.order_outcomes.specs.counts.Layers.{joined};
 ghost use Rattle.order_outcomes.specs.scripts.Limits.{most_turns};
-ghost use Rattle.order_runs.specs.Steps.{HasNone, HasOutcome, IsAdvanced, IsKept, IsRoot, IsRowAdded, IsStep, counted_rows};
+ghost use Rattle.order_runs.specs.Steps.{HasNone, HasOutcome, IsAdvanced, IsRoot, IsRowAdded, IsStep, IsWayOf, counted_rows};
 ghost use Rattle.order_runs.specs.Stops.{HasTooMany, IsCrowded, IsOverrun, counts_of};
 ghost use Rattle.order_runs.specs.Tables.{IsTable};
 ghost use Rattle.order_runs.specs.declared.part.Part.{Part};
@@ -102,7 +102,7 @@ fn add_row(alloc: Global, rows: &mut Vec<Row>, row: Row) -> Result<(), Stopped>
 // The row of an order alone.
 fn row_of(alloc: Global, way: &Way) -> Result<Row, OutOfMemory>
     ensures counted { IfOk result (λ row. row.counted ≡ way.now.counted) }
-    ensures outcome { IfOk result (λ row. (part : Part) → IsKept part way.now
+    ensures outcome { IfOk result (λ row. (part : Part) → IsWayOf part way.now
         → HasOutcome part row) }
 {
     let outcome = outcome_of(alloc, &way.point.sight.ended)?;
@@ -121,7 +121,7 @@ fn advance_one<G: Gate>(
     rows: &mut Vec<Row>,
     gate: &G,
 ) -> Result<(), Stopped>
-    requires kept { IsKept part.now way.now }
+    requires kept { IsWayOf part.now way.now }
     requires turns { length way.now.point.turns < most_turns }
     ensures advanced { OnOk result (IsAdvanced part.now way.now next.old.items rows.old.items
         next.new.items rows.new.items) }
@@ -146,7 +146,7 @@ fn advance<G: Gate>(
     room: usize,
     gate: &G,
 ) -> Result<Vec<Way>, Stopped>
-    requires kept { All (IsKept part.now) layer.now }
+    requires kept { All (IsWayOf part.now) layer.now }
     requires turns { All (λ way. length way.point.turns < most_turns) layer.now }
     ensures step { IfOk result (λ next. IsStep part.now layer.now rows.old.items next.items
         rows.new.items) }

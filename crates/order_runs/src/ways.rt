@@ -6,7 +6,7 @@ ghost use Rattle.order_outcomes.specs.Orders.{moved};
 ghost use Rattle.order_outcomes.specs.counts.Layers.{root};
 ghost use Rattle.order_outcomes.specs.reports.model.Turns.{Moment};
 ghost use Rattle.order_outcomes.specs.scripts.Limits.{most_turns};
-ghost use Rattle.order_runs.specs.Steps.{AreAdded, CanMeet, IsKept, IsMet, IsRoot, IsSpread, IsTurned, IsWayAdded, led_on, opening};
+ghost use Rattle.order_runs.specs.Steps.{AreAdded, CanMeet, IsMet, IsRoot, IsSpread, IsTurned, IsWayAdded, IsWayOf, led_on, opening};
 
 use crate::part::Part;
 use crate::points::{Point, reached, turned};
@@ -49,7 +49,7 @@ fn lengthened<G: Gate>(
     gate: &G,
 ) -> Result<Option<Way>, OutOfMemory>
     requires task { task < length part.now.play.programs }
-    requires kept { IsKept part.now way.now }
+    requires kept { IsWayOf part.now way.now }
     requires turns { length way.now.point.turns < most_turns }
     ensures { IfOk result (λ longer. (m : Moment) → led_on part.now way.now.counted.order ≡ Some m
         → IsTurned part.now way.now task (moved part.now.play m task) longer) }
@@ -234,7 +234,7 @@ pub fn spread<G: Gate>(
     index: &mut Index,
     gate: &G,
 ) -> Result<bool, OutOfMemory>
-    requires kept { IsKept part.now way.now }
+    requires kept { IsWayOf part.now way.now }
     requires turns { length way.now.point.turns < most_turns }
     ensures { IfOk result (λ any. (m : Moment)
         → led_on part.now way.now.counted.order ≡ Some m

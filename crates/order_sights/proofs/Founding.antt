@@ -11,8 +11,8 @@ use Rattle.order_sights.specs.declared.sight.Sight.{Sight}
 
 pub inode_found : (pairs : List Pair) (i : ℕ) (a b x y : Sight) → x ≡ a → y ≡ b
     → (c d : CellValue) (list list2 : List Entry) (xs ys : List EndedInodeValue)
-    → IsCellAt x.world.frame x.world.state i (Some c)
-    → IsCellAt y.world.frame y.world.state i (Some d) → IsCellSame c d → list ≡ x.ended.list
+    → IsCellAt x.world.consts x.world.state i (Some c)
+    → IsCellAt y.world.consts y.world.state i (Some d) → IsCellSame c d → list ≡ x.ended.list
     → list2 ≡ y.ended.list → xs ≡ x.ended.inodes → ys ≡ y.ended.inodes
     → ((e f : EndedInodeValue) → slice_get xs i ≡ Some e → slice_get ys i ≡ Some f
     → AreJournalsSame list list2 pairs i e f) → IsInodeSame pairs i a b
@@ -20,8 +20,8 @@ inode_found pairs i a b x y is is2 c d list list2 xs ys at at2 cells same same2 
     journals = record {
       cell = c;
       cell2 = d;
-      at = subst (λ (s : Sight). IsCellAt s.world.frame s.world.state i (Some c)) is at;
-      at2 = subst (λ (s : Sight). IsCellAt s.world.frame s.world.state i (Some d)) is2 at2;
+      at = subst (λ (s : Sight). IsCellAt s.world.consts s.world.state i (Some c)) is at;
+      at2 = subst (λ (s : Sight). IsCellAt s.world.consts s.world.state i (Some d)) is2 at2;
       cells = cells;
       journals = λ e f there there2.
           subst (λ (l : List Entry). AreJournalsSame l b.ended.list pairs i e f)

@@ -23,7 +23,7 @@ use Rattle.inode_state.specs.Verdicts.{found}
 use Rattle.inode_state.specs.declared.counts.Counts.{Counts}
 use Rattle.inode_state.specs.declared.marks.Marks.{Marks}
 use Rattle.inode_state.specs.declared.state.State.{State as InodeState}
-use Rattle.inode_state.specs.declared.verdicts.Kept.{Kept}
+use Rattle.inode_state.specs.declared.verdicts.KeyedVerdict.{KeyedVerdict}
 use Rattle.journal_laws.proofs.Fresh.{Fresh}
 use Rattle.journal_laws.proofs.FreshSteps.{freshness_lem}
 use Rattle.order_alike.specs.Alike.{AreIn, AreListsAlike, IsAlike, IsAlikeBy, IsIn, IsInodeAlike, IsSound, digests_seen, places_in, unchecked}
@@ -36,7 +36,7 @@ use Rattle.run_model.specs.History.{Thought}
 use Rattle.run_model.specs.Scene.{Program, Scene, Station, inode_of}
 use Rattle.run_model.specs.Turns.{Moment, State, journal_at}
 use Rattle.task_core.specs.Cells.{IsCellAt}
-use Rattle.task_core.specs.worlds.Frame.{Site, inode_in, station_of}
+use Rattle.task_core.specs.worlds.WorldConsts.{Site, inode_in, station_of}
 use Rattle.task_core.specs.worlds.Runs.{thought_of}
 use Rattle.order_sights.specs.Inodes.{AreFilesSame, AreJournalsSame, FitsIfThere, IsCellSame, IsPairFit}
 use Rattle.order_sights.specs.Pairs.{AreThoughtsPaired, are_apart, are_within, has_pair, named}
@@ -214,17 +214,17 @@ module _ (scene : Scene) (m : Moment) (s : Sight) (sight : IsSight scene m s) wh
       ∙ ended_length scene scene.stations m.state.journals sight.even
 
   module _ (i : ℕ) (st : Station) (at : slice_get scene.stations i ≡ Some st) (c : CellValue)
-      (cell : IsCellAt s.world.frame s.world.state i (Some c)) where
+      (cell : IsCellAt s.world.consts s.world.state i (Some c)) where
     pub journal_is : slice_get m.state.journals i ≡ Some c.list
     journal_is = ap (λ (x : State). slice_get x.journals i) (sym state_is) ∙ cell.0
 
     pub journal_there : journal_at m.state i ≡ c.list
     journal_there = get_or_from_slice_get m.state.journals i c.list [] journal_is
 
-    station_is : station_of s.world.frame cell.1.0 ≡ st
-    station_is = same_Some (station_of s.world.frame cell.1.0) st
-        (sym (slice_get-map (station_of s.world.frame) s.world.frame.sites i
-        ∙ ap (option_map (station_of s.world.frame)) cell.1.1.0)
+    station_is : station_of s.world.consts cell.1.0 ≡ st
+    station_is = same_Some (station_of s.world.consts cell.1.0) st
+        (sym (slice_get-map (station_of s.world.consts) s.world.consts.sites i
+        ∙ ap (option_map (station_of s.world.consts)) cell.1.1.0)
         ∙ ap (λ (x : Scene). slice_get x.stations i) sight.scene_is ∙ at)
 
     pub inode_is : c.inode ≡ inode_of scene st

@@ -38,8 +38,8 @@ pub record AreListsSame (a b : Sight) : Type 0 where
 pub record IsInodeSame (pairs : List Pair) (i : ℕ) (a b : Sight) : Type 0 where
   pub cell : CellValue
   pub cell2 : CellValue
-  pub at : IsCellAt a.world.frame a.world.state i (Some cell)
-  pub at2 : IsCellAt b.world.frame b.world.state i (Some cell2)
+  pub at : IsCellAt a.world.consts a.world.state i (Some cell)
+  pub at2 : IsCellAt b.world.consts b.world.state i (Some cell2)
   pub cells : IsCellSame cell cell2
   pub journals : (x y : EndedInodeValue) → slice_get a.ended.inodes i ≡ Some x
       → slice_get b.ended.inodes i ≡ Some y → AreJournalsSame a.ended.list b.ended.list pairs i x y

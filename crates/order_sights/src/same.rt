@@ -7,7 +7,7 @@ use hash_algos::{Algo, AlgoSet};
 use inode_events::templates::Entry;
 use inode_meta::Template;
 use inode_pages::Page;
-use inode_state::{Kept, Key, Marks, Sums};
+use inode_state::{Key, KeyedVerdict, Marks, Sums};
 use policy_rules::Action;
 use xattr_store::Bytes;
 
@@ -137,8 +137,8 @@ impl Same for Key {
     }
 }
 
-impl Same for Kept {
-    fn is_same(&self, other: &Kept) -> bool {
+impl Same for KeyedVerdict {
+    fn is_same(&self, other: &KeyedVerdict) -> bool {
         self.key.is_same(&other.key) && self.verdict == other.verdict
     }
 }

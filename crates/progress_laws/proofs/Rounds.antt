@@ -24,7 +24,7 @@ use Rattle.run_model.specs.History.{Thought, step_at, who_at}
 use Rattle.run_model.specs.Rounds.{any_moves, is_moved, moves, moves_at, numbers}
 use Rattle.run_model.specs.Scene.{Program, Scene, Station, decided, inode_of, mode_of, rules_with}
 use Rattle.run_model.specs.Turns.{Moment, State, Turned, go, go_check, go_does, go_event, go_signal, go_step, hear_told, journal_at, state_on, turn, turn_of, turned}
-use Rattle.progress_laws.specs.Resting.{StillAtRest}
+use Rattle.progress_laws.specs.Resting.{RoundAtRest}
 use Rattle.list_lemmas.proofs.Containing.{has_cases, has_none}
 
 abbrev IsSame : State → Thought → Turned → Type 0
@@ -136,7 +136,7 @@ has_number (suc k) n l = at (has_number k n) (cases_order n k) where
   at ih (inr (inl x)) = Contains-append_left (numbers k) (k ∷ []) n (ih x)
   at ih (inr (inr x)) = absurd (omega arith)
 
-pub still : StillAtRest
-still scene m h n l =
+pub round_at_rest : RoundAtRest
+round_at_rest scene m h n l =
     none_moves scene m (numbers (length scene.programs)) h n
     (has_number (length scene.programs) n l)

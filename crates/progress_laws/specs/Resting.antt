@@ -94,7 +94,7 @@ EndsAtRest = (scene : Scene) (m : Moment) → AtRest scene m
     × ((all_done scene.programs m.thoughts || is_stuck scene.programs m.thoughts) ≡ true)
 
 -- if a round moves no task, no task can move
-abbrev pub StillAtRest : Type 0
-StillAtRest =
+abbrev pub RoundAtRest : Type 0
+RoundAtRest =
     (scene : Scene) (m : Moment) → any_moves scene m (all_tasks scene) ≡ false → (n : ℕ)
     → n < length scene.programs → moves scene m n ≡ false

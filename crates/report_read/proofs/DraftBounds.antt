@@ -29,7 +29,7 @@ left_of stage.Over more = 0
 left_of _ more = more + 1
 
 -- no journal has more than m events, and all reports are as many as `total`
-pub record Kept (m total : ℕ) (done : List ReportValue) (inodes : List InodeValue)
+pub record WithinBounds (m total : ℕ) (done : List ReportValue) (inodes : List InodeValue)
     (events : List Event) (left : ℕ) : Type 0 where
   pub reports : All (HasShort m) done
   pub journals : All (IsShort m) inodes
@@ -37,11 +37,11 @@ pub record Kept (m total : ℕ) (done : List ReportValue) (inodes : List InodeVa
   pub count : length done + left ≡ total
 
 abbrev pub Bounded : ℕ → ℕ → Draft → Type 0
-Bounded m total d = Kept m total d.done d.inodes d.events (left_of d.stage d.more)
+Bounded m total d = WithinBounds m total d.done d.inodes d.events (left_of d.stage d.more)
 
 -- the same, of a draft whose stage isn't the last
 abbrev Open : ℕ → ℕ → Draft → Type 0
-Open m total d = Kept m total d.done d.inodes d.events (d.more + 1)
+Open m total d = WithinBounds m total d.done d.inodes d.events (d.more + 1)
 
 -- ---- steps that may fail
 
@@ -84,8 +84,8 @@ left_next more = next_by more (more == 0) refl
 
 -- a bound may be greater
 greater : (m n total : ℕ) (done : List ReportValue) (inodes : List InodeValue)
-    (events : List Event) (left : ℕ) → m ≤ n → Kept m total done inodes events left
-    → Kept n total done inodes events left
+    (events : List Event) (left : ℕ) → m ≤ n → WithinBounds m total done inodes events left
+    → WithinBounds n total done inodes events left
 greater m n total done inodes events left le k = record {
   reports = λ i r small j inode here.
       let short : length (slice_index_or (slice_index_or done i r).inodes j inode).events ≤ m =
@@ -104,9 +104,9 @@ grown m total d k =
 
 -- the stage changes, but isn't the last
 staged : (n total : ℕ) (d : Draft) (s : Stage) → left_of s d.more ≡ d.more + 1 → Open n total d
-    → Kept n total d.done d.inodes d.events (left_of s d.more)
+    → WithinBounds n total d.done d.inodes d.events (left_of s d.more)
 staged n total d s same on =
-    subst (λ (left : ℕ). Kept n total d.done d.inodes d.events left) (sym same) on
+    subst (λ (left : ℕ). WithinBounds n total d.done d.inodes d.events left) (sym same) on
 
 version : (n total : ℕ) (d : Draft) (ws : Words) → Open n total d
     → IfSome (draft.with_version ws d) (Bounded n total)
@@ -326,7 +326,7 @@ replies n total d done line ws is on =
 
 -- what is bounded before a line is bounded by one more event after it
 pub one_more : (m total : ℕ) (s : Stage) (line : Span) (ws : Words) (d : Draft) → d.stage ≡ s
-    → Kept m total d.done d.inodes d.events (left_of s d.more)
+    → WithinBounds m total d.done d.inodes d.events (left_of s d.more)
     → IfSome (with_words s line ws d) (Bounded (m + 1) total)
 unfolding with_words
 one_more m total stage.Version line ws d is k =

@@ -24,7 +24,7 @@ use Rattle.report_text.specs.model.events.policy.RuleValue.{is_any}
 use Rattle.report_text.specs.model.events.templates.declared.entry.Placed.{Placed}
 use Rattle.report_text.specs.model.events.templates.declared.entry.Placed.TheVariants as placed
 use Rattle.report_text.specs.model.events.forms.Words.{is_line}
-use Rattle.report_text.proofs.Kept.{events_kept}
+use Rattle.report_text.proofs.CleanWords.{events_kept}
 use Rattle.report_text.proofs.about_forms.Tells.{words_back}
 use Rattle.report_words.specs.declared.event.Span.{Span}
 use Rattle.report_read.specs.Lines.{event_of, event_with}

@@ -23,7 +23,7 @@ use Rattle.report_text.specs.Report.{entry_words, pcr_words}
 use Rattle.report_text.specs.Printed.{printed_entry}
 use Rattle.report_text.specs.Ranges.{IsListEntry}
 use Rattle.report_text.proofs.Reading.{value, template_at, template_back}
-use Rattle.report_text.proofs.Kept.{picked}
+use Rattle.report_text.proofs.CleanWords.{picked}
 
 -- ---- the fields of a template
 

@@ -1,6 +1,6 @@
 pub mod Numerals
 pub mod Reading
-pub mod Kept
+pub mod CleanWords
 pub mod Entries
 pub mod Rules
 pub mod Whole

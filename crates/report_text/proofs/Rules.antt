@@ -13,7 +13,7 @@ use Rattle.policy_text.proofs.RulesAgain.{rule_again, rule_on_one_line}
 use Rattle.policy_cell.specs.declared.cell.RuleEntry.{RuleEntry}
 use Rattle.report_text.specs.Words.{Line}
 use Rattle.report_text.specs.Report.{rule_line, rule_lines}
-use Rattle.report_text.proofs.Kept.{number_kept, who_kept}
+use Rattle.report_text.proofs.CleanWords.{number_kept, who_kept}
 use Rattle.report_text.proofs.Reading.{who_at, who_back}
 
 onto_kept : (b : ℕ) (parts : List (List ℕ)) → is_clean_byte b ≡ true → list_all is_clean parts

@@ -39,7 +39,7 @@ use Rattle.report_text.proofs.Numerals.{high_clean, numeral_injective}
 use Rattle.report_text.proofs.Reading.{value, value_back, is_number, number_is, cause_at, cause_back, status_at, event_at, events_back}
 use Rattle.text_forms.specs.Words.{is_clean, is_line}
 use Rattle.text_forms.proofs.Tells.{text_tells}
-use Rattle.report_text.proofs.Kept.{number_kept, hex_kept, append_kept, template_kept, algo_kept, cause_kept, status_kept, row_append, events_kept}
+use Rattle.report_text.proofs.CleanWords.{number_kept, hex_kept, append_kept, template_kept, algo_kept, cause_kept, status_kept, row_append, events_kept}
 use Rattle.report_text.proofs.Entries.{digest_text, fields_are, sig_words, bytes_at, bytes_back, entry_at, entries_back}
 use Rattle.report_text.proofs.Rules.{rule_at, rules_back, rules_kept}
 

@@ -3,7 +3,7 @@ use Rattle.std.specs.Prelude.{◌≡◌}
 use Rattle.rule_match.specs.declared.group.Group.{Group}
 use Rattle.rule_match.specs.declared.index.Index.TheInside.{Inside}
 use Rattle.rule_match.specs.Groups.{lines_from}
-use Rattle.rule_match.specs.Kept.{lines_at}
+use Rattle.rule_match.specs.LineTable.{lines_at}
 
 -- the table has, for each group, exactly the group's lines
 pub record IsIndexed (i : Inside) : Type 0 where

@@ -3,7 +3,7 @@ ghost use Rattle.rule_match.specs.Deciders.{AreDeciders};
 ghost use Rattle.rule_match.specs.Decision.{decide_of, place_of_first};
 ghost use Rattle.rule_match.specs.Group.{same_group};
 ghost use Rattle.rule_match.specs.Groups.{StandsAt, lines_from};
-ghost use Rattle.rule_match.specs.Kept.{lines_at};
+ghost use Rattle.rule_match.specs.LineTable.{lines_at};
 ghost use Rattle.rule_match.specs.declared.group.Group.{Group as AnyGroup};
 
 use crate::deciders::Deciders;

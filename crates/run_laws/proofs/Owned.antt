@@ -31,7 +31,7 @@ use Rattle.run_model.specs.Scene.{Program, Scene, Station, decided, inode_of, mo
 use Rattle.run_model.specs.Served.{events_of, rules_of}
 use Rattle.run_model.specs.Turns.{State, go_check, go_does, go_step, journal_at, state_on}
 use Rattle.run_model.specs.rules.declared.cell.RuleEntry.{RuleEntry}
-use Rattle.run_laws.specs.Kept.{AreSigned, GoLeaves, GoOwns, GoSigns, Owns}
+use Rattle.run_laws.specs.Histories.{AreSigned, GoLeaves, GoOwns, GoSigns, Owns}
 use Rattle.run_laws.specs.Moments.{answers_to, answers_told, check_answers, does_answers}
 
 -- ---- a journal with one more event

@@ -17,7 +17,7 @@ use Rattle.run_model.specs.Served.{Served, events_of}
 use Rattle.run_model.specs.steps.declared.ending.Ending.TheVariants as ending
 use Rattle.run_model.specs.Turns.{Moment, State, go, newborn, run_at, start_of, turn, turned, turns_of}
 use Rattle.run_model.specs.rules.declared.cell.RuleEntry.{RuleEntry}
-use Rattle.run_laws.specs.Kept.{HasMade, IsKept, RunsAreServed, TurnsAreServed}
+use Rattle.run_laws.specs.Histories.{HasHistories, HasMade, RunsAreServed, TurnsAreServed}
 use Rattle.run_laws.specs.Moments.{history_after, seen_in}
 use Rattle.run_laws.specs.Stations.{StationRules}
 use Rattle.run_laws.proofs.Checking.{law_fits_are_suited, law_fits_at_first, law_fits_with_more}
@@ -49,8 +49,8 @@ after_other scene n k p q s t u even ne c = record {
 }
 
 turned_kept : (scene : Scene) (m : Moment) (n : ℕ) (o : Option Program) (q : Option Thought)
-    → slice_get scene.programs n ≡ o → slice_get m.thoughts n ≡ q → IsKept scene m
-    → IsKept scene (turned scene m n o q)
+    → slice_get scene.programs n ≡ o → slice_get m.thoughts n ≡ q → HasHistories scene m
+    → HasHistories scene (turned scene m n o q)
 turned_kept scene m n None q e g f = f
 turned_kept scene m n (Some p) None e g f = f
 turned_kept scene m n (Some p) (Some t) e g f = record {
@@ -76,8 +76,8 @@ turned_kept scene m n (Some p) (Some t) e g f = record {
   at k p2 t2 hp (inr x) =
       after_other scene n k p p2 m.state t t2 f.even (λ y. x.0 (sym y)) (f.tasks k p2 t2 hp x.1)
 
-turns_kept : (scene : Scene) (m : Moment) (turns : List ℕ) → IsKept scene m
-    → IsKept scene (turns_of scene m turns)
+turns_kept : (scene : Scene) (m : Moment) (turns : List ℕ) → HasHistories scene m
+    → HasHistories scene (turns_of scene m turns)
 turns_kept scene m [] f = f
 turns_kept scene m (n ∷ ns) f =
     turns_kept scene (turn scene m n) ns (turned_kept scene m n (slice_get scene.programs n)
@@ -93,7 +93,7 @@ newborn_none n station =
     ap (λ (b : Bool). cond b ((0, event nobody deed.Birth (told.Image station.birth)) ∷ []) [])
     (ne_eqb (n + 1) 0 (λ e. absurd (omega arith)))
 
-start_kept : (scene : Scene) → IsKept scene (start_of scene)
+start_kept : (scene : Scene) → HasHistories scene (start_of scene)
 start_kept scene = record {
   even = length-map scene.stations newborn;
   thoughts = length-map scene.programs (λ (p : Program). start);
@@ -128,7 +128,7 @@ start_kept scene = record {
 
 -- ---- the run
 
-served_at : (scene : Scene) (m : Moment) → IsKept scene m → Served scene (run_at m)
+served_at : (scene : Scene) (m : Moment) → HasHistories scene m → Served scene (run_at m)
 served_at scene m f = record {
   journals = f.even;
   thoughts = f.thoughts;
@@ -156,8 +156,8 @@ law_turns_are_served scene turns =
     served_at scene (turns_of scene (start_of scene) turns)
     (turns_kept scene (start_of scene) turns (start_kept scene))
 
-rounds_kept : (scene : Scene) (n : ℕ) (m : Moment) → IsKept scene m
-    → IsKept scene (rounds scene n m)
+rounds_kept : (scene : Scene) (n : ℕ) (m : Moment) → HasHistories scene m
+    → HasHistories scene (rounds scene n m)
 rounds_kept scene zero m f = f
 rounds_kept scene (suc n) m f =
     turns_kept scene (rounds scene n m) (all_tasks scene) (rounds_kept scene n m f)
@@ -169,6 +169,6 @@ law_runs_are_served scene ending.Rounds run d h =
     let ends : RoundsTo scene (start_of scene) h.0 = h.1.0 in
     let end : run ≡ run_at h.0 = h.1.1 in
     subst (Served scene) (sym end) (served_at scene h.0
-    (subst (IsKept scene) (sym ends.ends)
+    (subst (HasHistories scene) (sym ends.ends)
     (rounds_kept scene ends.count (start_of scene) (start_kept scene))))
 law_runs_are_served scene (ending.Threads n) run d h = absurd d

@@ -4,7 +4,7 @@ pub mod Laws
 pub mod Checks
 pub mod Stations
 pub mod Moments
-pub mod Kept
+pub mod Histories
 pub use Rattle.grow_list.specs as growing
 pub use Rattle.journal_laws.specs as laws_of_journals
 pub use Rattle.run_model.specs as model

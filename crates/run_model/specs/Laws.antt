@@ -16,14 +16,14 @@ use Rattle.run_model.specs.Scene.{Program, Scene}
 use Rattle.run_model.specs.Turns.{Moment, State, go, turns_of}
 
 -- a turn that doesn't move, blocked or done, changes nothing
-abbrev pub StillTurn : Type 0
-StillTurn = (scene : Scene) (n : ℕ) (p : Program) (s : State) (t : Thought)
+abbrev pub IdleTurn : Type 0
+IdleTurn = (scene : Scene) (n : ℕ) (p : Program) (s : State) (t : Thought)
     → is_moved (go scene n p s t).turn ≡ false
     → ((go scene n p s t).state ≡ s) × ((go scene n p s t).thought ≡ t)
 
 -- a round that moves no task changes nothing
-abbrev pub StillRound : Type 0
-StillRound =
+abbrev pub IdleRound : Type 0
+IdleRound =
     (scene : Scene) (m : Moment) → round_moves scene m ≡ false
     → turns_of scene m (all_tasks scene) ≡ m
 

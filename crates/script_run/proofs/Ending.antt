@@ -26,12 +26,12 @@ use Rattle.report_text.specs.Report.{report_of}
 use Rattle.shown_laws.proofs.Denied.{denied_there}
 use Rattle.shown_laws.proofs.Sound.{admitted_there, covered_there, fresh_there, labelled_there, rare_there}
 use Rattle.shown_laws.specs.Places.{HasForms}
-use Rattle.task_runner.specs.worlds.Frame as worlds
+use Rattle.task_runner.specs.worlds.WorldConsts as worlds
 use Rattle.task_runner.specs.worlds.Runs as runs
 use Rattle.task_runner.specs.worlds.Runs.{programs_of}
 use Rattle.task_runner.specs.worlds.Tasks.{Tasked}
 use Rattle.task_runner.specs.worlds.World.{WorldValue}
-use Rattle.task_runner.specs.worlds.WorldRuns.{StillRuns, moment_in, scene_in}
+use Rattle.task_runner.specs.worlds.WorldRuns.{SameRun, moment_in, scene_in}
 use Rattle.task_runner.specs.ends.Settled.{is_over}
 use Rattle.script_start.specs.Started.{HasStarted}
 use Rattle.script_scene.specs.Scene.{IsForFiles, scene_of}
@@ -111,17 +111,17 @@ within s world tasks way kept started =
     (ending_within (length s.tasks) s.ending kept.ending)
 
 -- after the turns there are still as many tasks as the world has
-pub still_all : (s : ScriptValue) (world world2 : WorldValue) (tasks tasks2 : List Tasked)
-    (way : Ending) → HasStarted s world tasks way → StillRuns world world2 tasks tasks2
-    → length tasks2 ≡ world2.frame.tasks
-still_all s world world2 tasks tasks2 way started still =
+pub same_run_all : (s : ScriptValue) (world world2 : WorldValue) (tasks tasks2 : List Tasked)
+    (way : Ending) → HasStarted s world tasks way → SameRun world world2 tasks tasks2
+    → length tasks2 ≡ world2.consts.tasks
+same_run_all s world world2 tasks tasks2 way started still =
     sym (length-map tasks2 runs.program_of) ∙ ap length still.programs
     ∙ length-map tasks runs.program_of ∙ started.count
-    ∙ ap (λ (f : worlds.Frame). f.tasks) (sym still.frame)
+    ∙ ap (λ (f : worlds.WorldConsts). f.tasks) (sym still.consts)
 
 module _ (s : ScriptValue) (kept : IsScript s) (world world2 : WorldValue)
     (tasks tasks2 : List Tasked) (way : Ending) (started : HasStarted s world tasks way)
-    (still : StillRuns world world2 tasks tasks2)
+    (still : SameRun world world2 tasks tasks2)
     (leads : LeadsTo (scene_in world tasks) (length tasks) way (moment_in world tasks)
     (moment_in world2 tasks2)) where
   -- the turns don't change the number of tasks
@@ -131,7 +131,7 @@ module _ (s : ScriptValue) (kept : IsScript s) (world world2 : WorldValue)
 
   -- the scene after the turns is still the script's
   same_scene : scene_in world2 tasks2 ≡ scene_of s kept.template
-  same_scene = (λ i. worlds.scene_of (still.frame i) (still.programs i))
+  same_scene = (λ i. worlds.scene_of (still.consts i) (still.programs i))
       ∙ started.scene kept.template
 
   leads_on : LeadsTo (scene_of s kept.template) (length tasks2) s.ending

@@ -6,7 +6,7 @@ use Rattle.call_steps.specs.declared.call.Call.TheVariants as call
 use Rattle.run_model.specs.events.declared.deed.Change.TheVariants as change
 use Rattle.policy_rules.specs.declared.access.Super.{Super}
 use Rattle.report_laws.specs.Law.{HasNames, IsNamedCall}
-use Rattle.report_text.proofs.Kept.{visible}
+use Rattle.report_text.proofs.CleanWords.{visible}
 use Rattle.report_text.specs.Ranges.{IsClean}
 use Rattle.run_model.specs.Scene.{Program, Station}
 use Rattle.script_text.specs.Forms.{IsFile, IsScript, are_bytes, is_attr, is_cred, is_line_call, is_mode, is_task}

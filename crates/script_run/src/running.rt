@@ -3,7 +3,7 @@
 ghost use Rattle.std.specs.Prelude.{◌≡◌, ◌<◌, All, IfOk, length};
 ghost use Rattle.script_run.specs.Run.{AreWithin, HasRun, HaveRunAs, LeadsTo};
 ghost use Rattle.task_runner.specs.worlds.Runs.{AreTasks};
-ghost use Rattle.task_runner.specs.worlds.WorldRuns.{StillRuns, moment_in, scene_in};
+ghost use Rattle.task_runner.specs.worlds.WorldRuns.{SameRun, moment_in, scene_in};
 
 use crate::appended::rules_kept;
 use call_steps::Ending;
@@ -26,14 +26,14 @@ fn turn_all<G: Gate + Sync, R: Threads + Wait + Sync>(
     ending: &Ending,
     gate: &G,
 ) -> Result<World, OutOfMemory>
-    requires tasks { AreTasks world.frame tasks.old.items }
+    requires tasks { AreTasks world.consts tasks.old.items }
     requires turns { AreWithin (length tasks.old.items) ending.now }
     ensures run { IfOk result (λ w. LeadsTo (scene_in world tasks.old.items)
         (length tasks.old.items) ending.now (moment_in world tasks.old.items)
         (moment_in w tasks.new.items)) }
     ensures parts { IfOk result (λ w. HaveRunAs ending.now world w tasks.old.items
         tasks.new.items) }
-    ensures still { IfOk result (λ w. StillRuns world w tasks.old.items tasks.new.items) }
+    ensures still { IfOk result (λ w. SameRun world w tasks.old.items tasks.new.items) }
 {
     match ending {
         Ending::Schedule(turns) => {

@@ -9,7 +9,7 @@ use Rattle.run_model.specs.Scene.{Program}
 use Rattle.script_text.specs.Forms.{is_cred, is_line_call, is_task}
 use Rattle.script_text.specs.declared.blocks.TaskBlock.{TaskBlock}
 use Rattle.script_text.proofs.Holding.{left_true, right_true}
-use Rattle.task_core.specs.worlds.Frame.{Frame}
+use Rattle.task_core.specs.worlds.WorldConsts.{WorldConsts}
 use Rattle.task_core.specs.worlds.Runs as runs
 use Rattle.task_core.specs.worlds.Runs.{AreTasks, programs_of, thought_of}
 use Rattle.task_core.specs.worlds.Tasks.{AreCallsOf, PassesValue, Tasked}
@@ -19,14 +19,14 @@ use Rattle.call_steps.specs.declared.ending.Ending.{Ending}
 use Rattle.run_model.specs.Turns.{start_of}
 use Rattle.script_text.specs.Forms.{IsScript}
 use Rattle.script_text.specs.ScriptValue.{ScriptValue}
-use Rattle.task_core.specs.worlds.Frame.{Site}
+use Rattle.task_core.specs.worlds.WorldConsts.{Site}
 use Rattle.task_core.specs.worlds.World.{WorldValue}
 use Rattle.task_core.specs.worlds.WorldRuns.{moment_in, scene_in}
-use Rattle.task_core.specs.starts.Start.{Begins, IsFrameOf}
+use Rattle.task_core.specs.starts.Start.{AreConstsOf, Begins}
 use Rattle.script_scene.specs.Parts.{ArePartsOf}
 use Rattle.script_scene.specs.Scene.{file_of}
 use Rattle.script_scene.specs.declared.parts.ScriptParts.{ScriptParts}
-use Rattle.script_start.specs.Crew.{AreNew, IsNew}
+use Rattle.script_start.specs.NewTasks.{AreNew, IsNew}
 use Rattle.script_start.specs.Started.{HasStarted}
 use Rattle.script_start.proofs.StartedScenes.{scene_is}
 use Rattle.script_start.proofs.Fits.{calls_fit}
@@ -74,17 +74,17 @@ module _ (blocks : List TaskBlock) (passes : List PassesValue) (tasks : List Tas
       let p = found passes k (omega (arith, below, new.count, even)) in
       (b.0, (b.1, (p.0, (p.1, new.each k t is b.0 b.1 p.0 p.1))))
 
-  pub are_tasks : (frame : Frame) → AreFirstPasses frame passes
-      → list_all (is_task (length frame.sites)) blocks ≡ true → AreTasks frame tasks
-  are_tasks frame first forms = record {
+  pub are_tasks : (consts : WorldConsts) → AreFirstPasses consts passes
+      → list_all (is_task (length consts.sites)) blocks ≡ true → AreTasks consts tasks
+  are_tasks consts first forms = record {
     each = λ k t is.
         let a = at k t is in
         let own = a.1.1.0 in
         let n = a.1.1.1.1 in
         let given = first.each k own a.1.1.1.0 in record {
           number = n.number;
-          task = n.task frame given.0 given.1
-              (task_fits (length frame.sites) blocks forms k a.0 a.1.0);
+          task = n.task consts given.0 given.1
+              (task_fits (length consts.sites) blocks forms k a.0 a.1.0);
         };
   }
 
@@ -114,27 +114,27 @@ module _ (blocks : List TaskBlock) (passes : List PassesValue) (tasks : List Tas
 pub started_is : (s : ScriptValue) → IsScript s → (p : ScriptParts) → ArePartsOf s p
     → (world : WorldValue) (passes : List PassesValue) (tasks : List Tasked) (count : ℕ)
     → count ≡ length p.tasks.items
-    → IsFrameOf p.settings p.boot p.inodes.items p.supers.items p.places.items p.rules count
-    world.frame
-    → Begins world.frame world.state → AreFirstPasses world.frame passes
+    → AreConstsOf p.settings p.boot p.inodes.items p.supers.items p.places.items p.rules count
+    world.consts
+    → Begins world.consts world.state → AreFirstPasses world.consts passes
     → AreNew p.tasks.items passes tasks → HasStarted s world tasks p.ending
 started_is s kept p parts world passes tasks count count_is is begins first new =
     let blocks = p.tasks.items in
     let even : length passes ≡ length blocks = first.count ∙ is.tasks ∙ count_is in
     let programs = programs_are blocks passes tasks new even in
-    let sites : length world.frame.sites ≡ length s.files =
-    sym (length-map world.frame.sites (λ (x : Site). (x.path, x.birth)))
+    let sites : length world.consts.sites ≡ length s.files =
+    sym (length-map world.consts.sites (λ (x : Site). (x.path, x.birth)))
     ∙ ap length (is.files ∙ parts.inodes) ∙ length-map s.files file_of in
-    let forms : list_all (is_task (length world.frame.sites)) blocks ≡ true =
+    let forms : list_all (is_task (length world.consts.sites)) blocks ≡ true =
     (λ i. list_all (is_task (sites i)) (parts.tasks i)) ∙ kept.tasks.forms in record {
-      scene = λ for_files. scene_is s p world.frame count (programs_of tasks) for_files parts is
+      scene = λ for_files. scene_is s p world.consts count (programs_of tasks) for_files parts is
           (programs ∙ ap (map program_of) parts.tasks);
       start = λ i. record {
         state = begins (programs_of tasks) i;
         thoughts = (thoughts_are blocks passes tasks new even
             ∙ ap (map (λ (q : Program). start)) (sym programs)) i;
       };
-      each = are_tasks blocks passes tasks new even world.frame first forms;
+      each = are_tasks blocks passes tasks new even world.consts first forms;
       count = new.count ∙ sym count_is ∙ sym is.tasks;
       all = new.count ∙ ap length parts.tasks;
       ending = parts.ending;

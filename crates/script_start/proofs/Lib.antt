@@ -1,4 +1,4 @@
-pub mod Crewing
+pub mod NewTaskLemmas
 pub mod Fits
 pub mod StartedScenes
 pub mod Beginning

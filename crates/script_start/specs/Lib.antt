@@ -1,3 +1,3 @@
-pub mod Crew
+pub mod NewTasks
 pub mod Started
 pub use Rattle.script_scene.specs as scenes

@@ -14,7 +14,7 @@ pub record HasStarted (s : ScriptValue) (world : WorldValue) (tasks : List Taske
     (way : Ending) : Type 0 where
   pub scene : (for_files : IsForFiles s) → scene_in world tasks ≡ scene_of s for_files
   pub start : moment_in world tasks ≡ start_of (scene_in world tasks)
-  pub each : AreTasks world.frame tasks
-  pub count : length tasks ≡ world.frame.tasks
+  pub each : AreTasks world.consts tasks
+  pub count : length tasks ≡ world.consts.tasks
   pub all : length tasks ≡ length s.tasks
   pub ending : way ≡ s.ending

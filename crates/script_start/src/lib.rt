@@ -1,8 +1,8 @@
 //! The start of a script's run: its world, and its tasks before their first turns.
 #![tactic(auto)]
 
-mod members;
+mod from_blocks;
 mod starting;
 
-pub use members::crew;
+pub use from_blocks::new_tasks;
 pub use starting::started;

@@ -3,7 +3,7 @@
 ghost use Rattle.std.specs.Prelude.{IfOk};
 ghost use Rattle.script_start.specs.Started.{HasStarted};
 
-use crate::members::crew;
+use crate::from_blocks::new_tasks;
 use call_steps::Ending;
 use script_scene::{ScriptParts, parts_of};
 use script_text::Script;
@@ -30,6 +30,6 @@ pub fn started(alloc: Global, script: Script) -> Result<(World, Vec<Task>, Endin
     let (world, passes) = World::start(
         alloc, settings, boot, inodes, supers, places, rules, count,
     )?;
-    let tasks = crew(alloc, blocks, passes)?;
+    let tasks = new_tasks(alloc, blocks, passes)?;
     Ok((world, tasks, ending))
 }

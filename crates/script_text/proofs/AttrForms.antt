@@ -21,7 +21,7 @@ use Rattle.inode_meta.specs.declared.identity.Meta.{Meta}
 use Rattle.label_values.specs.Labels.{is_plain, label_of}
 use Rattle.text_forms.specs.Words.{is_word}
 use Rattle.xattr_store.specs.Attrs.{Pair, byte_order, put, without}
-use Rattle.xattr_store.proofs.Kept.{attrs-put, attrs-without}
+use Rattle.xattr_store.proofs.OrderKept.{attrs-put, attrs-without}
 use Rattle.xattr_store.proofs.Search.{eq_as_ordered}
 use Rattle.xattr_store.specs.Names.{ima_name}
 use Rattle.script_text.specs.Files.{is_counted}

@@ -30,7 +30,7 @@ use Rattle.script_text.proofs.FileForms.{IsFront, content_formed, file_in_formed
 use Rattle.call_lines.proofs.Holding.{at_some, both_true, given, left_true, not_false, right_true, tested}
 use Rattle.script_text.proofs.Lasts.{apart_after, each_after, each_changed, last_after, last_changed, length_changed, map_changed, sum_changed}
 use Rattle.call_lines.proofs.ValueForms.{is_value, value_within}
-use Rattle.script_text.proofs.Kept.{AreListed, IsDraft, IsOpen, Keeps, below}
+use Rattle.script_text.proofs.SettingsKept.{AreListed, IsDraft, IsOpen, Keeps, below}
 use Rattle.script_text.proofs.MoreFiles.{tasks_of_more}
 
 files_after : (b : FileBlock) (d : Draft) → IsDraft d → IsFile d.script.supers b

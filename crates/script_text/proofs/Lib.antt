@@ -3,7 +3,7 @@ mod Examples
 pub mod FileForms
 pub mod FilesKept
 pub mod HashBytes
-pub mod Kept
+pub mod SettingsKept
 pub mod LabelFront
 pub mod Lasts
 pub mod MoreFiles

@@ -15,7 +15,7 @@ use Rattle.script_text.specs.declared.head.Head.TheVariants as head
 use Rattle.script_text.proofs.FileForms.{zeros_are}
 use Rattle.call_lines.proofs.Holding.{given, right_true, tested}
 use Rattle.script_text.proofs.FilesKept.{absent_kept, attr_kept, file_kept, seal_kept}
-use Rattle.script_text.proofs.Kept.{IsDraft, Keeps, boot_kept, format_kept, hash_kept, key_kept, mode_kept, name_kept, script_from, super_kept, template_kept, version_kept}
+use Rattle.script_text.proofs.SettingsKept.{IsDraft, Keeps, boot_kept, format_kept, hash_kept, key_kept, mode_kept, name_kept, script_from, super_kept, template_kept, version_kept}
 use Rattle.script_text.proofs.TasksKept.{call_line_kept, rounds_kept, rule_kept, schedule_kept, task_kept, threads_kept}
 
 -- a line that can follow those before it preserves the invariant

@@ -29,7 +29,7 @@ use Rattle.script_text.proofs.FileForms.{Ids, id_formed}
 use Rattle.call_lines.proofs.Holding.{at_some, both_true, bound, given, left_true, not_false, right_true, tested}
 use Rattle.script_text.proofs.Lasts.{all_changed, length_changed, sum_changed}
 use Rattle.call_lines.proofs.ValueForms.{any_within, number_within}
-use Rattle.script_text.proofs.Kept.{IsDraft, Keeps}
+use Rattle.script_text.proofs.SettingsKept.{IsDraft, Keeps}
 
 -- there is room for one more rule
 room_left : (d : Draft) → has_room d ≡ true → length d.script.rules + d.appended + 1 ≤ most_rules

@@ -68,7 +68,7 @@ pub fn world_start(
 pub fn world_share<N: tasks::Name>(
     world: tasks::World,
 ) -> Result<tasks::Live<N>, tasks::OutOfMemory>
-    requires { world.frame ≡ N.frame }
+    requires { world.consts ≡ N.consts }
 {
     tasks::World::share::<N>(world)
 }
@@ -83,7 +83,7 @@ pub fn live_hold<N: tasks::Name, R: Wait, F: FnOnce()>(
     inode: u32,
     f: F,
 )
-    requires inode { inode < length N.frame.sites }
+    requires inode { inode < length N.consts.sites }
     requires call { F.IsAlwaysCallable f }
 {
     tasks::Live::hold(live, rt, inode, f)
@@ -104,7 +104,7 @@ pub fn task_who(task: &tasks::Task) -> Option<meta::Who> {
 }
 
 pub fn task_look(task: &mut tasks::Task, world: &mut tasks::World)
-    requires { IsTask world.old.frame task.old }
+    requires { IsTask world.old.consts task.old }
 {
     tasks::Task::look(task, world)
 }
@@ -113,7 +113,7 @@ pub fn task_step(
     task: &mut tasks::Task,
     world: &mut tasks::World,
 ) -> Result<tasks::Turn, tasks::OutOfMemory>
-    requires { IsTask world.old.frame task.old }
+    requires { IsTask world.old.consts task.old }
 {
     tasks::Task::step(task, world)
 }
@@ -123,7 +123,7 @@ pub fn task_step_shared<N: tasks::Name, R: Wait>(
     rt: &R,
     world: &tasks::Live<N>,
 ) -> Result<tasks::Turn, tasks::OutOfMemory>
-    requires { IsTask N.frame task.old }
+    requires { IsTask N.consts task.old }
 {
     tasks::Task::step_shared(task, rt, world)
 }
@@ -132,8 +132,8 @@ pub fn world_close(
     world: tasks::World,
     tasks: Vec<tasks::Task>,
 ) -> Result<tasks::Ended, tasks::OutOfMemory>
-    requires count { length tasks.items ≡ world.frame.tasks }
-    requires tasks { AreTasks world.frame tasks.items }
+    requires count { length tasks.items ≡ world.consts.tasks }
+    requires tasks { AreTasks world.consts tasks.items }
 {
     tasks::World::close(world, tasks)
 }
@@ -146,7 +146,7 @@ pub fn run_schedule<G: outer::Gate>(
     turns: &[u32],
     gate: &G,
 ) -> Result<(), runners::OutOfMemory>
-    requires tasks { AreTasks world.old.frame tasks.old.items }
+    requires tasks { AreTasks world.old.consts tasks.old.items }
     requires turns { All (λ k. k < length tasks.old.items) turns.now }
 {
     runners::run_schedule(world, tasks, turns, gate)
@@ -157,7 +157,7 @@ pub fn run_rounds<G: outer::Gate>(
     tasks: &mut Vec<tasks::Task>,
     gate: &G,
 ) -> Result<(), runners::OutOfMemory>
-    requires { AreTasks world.old.frame tasks.old.items }
+    requires { AreTasks world.old.consts tasks.old.items }
 {
     runners::run_rounds(world, tasks, gate)
 }
@@ -170,8 +170,8 @@ pub fn run_threads<N: tasks::Name, G: outer::Gate + Sync, R: Threads + Wait + Sy
     gate: &G,
 ) -> Result<tasks::World, runners::OutOfMemory>
     requires threads { 1 ≤ n }
-    requires frame { world.frame ≡ N.frame }
-    requires tasks { AreTasks world.frame tasks.old.items }
+    requires consts { world.consts ≡ N.consts }
+    requires tasks { AreTasks world.consts tasks.old.items }
 {
     runners::run_threads::<N, G, R>(rt, world, tasks, n, gate)
 }

@@ -13,10 +13,10 @@ use Rattle.inode_meta.specs.declared.identity.Cred.{Cred}
 use Rattle.inode_meta.specs.declared.step.Who.{Who}
 use Rattle.run_model.specs.Turns.{State}
 use Rattle.task_core.specs.Shared.{IsBlockedOn}
-use Rattle.world_model.specs.Frame.{Frame, Site, inode_in}
+use Rattle.world_model.specs.WorldConsts.{Site, WorldConsts, inode_in}
 use Rattle.world_model.specs.Tasks.{PassesValue}
-use Rattle.world_model.specs.declared.gathered.Gathered.{Gathered}
-use Rattle.world_model.specs.declared.gathered.Gathered.TheVariants as gathered
+use Rattle.world_model.specs.declared.hash_state.HashState.{HashState}
+use Rattle.world_model.specs.declared.hash_state.HashState.TheVariants as hash_state
 use Rattle.world_locks.proofs.about_worlds.Eventing.{get_set}
 use Rattle.world_locks.specs.Met.{CheckMet, EventMet, SignalsMet, state_seen}
 use Rattle.world_locks.specs.acts.Acting.{EventIn, IsPlacedAt, IsSaid, told_in, told_of}
@@ -52,13 +52,13 @@ no_answer (Ok (Some a)) e = absurd (cc)
 no_answer (Ok None) e = refl
 no_answer (Err x) e = absurd (cc)
 
-module _ (frame : Frame) (passes passes2 : PassesValue) (w : Who) where
+module _ (consts : WorldConsts) (passes passes2 : PassesValue) (w : Who) where
   -- a deed without an outcome is blocked by the journal that its task's pass has seen
-  event_blocks : (i : ℕ) (s : Site) (d : Deed) (old : State) (g g2 : Gathered)
-      → EventOn frame i s w d old (state_seen passes2) passes passes2 g g2 None
+  event_blocks : (i : ℕ) (s : Site) (d : Deed) (old : State) (g g2 : HashState)
+      → EventOn consts i s w d old (state_seen passes2) passes passes2 g g2 None
       → ((journal : List Event) → slice_get old.journals i ≡ Some journal
-      → None ≡ outcome (inode_in frame s) old.list d (past journal))
-      → IsBlockedOn frame w.task i s d passes passes2
+      → None ≡ outcome (inode_in consts s) old.list d (past journal))
+      → IsBlockedOn consts w.task i s d passes passes2
   event_blocks i s d old g g2 e none =
       let seen : e.pass2.seen ≡ e.journal = e.seen ∙ append-nil e.journal in
       let list : passes2.book.seen ≡ old.list = ap (λ (x : State). x.list) e.state in
@@ -68,39 +68,40 @@ module _ (frame : Frame) (passes passes2 : PassesValue) (w : Who) where
         pass2 = e.pass2;
         pass2_at = ap (λ (qs : List (Passed Event)). slice_get qs i) e.inodes
             ∙ get_set passes.inodes i e.pass2 e.pass e.pass_at;
-        looked = subst (λ (xs : List Event). HasLooked (inode_in frame s) (w.task + 1) e.pass.seen
+        looked = subst (λ (xs : List Event). HasLooked (inode_in consts s) (w.task + 1) e.pass.seen
             xs e.pass.mine) (sym seen) e.looked;
-        told = ap (λ (xs : List Entry). outcome (inode_in frame s) xs d (past e.pass2.seen)) list
-            ∙ ap (λ (xs : List Event). outcome (inode_in frame s) old.list d (past xs)) seen
+        told = ap (λ (xs : List Entry). outcome (inode_in consts s) xs d (past e.pass2.seen)) list
+            ∙ ap (λ (xs : List Event). outcome (inode_in consts s) old.list d (past xs)) seen
             ∙ sym (none e.journal e.journal_at);
       }
 
   -- a blocked deed on this inode
-  pub deed_blocks : {E : Type 0} (i : ℕ) (d : Deed) (g g2 : Gathered)
-      (r : Result (Option Answered) E) → EventMet frame i w d passes passes2 g g2 r → r ≡ Ok None
-      → (s : Site) → slice_get frame.sites i ≡ Some s
-      → IsBlockedOn frame w.task i s d passes passes2
+  pub deed_blocks : {E : Type 0} (i : ℕ) (d : Deed) (g g2 : HashState)
+      (r : Result (Option Answered) E) → EventMet consts i w d passes passes2 g g2 r → r ≡ Ok None
+      → (s : Site) → slice_get consts.sites i ≡ Some s
+      → IsBlockedOn consts w.task i s d passes passes2
   deed_blocks {E} i d g g2 r m e s at =
-      let event : EventOn frame i s w d m.old (state_seen passes2) passes passes2 g g2 None =
-      subst (λ (x : Option Site). EventIn frame i x w d m.old (state_seen passes2) passes passes2 g
+      let event : EventOn consts i s w d m.old (state_seen passes2) passes passes2 g g2 None =
+      subst (λ (x : Option Site). EventIn consts i x w d m.old (state_seen passes2) passes passes2 g
       g2 None) at
-      (subst (λ (y : Result (Option Answered) E). EventIn frame i (slice_get frame.sites i) w d
+      (subst (λ (y : Result (Option Answered) E). EventIn consts i (slice_get consts.sites i) w d
       m.old (state_seen passes2) passes passes2 g g2 (told_in y)) e m.event) in
-      let said : IsSaid frame i d m.old None =
-      subst (λ (y : Result (Option Answered) E). IfOk y (λ o. IsSaid frame i d m.old o)) e m.told in
+      let said : IsSaid consts i d m.old None =
+      subst (λ (y : Result (Option Answered) E). IfOk y (λ o. IsSaid consts i d m.old o)) e
+      m.told in
       event_blocks i s d m.old g g2 event (λ journal there. (said s journal at there).0)
 
   -- a check is blocked only if there is no such inode
   pub check_blocks : {E : Type 0} (i : ℕ) (cred : Cred) (asked : Asked)
-      (r : Result (Option Answered) E) → CheckMet frame i w cred asked passes passes2 r
-      → r ≡ Ok None → slice_get frame.sites i ≡ None
+      (r : Result (Option Answered) E) → CheckMet consts i w cred asked passes passes2 r
+      → r ≡ Ok None → slice_get consts.sites i ≡ None
   check_blocks {E} i cred asked r m e =
-      by_site (slice_get frame.sites i)
-      (subst (λ (y : Result (Option Answered) E). CheckIn frame i (slice_get frame.sites i) w cred
-      asked m.old (state_seen passes2) passes passes2 gathered.Nothing y) e
-      (m.check gathered.Nothing)) where
-        by_site : (x : Option Site) → CheckIn {E = E} frame i x w cred asked m.old
-            (state_seen passes2) passes passes2 gathered.Nothing (Ok None) → x ≡ None
+      by_site (slice_get consts.sites i)
+      (subst (λ (y : Result (Option Answered) E). CheckIn consts i (slice_get consts.sites i) w cred
+      asked m.old (state_seen passes2) passes passes2 hash_state.Idle y) e
+      (m.check hash_state.Idle)) where
+        by_site : (x : Option Site) → CheckIn {E = E} consts i x w cred asked m.old
+            (state_seen passes2) passes passes2 hash_state.Idle (Ok None) → x ≡ None
         by_site None c = refl
         by_site (Some s) c = absurd c.told
 

@@ -22,20 +22,20 @@ use Rattle.run_model.specs.Scene.{no_super, rules_with}
 use Rattle.run_model.specs.Turns.{State}
 use Rattle.task_core.proofs.Seen.{PassSees, same_twice, sees_alone, sees_more}
 use Rattle.world_locks.specs.acts.declared.listed.Checks.{Checks}
-use Rattle.world_model.specs.Frame.{Frame, Site, inode_in, scene_of, super_at}
+use Rattle.world_model.specs.WorldConsts.{Site, WorldConsts, inode_in, scene_of, super_at}
 use Rattle.world_model.specs.Tasks.{PassesValue}
 use Rattle.world_model.specs.World.{StationValue, journal_of, site_of}
-use Rattle.world_model.specs.declared.gathered.Gathered.{Gathered}
+use Rattle.world_model.specs.declared.hash_state.HashState.{HashState}
 use Rattle.world_locks.proofs.about_worlds.Eventing.{get_map, get_set}
 use Rattle.world_locks.specs.worlds.Events.{EventOn}
 use Rattle.world_locks.specs.worlds.Steps.{Adds}
-use Rattle.world_close.specs.Closed.{AreIdle}
-use Rattle.world_locks.proofs.about_acts.Looked.{force_count, frame_looked, parts_looked}
+use Rattle.world_close.specs.Closed.{AreSpares}
+use Rattle.world_locks.proofs.about_acts.Looked.{consts_looked, force_count, parts_looked}
 use Rattle.world_locks.proofs.about_acts.Looks.{at_index}
-use Rattle.world_locks.proofs.about_acts.Lists.{event_on, frame_same, map_same, world_same}
+use Rattle.world_locks.proofs.about_acts.Lists.{consts_same, event_on, map_same, world_same}
 use Rattle.world_locks.specs.acts.Acting.{StationDid, told_in}
 use Rattle.world_locks.specs.acts.Checking.{CheckIn, IsChecked, check_by}
-use Rattle.world_locks.specs.acts.Parts.{AreParts, frame_by, state_by}
+use Rattle.world_locks.specs.acts.Parts.{AreParts, consts_by, state_by}
 use Rattle.world_locks.specs.acts.declared.answers.Answered.{Answered}
 
 -- of two elements written at the same place the second is found there
@@ -61,15 +61,15 @@ module _ {E : Type 0} (settings : Settings) (stations : List StationValue) (supe
     (tasks i : ℕ) (st st2 : StationValue) (q : Passed RuleEntry) (pass pass2 : Passed Event)
     (listed listed2 : Passed Entry) (own own2 : Passed RuleEntry) (who : Who) (cred : Cred)
     (asked : Checks) (place : Super) (index : List RuleValue) (r : Result (Option Answered) E)
-    (parts : AreParts (frame_by settings stations supers book sems rules tasks) stations book sems
+    (parts : AreParts (consts_by settings stations supers book sems rules tasks) stations book sems
     rules) (there : slice_get stations i ≡ Some st)
     (first : RulesLooked rules between st.rules q) (second : RulesLooked between rules2 own own2)
     (index_is : index ≡ in_force rules2) (place_is : place ≡ get_or supers st.place place)
-    (did : (g : Gathered) → StationDid (record st { rules = q }) st2 book book2 pass pass2 listed
+    (did : (g : HashState) → StationDid (record st { rules = q }) st2 book book2 pass pass2 listed
     listed2 who (check_by index cred place (metadata (past st.cell.list)) asked) g g (told_in r))
     (told : IsChecked st.cell.inode st.cell.list book.list index cred place asked r) where
-  abbrev F : Frame
-  F = frame_by settings stations supers book sems rules tasks
+  abbrev F : WorldConsts
+  F = consts_by settings stations supers book sems rules tasks
 
   abbrev S : State
   S = state_by stations book sems rules
@@ -97,11 +97,11 @@ module _ {E : Type 0} (settings : Settings) (stations : List StationValue) (supe
   there1 : slice_get stations1 i ≡ Some st1
   there1 = get_set stations i st1 st there
 
-  frame1 : frame_by settings stations1 supers book sems rules2 tasks ≡ F
-  frame1 = frame_looked settings stations supers book sems rules rules2 tasks i st q parts there
+  frame1 : consts_by settings stations1 supers book sems rules2 tasks ≡ F
+  frame1 = consts_looked settings stations supers book sems rules rules2 tasks i st q parts there
       base list first.look.pass.0 first.look.pass.1 first.look.mine more
 
-  parts1 : AreParts (frame_by settings stations1 supers book sems rules2 tasks) stations1 book sems
+  parts1 : AreParts (consts_by settings stations1 supers book sems rules2 tasks) stations1 book sems
       rules2
   parts1 = parts_looked settings stations supers book sems rules rules2 tasks i st q parts there
       base list first.look.pass.0 first.look.pass.1 first.look.mine more
@@ -131,25 +131,25 @@ module _ {E : Type 0} (settings : Settings) (stations : List StationValue) (supe
   twice = set_set stations i st1 st2
 
   -- the constants stay the same, each part belongs to them, and the spare passes stay unused
-  pub check_frame : Gathered → frame_by settings stations2 supers book2 sems rules2 tasks ≡ F
-  check_frame g =
-      ap (λ (xs : List StationValue). frame_by settings xs supers book2 sems rules2 tasks)
+  pub check_consts : HashState → consts_by settings stations2 supers book2 sems rules2 tasks ≡ F
+  check_consts g =
+      ap (λ (xs : List StationValue). consts_by settings xs supers book2 sems rules2 tasks)
       (sym twice)
-      ∙ frame_same settings stations1 supers book book2 sems rules2 tasks i st1 st2 pass pass2
+      ∙ consts_same settings stations1 supers book book2 sems rules2 tasks i st1 st2 pass pass2
       listed listed2 who found g g (told_in r) parts1 there1 (did g)
       ∙ frame1
 
-  pub check_parts : Gathered → AreParts
-      (frame_by settings stations2 supers book2 sems rules2 tasks) stations2 book2 sems rules2
+  pub check_parts : HashState → AreParts
+      (consts_by settings stations2 supers book2 sems rules2 tasks) stations2 book2 sems rules2
   check_parts g =
       subst (λ (xs : List StationValue). AreParts
-      (frame_by settings xs supers book2 sems rules2 tasks) xs book2 sems rules2) twice
+      (consts_by settings xs supers book2 sems rules2 tasks) xs book2 sems rules2) twice
       (world_same settings stations1 supers book book2 sems rules2 tasks i st1 st2 pass pass2
       listed listed2 who found g g (told_in r) parts1 there1 (did g) counts)
 
-  pub check_idle : Gathered → (idle : List (Passed RuleEntry)) → AreIdle F idle
-      → AreIdle (frame_by settings stations2 supers book2 sems rules2 tasks) idle
-  check_idle g idle h = subst (λ (x : Frame). AreIdle x idle) (sym (check_frame g)) h
+  pub check_spares : HashState → (spares : List (Passed RuleEntry)) → AreSpares F spares
+      → AreSpares (consts_by settings stations2 supers book2 sems rules2 tasks) spares
+  check_spares g spares h = subst (λ (x : WorldConsts). AreSpares x spares) (sym (check_consts g)) h
 
   -- these are all rules in force
   all_rules : index ≡ rules_with (scene_of F []) S.added
@@ -179,8 +179,8 @@ module _ {E : Type 0} (settings : Settings) (stations : List StationValue) (supe
       (rules_after : passes2.rules ≡ own2) (before : passes.book ≡ listed)
       (after : passes2.book ≡ listed2) (number_is : pass.number ≡ who.task + 1) where
     -- the effect of the check on the lists after the looks
-    found_on : (g : Gathered) → EventOn
-        (frame_by settings stations1 supers book sems rules2 tasks) i (site_of st) who found
+    found_on : (g : HashState) → EventOn
+        (consts_by settings stations1 supers book sems rules2 tasks) i (site_of st) who found
         (state_by stations1 book sems rules2) (state_by (slice_set stations1 i st2) book2 sems
         rules2) passes passes2 g g (told_in r)
     found_on g =
@@ -194,7 +194,7 @@ module _ {E : Type 0} (settings : Settings) (stations : List StationValue) (supe
         (sees_more between.appended rules2.appended own own2 second.look)))
         before after number_is
 
-    -- the check by all rules in force, of the frame and the lists before the looks
+    -- the check by all rules in force, of the constants and the lists before the looks
     abbrev by_all : Deed
     by_all =
         check_by (rules_with (scene_of F []) S.added) cred (super_at F st.place)
@@ -209,17 +209,19 @@ module _ {E : Type 0} (settings : Settings) (stations : List StationValue) (supe
         (metadata (past st.cell.list)) asked) its_super
 
     -- the effect of the check on the lists before the looks
-    event_found : (g : Gathered) → EventOn F i (site_of st) who by_all S New passes passes2 g g
+    event_found : (g : HashState) → EventOn F i (site_of st) who by_all S New passes passes2 g g
         (told_in r)
     event_found g =
         subst (λ (d : Deed). EventOn F i (site_of st) who d S New passes passes2 g g (told_in r))
         is_by_all
-        (subst (λ (x : Frame). EventOn x i (site_of st) who found S New passes passes2 g g
+        (subst (λ (x : WorldConsts). EventOn x i (site_of st) who found S New passes passes2 g g
         (told_in r)) frame1
-        (subst (λ (s : State). EventOn (frame_by settings stations1 supers book sems rules2 tasks) i
+        (subst (λ (s : State). EventOn
+        (consts_by settings stations1 supers book sems rules2 tasks) i
         (site_of st) who found s New passes passes2 g g (told_in r)) state1
         (subst (λ (xs : List StationValue).
-        EventOn (frame_by settings stations1 supers book sems rules2 tasks) i (site_of st) who found
+        EventOn (consts_by settings stations1 supers book sems rules2 tasks) i (site_of st)
+        who found
         (state_by stations1 book sems rules2) (state_by xs book2 sems rules2) passes passes2 g g
         (told_in r)) twice (found_on g))))
 
@@ -235,7 +237,7 @@ module _ {E : Type 0} (settings : Settings) (stations : List StationValue) (supe
         asked r) all_rules told))
 
     -- effect and answer together, at the inode of the number
-    pub check_in : (g : Gathered) → CheckIn F i (slice_get F.sites i) who cred asked S New passes
+    pub check_in : (g : HashState) → CheckIn F i (slice_get F.sites i) who cred asked S New passes
         passes2 g r
     check_in g =
         subst (λ (x : Option Site). CheckIn F i x who cred asked S New passes passes2 g r)

@@ -14,7 +14,7 @@ use Rattle.policy_cell.specs.Policy.{PolicyValue, in_force}
 use Rattle.policy_rules.specs.declared.access.Super.{Super}
 use Rattle.run_model.specs.EndedValue.{EndedValue}
 use Rattle.run_model.specs.Turns.{State}
-use Rattle.world_model.specs.Frame.{Frame, scene_of}
+use Rattle.world_model.specs.WorldConsts.{WorldConsts, scene_of}
 use Rattle.world_model.specs.Runs.{AreTasks, moment_of, programs_of}
 use Rattle.world_model.specs.Tasks.{ArePassesOf, PassesValue, Tasked}
 use Rattle.world_model.specs.World.{AreRulesOf, AreSignalsOf, IsBookOf, StationValue, site_of}
@@ -22,51 +22,52 @@ use Rattle.world_close.specs.Closed.{AreStations, WorldClosed, ended_station}
 use Rattle.world_close.specs.Finished.{HaveMade}
 use Rattle.world_close.proofs.Gets.{get_map}
 use Rattle.world_locks.proofs.about_acts.Looked.{force_count}
-use Rattle.world_locks.specs.acts.Parts.{AreParts, frame_by, state_by}
+use Rattle.world_locks.specs.acts.Parts.{AreParts, consts_by, state_by}
 use Rattle.world_close.proofs.Ending.{closed_ended}
 use Rattle.world_close.specs.Leaves.{are_stuck, left_by, may_append, task_left}
 use Rattle.world_close.specs.Settled.{HasEnded}
 
 module _ (settings : Settings) (stations : List StationValue) (supers : List Super)
-    (book : Grown Entry) (sems : Grown Event) (rules : PolicyValue) (count : ℕ) (frame : Frame)
-    (is : frame_by settings stations supers book sems rules count ≡ frame) where
-  -- the parts belong to the frame
-  module _ (parts : AreParts (frame_by settings stations supers book sems rules count) stations
+    (book : Grown Entry) (sems : Grown Event) (rules : PolicyValue) (count : ℕ)
+    (consts : WorldConsts)
+    (is : consts_by settings stations supers book sems rules count ≡ consts) where
+  -- the parts belong to the constants
+  module _ (parts : AreParts (consts_by settings stations supers book sems rules count) stations
       book sems rules) where
-    pub are_stations : AreStations frame stations
-    are_stations = subst (λ (f : Frame). AreStations f stations) is (record {
+    pub are_stations : AreStations consts stations
+    are_stations = subst (λ (f : WorldConsts). AreStations f stations) is (record {
       even = sym (length-map stations site_of);
       each = parts.stations;
     })
 
-    pub is_book : IsBookOf frame book
-    is_book = subst (λ (f : Frame). IsBookOf f book) is parts.book
+    pub is_book : IsBookOf consts book
+    is_book = subst (λ (f : WorldConsts). IsBookOf f book) is parts.book
 
-    pub are_signals : AreSignalsOf frame sems
-    are_signals = subst (λ (f : Frame). AreSignalsOf f sems) is parts.sems
+    pub are_signals : AreSignalsOf consts sems
+    are_signals = subst (λ (f : WorldConsts). AreSignalsOf f sems) is parts.sems
 
-    pub are_rules : AreRulesOf frame rules
-    are_rules = subst (λ (f : Frame). AreRulesOf f rules) is parts.rules
+    pub are_rules : AreRulesOf consts rules
+    are_rules = subst (λ (f : WorldConsts). AreRulesOf f rules) is parts.rules
 
     -- the final state of the closed lists and the tasks is the final state of the run
     pub ended_by : (tasks : List Tasked) (state : State) (e : EndedValue)
-        → state_by stations book sems rules ≡ state → AreTasks frame tasks
-        → length tasks ≡ frame.tasks → HaveMade frame state tasks
-        → WorldClosed frame stations book.list sems.list rules.appended.list
+        → state_by stations book sems rules ≡ state → AreTasks consts tasks
+        → length tasks ≡ consts.tasks → HaveMade consts state tasks
+        → WorldClosed consts stations book.list sems.list rules.appended.list
         (map (λ (t : Tasked). t.passes) tasks)
         → e.inodes ≡ map ended_station stations → e.list ≡ book.list
         → e.banks ≡ banks_of book.list → e.tasks ≡ map task_left tasks
         → e.stuck ≡ are_stuck (λ sem. left sem (past sems.list)) tasks
         → e.template ≡ settings.template → e.rules ≡ rules.appended.list
         → e.base ≡ length rules.base → e.grows ≡ list_any may_append tasks
-        → HasEnded (scene_of frame (programs_of tasks)) (moment_of state tasks) e
+        → HasEnded (scene_of consts (programs_of tasks)) (moment_of state tasks) e
     ended_by tasks state e at of all made closed inodes list banks ended stuck template own base
         grows =
-        subst (λ (x : State). HasEnded (scene_of frame (programs_of tasks))
+        subst (λ (x : State). HasEnded (scene_of consts (programs_of tasks))
         (moment_of x tasks) e) at
-        (closed_ended frame stations book.list sems.list rules.appended.list tasks e
+        (closed_ended consts stations book.list sems.list rules.appended.list tasks e
         are_stations of all
-        (subst (λ (x : State). HaveMade frame x tasks) (sym at) made) closed
+        (subst (λ (x : State). HaveMade consts x tasks) (sym at) made) closed
         ((λ i. record {
           inodes = inodes i;
           list = list i;
@@ -77,7 +78,7 @@ module _ (settings : Settings) (stations : List StationValue) (supers : List Sup
           rules = own i;
           base = base i;
           grows = grows i;
-        }) ∙ ap (λ (f : Frame). left_by f stations book.list sems.list rules.appended.list
+        }) ∙ ap (λ (f : WorldConsts). left_by f stations book.list sems.list rules.appended.list
         tasks) is))
 
 -- the number of the script's rules is that of all in force less the appended ones
@@ -87,17 +88,17 @@ base_is p n m all own = omega (arith, all, own, force_count p)
 
 -- ---- the tasks
 
--- the tasks' passes belong to the frame
-pub passes_are : (frame : Frame) (tasks : List Tasked) (passes : List PassesValue)
-    → AreTasks frame tasks → passes ≡ map (λ (t : Tasked). t.passes) tasks → (n : ℕ)
-    → (p : PassesValue) → slice_get passes n ≡ Some p → ArePassesOf frame n p
-passes_are frame tasks passes are all n p at =
+-- the tasks' passes belong to the constants
+pub passes_are : (consts : WorldConsts) (tasks : List Tasked) (passes : List PassesValue)
+    → AreTasks consts tasks → passes ≡ map (λ (t : Tasked). t.passes) tasks → (n : ℕ)
+    → (p : PassesValue) → slice_get passes n ≡ Some p → ArePassesOf consts n p
+passes_are consts tasks passes are all n p at =
     by (get_map (λ (t : Tasked). t.passes) tasks n p
     (ap (λ (l : List PassesValue). slice_get l n) (sym all) ∙ at)) where
-      by : (t : Tasked) × ((slice_get tasks n ≡ Some t) × (t.passes ≡ p)) → ArePassesOf frame n p
+      by : (t : Tasked) × ((slice_get tasks n ≡ Some t) × (t.passes ≡ p)) → ArePassesOf consts n p
       by t =
           let nth = are.each n t.0 t.1.0 in
-          subst (λ (x : ℕ × PassesValue). ArePassesOf frame x.0 x.1)
+          subst (λ (x : ℕ × PassesValue). ArePassesOf consts x.0 x.1)
           (λ i. (nth.number i, t.1.1 i)) nth.task.played.passes
 
 -- if some task isn't done, the run is stuck exactly if none can go on

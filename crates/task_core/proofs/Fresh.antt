@@ -5,30 +5,30 @@ use Rattle.inode_events.specs.Checks.{no_action}
 use Rattle.inode_meta.specs.declared.identity.Cred.{Cred}
 use Rattle.run_model.specs.History.{start}
 use Rattle.run_model.specs.Scene.{Program}
-use Rattle.world_model.specs.Frame.{Frame}
+use Rattle.world_model.specs.WorldConsts.{WorldConsts}
 use Rattle.world_model.specs.Tasks.{AreCallsOf, ArePassesOf, AreUnused, IsTask, PassesValue}
-use Rattle.world_model.specs.declared.gathered.Gathered.TheVariants as gathered
+use Rattle.world_model.specs.declared.hash_state.HashState.TheVariants as hash_state
 use Rattle.world_locks.proofs.about_worlds.Playing.{fresh_is_task}
 use Rattle.task_mind.specs.Value.{TaskValue}
 
 -- a task that has made no step is a task of every world whose passes it has
 pub new_task : (number : ℕ) (mind : TaskValue) (passes : PassesValue) (cred : Cred)
     (calls : List Call) → mind.program ≡ record { cred = cred; calls = calls }
-    → mind.thought ≡ start → mind.checked ≡ no_action → (frame : Frame)
-    → ArePassesOf frame number passes → AreUnused passes → AreCallsOf (length frame.sites) calls
-    → IsTask frame (record {
+    → mind.thought ≡ start → mind.checked ≡ no_action → (consts : WorldConsts)
+    → ArePassesOf consts number passes → AreUnused passes → AreCallsOf (length consts.sites) calls
+    → IsTask consts (record {
       number = number;
       mind = mind;
-      gathered = gathered.Nothing;
+      hash_state = hash_state.Idle;
       passes = passes;
     })
-new_task number mind passes cred calls program thought checked frame own unused are = record {
+new_task number mind passes cred calls program thought checked consts own unused are = record {
   history = [];
-  played = fresh_is_task frame (record {
+  played = fresh_is_task consts (record {
     number = number;
     mind = mind;
-    gathered = gathered.Nothing;
+    hash_state = hash_state.Idle;
     passes = passes;
-  }) (subst (λ (p : Program). AreCallsOf (length frame.sites) p.calls) (sym program) are) thought
+  }) (subst (λ (p : Program). AreCallsOf (length consts.sites) p.calls) (sym program) are) thought
       checked own unused;
 }

@@ -18,32 +18,32 @@ use Rattle.policy_cell.specs.declared.cell.RuleEntry.{RuleEntry}
 use Rattle.policy_rules.specs.ActionValue.{ActionValue}
 use Rattle.policy_rules.specs.RuleValue.{RuleValue}
 use Rattle.policy_rules.specs.declared.access.Super.{Super}
-use Rattle.task_core.proofs.Checks.{RulesLooked, check_frame, check_idle, check_in, check_parts}
+use Rattle.task_core.proofs.Checks.{RulesLooked, check_consts, check_in, check_parts, check_spares}
 use Rattle.task_core.proofs.Opens.{open_book, open_found, open_may, open_pass}
 use Rattle.world_locks.specs.acts.declared.listed.Checks.{Checks}
-use Rattle.world_model.specs.Frame.{Frame}
+use Rattle.world_model.specs.WorldConsts.{WorldConsts}
 use Rattle.world_model.specs.Tasks.{ArePassesOf, PassesValue}
 use Rattle.world_model.specs.World.{StationValue, WorldValue}
-use Rattle.world_model.specs.declared.gathered.Gathered.{Gathered}
-use Rattle.world_model.specs.declared.gathered.Gathered.TheVariants as gathered
+use Rattle.world_model.specs.declared.hash_state.HashState.{HashState}
+use Rattle.world_model.specs.declared.hash_state.HashState.TheVariants as hash_state
 use Rattle.world_locks.specs.worlds.Ready.{HasLooked}
-use Rattle.world_close.specs.Closed.{AreIdle}
+use Rattle.world_close.specs.Closed.{AreSpares}
 use Rattle.world_locks.proofs.about_acts.Calls.{found_place, found_rules}
 use Rattle.world_locks.proofs.about_acts.Looks.{at_index}
 use Rattle.world_locks.specs.acts.Acting.{ReadyAt, StationDid, told_in}
 use Rattle.world_locks.specs.acts.Checking.{CheckIn, IsChecked, check_by}
-use Rattle.world_locks.specs.acts.Parts.{AreParts, frame_by, state_by}
+use Rattle.world_locks.specs.acts.Parts.{AreParts, consts_by, state_by}
 use Rattle.world_locks.specs.acts.declared.answers.Answered.{Answered}
 
 module _ (settings : Settings) (stations : List StationValue) (supers : List Super)
     (book : Grown Entry) (sems : Grown Event) (rules : PolicyValue) (tasks : ℕ)
-    (parts : AreParts (frame_by settings stations supers book sems rules tasks) stations book sems
+    (parts : AreParts (consts_by settings stations supers book sems rules tasks) stations book sems
     rules) (i : ℕ) (cell : CellValue) (seen : Passed RuleEntry) (place : ℕ) (opened : StationValue)
     (station_view : ◌≡◌ {A = StationValue}
     (record { cell = cell; rules = seen; place = place }) opened)
     (within : i < length stations) (opened_is : opened ≡ get_or stations i opened) where
-  abbrev F : Frame
-  F = frame_by settings stations supers book sems rules tasks
+  abbrev F : WorldConsts
+  F = consts_by settings stations supers book sems rules tasks
 
   abbrev st : StationValue
   st = record { cell = cell; rules = seen; place = place }
@@ -65,7 +65,7 @@ module _ (settings : Settings) (stations : List StationValue) (supers : List Sup
 
   module _ (w : WorldValue)
       (view : ◌≡◌ {A = WorldValue} (record {
-        frame = frame_by settings stations supers book sems rules tasks;
+        consts = consts_by settings stations supers book sems rules tasks;
         state = state_by stations book sems rules;
       }) w) (inodes : List (Passed Event)) (signals : Passed Event) (lists : Passed Entry)
       (own : Passed RuleEntry) (p : PassesValue)
@@ -74,7 +74,7 @@ module _ (settings : Settings) (stations : List StationValue) (supers : List Sup
         sems = signals;
         book = lists;
         rules = own;
-      }) p) (n : ℕ) (are : ArePassesOf w.frame n p) (pass : Passed Event)
+      }) p) (n : ℕ) (are : ArePassesOf w.consts n p) (pass : Passed Event)
       (pass_is : pass ≡ get_or inodes i pass) where
     -- the task's pass is of the inode's journal, and has the task's number
     pub inspect_found : (pass.name ≡ cell.journal) × (pass.number ≡ n + 1)
@@ -90,13 +90,13 @@ module _ (settings : Settings) (stations : List StationValue) (supers : List Sup
 
     -- after a look the check may be made
     pub inspect_may : (action : ActionValue) (slot : Slot) (d : Deed)
-        → ((g : Gathered) → ReadyAt w.frame i p.inodes n g action slot d)
+        → ((g : HashState) → ReadyAt w.consts i p.inodes n g action slot d)
         → HasLooked cell.inode pass.number pass.seen cell.list pass.mine
         → MayBy cell pass.number d
     inspect_may action slot d ready =
         open_may settings stations supers book sems rules tasks parts w view inodes signals lists
-        own p passes_view n are i st pass within st_is pass_is gathered.Nothing action slot d
-        (ready gathered.Nothing)
+        own p passes_view n are i st pass within st_is pass_is hash_state.Idle action slot d
+        (ready hash_state.Idle)
 
     -- the world after the check
     module _ {E : Type 0} (between rules2 : PolicyValue) (q own2 : Passed RuleEntry)
@@ -106,7 +106,7 @@ module _ (settings : Settings) (stations : List StationValue) (supers : List Sup
         (index : List RuleValue) (r : Result (Option Answered) E)
         (index_is : index ≡ in_force rules2)
         (place_is : file_system ≡ get_or supers place file_system)
-        (did : (g : Gathered) → StationDid (record { cell = cell; rules = q; place = place }) st2
+        (did : (g : HashState) → StationDid (record { cell = cell; rules = q; place = place }) st2
         book book2 pass pass2 lists lists2 who
         (check_by index cred file_system (metadata (past cell.list)) asked) g g (told_in r))
         (told : IsChecked cell.inode cell.list book.list index cred file_system asked r) where
@@ -114,31 +114,34 @@ module _ (settings : Settings) (stations : List StationValue) (supers : List Sup
       stations2 = slice_set stations i st2
 
       -- the constants stay the same
-      pub inspected_frame : frame_by settings stations2 supers book2 sems rules2 tasks ≡ w.frame
-      inspected_frame =
-          check_frame settings stations supers book book2 sems rules between rules2 tasks i st st2 q
+      pub inspected_consts : consts_by settings stations2 supers book2 sems rules2 tasks ≡ w.consts
+      inspected_consts =
+          check_consts settings stations supers book book2 sems rules between rules2 tasks i st
+          st2 q
           pass pass2 lists lists2 own own2 who cred asked file_system index r parts there first
-          second index_is place_is did told gathered.Nothing
-          ∙ ap (λ (x : WorldValue). x.frame) view
+          second index_is place_is did told hash_state.Idle
+          ∙ ap (λ (x : WorldValue). x.consts) view
 
       -- each part belongs to the constants
-      pub inspected_parts : AreParts (frame_by settings stations2 supers book2 sems rules2 tasks)
+      pub inspected_parts : AreParts (consts_by settings stations2 supers book2 sems rules2 tasks)
           stations2 book2 sems rules2
       inspected_parts =
           check_parts settings stations supers book book2 sems rules between rules2 tasks i st st2 q
           pass pass2 lists lists2 own own2 who cred asked file_system index r parts there first
-          second index_is place_is did told gathered.Nothing
+          second index_is place_is did told hash_state.Idle
 
       -- the spare passes stay unused
-      pub inspected_idle : (idle : List (Passed RuleEntry)) → AreIdle F idle
-          → AreIdle (frame_by settings stations2 supers book2 sems rules2 tasks) idle
-      inspected_idle idle h =
-          check_idle settings stations supers book book2 sems rules between rules2 tasks i st st2 q
+      pub inspected_spares : (spares : List (Passed RuleEntry)) → AreSpares F spares
+          → AreSpares (consts_by settings stations2 supers book2 sems rules2 tasks) spares
+      inspected_spares spares h =
+          check_spares settings stations supers book book2 sems rules between rules2 tasks i st
+          st2 q
           pass pass2 lists lists2 own own2 who cred asked file_system index r parts there first
-          second index_is place_is did told gathered.Nothing idle h
+          second index_is place_is did told hash_state.Idle spares h
 
       -- the check is one of the task on this world
-      pub inspected_check : (g : Gathered) → CheckIn w.frame i (slice_get w.frame.sites i) who cred
+      pub inspected_check : (g : HashState)
+          → CheckIn w.consts i (slice_get w.consts.sites i) who cred
           asked w.state (state_by stations2 book2 sems rules2) p
           (record {
             inodes = slice_set inodes i pass2;
@@ -157,7 +160,7 @@ module _ (settings : Settings) (stations : List StationValue) (supers : List Sup
           } in
           let at = open_pass settings stations supers book sems rules tasks parts w view inodes
           signals lists own p passes_view n are i st pass within st_is pass_is in
-          subst (λ (x : WorldValue). CheckIn x.frame i (slice_get x.frame.sites i) who cred asked
+          subst (λ (x : WorldValue). CheckIn x.consts i (slice_get x.consts.sites i) who cred asked
           x.state (state_by stations2 book2 sems rules2) p after g r) view
           (subst (λ (y : PassesValue). CheckIn F i (slice_get F.sites i) who cred asked
           (state_by stations book sems rules) (state_by stations2 book2 sems rules2) y after g r)

@@ -16,36 +16,36 @@ use Rattle.policy_rules.specs.RuleValue.{RuleValue}
 use Rattle.policy_rules.specs.declared.access.Super.{Super}
 use Rattle.run_model.specs.Turns.{State}
 use Rattle.task_core.proofs.Seen.{PassSees, sees_alone}
-use Rattle.world_model.specs.Frame.{Frame, Site, boot_in, inode_in}
+use Rattle.world_model.specs.WorldConsts.{Site, WorldConsts, boot_in, inode_in}
 use Rattle.world_model.specs.Runs.{HasMade}
 use Rattle.world_model.specs.Tasks.{ArePassesOf, IsTask, PassesValue, Tasked}
 use Rattle.world_model.specs.World.{StationValue, WorldValue, journal_of, site_of}
-use Rattle.world_model.specs.declared.gathered.Gathered.{Gathered}
+use Rattle.world_model.specs.declared.hash_state.HashState.{HashState}
 use Rattle.world_locks.proofs.about_worlds.Eventing.{get_map}
 use Rattle.world_locks.proofs.about_worlds.Looking.{look_is_made, look_is_played}
 use Rattle.world_locks.specs.worlds.Looks.{HasLookedAtAll, InodeLooked}
 use Rattle.world_locks.specs.worlds.Plays.{task_left}
 use Rattle.world_locks.specs.worlds.Ready.{HasLooked}
 use Rattle.task_mind.specs.Value.{TaskValue}
-use Rattle.world_close.specs.Closed.{AreIdle}
+use Rattle.world_close.specs.Closed.{AreSpares}
 use Rattle.world_locks.proofs.about_acts.Keeping.{journals_kept, sites_kept, stations_kept}
-use Rattle.world_locks.specs.acts.Looking.{AreKept, HaveLooked, LookedAt}
-use Rattle.world_locks.specs.acts.Parts.{AreParts, frame_by, state_by}
+use Rattle.world_locks.specs.acts.Looking.{AreSameStations, HaveLooked, LookedAt}
+use Rattle.world_locks.specs.acts.Parts.{AreParts, consts_by, state_by}
 
 module _ (settings : Settings) (stations stations2 : List StationValue) (supers : List Super)
     (book book2 : Grown Entry) (sems sems2 : Grown Event) (rules rules2 : PolicyValue) (tasks : ℕ)
-    (kept : AreKept stations stations2) (books : IsSameList book book2)
+    (kept : AreSameStations stations stations2) (books : IsSameList book book2)
     (signals : IsSameList sems sems2) (base : rules2.base ≡ rules.base)
     (added : IsSameList rules.appended rules2.appended) where
-  abbrev F : Frame
-  F = frame_by settings stations supers book sems rules tasks
+  abbrev F : WorldConsts
+  F = consts_by settings stations supers book sems rules tasks
 
-  abbrev Later : Frame
-  Later = frame_by settings stations2 supers book2 sems2 rules2 tasks
+  abbrev Later : WorldConsts
+  Later = consts_by settings stations2 supers book2 sems2 rules2 tasks
 
   -- the constants stay the same
-  pub frame_looked : Later ≡ F
-  frame_looked =
+  pub consts_looked : Later ≡ F
+  consts_looked =
       ap (λ (xs : List Site). record Later { sites = xs }) (sites_kept stations stations2 kept)
       ∙ ap (λ (xs : List Entry). record Later { sites = F.sites; boot = boot_in xs }) books.list
       ∙ ap (λ (x : ListName). record Later { sites = F.sites; boot = F.boot; book = x }) books.name
@@ -107,12 +107,13 @@ module _ (settings : Settings) (stations stations2 : List StationValue) (supers 
   pub parts_looked : AreParts F stations book sems rules
       → AreParts Later stations2 book2 sems2 rules2
   parts_looked parts =
-      subst (λ (x : Frame). AreParts x stations2 book2 sems2 rules2) (sym frame_looked)
+      subst (λ (x : WorldConsts). AreParts x stations2 book2 sems2 rules2) (sym consts_looked)
       (parts_at parts)
 
   -- the spare passes stay unused
-  pub idle_looked : (idle : List (Passed RuleEntry)) → AreIdle F idle → AreIdle Later idle
-  idle_looked idle h = subst (λ (x : Frame). AreIdle x idle) (sym frame_looked) h
+  pub spares_looked : (spares : List (Passed RuleEntry)) → AreSpares F spares
+      → AreSpares Later spares
+  spares_looked spares h = subst (λ (x : WorldConsts). AreSpares x spares) (sym consts_looked) h
 
   -- the effect of the looks on the task
   module _ (t : Tasked) (passes : PassesValue)
@@ -195,17 +196,17 @@ module _ (settings : Settings) (stations stations2 : List StationValue) (supers 
 
     -- in each list the entries of the task's number are exactly those that the task has made
     pub looked_made : HasMade Later (state_by stations2 book2 sems2 rules2)
-        (task_left t passes t.gathered)
+        (task_left t passes t.hash_state)
     looked_made =
-        subst (λ (x : Frame). HasMade x (state_by stations2 book2 sems2 rules2)
-        (task_left t passes t.gathered)) (sym frame_looked)
-        (subst (λ (x : State). HasMade F x (task_left t passes t.gathered)) (sym state_looked)
+        subst (λ (x : WorldConsts). HasMade x (state_by stations2 book2 sems2 rules2)
+        (task_left t passes t.hash_state)) (sym consts_looked)
+        (subst (λ (x : State). HasMade F x (task_left t passes t.hash_state)) (sym state_looked)
         (look_is_made F t S passes is looked_at_all))
 
     -- the task is still one of its world
-    pub looked_still : IsTask Later (task_left t passes t.gathered)
+    pub looked_still : IsTask Later (task_left t passes t.hash_state)
     looked_still =
-        subst (λ (x : Frame). IsTask x (task_left t passes t.gathered)) (sym frame_looked)
+        subst (λ (x : WorldConsts). IsTask x (task_left t passes t.hash_state)) (sym consts_looked)
         (record {
           history = is.history;
           played = look_is_played F t is.history S passes is.played looked_at_all;
@@ -215,21 +216,21 @@ module _ (settings : Settings) (stations stations2 : List StationValue) (supers 
 pub look_names : (settings : Settings) (stations : List StationValue) (supers : List Super)
     (book : Grown Entry) (sems : Grown Event) (rules : PolicyValue) (tasks n : ℕ)
     (passes : PassesValue)
-    → ArePassesOf (frame_by settings stations supers book sems rules tasks) n passes
+    → ArePassesOf (consts_by settings stations supers book sems rules tasks) n passes
     → (i : ℕ) (s : StationValue) (q : Passed Event) → slice_get stations i ≡ Some s
     → slice_get passes.inodes i ≡ Some q → q.name ≡ s.cell.journal
 look_names settings stations supers book sems rules tasks n passes own i s q at here =
     (own.inodes i (site_of s) q (get_map site_of stations i s at) here).0
 
 -- the task of an unpacked world, with its passes unpacked
-pub look_opens : (w0 w : WorldValue) (t : Tasked) (n : ℕ) (mind : TaskValue) (g : Gathered)
+pub look_opens : (w0 w : WorldValue) (t : Tasked) (n : ℕ) (mind : TaskValue) (g : HashState)
     (passes q : PassesValue) → w0 ≡ w
-    → ◌≡◌ {A = Tasked} (record { number = n; mind = mind; gathered = g; passes = q }) t
-    → passes ≡ q → IsTask w.frame t
-    → IsTask w0.frame (record { number = n; mind = mind; gathered = g; passes = passes })
+    → ◌≡◌ {A = Tasked} (record { number = n; mind = mind; hash_state = g; passes = q }) t
+    → passes ≡ q → IsTask w.consts t
+    → IsTask w0.consts (record { number = n; mind = mind; hash_state = g; passes = passes })
 look_opens w0 w t n mind g passes q e f k is =
-    subst (λ (x : WorldValue). IsTask x.frame
-    (record { number = n; mind = mind; gathered = g; passes = passes })) (sym e)
-    (subst (λ (y : PassesValue). IsTask w.frame
-    (record { number = n; mind = mind; gathered = g; passes = y })) (sym k)
-    (subst (λ (x : Tasked). IsTask w.frame x) (sym f) is))
+    subst (λ (x : WorldValue). IsTask x.consts
+    (record { number = n; mind = mind; hash_state = g; passes = passes })) (sym e)
+    (subst (λ (y : PassesValue). IsTask w.consts
+    (record { number = n; mind = mind; hash_state = g; passes = y })) (sym k)
+    (subst (λ (x : Tasked). IsTask w.consts x) (sym f) is))

@@ -19,26 +19,26 @@ use Rattle.policy_cell.specs.declared.cell.RuleEntry.{RuleEntry}
 use Rattle.policy_rules.specs.ActionValue.{ActionValue}
 use Rattle.policy_rules.specs.declared.access.Super.{Super}
 use Rattle.world_model.specs.laws_of_runs.Stations.{CountsAll}
-use Rattle.world_model.specs.Frame.{Frame}
+use Rattle.world_model.specs.WorldConsts.{WorldConsts}
 use Rattle.world_model.specs.Tasks.{ArePassesOf, PassesValue}
 use Rattle.world_model.specs.World.{StationValue, WorldValue, site_of}
-use Rattle.world_model.specs.declared.gathered.Gathered.{Gathered}
+use Rattle.world_model.specs.declared.hash_state.HashState.{HashState}
 use Rattle.world_locks.proofs.about_worlds.Eventing.{adds_none}
 use Rattle.world_locks.specs.worlds.Ready.{HasLooked, IsReady}
-use Rattle.world_close.specs.Closed.{AreIdle}
+use Rattle.world_close.specs.Closed.{AreSpares}
 use Rattle.world_locks.proofs.about_acts.Calls.{found_may, found_pass, found_ready, found_said}
 use Rattle.world_locks.proofs.about_acts.Looks.{at_index}
-use Rattle.world_locks.proofs.about_acts.Lists.{event_in, frame_same, world_same}
+use Rattle.world_locks.proofs.about_acts.Lists.{consts_same, event_in, world_same}
 use Rattle.world_locks.specs.acts.Acting.{EventIn, IsPlacedAt, IsSaid, ReadyAt, StationDid, told_of}
-use Rattle.world_locks.specs.acts.Parts.{AreParts, frame_by, state_by}
+use Rattle.world_locks.specs.acts.Parts.{AreParts, consts_by, state_by}
 use Rattle.world_locks.specs.acts.declared.answers.Answered.{Answered}
 
 module _ (settings : Settings) (stations : List StationValue) (supers : List Super)
     (book : Grown Entry) (sems : Grown Event) (rules : PolicyValue) (tasks : ℕ)
-    (parts : AreParts (frame_by settings stations supers book sems rules tasks) stations book sems
+    (parts : AreParts (consts_by settings stations supers book sems rules tasks) stations book sems
     rules) (w : WorldValue)
     (view : ◌≡◌ {A = WorldValue} (record {
-      frame = frame_by settings stations supers book sems rules tasks;
+      consts = consts_by settings stations supers book sems rules tasks;
       state = state_by stations book sems rules;
     }) w) (inodes : List (Passed Event)) (signals : Passed Event) (lists : Passed Entry)
     (own : Passed RuleEntry) (p : PassesValue)
@@ -47,11 +47,11 @@ module _ (settings : Settings) (stations : List StationValue) (supers : List Sup
       sems = signals;
       book = lists;
       rules = own;
-    }) p) (n : ℕ) (are : ArePassesOf w.frame n p) (i : ℕ) (st : StationValue)
+    }) p) (n : ℕ) (are : ArePassesOf w.consts n p) (i : ℕ) (st : StationValue)
     (pass : Passed Event) (within : i < length stations) (st_is : st ≡ get_or stations i st)
     (pass_is : pass ≡ get_or inodes i pass) where
-  abbrev F : Frame
-  F = frame_by settings stations supers book sems rules tasks
+  abbrev F : WorldConsts
+  F = consts_by settings stations supers book sems rules tasks
 
   abbrev P : PassesValue
   P = record { inodes = inodes; sems = signals; book = lists; rules = own }
@@ -59,8 +59,8 @@ module _ (settings : Settings) (stations : List StationValue) (supers : List Sup
   -- the passes are those of the task
   pub open_passes : ArePassesOf F n P
   open_passes =
-      subst (λ (x : WorldValue). ArePassesOf x.frame n P) (sym view)
-      (subst (λ (q : PassesValue). ArePassesOf w.frame n q) (sym passes_view) are)
+      subst (λ (x : WorldValue). ArePassesOf x.consts n P) (sym view)
+      (subst (λ (q : PassesValue). ArePassesOf w.consts n q) (sym passes_view) are)
 
   -- the inode and the pass of its journal are at their places
   pub open_there : slice_get stations i ≡ Some st
@@ -86,23 +86,23 @@ module _ (settings : Settings) (stations : List StationValue) (supers : List Sup
   open_book = (parts.stations i st open_there).book
 
   -- after a look the deed is ready, and may be done
-  open_ready_at : (g : Gathered) (action : ActionValue) (slot : Slot) (d : Deed)
-      → ReadyAt w.frame i p.inodes n g action slot d → ReadyAt F i inodes n g action slot d
+  open_ready_at : (g : HashState) (action : ActionValue) (slot : Slot) (d : Deed)
+      → ReadyAt w.consts i p.inodes n g action slot d → ReadyAt F i inodes n g action slot d
   open_ready_at g action slot d ready =
-      subst (λ (x : WorldValue). ReadyAt x.frame i inodes n g action slot d) (sym view)
-      (subst (λ (q : PassesValue). ReadyAt w.frame i q.inodes n g action slot d) (sym passes_view)
+      subst (λ (x : WorldValue). ReadyAt x.consts i inodes n g action slot d) (sym view)
+      (subst (λ (q : PassesValue). ReadyAt w.consts i q.inodes n g action slot d) (sym passes_view)
       ready)
 
-  pub open_ready : (g : Gathered) (action : ActionValue) (slot : Slot) (d : Deed)
-      → ReadyAt w.frame i p.inodes n g action slot d
+  pub open_ready : (g : HashState) (action : ActionValue) (slot : Slot) (d : Deed)
+      → ReadyAt w.consts i p.inodes n g action slot d
       → HasLooked st.cell.inode pass.number pass.seen st.cell.list pass.mine
       → IsReady st.cell.inode pass.number st.cell.list g action slot d
   open_ready g action slot d ready =
       found_ready settings stations supers book sems rules tasks i st parts open_there n inodes pass
       g action slot d open_pass open_found.1 (open_ready_at g action slot d ready)
 
-  pub open_may : (g : Gathered) (action : ActionValue) (slot : Slot) (d : Deed)
-      → ReadyAt w.frame i p.inodes n g action slot d
+  pub open_may : (g : HashState) (action : ActionValue) (slot : Slot) (d : Deed)
+      → ReadyAt w.consts i p.inodes n g action slot d
       → HasLooked st.cell.inode pass.number pass.seen st.cell.list pass.mine
       → MayBy st.cell pass.number d
   open_may g action slot d ready =
@@ -111,42 +111,42 @@ module _ (settings : Settings) (stations : List StationValue) (supers : List Sup
 
   -- the world after the deed
   module _ (st2 : StationValue) (book2 : Grown Entry) (pass2 : Passed Event)
-      (lists2 : Passed Entry) (who : Who) (d : Deed) (g g2 : Gathered) (o : Option Told)
+      (lists2 : Passed Entry) (who : Who) (d : Deed) (g g2 : HashState) (o : Option Told)
       (counts : CountsAll (length F.base + length st.rules.seen) d) (task : n ≡ who.task)
       (did : StationDid st st2 book book2 pass pass2 lists lists2 who d g g2 o) where
     abbrev stations2 : List StationValue
     stations2 = slice_set stations i st2
 
     -- the constants stay the same
-    pub done_frame : frame_by settings stations2 supers book2 sems rules tasks ≡ F
-    done_frame =
-        frame_same settings stations supers book book2 sems rules tasks i st st2 pass pass2 lists
+    pub done_consts : consts_by settings stations2 supers book2 sems rules tasks ≡ F
+    done_consts =
+        consts_same settings stations supers book book2 sems rules tasks i st st2 pass pass2 lists
         lists2 who d g g2 o parts open_there did
 
-    pub done_view : frame_by settings stations2 supers book2 sems rules tasks ≡ w.frame
-    done_view = done_frame ∙ ap (λ (x : WorldValue). x.frame) view
+    pub done_view : consts_by settings stations2 supers book2 sems rules tasks ≡ w.consts
+    done_view = done_consts ∙ ap (λ (x : WorldValue). x.consts) view
 
     -- each part belongs to the constants
-    pub done_parts : AreParts (frame_by settings stations2 supers book2 sems rules tasks) stations2
+    pub done_parts : AreParts (consts_by settings stations2 supers book2 sems rules tasks) stations2
         book2 sems rules
     done_parts =
         world_same settings stations supers book book2 sems rules tasks i st st2 pass pass2 lists
         lists2 who d g g2 o parts open_there did counts
 
     -- the spare passes stay unused
-    pub done_idle : (idle : List (Passed RuleEntry)) → AreIdle F idle
-        → AreIdle (frame_by settings stations2 supers book2 sems rules tasks) idle
-    done_idle idle h = subst (λ (x : Frame). AreIdle x idle) (sym done_frame) h
+    pub done_spares : (spares : List (Passed RuleEntry)) → AreSpares F spares
+        → AreSpares (consts_by settings stations2 supers book2 sems rules tasks) spares
+    done_spares spares h = subst (λ (x : WorldConsts). AreSpares x spares) (sym done_consts) h
 
     -- the deed is one of the task on this world
-    pub done_event : EventIn w.frame i (slice_get w.frame.sites i) who d w.state
+    pub done_event : EventIn w.consts i (slice_get w.consts.sites i) who d w.state
         (state_by stations2 book2 sems rules) p
         (record { inodes = slice_set inodes i pass2; sems = signals; book = lists2; rules = own })
         g g2 o
     done_event =
         let p2 : PassesValue =
         record { inodes = slice_set inodes i pass2; sems = signals; book = lists2; rules = own } in
-        subst (λ (x : WorldValue). EventIn x.frame i (slice_get x.frame.sites i) who d x.state
+        subst (λ (x : WorldValue). EventIn x.consts i (slice_get x.consts.sites i) who d x.state
         (state_by stations2 book2 sems rules) p p2 g g2 o) view
         (subst (λ (q : PassesValue). EventIn F i (slice_get F.sites i) who d
         (state_by stations book sems rules) (state_by stations2 book2 sems rules) q p2 g g2 o)
@@ -160,7 +160,7 @@ module _ (settings : Settings) (stations : List StationValue) (supers : List Sup
   pub done_said : {E : Type 0} (r : Result (Option Answered) E) (d : Deed)
       → IfOk r (λ o. told_of o ≡ outcome st.cell.inode book.list d (past st.cell.list))
       → IfOk r (λ o. IsPlacedAt (length st.cell.list) o)
-      → IfOk r (λ o. IsSaid w.frame i d w.state o)
+      → IfOk r (λ o. IsSaid w.consts i d w.state o)
   done_said r d told at =
-      subst (λ (x : WorldValue). IfOk r (λ o. IsSaid x.frame i d x.state o)) view
+      subst (λ (x : WorldValue). IfOk r (λ o. IsSaid x.consts i d x.state o)) view
       (found_said settings stations supers book sems rules tasks i st parts open_there r d told at)

@@ -19,9 +19,9 @@ use Rattle.task_core.proofs.Blocks.{check_blocks, deed_blocks, err_fails, no_ans
 use Rattle.task_core.proofs.Turns.{appends_fail, appends_turn, check_turn, does_turn, signals_turn}
 use Rattle.task_core.specs.Shared.{IsBlockedBy, IsBlockedOn, IsIdle, ReachesMet, StepsTo}
 use Rattle.world_locks.specs.acts.declared.listed.Checks.{Checks as Asked}
-use Rattle.world_model.specs.Frame.{Frame, Site, mode_in, scene_of}
+use Rattle.world_model.specs.WorldConsts.{Site, WorldConsts, mode_in, scene_of}
 use Rattle.world_model.specs.Tasks.{PassesValue, Tasked}
-use Rattle.world_model.specs.declared.gathered.Gathered.{Gathered}
+use Rattle.world_model.specs.declared.hash_state.HashState.{HashState}
 use Rattle.world_locks.proofs.about_worlds.Blocking.{task_of_who}
 use Rattle.world_locks.specs.worlds.Plays.{task_after, task_left}
 use Rattle.task_mind.specs.Value.{TaskValue}
@@ -43,7 +43,7 @@ idle_told {E} r x is idle = at r (subst (λ (z : Result Reached E). IsIdle z) is
   at (Ok None) i = refl
   at (Err e) i = refl
 
-module _ (frame : Frame) (t : Tasked) (passes : PassesValue) (w : Who)
+module _ (consts : WorldConsts) (t : Tasked) (passes : PassesValue) (w : Who)
     (w_is : w ≡ who_at t.number t.mind.program t.mind.thought.mind) where
   abbrev asks : Option Step
   asks = step_at t.mind.program t.mind.thought.mind
@@ -54,58 +54,60 @@ module _ (frame : Frame) (t : Tasked) (passes : PassesValue) (w : Who)
       ap (λ (x : Who). x.task) w_is ∙ task_of_who t.number t.mind.program t.mind.thought.mind
 
   -- a turn with a deed on an inode
-  pub does_met : {E : Type 0} (i : ℕ) (d : Deed) (g : Gathered) (r : Result (Option Answered) E)
+  pub does_met : {E : Type 0} (i : ℕ) (d : Deed) (g : HashState) (r : Result (Option Answered) E)
       (x : Result Reached E) → asks ≡ Some (Does i d)
-      → EventMet frame i w d t.passes passes t.gathered g r → x ≡ reached_by r
-      → ReachesMet frame t passes g x
+      → EventMet consts i w d t.passes passes t.hash_state g r → x ≡ reached_by r
+      → ReachesMet consts t passes g x
   does_met i d g r x st m is = record {
     old = m.old;
-    reaches = does_turn frame t m.old (state_seen passes) passes w w_is i d g r x st m.event m.told
+    reaches = does_turn consts t m.old (state_seen passes) passes w w_is i d g r x st m.event m.told
         is;
-    idle = λ idle. event_idle frame i w d t.passes passes t.gathered g r m (idle_told r x is idle);
-    blocked = λ b. subst (λ (z : Option Step). IsBlockedBy frame t.number t.passes passes z)
+    idle = λ idle. event_idle consts i w d t.passes passes t.hash_state g r m
+        (idle_told r x is idle);
+    blocked = λ b. subst (λ (z : Option Step). IsBlockedBy consts t.number t.passes passes z)
         (sym st)
-        (subst (λ (n : ℕ). (s : Site) → slice_get frame.sites i ≡ Some s
-        → IsBlockedOn frame n i s d t.passes passes) w_task
-        (deed_blocks frame t.passes passes w i d t.gathered g r m (no_answer r (sym is ∙ b))));
+        (subst (λ (n : ℕ). (s : Site) → slice_get consts.sites i ≡ Some s
+        → IsBlockedOn consts n i s d t.passes passes) w_task
+        (deed_blocks consts t.passes passes w i d t.hash_state g r m (no_answer r (sym is ∙ b))));
   }
 
   -- a turn with a check
   pub checks_met : {E : Type 0} (i : ℕ) (asked : Asked) (cred : Cred)
       (r : Result (Option Answered) E) (x : Result Reached E)
       → asks ≡ Some (Checks i asked.file asked.func asked.mask) → cred ≡ t.mind.program.cred
-      → CheckMet frame i w cred asked t.passes passes r → x ≡ reached_by r
-      → ReachesMet frame t passes t.gathered x
+      → CheckMet consts i w cred asked t.passes passes r → x ≡ reached_by r
+      → ReachesMet consts t passes t.hash_state x
   checks_met i asked cred r x st c m is = record {
     old = m.old;
-    reaches = check_turn frame t m.old (state_seen passes) passes w w_is i asked cred r x st c
+    reaches = check_turn consts t m.old (state_seen passes) passes w w_is i asked cred r x st c
         m.check is;
-    idle = λ idle. check_idle frame i w cred asked t.passes passes r m (idle_told r x is idle);
-    blocked = λ b. subst (λ (z : Option Step). IsBlockedBy frame t.number t.passes passes z)
-        (sym st) (check_blocks frame t.passes passes w i cred asked r m (no_answer r (sym is ∙ b)));
+    idle = λ idle. check_idle consts i w cred asked t.passes passes r m (idle_told r x is idle);
+    blocked = λ b. subst (λ (z : Option Step). IsBlockedBy consts t.number t.passes passes z)
+        (sym st) (check_blocks consts t.passes passes w i cred asked r m
+        (no_answer r (sym is ∙ b)));
   }
 
   -- a turn with a post or a wait
   pub signals_met : {E : Type 0} (d : Deed) (r : Result (Option Answered) E)
       (x : Result Reached E) → asks ≡ Some (Signals d)
       → SignalsMet t.passes passes w d r → x ≡ reached_by r
-      → ReachesMet frame t passes t.gathered x
+      → ReachesMet consts t passes t.hash_state x
   signals_met d r x st m is = record {
     old = m.old;
-    reaches = signals_turn frame t m.old (state_seen passes) passes w w_is d r x st m.signals m.told
-        is;
+    reaches = signals_turn consts t m.old (state_seen passes) passes w w_is d r x st
+        m.signals m.told is;
     idle = λ idle. signals_idle t.passes passes w d r m (idle_told r x is idle);
-    blocked = λ b. subst (λ (z : Option Step). IsBlockedBy frame t.number t.passes passes z)
-        (sym st) (signal_blocks frame t.passes passes w d r m (no_answer r (sym is ∙ b)));
+    blocked = λ b. subst (λ (z : Option Step). IsBlockedBy consts t.number t.passes passes z)
+        (sym st) (signal_blocks consts t.passes passes w d r m (no_answer r (sym is ∙ b)));
   }
 
   -- a turn with an appended rule
   pub appends_told : {E : Type 0} (rule : RuleValue) (a : Answered) → asks ≡ Some (Appends rule)
       → AppendsMet t.passes passes (record { who = w; rule = rule }) a
-      → ReachesMet {E = E} frame t passes t.gathered (Ok (reached.Told a))
+      → ReachesMet {E = E} consts t passes t.hash_state (Ok (reached.Told a))
   appends_told rule a st m = record {
     old = m.old;
-    reaches = appends_turn frame t m.old (state_seen passes) passes w w_is rule a st m.appends
+    reaches = appends_turn consts t m.old (state_seen passes) passes w w_is rule a st m.appends
         m.told;
     idle = λ idle. absurd idle;
     blocked = λ b. absurd (told_moves a b);
@@ -113,36 +115,36 @@ module _ (frame : Frame) (t : Tasked) (passes : PassesValue) (w : Who)
 
   -- a turn with an appended rule that ran out of memory
   pub appends_failed : {E : Type 0} (e : E) → passes ≡ t.passes
-      → ReachesMet frame t passes t.gathered (Err e)
+      → ReachesMet consts t passes t.hash_state (Err e)
   appends_failed e same = record {
     old = state_seen passes;
-    reaches = appends_fail frame t (state_seen passes) (state_seen passes) passes w w_is
+    reaches = appends_fail consts t (state_seen passes) (state_seen passes) passes w w_is
         (refl, same);
     idle = λ idle. ap (λ (p : PassesValue). mines_of p) same;
     blocked = λ b. absurd (err_fails e b);
   }
 
 -- a turn with a step that does nothing
-pub nothing_met : {E : Type 0} (frame : Frame) (t : Tasked) (a : Answered)
+pub nothing_met : {E : Type 0} (consts : WorldConsts) (t : Tasked) (a : Answered)
     → step_at t.mind.program t.mind.thought.mind ≡ Some Nothing → a.place ≡ 0
     → a.told ≡ told.Nothing → a.action ≡ None
-    → ReachesMet {E = E} frame t t.passes t.gathered (Ok (reached.Told a))
-nothing_met frame t a st e k f = record {
+    → ReachesMet {E = E} consts t t.passes t.hash_state (Ok (reached.Told a))
+nothing_met consts t a st e k f = record {
   old = state_seen t.passes;
-  reaches = nothing_tells frame t (state_seen t.passes) a st e k f;
+  reaches = nothing_tells consts t (state_seen t.passes) a st e k f;
   idle = λ idle. absurd idle;
   blocked = λ b. absurd (told_moves a b);
 }
 
 -- a turn of a program that is over
-pub over_met : {E : Type 0} (frame : Frame) (t : Tasked)
+pub over_met : {E : Type 0} (consts : WorldConsts) (t : Tasked)
     → None ≡ step_at t.mind.program t.mind.thought.mind
-    → ReachesMet {E = E} frame t t.passes t.gathered (Ok reached.Over)
-over_met frame t st = record {
+    → ReachesMet {E = E} consts t t.passes t.hash_state (Ok reached.Over)
+over_met consts t st = record {
   old = state_seen t.passes;
   reaches = record {
     plays = λ h x. x;
-    goes = λ programs. ap (go_step (scene_of frame programs) t.number t.mind.program
+    goes = λ programs. ap (go_step (scene_of consts programs) t.number t.mind.program
         (state_seen t.passes) t.mind.thought) (sym st);
   };
   idle = λ idle. refl;
@@ -151,61 +153,61 @@ over_met frame t st = record {
 
 -- ---- the task after the turn
 
-module _ (frame : Frame) (t t2 : Tasked) (passes : PassesValue) (g : Gathered) where
+module _ (consts : WorldConsts) (t t2 : Tasked) (passes : PassesValue) (g : HashState) where
   -- the task after a turn for which its program was over
   pub over_steps : {E : Type 0} (r : Result Reached E) (x : Reached) → r ≡ Ok x
-      → x ≡ reached.Over → ReachesMet frame t passes g r → t2 ≡ task_left t passes g
-      → StepsTo frame t t2 turns.Done
+      → x ≡ reached.Over → ReachesMet consts t passes g r → t2 ≡ task_left t passes g
+      → StepsTo consts t t2 turns.Done
   over_steps {E} r x e f m k =
-      let stops : Stops frame t m.old (state_seen passes) passes g turns.Done =
-      subst (λ (z : Result Reached E). Reaches frame t m.old (state_seen passes) passes g z)
+      let stops : Stops consts t m.old (state_seen passes) passes g turns.Done =
+      subst (λ (z : Result Reached E). Reaches consts t m.old (state_seen passes) passes g z)
       (e ∙ ap (λ (z : Reached). Ok z) f) m.reaches in
       record {
         old = m.old;
-        goes = subst (λ (z : Tasked). Goes frame t m.old
+        goes = subst (λ (z : Tasked). Goes consts t m.old
             (turned_to (state_seen z.passes) z.mind.thought turns.Done)) (sym k) stops.goes;
       }
 
   -- the task after a turn that was blocked
   pub blocked_steps : {E : Type 0} (r : Result Reached E) (x : Reached) → r ≡ Ok x
-      → x ≡ reached.Blocked → ReachesMet frame t passes g r → t2 ≡ task_left t passes g
-      → StepsTo frame t t2 turns.Blocked
+      → x ≡ reached.Blocked → ReachesMet consts t passes g r → t2 ≡ task_left t passes g
+      → StepsTo consts t t2 turns.Blocked
   blocked_steps {E} r x e f m k =
-      let stops : Stops frame t m.old (state_seen passes) passes g turns.Blocked =
-      subst (λ (z : Result Reached E). Reaches frame t m.old (state_seen passes) passes g z)
+      let stops : Stops consts t m.old (state_seen passes) passes g turns.Blocked =
+      subst (λ (z : Result Reached E). Reaches consts t m.old (state_seen passes) passes g z)
       (e ∙ ap (λ (z : Reached). Ok z) f) m.reaches in
       record {
         old = m.old;
-        goes = subst (λ (z : Tasked). Goes frame t m.old
+        goes = subst (λ (z : Tasked). Goes consts t m.old
             (turned_to (state_seen z.passes) z.mind.thought turns.Blocked)) (sym k) stops.goes;
       }
 
   -- the task after a turn that moved it
   pub moved_steps : {E : Type 0} (r : Result Reached E) (x : Reached) (a : Answered) (mode : Mode)
       (action : Option ActionValue) (mind : TaskValue) → r ≡ Ok x → x ≡ reached.Told a
-      → ReachesMet frame t passes g r → t2 ≡ task_after t mind passes g → mode ≡ mode_in frame
+      → ReachesMet consts t passes g r → t2 ≡ task_after t mind passes g → mode ≡ mode_in consts
       → action ≡ a.action
       → ((rules : ℕ) → mind.thought ≡ hear mode t.mind.program t.mind.thought
       (record { place = a.place; told = a.told; action = given action; rules = rules }))
-      → StepsTo frame t t2 turns.Moved
+      → StepsTo consts t t2 turns.Moved
   moved_steps {E} r x a mode action mind e f m k same same_action thought =
-      let tells : Tells frame t m.old (state_seen passes) passes g a =
-      subst (λ (z : Result Reached E). Reaches frame t m.old (state_seen passes) passes g z)
+      let tells : Tells consts t m.old (state_seen passes) passes g a =
+      subst (λ (z : Result Reached E). Reaches consts t m.old (state_seen passes) passes g z)
       (e ∙ ap (λ (z : Reached). Ok z) f) m.reaches in
-      let heard : hear (mode_in frame) t.mind.program t.mind.thought (answer_of a tells.rules)
+      let heard : hear (mode_in consts) t.mind.program t.mind.thought (answer_of a tells.rules)
       ≡ mind.thought =
       sym (thought tells.rules
       ∙ ap (λ (y : Mode). hear y t.mind.program t.mind.thought
       (record { place = a.place; told = a.told; action = given action; rules = tells.rules })) same
-      ∙ ap (λ (y : Option ActionValue). hear (mode_in frame) t.mind.program t.mind.thought
+      ∙ ap (λ (y : Option ActionValue). hear (mode_in consts) t.mind.program t.mind.thought
       (record { place = a.place; told = a.told; action = given y; rules = tells.rules }))
       same_action) in
       record {
         old = m.old;
-        goes = subst (λ (z : Tasked). Goes frame t m.old
+        goes = subst (λ (z : Tasked). Goes consts t m.old
             (turned_to (state_seen z.passes) z.mind.thought turns.Moved)) (sym k)
             (subst (λ (u : Thought).
-            Goes frame t m.old (turned_to (state_seen passes) u turns.Moved))
+            Goes consts t m.old (turned_to (state_seen passes) u turns.Moved))
             heard tells.goes);
       }
 
@@ -218,37 +220,37 @@ pub record HasRoom (t0 t : Tasked) : Type 0 where
   pub thought : t.mind.thought ≡ t0.mind.thought
   pub passes : t.passes ≡ t0.passes
 
-module _ (frame : Frame) (t0 t t2 : Tasked) (room : HasRoom t0 t) where
+module _ (consts : WorldConsts) (t0 t t2 : Tasked) (room : HasRoom t0 t) where
   -- the task makes the same turn as without the additional room
-  pub steps_with : (turn : Turn) → StepsTo frame t t2 turn → StepsTo frame t0 t2 turn
+  pub steps_with : (turn : Turn) → StepsTo consts t t2 turn → StepsTo consts t0 t2 turn
   steps_with turn s = record {
     old = s.old;
     goes = λ programs.
-        let same : go (scene_of frame programs) t0.number t0.mind.program s.old t0.mind.thought
-        ≡ go (scene_of frame programs) t.number t.mind.program s.old t.mind.thought =
-        λ i. go (scene_of frame programs) (sym room.number i) (sym room.program i) s.old
+        let same : go (scene_of consts programs) t0.number t0.mind.program s.old t0.mind.thought
+        ≡ go (scene_of consts programs) t.number t.mind.program s.old t.mind.thought =
+        λ i. go (scene_of consts programs) (sym room.number i) (sym room.program i) s.old
         (sym room.thought i) in
         same ∙ s.goes programs;
   }
 
   -- what blocks the step is the same as without the additional room
   pub blocked_with : (passes : PassesValue)
-      → IsBlockedBy frame t.number t.passes passes (step_at t.mind.program t.mind.thought.mind)
-      → IsBlockedBy frame t0.number t0.passes passes
+      → IsBlockedBy consts t.number t.passes passes (step_at t.mind.program t.mind.thought.mind)
+      → IsBlockedBy consts t0.number t0.passes passes
       (step_at t0.mind.program t0.mind.thought.mind)
   blocked_with passes b =
       let due : step_at t.mind.program t.mind.thought.mind
       ≡ step_at t0.mind.program t0.mind.thought.mind =
       λ i. step_at (room.program i) (room.thought i).mind in
-      subst (λ (n : ℕ). IsBlockedBy frame n t0.passes passes
+      subst (λ (n : ℕ). IsBlockedBy consts n t0.passes passes
       (step_at t0.mind.program t0.mind.thought.mind)) room.number
-      (subst (λ (p : PassesValue). IsBlockedBy frame t.number p passes
+      (subst (λ (p : PassesValue). IsBlockedBy consts t.number p passes
       (step_at t0.mind.program t0.mind.thought.mind)) room.passes
-      (subst (λ (z : Option Step). IsBlockedBy frame t.number t.passes passes z) due b))
+      (subst (λ (z : Option Step). IsBlockedBy consts t.number t.passes passes z) due b))
 
   -- if the task made no step, its passes have no new entries
-  pub idle_adds : {E : Type 0} (passes : PassesValue) (g : Gathered) (y : Result Reached E)
-      (x : Reached) → y ≡ Ok x → ReachesMet frame t passes g y → IsIdle {E = E} (Ok x)
+  pub idle_adds : {E : Type 0} (passes : PassesValue) (g : HashState) (y : Result Reached E)
+      (x : Reached) → y ≡ Ok x → ReachesMet consts t passes g y → IsIdle {E = E} (Ok x)
       → t2 ≡ task_left t passes g → mines_of t2.passes ≡ mines_of t0.passes
   idle_adds {E} passes g y x f m i k =
       ap (λ (z : Tasked). mines_of z.passes) k

@@ -21,9 +21,9 @@ use Rattle.run_model.specs.History.{Answer, Thought, hear, step_at, who_at}
 use Rattle.run_model.specs.Scene.{Program}
 use Rattle.run_model.specs.Turns.{State}
 use Rattle.run_model.specs.declared.turn.Turn.TheVariants as turns
-use Rattle.world_model.specs.Frame.{Frame, inode_in, mode_in}
+use Rattle.world_model.specs.WorldConsts.{WorldConsts, inode_in, mode_in}
 use Rattle.world_model.specs.Tasks.{ArePassesOf, HasPlayed, IsTask, PassesValue, Tasked}
-use Rattle.world_model.specs.declared.gathered.Gathered.{Gathered}
+use Rattle.world_model.specs.declared.hash_state.HashState.{HashState}
 use Rattle.world_locks.proofs.about_worlds.Blocking.{task_of_who}
 use Rattle.world_locks.proofs.about_worlds.Readying.{ready_by_look}
 use Rattle.world_locks.specs.worlds.Due.{slot_in}
@@ -44,20 +44,21 @@ use Rattle.world_locks.specs.acts.declared.answers.Answered.{Answered}
 use Rattle.world_locks.specs.acts.declared.answers.Reached.{Reached}
 use Rattle.world_locks.specs.acts.declared.answers.Reached.TheVariants as reached
 
-module _ (frame : Frame) (n room : ℕ) (g : Gathered) (passes : PassesValue) (h : List Answer) where
+module _ (consts : WorldConsts) (n room : ℕ) (g : HashState) (passes : PassesValue)
+    (h : List Answer) where
   -- the task with these parts of its mind has played the history
   abbrev PlayedWith : Program → Thought → ActionValue → Type 0
-  PlayedWith p t c = HasPlayed frame (record {
+  PlayedWith p t c = HasPlayed consts (record {
     number = n;
     mind = record { program = p; thought = t; checked = c; spare = room };
-    gathered = g;
+    hash_state = g;
     passes = passes;
   }) h
 
   -- a mind with equal parts has played the same history
   with_words : (a : TaskValue) (p : Program) (t : Thought) (c : ActionValue) → a.program ≡ p
       → a.thought ≡ t → a.checked ≡ c
-      → HasPlayed frame (record { number = n; mind = a; gathered = g; passes = passes }) h
+      → HasPlayed consts (record { number = n; mind = a; hash_state = g; passes = passes }) h
       → PlayedWith p t c
   with_words a p t c e f k x =
       subst (λ (q : Program). PlayedWith q t c) e
@@ -79,25 +80,25 @@ module _ (frame : Frame) (n room : ℕ) (g : Gathered) (passes : PassesValue) (h
       })))
 
 -- a task with other spare capacity has played the same history
-played_same : (frame : Frame) (n : ℕ) (a b : TaskValue) (g : Gathered) (passes : PassesValue)
-    (h : List Answer) → IsSameTask a b
-    → HasPlayed frame (record { number = n; mind = a; gathered = g; passes = passes }) h
-    → HasPlayed frame (record { number = n; mind = b; gathered = g; passes = passes }) h
-played_same frame n a b g passes h s x =
-    with_words frame n b.spare g passes h a b.program b.thought b.checked (sym s.program)
+played_same : (consts : WorldConsts) (n : ℕ) (a b : TaskValue) (g : HashState)
+    (passes : PassesValue) (h : List Answer) → IsSameTask a b
+    → HasPlayed consts (record { number = n; mind = a; hash_state = g; passes = passes }) h
+    → HasPlayed consts (record { number = n; mind = b; hash_state = g; passes = passes }) h
+played_same consts n a b g passes h s x =
+    with_words consts n b.spare g passes h a b.program b.thought b.checked (sym s.program)
     (sym s.thought) (sym s.checked) x
 
 -- a task with other spare capacity is a task of the same worlds
-pub task_same : (frame : Frame) (n : ℕ) (a b : TaskValue) (g : Gathered) (passes : PassesValue)
-    → IsSameTask a b
-    → IsTask frame (record { number = n; mind = a; gathered = g; passes = passes })
-    → IsTask frame (record { number = n; mind = b; gathered = g; passes = passes })
-task_same frame n a b g passes s x = record {
+pub task_same : (consts : WorldConsts) (n : ℕ) (a b : TaskValue) (g : HashState)
+    (passes : PassesValue) → IsSameTask a b
+    → IsTask consts (record { number = n; mind = a; hash_state = g; passes = passes })
+    → IsTask consts (record { number = n; mind = b; hash_state = g; passes = passes })
+task_same consts n a b g passes s x = record {
   history = x.history;
-  played = played_same frame n a b g passes x.history s x.played;
+  played = played_same consts n a b g passes x.history s x.played;
 }
 
-module _ (frame : Frame) (t : Tasked) (is : IsTask frame t) where
+module _ (consts : WorldConsts) (t : Tasked) (is : IsTask consts t) where
   abbrev due : Option Step
   due = step_at t.mind.program t.mind.thought.mind
 
@@ -106,39 +107,40 @@ module _ (frame : Frame) (t : Tasked) (is : IsTask frame t) where
 
   -- after a look the task's step is ready
   pub turn_ready : (i : ℕ) (d : Deed) → IsStepOn i d due
-      → ReadyAt frame i t.passes.inodes who.task t.gathered t.mind.checked
+      → ReadyAt consts i t.passes.inodes who.task t.hash_state t.mind.checked
       (slot_in (due_at t.mind.program t.mind.thought.mind)) d
   turn_ready i d on s q list here at looked =
       let number = task_of_who t.number t.mind.program t.mind.thought.mind in
-      subst (λ (n : ℕ). IsReady (inode_in frame s) (n + 1) list t.gathered t.mind.checked
+      subst (λ (n : ℕ). IsReady (inode_in consts s) (n + 1) list t.hash_state t.mind.checked
       (slot_in (due_at t.mind.program t.mind.thought.mind)) d) (sym number)
-      (ready_by_look frame t is.history i s q list d is.played here at
-      (subst (λ (n : ℕ). HasLooked (inode_in frame s) (n + 1) q.seen list q.mine) number looked)
+      (ready_by_look consts t is.history i s q list d is.played here at
+      (subst (λ (n : ℕ). HasLooked (inode_in consts s) (n + 1) q.seen list q.mine) number looked)
       on)
 
   -- the task's passes are those of the caller of its step
-  pub passes_ready : (w : Who) → w ≡ who → ArePassesOf frame w.task t.passes
+  pub passes_ready : (w : Who) → w ≡ who → ArePassesOf consts w.task t.passes
   passes_ready w e =
       let number = task_of_who t.number t.mind.program t.mind.thought.mind in
-      subst (λ (x : Who). ArePassesOf frame x.task t.passes) (sym e)
-      (subst (λ (n : ℕ). ArePassesOf frame n t.passes) (sym number) is.played.passes)
+      subst (λ (x : Who). ArePassesOf consts x.task t.passes) (sym e)
+      (subst (λ (n : ℕ). ArePassesOf consts n t.passes) (sym number) is.played.passes)
 
   -- the step is ready for any `Who`, action and slot that equal the task's
   ready_by : (w : Who) (action : ActionValue) (slot : Slot) (i : ℕ) (d : Deed) → w ≡ who
       → action ≡ t.mind.checked → slot ≡ slot_in (due_at t.mind.program t.mind.thought.mind)
       → IsStepOn i d due
-      → ReadyAt frame i t.passes.inodes w.task t.gathered action slot d
+      → ReadyAt consts i t.passes.inodes w.task t.hash_state action slot d
   ready_by w action slot i d e f k on =
-      subst (λ (x : Who). ReadyAt frame i t.passes.inodes x.task t.gathered action slot d) (sym e)
-      (subst (λ (a : ActionValue). ReadyAt frame i t.passes.inodes who.task t.gathered a slot d)
+      subst (λ (x : Who). ReadyAt consts i t.passes.inodes x.task t.hash_state action slot d)
+      (sym e)
+      (subst (λ (a : ActionValue). ReadyAt consts i t.passes.inodes who.task t.hash_state a slot d)
       (sym f)
-      (subst (λ (z : Slot). ReadyAt frame i t.passes.inodes who.task t.gathered t.mind.checked z d)
-      (sym k) (turn_ready i d on)))
+      (subst (λ (z : Slot). ReadyAt consts i t.passes.inodes who.task t.hash_state t.mind.checked
+      z d) (sym k) (turn_ready i d on)))
 
   pub does_ready : (w : Who) (action : ActionValue) (slot : Slot) (i : ℕ) (d : Deed) → w ≡ who
       → action ≡ t.mind.checked → slot ≡ slot_in (due_at t.mind.program t.mind.thought.mind)
       → due ≡ Some (Does i d)
-      → ReadyAt frame i t.passes.inodes w.task t.gathered action slot d
+      → ReadyAt consts i t.passes.inodes w.task t.hash_state action slot d
   does_ready w action slot i d e f k st =
       ready_by w action slot i d e f k
       (subst (λ (o : Option Step). IsStepOn i d o) (sym st) (refl, refl))
@@ -148,11 +150,11 @@ module _ (frame : Frame) (t : Tasked) (is : IsTask frame t) where
       (mask : ℕ) → w ≡ who → action ≡ t.mind.checked
       → slot ≡ slot_in (due_at t.mind.program t.mind.thought.mind)
       → due ≡ Some (Checks i file func mask)
-      → (g : Gathered) → ReadyAt frame i t.passes.inodes w.task g action slot
+      → (g : HashState) → ReadyAt consts i t.passes.inodes w.task g action slot
       (deed.Check file func no_action 0)
   checks_ready w action slot i file func mask e f k st g s q list here at looked =
       let d : Deed = deed.Check file func no_action 0 in
-      let is : IsReady (inode_in frame s) (w.task + 1) list t.gathered action slot d =
+      let is : IsReady (inode_in consts s) (w.task + 1) list t.hash_state action slot d =
       ready_by w action slot i d e f k
       (subst (λ (o : Option Step). IsStepOn i d o) (sym st) (refl, refl)) s q list here at looked in
       record { may = is.may; by = is.by; hashes = tt; asks = tt }
@@ -164,39 +166,39 @@ due_is o s x e f = sym f ∙ ap (λ (z : Named). Some (step_in z)) e
 
 -- ---- how the turn ends
 
-module _ (frame : Frame) (t : Tasked) (old new : State) (passes : PassesValue) (w : Who)
+module _ (consts : WorldConsts) (t : Tasked) (old new : State) (passes : PassesValue) (w : Who)
     (w_is : w ≡ who_at t.number t.mind.program t.mind.thought.mind) where
   abbrev asks : Option Step
   asks = step_at t.mind.program t.mind.thought.mind
 
   -- a turn with a deed on an inode
-  pub does_turn : {E : Type 0} (i : ℕ) (d : Deed) (g : Gathered) (r : Result (Option Answered) E)
+  pub does_turn : {E : Type 0} (i : ℕ) (d : Deed) (g : HashState) (r : Result (Option Answered) E)
       (x : Result Reached E) → asks ≡ Some (Does i d)
-      → EventIn frame i (slice_get frame.sites i) w d old new t.passes passes t.gathered g
+      → EventIn consts i (slice_get consts.sites i) w d old new t.passes passes t.hash_state g
       (told_in r)
-      → IfOk r (IsSaid frame i d old) → x ≡ reached_by r
-      → Reaches frame t old new passes g x
+      → IfOk r (IsSaid consts i d old) → x ≡ reached_by r
+      → Reaches consts t old new passes g x
   does_turn {E} i d g r x st e said is =
-      subst (λ (z : Result Reached E). Reaches frame t old new passes g z) (sym is)
-      (does_reaches frame t i d old new passes g st r
-      (subst (λ (y : Who). EventIn frame i (slice_get frame.sites i) y d old new t.passes passes
-      t.gathered g (told_in r)) w_is e) said)
+      subst (λ (z : Result Reached E). Reaches consts t old new passes g z) (sym is)
+      (does_reaches consts t i d old new passes g st r
+      (subst (λ (y : Who). EventIn consts i (slice_get consts.sites i) y d old new t.passes passes
+      t.hash_state g (told_in r)) w_is e) said)
 
   -- a turn with a check
   pub check_turn : {E : Type 0} (i : ℕ) (asked : Asked) (cred : Cred)
       (r : Result (Option Answered) E) (x : Result Reached E)
       → asks ≡ Some (Checks i asked.file asked.func asked.mask)
       → cred ≡ t.mind.program.cred
-      → ((g : Gathered) → CheckIn frame i (slice_get frame.sites i) w cred asked old new t.passes
+      → ((g : HashState) → CheckIn consts i (slice_get consts.sites i) w cred asked old new t.passes
       passes g r) → x ≡ reached_by r
-      → Reaches frame t old new passes t.gathered x
+      → Reaches consts t old new passes t.hash_state x
   check_turn {E} i asked cred r x st c e is =
-      subst (λ (z : Result Reached E). Reaches frame t old new passes t.gathered z) (sym is)
-      (check_reaches frame t i asked.file asked.func asked.mask old new passes st r
-      (subst (λ (y : Who). CheckIn frame i (slice_get frame.sites i) y t.mind.program.cred asked old
-      new t.passes passes t.gathered r) w_is
-      (subst (λ (k : Cred). CheckIn frame i (slice_get frame.sites i) w k asked old new t.passes
-      passes t.gathered r) c (e t.gathered))))
+      subst (λ (z : Result Reached E). Reaches consts t old new passes t.hash_state z) (sym is)
+      (check_reaches consts t i asked.file asked.func asked.mask old new passes st r
+      (subst (λ (y : Who). CheckIn consts i (slice_get consts.sites i) y t.mind.program.cred
+      asked old new t.passes passes t.hash_state r) w_is
+      (subst (λ (k : Cred). CheckIn consts i (slice_get consts.sites i) w k asked old new t.passes
+      passes t.hash_state r) c (e t.hash_state))))
 
   -- a turn with a post or a wait
   pub signals_turn : {E : Type 0} (d : Deed) (r : Result (Option Answered) E)
@@ -204,36 +206,37 @@ module _ (frame : Frame) (t : Tasked) (old new : State) (passes : PassesValue) (
       → SignalsOn old new t.passes passes w d (told_in r)
       → IfOk r (λ o. (told_of o ≡ semaphore_says (past old.signals) d)
       × IsPlacedAt (length old.signals) o) → x ≡ reached_by r
-      → Reaches frame t old new passes t.gathered x
+      → Reaches consts t old new passes t.hash_state x
   signals_turn {E} d r x st e said is =
-      subst (λ (z : Result Reached E). Reaches frame t old new passes t.gathered z) (sym is)
-      (signals_reach frame t d old new passes st r
+      subst (λ (z : Result Reached E). Reaches consts t old new passes t.hash_state z) (sym is)
+      (signals_reach consts t d old new passes st r
       (subst (λ (y : Who). SignalsOn old new t.passes passes y d (told_in r)) w_is e) said)
 
   -- a turn with an appended rule, or one that ran out of memory
   pub appends_turn : (rule : RuleValue) (a : Answered) → asks ≡ Some (Appends rule)
       → AppendsTo old new t.passes passes (record { who = w; rule = rule })
       → (a.place ≡ length old.added) × (a.told ≡ told.Done) × (a.action ≡ None)
-      → Tells frame t old new passes t.gathered a
+      → Tells consts t old new passes t.hash_state a
   appends_turn rule a st e said =
-      appends_tells frame t rule old new passes st a
+      appends_tells consts t rule old new passes st a
       (subst (λ (y : Who). AppendsTo old new t.passes passes (record { who = y; rule = rule }))
       w_is e) said
 
   pub appends_fail : (new ≡ old) × (passes ≡ t.passes)
-      → Fails frame t old new passes t.gathered
+      → Fails consts t old new passes t.hash_state
   appends_fail e =
-      record { plays = same_left frame t passes t.gathered e.1 refl; state = e.0 }
+      record { plays = same_left consts t passes t.hash_state e.1 refl; state = e.0 }
 
 -- ---- the task after the turn
 
-module _ (frame : Frame) (t : Tasked) (old new : State) (passes : PassesValue) (g : Gathered) where
+module _ (consts : WorldConsts) (t : Tasked) (old new : State) (passes : PassesValue)
+    (g : HashState) where
   -- the task after it heard the answer
-  pub heard_task : (a : Answered) (mind : TaskValue) (x : Tells frame t old new passes g a)
-      → IsTask frame t → mind.program ≡ t.mind.program
-      → mind.thought ≡ hear (mode_in frame) t.mind.program t.mind.thought (answer_of a x.rules)
+  pub heard_task : (a : Answered) (mind : TaskValue) (x : Tells consts t old new passes g a)
+      → IsTask consts t → mind.program ≡ t.mind.program
+      → mind.thought ≡ hear (mode_in consts) t.mind.program t.mind.thought (answer_of a x.rules)
       → mind.checked ≡ unwrap_or a.action t.mind.checked
-      → IsTask frame (task_after t mind passes g)
+      → IsTask consts (task_after t mind passes g)
   heard_task a mind x is program thought checked = record {
     history = answer_of a x.rules ∷ is.history;
     played = x.plays is.history mind is.played (record {
@@ -244,63 +247,63 @@ module _ (frame : Frame) (t : Tasked) (old new : State) (passes : PassesValue) (
   }
 
 -- the task in its world after the turn, with the same constants
-module _ (frame after : Frame) (t : Tasked) (old new : State) (passes : PassesValue)
-    (g : Gathered) (same : after ≡ frame) (is : IsTask frame t) where
+module _ (consts after : WorldConsts) (t : Tasked) (old new : State) (passes : PassesValue)
+    (g : HashState) (same : after ≡ consts) (is : IsTask consts t) where
   -- the task after it heard the answer is still one of its world
   told_still : (a : Answered) (mode : Mode) (action : Option ActionValue) (mind : TaskValue)
-      → Tells frame t old new passes g a → mode ≡ mode_in frame → action ≡ a.action
+      → Tells consts t old new passes g a → mode ≡ mode_in consts → action ≡ a.action
       → mind.program ≡ t.mind.program
       → ((rules : ℕ) → mind.thought ≡ hear mode t.mind.program t.mind.thought
       (record { place = a.place; told = a.told; action = given action; rules = rules }))
       → mind.checked ≡ unwrap_or action t.mind.checked
       → IsTask after (task_after t mind passes g)
   told_still a mode action mind x m k program thought checked =
-      subst (λ (y : Frame). IsTask y (task_after t mind passes g)) (sym same)
-      (heard_task frame t old new passes g a mind x is program
+      subst (λ (y : WorldConsts). IsTask y (task_after t mind passes g)) (sym same)
+      (heard_task consts t old new passes g a mind x is program
       (thought x.rules
       ∙ ap (λ (y : Mode). hear y t.mind.program t.mind.thought
       (record { place = a.place; told = a.told; action = given action; rules = x.rules })) m
-      ∙ ap (λ (y : Option ActionValue). hear (mode_in frame) t.mind.program t.mind.thought
+      ∙ ap (λ (y : Option ActionValue). hear (mode_in consts) t.mind.program t.mind.thought
       (record { place = a.place; told = a.told; action = given y; rules = x.rules })) k)
       (checked ∙ ap (λ (y : Option ActionValue). unwrap_or y t.mind.checked) k))
 
   -- the task that made no step is still one of its world
-  pub left_still : StillPlays frame t passes g → IsTask after (task_left t passes g)
+  pub left_still : StillPlays consts t passes g → IsTask after (task_left t passes g)
   left_still x =
-      subst (λ (y : Frame). IsTask y (task_left t passes g)) (sym same)
+      subst (λ (y : WorldConsts). IsTask y (task_left t passes g)) (sym same)
       (record { history = is.history; played = x is.history is.played })
 
   -- the task is still one of its world if its program was over, it was blocked, or it moved
   pub over_still : {E : Type 0} (r : Result Reached E) (x : Reached) (after_turn : Tasked)
-      → r ≡ Ok x → x ≡ reached.Over → Reaches frame t old new passes g r
+      → r ≡ Ok x → x ≡ reached.Over → Reaches consts t old new passes g r
       → after_turn ≡ task_left t passes g → IsTask after after_turn
   over_still {E} r x after_turn e f h k =
-      let stops : Stops frame t old new passes g turns.Done =
-      subst (λ (z : Result Reached E). Reaches frame t old new passes g z)
+      let stops : Stops consts t old new passes g turns.Done =
+      subst (λ (z : Result Reached E). Reaches consts t old new passes g z)
       (e ∙ ap (λ (z : Reached). Ok z) f) h in
       subst (λ (z : Tasked). IsTask after z) (sym k) (left_still stops.plays)
 
   pub blocked_still : {E : Type 0} (r : Result Reached E) (x : Reached) (after_turn : Tasked)
-      → r ≡ Ok x → x ≡ reached.Blocked → Reaches frame t old new passes g r
+      → r ≡ Ok x → x ≡ reached.Blocked → Reaches consts t old new passes g r
       → after_turn ≡ task_left t passes g → IsTask after after_turn
   blocked_still {E} r x after_turn e f h k =
-      let stops : Stops frame t old new passes g turns.Blocked =
-      subst (λ (z : Result Reached E). Reaches frame t old new passes g z)
+      let stops : Stops consts t old new passes g turns.Blocked =
+      subst (λ (z : Result Reached E). Reaches consts t old new passes g z)
       (e ∙ ap (λ (z : Reached). Ok z) f) h in
       subst (λ (z : Tasked). IsTask after z) (sym k) (left_still stops.plays)
 
   pub moved_still : {E : Type 0} (r : Result Reached E) (x : Reached) (after_turn : Tasked)
       (a : Answered) (mode : Mode) (action : Option ActionValue) (mind : TaskValue)
-      → r ≡ Ok x → x ≡ reached.Told a → Reaches frame t old new passes g r
-      → after_turn ≡ task_after t mind passes g → mode ≡ mode_in frame → action ≡ a.action
+      → r ≡ Ok x → x ≡ reached.Told a → Reaches consts t old new passes g r
+      → after_turn ≡ task_after t mind passes g → mode ≡ mode_in consts → action ≡ a.action
       → mind.program ≡ t.mind.program
       → ((rules : ℕ) → mind.thought ≡ hear mode t.mind.program t.mind.thought
       (record { place = a.place; told = a.told; action = given action; rules = rules }))
       → mind.checked ≡ unwrap_or action t.mind.checked
       → IsTask after after_turn
   moved_still {E} r x after_turn a mode action mind e f h k m same_action program thought checked =
-      let tells : Tells frame t old new passes g a =
-      subst (λ (z : Result Reached E). Reaches frame t old new passes g z)
+      let tells : Tells consts t old new passes g a =
+      subst (λ (z : Result Reached E). Reaches consts t old new passes g z)
       (e ∙ ap (λ (z : Reached). Ok z) f) h in
       subst (λ (z : Tasked). IsTask after z) (sym k)
       (told_still a mode action mind tells m same_action program thought checked)

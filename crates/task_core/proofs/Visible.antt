@@ -6,20 +6,20 @@ use Rattle.inode_events.specs.declared.settings.Settings.{Settings}
 use Rattle.world_model.specs.inodes.Value.{CellValue}
 use Rattle.run_model.specs.Turns.{State}
 use Rattle.task_core.specs.Cells.{IsCellAt}
-use Rattle.task_core.specs.WorldFields.{IsWorld, frame_in, world_of}
+use Rattle.task_core.specs.WorldFields.{IsWorld, consts_in, world_of}
 use Rattle.task_core.specs.declared.world.World.TheInside.{Inside}
-use Rattle.world_model.specs.Frame.{Frame, inode_in}
+use Rattle.world_model.specs.WorldConsts.{WorldConsts, inode_in}
 use Rattle.world_model.specs.World.{IsStation, StationValue, WorldValue, journal_of, site_of}
 
 abbrev pub cell_of : StationValue → CellValue
 cell_of s = s.cell
 
-cell_by : (frame : Frame) (state : State) (i : ℕ) (o : Option StationValue)
-    → ((s : StationValue) → o ≡ Some s → IsStation frame i s)
+cell_by : (consts : WorldConsts) (state : State) (i : ℕ) (o : Option StationValue)
+    → ((s : StationValue) → o ≡ Some s → IsStation consts i s)
     → slice_get state.journals i ≡ option_map journal_of o
-    → IsCellAt frame state i (option_map cell_of o)
-cell_by frame state i None each journals = journals
-cell_by frame state i (Some s) each journals =
+    → IsCellAt consts state i (option_map cell_of o)
+cell_by consts state i None each journals = journals
+cell_by consts state i (Some s) each journals =
     let station = each s refl in (
       journals,
       (
@@ -36,32 +36,32 @@ cell_by frame state i (Some s) each journals =
     )
 
 -- the inode of a number is that of its site, with its journal
-pub cell_at : (frame : Frame) (state : State) (stations : List StationValue) (i : ℕ)
-    → ((k : ℕ) (s : StationValue) → slice_get stations k ≡ Some s → IsStation frame k s)
+pub cell_at : (consts : WorldConsts) (state : State) (stations : List StationValue) (i : ℕ)
+    → ((k : ℕ) (s : StationValue) → slice_get stations k ≡ Some s → IsStation consts k s)
     → state.journals ≡ map journal_of stations
-    → IsCellAt frame state i (option_map cell_of (slice_get stations i))
-cell_at frame state stations i each are =
-    cell_by frame state i (slice_get stations i) (each i)
+    → IsCellAt consts state i (option_map cell_of (slice_get stations i))
+cell_at consts state stations i each are =
+    cell_by consts state i (slice_get stations i) (each i)
     (ap (λ js. slice_get js i) are ∙ slice_get-map journal_of stations i)
 
 module _ (w : Inside) (v : WorldValue) (i : ℕ) (kept : IsWorld w) (is : world_of w ≡ v) where
   -- what is found at a number is the inode of that number
   inode_by : (o : Option StationValue) → slice_get w.stations.items i ≡ o
-      → IsCellAt v.frame v.state i (option_map cell_of o)
+      → IsCellAt v.consts v.state i (option_map cell_of o)
   inode_by o at =
-      subst (λ (x : WorldValue). IsCellAt x.frame x.state i (option_map cell_of o)) is
-      (subst (λ (p : Option StationValue). IsCellAt (frame_in w) (world_of w).state i
+      subst (λ (x : WorldValue). IsCellAt x.consts x.state i (option_map cell_of o)) is
+      (subst (λ (p : Option StationValue). IsCellAt (consts_in w) (world_of w).state i
       (option_map cell_of p)) at
-      (cell_at (frame_in w) (world_of w).state w.stations.items i kept.parts.stations refl))
+      (cell_at (consts_in w) (world_of w).state w.stations.items i kept.parts.stations refl))
 
   pub inode_there : (items : List StationValue) (s now : StationValue)
       → items ≡ w.stations.items → i < length items → now ≡ get_or items i now → s ≡ now
-      → IsCellAt v.frame v.state i (Some s.cell)
+      → IsCellAt v.consts v.state i (Some s.cell)
   inode_there items s now are below found same =
       inode_by (Some s) (ap (λ xs. slice_get xs i) (sym are)
       ∙ slice_get_read items (length items) i now refl below found ∙ ap Some (sym same))
 
   pub no_inode : (items : List StationValue) → items ≡ w.stations.items → length items ≤ i
-      → IsCellAt v.frame v.state i None
+      → IsCellAt v.consts v.state i None
   no_inode items are past =
       inode_by None (ap (λ xs. slice_get xs i) (sym are) ∙ slice_get_past items i past)

@@ -11,9 +11,9 @@ use Rattle.inode_events.specs.declared.told.Event.{Event}
 use Rattle.run_model.specs.History.{step_at}
 use Rattle.run_model.specs.Turns.{State}
 use Rattle.run_model.specs.declared.turn.Turn.{Turn}
-use Rattle.world_model.specs.Frame.{Frame, Site, inode_in}
+use Rattle.world_model.specs.WorldConsts.{Site, WorldConsts, inode_in}
 use Rattle.world_model.specs.Tasks.{PassesValue, Tasked}
-use Rattle.world_model.specs.declared.gathered.Gathered.{Gathered}
+use Rattle.world_model.specs.declared.hash_state.HashState.{HashState}
 use Rattle.world_locks.specs.worlds.Ready.{HasLooked}
 use Rattle.world_locks.specs.acts.Turning.{Goes, Reaches, turned_to}
 use Rattle.world_locks.specs.acts.declared.answers.Reached.{Reached}
@@ -27,36 +27,37 @@ IsIdle _ = Unit {0}
 
 -- The deed on this inode is blocked: the task's pass, as it was before the call, has looked at the
 -- journal that it has seen now, and by this journal the deed has no outcome.
-pub record IsBlockedOn (frame : Frame) (n i : ℕ) (s : Site) (d : Deed)
+pub record IsBlockedOn (consts : WorldConsts) (n i : ℕ) (s : Site) (d : Deed)
     (passes passes2 : PassesValue) : Type 0 where
   pub pass : Passed Event
   pub pass_at : slice_get passes.inodes i ≡ Some pass
   pub pass2 : Passed Event
   pub pass2_at : slice_get passes2.inodes i ≡ Some pass2
-  pub looked : HasLooked (inode_in frame s) (n + 1) pass.seen pass2.seen pass.mine
-  pub told : outcome (inode_in frame s) passes2.book.seen d (past pass2.seen) ≡ None
+  pub looked : HasLooked (inode_in consts s) (n + 1) pass.seen pass2.seen pass.mine
+  pub told : outcome (inode_in consts s) passes2.book.seen d (past pass2.seen) ≡ None
 
 -- What blocks the step of task n, by what its passes have seen now: the journal of the deed's
 -- inode, or the count of the semaphore. A check is blocked only on an inode that doesn't exist, and
 -- no other step is ever blocked.
-abbrev pub IsBlockedBy : Frame → ℕ → PassesValue → PassesValue → Option Step → Type 0
-IsBlockedBy frame n passes passes2 (Some (Does i d)) =
-    (s : Site) → slice_get frame.sites i ≡ Some s → IsBlockedOn frame n i s d passes passes2
-IsBlockedBy frame n passes passes2 (Some (Checks i file func mask)) = slice_get frame.sites i ≡ None
-IsBlockedBy frame n passes passes2 (Some (Signals d)) =
+abbrev pub IsBlockedBy : WorldConsts → ℕ → PassesValue → PassesValue → Option Step → Type 0
+IsBlockedBy consts n passes passes2 (Some (Does i d)) =
+    (s : Site) → slice_get consts.sites i ≡ Some s → IsBlockedOn consts n i s d passes passes2
+IsBlockedBy consts n passes passes2 (Some (Checks i file func mask)) =
+    slice_get consts.sites i ≡ None
+IsBlockedBy consts n passes passes2 (Some (Signals d)) =
     semaphore_says (past passes2.sems.seen) d ≡ None
-IsBlockedBy frame n passes passes2 _ = ⊥
+IsBlockedBy consts n passes passes2 _ = ⊥
 
 -- the turn met some lists, and the passes have seen these lists as the turn left them
-pub record ReachesMet {E : Type 0} (frame : Frame) (t : Tasked) (passes : PassesValue)
-    (g : Gathered) (r : Result Reached E) : Type 0 where
+pub record ReachesMet {E : Type 0} (consts : WorldConsts) (t : Tasked) (passes : PassesValue)
+    (g : HashState) (r : Result Reached E) : Type 0 where
   pub old : State
-  pub reaches : Reaches frame t old (state_seen passes) passes g r
+  pub reaches : Reaches consts t old (state_seen passes) passes g r
   pub idle : IsIdle r → mines_of passes ≡ mines_of t.passes
-  pub blocked : r ≡ Ok reached.Blocked → IsBlockedBy frame t.number t.passes passes
+  pub blocked : r ≡ Ok reached.Blocked → IsBlockedBy consts t.number t.passes passes
       (step_at t.mind.program t.mind.thought.mind)
 
 -- the task made its turn on some lists, and its passes have seen these lists as the turn left them
-pub record StepsTo (frame : Frame) (t t2 : Tasked) (r : Turn) : Type 0 where
+pub record StepsTo (consts : WorldConsts) (t t2 : Tasked) (r : Turn) : Type 0 where
   pub old : State
-  pub goes : Goes frame t old (turned_to (state_seen t2.passes) t2.mind.thought r)
+  pub goes : Goes consts t old (turned_to (state_seen t2.passes) t2.mind.thought r)

@@ -8,7 +8,7 @@ use Rattle.world_model.specs.Tasks.{Tasked}
 
 abbrev pub tasked_of : Inside → Tasked
 tasked_of t =
-    record { number = t.number; mind = t.mind; gathered = t.gathered; passes = t.passes }
+    record { number = t.number; mind = t.mind; hash_state = t.hash_state; passes = t.passes }
 
 -- the place (`Who`) of the step that comes next, if the program isn't over
 abbrev pub who_of : Tasked → Option Who

@@ -4,7 +4,7 @@ ghost use Rattle.inode_events.specs.declared.deed.Deed.TheVariants as Deed;
 ghost use Rattle.std.specs.Prelude.{◌≡◌, IfOk, slice_get};
 ghost use Rattle.inode_events.specs.Checks.{no_action};
 ghost use Rattle.world_model.specs.Tasks.{ArePassesOf};
-ghost use Rattle.world_model.specs.declared.gathered.Gathered.{Gathered as AnyGathered};
+ghost use Rattle.world_model.specs.declared.hash_state.HashState.{HashState as AnyHashState};
 ghost use Rattle.task_mind.specs.Steps.{deed_in};
 ghost use Rattle.world_locks.specs.acts.Acting.{EventIn, IsSaid, ReadyAt, told_in};
 ghost use Rattle.world_locks.specs.acts.Checking.{CheckIn};
@@ -13,7 +13,7 @@ use crate::world::World;
 use std::alloc::AllocError as OutOfMemory;
 use task_mind::Doing;
 use world_locks::acts::{Actor, Answered, Checks, apply_at, check_at};
-use world_model::{Gathered, Passes};
+use world_model::{HashState, Passes};
 
 impl World {
     /// Does the deed on the inode of this number, through the task's passes. `None` means that it
@@ -24,16 +24,16 @@ impl World {
         passes: &mut Passes,
         actor: &Actor<'_>,
         doing: Doing<'_>,
-        gathered: &mut Gathered,
+        hash_state: &mut HashState,
     ) -> Result<Option<Answered>, OutOfMemory>
-        requires passes { ArePassesOf self.old.frame actor.now.who.task passes.old }
-        requires ready { ReadyAt self.old.frame i passes.old.inodes actor.now.who.task gathered.old
-            actor.now.action actor.now.slot (deed_in doing) }
-        ensures frame { self.new.frame ≡ self.old.frame }
-        ensures event { EventIn self.old.frame i (slice_get self.old.frame.sites i) actor.now.who
-            (deed_in doing.entry) self.old.state self.new.state passes.old passes.new gathered.old
-            gathered.new (told_in result) }
-        ensures told { IfOk result (λ o. IsSaid self.old.frame i (deed_in doing.entry)
+        requires passes { ArePassesOf self.old.consts actor.now.who.task passes.old }
+        requires ready { ReadyAt self.old.consts i passes.old.inodes actor.now.who.task
+            hash_state.old actor.now.action actor.now.slot (deed_in doing) }
+        ensures consts { self.new.consts ≡ self.old.consts }
+        ensures event { EventIn self.old.consts i (slice_get self.old.consts.sites i) actor.now.who
+            (deed_in doing.entry) self.old.state self.new.state passes.old passes.new hash_state.old
+            hash_state.new (told_in result) }
+        ensures told { IfOk result (λ o. IsSaid self.old.consts i (deed_in doing.entry)
             self.old.state o) }
     {
         if i as usize >= self.stations.len() {
@@ -46,7 +46,7 @@ impl World {
             &mut passes.book,
             actor,
             doing,
-            gathered,
+            hash_state,
         )
     }
 
@@ -59,14 +59,14 @@ impl World {
         actor: &Actor<'_>,
         asked: Checks,
     ) -> Result<Option<Answered>, OutOfMemory>
-        requires passes { ArePassesOf self.old.frame actor.now.who.task passes.old }
-        requires ready { (g : AnyGathered) → ReadyAt self.old.frame i passes.old.inodes
+        requires passes { ArePassesOf self.old.consts actor.now.who.task passes.old }
+        requires ready { (g : AnyHashState) → ReadyAt self.old.consts i passes.old.inodes
             actor.now.who.task g actor.now.action actor.now.slot
             (Deed.Check asked.file asked.func no_action 0) }
-        ensures frame { self.new.frame ≡ self.old.frame }
-        ensures check { (g : AnyGathered) → CheckIn self.old.frame i
-            (slice_get self.old.frame.sites i) actor.now.who actor.now.cred.now asked self.old.state
-            self.new.state passes.old passes.new g result }
+        ensures consts { self.new.consts ≡ self.old.consts }
+        ensures check { (g : AnyHashState) → CheckIn self.old.consts i
+            (slice_get self.old.consts.sites i) actor.now.who actor.now.cred.now asked
+            self.old.state self.new.state passes.old passes.new g result }
     {
         if i as usize >= self.stations.len() {
             return Ok(None);

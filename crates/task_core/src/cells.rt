@@ -14,7 +14,7 @@ use world_model::inodes::InodeCell;
 impl World {
     /// The inode of this number.
     pub fn inode(&self, i: usize) -> Option<&InodeCell>
-        ensures { IsCellAt self.now.frame self.now.state i (option_copied result) }
+        ensures { IsCellAt self.now.consts self.now.state i (option_copied result) }
     {
         match self.stations.get(i) {
             Some(station) => Some(&station.cell),

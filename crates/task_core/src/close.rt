@@ -11,7 +11,7 @@ ghost use Rattle.run_model.specs.EndedValue.{ended_of};
 ghost use Rattle.run_model.specs.Rounds.{moves};
 ghost use Rattle.run_model.specs.Shown.{IsShown};
 ghost use Rattle.run_model.specs.Turns.{run_at};
-ghost use Rattle.world_model.specs.Frame.{Frame, scene_of};
+ghost use Rattle.world_model.specs.WorldConsts.{WorldConsts, scene_of};
 ghost use Rattle.world_model.specs.Runs.{AreTasks, moment_of, programs_of};
 ghost use Rattle.world_model.specs.Tasks.{Tasked};
 ghost use Rattle.world_model.specs.WorldRuns.{moment_in, scene_in};
@@ -30,11 +30,11 @@ use world_model::Passes;
 /// Lets each task look at all lists of the world. Afterwards the entries of its number in each list
 /// are exactly those that it has made.
 pub fn look_all(world: &mut World, tasks: &mut Vec<Task>)
-    requires { AreTasks world.old.frame tasks.old.items }
-    ensures frame { world.new.frame ≡ world.old.frame }
+    requires { AreTasks world.old.consts tasks.old.items }
+    ensures consts { world.new.consts ≡ world.old.consts }
     ensures state { world.new.state ≡ world.old.state }
-    ensures made { HaveMade world.old.frame world.old.state tasks.new.items }
-    ensures tasks { AreTasks world.old.frame tasks.new.items }
+    ensures made { HaveMade world.old.consts world.old.state tasks.new.items }
+    ensures tasks { AreTasks world.old.consts tasks.new.items }
     ensures same { HaveSameMinds tasks.old.items tasks.new.items }
 {
     for k in 0..tasks.len() {
@@ -78,7 +78,7 @@ impl Task {
         let Task {
             number: _,
             mind,
-            gathered: _,
+            hash_state: _,
             passes,
         } = self;
         (passes, mind.end())
@@ -102,12 +102,12 @@ fn part(alloc: Global, tasks: Vec<Task>) -> Result<(Vec<Passes>, Vec<EndedTask>)
 
 // Closes the lists of a world whose tasks have looked at all of them.
 fn end(world: World, tasks: Vec<Task>) -> Result<Ended, OutOfMemory>
-    ghost frame: { Frame }
-    requires frame { world.frame ≡ frame }
-    requires count { length tasks.items ≡ frame.tasks }
-    requires tasks { AreTasks frame tasks.items }
-    requires made { HaveMade frame world.state tasks.items }
-    ensures { IfOk result (λ e. HasEnded (scene_of frame (programs_of tasks.items))
+    ghost consts: { WorldConsts }
+    requires consts { world.consts ≡ consts }
+    requires count { length tasks.items ≡ consts.tasks }
+    requires tasks { AreTasks consts tasks.items }
+    requires made { HaveMade consts world.state tasks.items }
+    ensures { IfOk result (λ e. HasEnded (scene_of consts (programs_of tasks.items))
         (moment_of world.state tasks.items) e) }
 {
     let stuck = are_stuck(tasks.as_slice(), &world.sems);
@@ -121,14 +121,14 @@ fn end(world: World, tasks: Vec<Task>) -> Result<Ended, OutOfMemory>
         book,
         sems,
         rules,
-        idle,
+        spares,
         supers: _,
         settings,
         tasks: _,
         alloc,
     } = world;
     let in_force = rules.rules().rules().len();
-    let lists = close_lists(alloc, stations, book, sems, rules, idle, passes)?;
+    let lists = close_lists(alloc, stations, book, sems, rules, spares, passes)?;
     let Lists {
         inodes,
         list,
@@ -155,8 +155,8 @@ impl World {
     /// each is done or the run is stuck. A run that has gone on as long as its ending asks may be
     /// shown.
     pub fn close(self, tasks: Vec<Task>) -> Result<Ended, OutOfMemory>
-        requires count { length tasks.items ≡ self.frame.tasks }
-        requires tasks { AreTasks self.frame tasks.items }
+        requires count { length tasks.items ≡ self.consts.tasks }
+        requires tasks { AreTasks self.consts tasks.items }
         ensures ended { IfOk result (λ e. e ≡ ended_of (scene_in self tasks.items)
             (run_at (moment_in self tasks.items))) }
         ensures entries { IfOk result (λ e. All IsEntry e.list) }

@@ -17,14 +17,14 @@ pub struct Live<N: Name> {
 impl World {
     /// Puts the lists of the world under locks, so that threads can share it.
     pub fn share<N: Name>(self) -> Result<Live<N>, OutOfMemory>
-        requires { self.frame ≡ N.frame }
+        requires { self.consts ≡ N.consts }
     {
         let World {
             stations,
             book,
             sems,
             rules,
-            idle,
+            spares,
             supers,
             settings,
             tasks,
@@ -35,7 +35,7 @@ impl World {
             book,
             sems,
             rules,
-            idle,
+            spares,
             supers,
             settings,
             tasks,
@@ -48,7 +48,7 @@ impl World {
 impl<N: Name> Live<N> {
     /// Takes the lists out of their locks. The world has the same constants.
     pub fn back(self) -> Result<World, OutOfMemory>
-        ensures { IfOk result (λ world. world.frame ≡ N.frame) }
+        ensures { IfOk result (λ world. world.consts ≡ N.consts) }
     {
         let Live { locks } = self;
         let parts = locks.into_parts()?;
@@ -57,7 +57,7 @@ impl<N: Name> Live<N> {
             book,
             sems,
             rules,
-            idle,
+            spares,
             supers,
             settings,
             tasks,
@@ -68,7 +68,7 @@ impl<N: Name> Live<N> {
             book,
             sems,
             rules,
-            idle,
+            spares,
             supers,
             settings,
             tasks,
@@ -79,7 +79,7 @@ impl<N: Name> Live<N> {
 
     /// Takes the lock of the inode of this number, calls `f` once, and releases the lock.
     pub fn hold<R: Wait, F: FnOnce()>(&self, rt: &R, inode: u32, f: F)
-        requires below { inode < length N.frame.sites }
+        requires below { inode < length N.consts.sites }
         requires call { F.IsAlwaysCallable f }
     {
         self.locks.hold(rt, inode, f);

@@ -12,10 +12,10 @@ impl Task {
     /// Looks at each list of the world. Afterwards the entries of the task's number in each list
     /// are exactly those that the task has made.
     pub fn look(&mut self, world: &mut World)
-        requires { IsTask world.old.frame self.old }
-        ensures made { HasMade world.new.frame world.new.state self.new }
-        ensures still { IsTask world.new.frame self.new }
-        ensures frame { world.new.frame ≡ world.old.frame }
+        requires { IsTask world.old.consts self.old }
+        ensures made { HasMade world.new.consts world.new.state self.new }
+        ensures still { IsTask world.new.consts self.new }
+        ensures consts { world.new.consts ≡ world.old.consts }
         ensures state { world.new.state ≡ world.old.state }
         ensures same { (self.new.number ≡ self.old.number) × (self.new.mind ≡ self.old.mind) }
     {

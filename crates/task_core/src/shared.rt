@@ -18,7 +18,7 @@ use std::sync::Wait;
 use task_mind::{Step, TaskMind};
 use world_locks::Name;
 use world_locks::acts::{Actor, Answered, Checks, Reached, reached_by};
-use world_model::{Gathered, Passes};
+use world_model::{HashState, Passes};
 
 impl<N: Name> Live<N> {
     /// Makes the step that is due for the task with these passes and hashes.
@@ -28,20 +28,20 @@ impl<N: Name> Live<N> {
         mind: &TaskMind,
         number: u32,
         passes: &mut Passes,
-        gathered: &mut Gathered,
+        hash_state: &mut HashState,
     ) -> Result<Reached, OutOfMemory>
-        requires { IsTask N.frame (record {
+        requires { IsTask N.consts (record {
           number = number;
           mind = mind.now;
-          gathered = gathered.old;
+          hash_state = hash_state.old;
           passes = passes.old;
         }) }
-        ensures { ReachesMet N.frame (record {
+        ensures { ReachesMet N.consts (record {
           number = number;
           mind = mind.now;
-          gathered = gathered.old;
+          hash_state = hash_state.old;
           passes = passes.old;
-        }) passes.new gathered.new result }
+        }) passes.new hash_state.new result }
     {
         let who = mind.who(number);
         let actor = Actor {
@@ -59,7 +59,7 @@ impl<N: Name> Live<N> {
                 action: None,
             })),
             Some(Step::Does { inode, doing }) => {
-                reached_by(locks.lock_and_apply(rt, inode, passes, &actor, doing, gathered))
+                reached_by(locks.lock_and_apply(rt, inode, passes, &actor, doing, hash_state))
             }
             Some(
                 Step::Checks {
@@ -106,12 +106,12 @@ impl Task {
         rt: &R,
         world: &Live<N>,
     ) -> Result<Turn, OutOfMemory>
-        requires { IsTask N.frame self.old }
-        ensures go { IfOk result (λ r. StepsTo N.frame self.old self.new r) }
-        ensures still { IsTask N.frame self.new }
+        requires { IsTask N.consts self.old }
+        ensures go { IfOk result (λ r. StepsTo N.consts self.old self.new r) }
+        ensures still { IsTask N.consts self.new }
         ensures number { self.new.number ≡ self.old.number }
         ensures program { self.new.mind.program ≡ self.old.mind.program }
-        ensures blocked { IfOk result (λ r. r ≡ Turn.Blocked → IsBlockedBy N.frame self.old.number
+        ensures blocked { IfOk result (λ r. r ≡ Turn.Blocked → IsBlockedBy N.consts self.old.number
             self.old.passes self.new.passes
             (step_at self.old.mind.program self.old.mind.thought.mind)) }
         ensures idle { IfOk result (λ r. is_moved r ≡ false
@@ -125,7 +125,7 @@ impl Task {
             &self.mind,
             self.number,
             &mut self.passes,
-            &mut self.gathered,
+            &mut self.hash_state,
         )? {
             Reached::Over => Ok(Turn::Done),
             Reached::Blocked => Ok(Turn::Blocked),

@@ -24,8 +24,8 @@ impl World {
         who: Who,
         deed: Deed,
     ) -> Result<Option<Answered>, OutOfMemory>
-        requires { ArePassesOf self.old.frame who.task passes.old }
-        ensures frame { self.new.frame ≡ self.old.frame }
+        requires { ArePassesOf self.old.consts who.task passes.old }
+        ensures consts { self.new.consts ≡ self.old.consts }
         ensures signals { SignalsOn self.old.state self.new.state passes.old passes.new who deed
             (told_in result) }
         ensures told { IfOk result (λ o. (told_of o
@@ -50,8 +50,8 @@ impl World {
         who: Who,
         rule: &Rule,
     ) -> Result<Answered, OutOfMemory>
-        requires { ArePassesOf self.old.frame who.task passes.old }
-        ensures frame { self.new.frame ≡ self.old.frame }
+        requires { ArePassesOf self.old.consts who.task passes.old }
+        ensures consts { self.new.consts ≡ self.old.consts }
         ensures appends { OnOk result (AppendsTo self.old.state self.new.state passes.old
             passes.new (record { who = who; rule = rule.now })) }
         ensures told { IfOk result (λ a. (a.place ≡ length self.old.state.added)

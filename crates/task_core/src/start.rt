@@ -1,7 +1,7 @@
 //! The start of a world.
 
 ghost use Rattle.std.specs.Prelude.{◌≡◌, ◌+◌, ◌<◌, ◌^◌, All, IfOk, length};
-ghost use Rattle.world_start.specs.Start.{AreFirstPasses, Begins, IsFrameOf};
+ghost use Rattle.world_start.specs.Start.{AreConstsOf, AreFirstPasses, Begins};
 ghost use Rattle.world_start.specs.Started.{IsFile};
 
 use crate::world::World;
@@ -31,10 +31,10 @@ impl World {
         requires even { length places.items ≡ length inodes.items }
         requires places { All (λ place. place < length supers.items) places.items }
         requires callers { length inodes.items + tasks + 1 < 2 ^ 32 }
-        ensures frame { IfOk result (λ r. IsFrameOf settings boot inodes.items supers.items
-            places.items rules tasks r.0.frame) }
-        ensures begins { IfOk result (λ r. Begins r.0.frame r.0.state) }
-        ensures passes { IfOk result (λ r. AreFirstPasses r.0.frame r.1.items) }
+        ensures consts { IfOk result (λ r. AreConstsOf settings boot inodes.items supers.items
+            places.items rules tasks r.0.consts) }
+        ensures begins { IfOk result (λ r. Begins r.0.consts r.0.state) }
+        ensures passes { IfOk result (λ r. AreFirstPasses r.0.consts r.1.items) }
     {
         let start = start_lists(alloc, settings, boot, inodes, supers, places, rules, tasks)?;
         let Start {
@@ -42,7 +42,7 @@ impl World {
             book,
             sems,
             rules,
-            idle,
+            spares,
             supers,
             settings,
             tasks,
@@ -53,7 +53,7 @@ impl World {
             book,
             sems,
             rules,
-            idle,
+            spares,
             supers,
             settings,
             tasks,

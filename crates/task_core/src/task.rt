@@ -1,7 +1,7 @@
 ghost use Rattle.std.specs.Prelude.{◌≡◌, length, IfOk};
 ghost use Rattle.run_model.specs.History.{start};
 ghost use Rattle.task_core.specs.TaskFields.{who_of};
-ghost use Rattle.world_model.specs.Frame.{Frame};
+ghost use Rattle.world_model.specs.WorldConsts.{WorldConsts};
 ghost use Rattle.world_model.specs.Tasks.{AreCallsOf, ArePassesOf, AreUnused, IsTask};
 
 use call_steps::Call;
@@ -9,7 +9,7 @@ use inode_meta::{Cred, Who};
 use std::alloc::{AllocError as OutOfMemory, Global};
 use std::marker::Model;
 use task_mind::TaskMind;
-use world_model::{Gathered, Passes};
+use world_model::{HashState, Passes};
 
 /// A task. Contracts see its number, its knowledge of its own calls, what it has hashed, and its
 /// passes.
@@ -17,7 +17,7 @@ use world_model::{Gathered, Passes};
 pub struct Task {
     pub(crate) number: u32,
     pub(crate) mind: TaskMind,
-    pub(crate) gathered: Gathered,
+    pub(crate) hash_state: HashState,
     pub(crate) passes: Passes,
 }
 
@@ -49,15 +49,15 @@ impl Task {
         }) }
         ensures thought { IfOk result (λ t. t.mind.thought ≡ start) }
         ensures passes { IfOk result (λ t. t.passes ≡ passes) }
-        ensures task { IfOk result (λ t. (frame : Frame) → ArePassesOf frame number passes
-            → AreUnused passes → AreCallsOf (length frame.sites) program.items
-            → IsTask frame t) }
+        ensures task { IfOk result (λ t. (consts : WorldConsts) → ArePassesOf consts number passes
+            → AreUnused passes → AreCallsOf (length consts.sites) program.items
+            → IsTask consts t) }
     {
         let mind = TaskMind::new(alloc, cred, program)?;
         Ok(Task {
             number,
             mind,
-            gathered: Gathered::Nothing,
+            hash_state: HashState::Idle,
             passes,
         })
     }

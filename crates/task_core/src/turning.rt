@@ -4,7 +4,7 @@ ghost use Rattle.std.specs.Prelude.{◌≡◌, List, IfOk, OnErr};
 ghost use Rattle.run_model.specs.Scene.{Program};
 ghost use Rattle.run_model.specs.Turns.{go};
 ghost use Rattle.world_locks.specs.acts.Turning.{Reaches, turned_to};
-ghost use Rattle.world_model.specs.Frame.{scene_of};
+ghost use Rattle.world_model.specs.WorldConsts.{scene_of};
 ghost use Rattle.world_model.specs.Tasks.{IsTask};
 ghost use Rattle.world_locks.specs.worlds.Due.{slot_in};
 ghost use Rattle.task_mind.specs.Value.{due_at};
@@ -18,7 +18,7 @@ use run_model::Turn;
 use std::alloc::AllocError as OutOfMemory;
 use task_mind::{Step, TaskMind};
 use world_locks::acts::{Actor, Answered, Checks, Reached, reached_by};
-use world_model::{Gathered, Passes};
+use world_model::{HashState, Passes};
 
 // The slot of a take, if one is due.
 pub(crate) fn slot_due(mind: &TaskMind) -> Slot
@@ -37,21 +37,21 @@ impl World {
         mind: &TaskMind,
         number: u32,
         passes: &mut Passes,
-        gathered: &mut Gathered,
+        hash_state: &mut HashState,
     ) -> Result<Reached, OutOfMemory>
-        requires { IsTask self.old.frame (record {
+        requires { IsTask self.old.consts (record {
           number = number;
           mind = mind.now;
-          gathered = gathered.old;
+          hash_state = hash_state.old;
           passes = passes.old;
         }) }
-        ensures frame { self.new.frame ≡ self.old.frame }
-        ensures reaches { Reaches self.old.frame (record {
+        ensures consts { self.new.consts ≡ self.old.consts }
+        ensures reaches { Reaches self.old.consts (record {
           number = number;
           mind = mind.now;
-          gathered = gathered.old;
+          hash_state = hash_state.old;
           passes = passes.old;
-        }) self.old.state self.new.state passes.new gathered.new result }
+        }) self.old.state self.new.state passes.new hash_state.new result }
     {
         let who = mind.who(number);
         let actor = Actor {
@@ -68,7 +68,7 @@ impl World {
                 action: None,
             })),
             Some(Step::Does { inode, doing }) => {
-                reached_by(self.apply(inode, passes, &actor, doing, gathered))
+                reached_by(self.apply(inode, passes, &actor, doing, hash_state))
             }
             Some(
                 Step::Checks {
@@ -92,13 +92,13 @@ impl Task {
     /// Makes one step of the task, which is a turn on plain lists. After `Blocked`, or if memory
     /// runs out, the lists and the task are unchanged except for what the task's passes have seen.
     pub fn step(&mut self, world: &mut World) -> Result<Turn, OutOfMemory>
-        requires { IsTask world.old.frame self.old }
+        requires { IsTask world.old.consts self.old }
         ensures go { IfOk result (λ r. (programs : List Program)
-            → go (scene_of world.old.frame programs) self.old.number self.old.mind.program
+            → go (scene_of world.old.consts programs) self.old.number self.old.mind.program
             world.old.state self.old.mind.thought
             ≡ turned_to world.new.state self.new.mind.thought r) }
-        ensures still { IsTask world.new.frame self.new }
-        ensures frame { world.new.frame ≡ world.old.frame }
+        ensures still { IsTask world.new.consts self.new }
+        ensures consts { world.new.consts ≡ world.old.consts }
         ensures number { self.new.number ≡ self.old.number }
         ensures program { self.new.mind.program ≡ self.old.mind.program }
         ensures err { OnErr result ((world.new.state ≡ world.old.state)
@@ -109,7 +109,7 @@ impl Task {
             &self.mind,
             self.number,
             &mut self.passes,
-            &mut self.gathered,
+            &mut self.hash_state,
         )? {
             Reached::Over => Ok(Turn::Done),
             Reached::Blocked => Ok(Turn::Blocked),

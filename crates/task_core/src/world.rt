@@ -16,7 +16,7 @@ pub struct World {
     pub(crate) book: Book,
     pub(crate) sems: SemaphoreCell,
     pub(crate) rules: PolicyCell,
-    pub(crate) idle: Vec<Pass<RuleEntry>>,
+    pub(crate) spares: Vec<Pass<RuleEntry>>,
     pub(crate) supers: Vec<Super>,
     pub(crate) settings: Settings,
     pub(crate) tasks: u32,

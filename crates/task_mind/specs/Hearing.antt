@@ -10,14 +10,16 @@ use Rattle.task_mind.specs.declared.heard.Heard.{Heard}
 use Rattle.task_mind.specs.declared.heard.Heard.TheVariants as heard
 
 -- the files after an answered call: if it was done, it ended a name or made one
-abbrev pub handles_settled : Answer → List Handle → List Handle
-handles_settled a hs = if is_done a.reply then handles_left a.ended hs ++ option_to_list a.made
+abbrev pub handles_after_answer : Answer → List Handle → List Handle
+handles_after_answer a hs = if is_done a.reply then handles_left a.ended hs ++ option_to_list a.made
     else hs
 
 abbrev pub after_heard : Mind → Heard → Mind × Option Reply
 after_heard m (heard.On g) = (record m { progress = Some (progress_in g) }, None)
-after_heard m (heard.Over a) =
-    (record { at = m.at + 1; progress = None; handles = handles_settled a m.handles }, Some a.reply)
+after_heard m (heard.Over a) = (
+  record { at = m.at + 1; progress = None; handles = handles_after_answer a m.handles },
+  Some a.reply,
+)
 
 -- an outcome leaves a task whose program is over unchanged
 abbrev pub thought_after : Thought → Option Heard → Thought

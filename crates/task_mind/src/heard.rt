@@ -4,7 +4,7 @@ ghost use Rattle.std.specs.Prelude.{◌≡◌, ◌+◌, ◌<◌, ◌^◌, option
 ghost use Rattle.std.specs.Option.{option_copied};
 ghost use Rattle.run_model.specs.steps.Mind.{Mind, file_after, handle_made, is_done, moved};
 ghost use Rattle.run_model.specs.steps.Steps.{given, next};
-ghost use Rattle.task_mind.specs.Hearing.{after_heard, handles_settled};
+ghost use Rattle.task_mind.specs.Hearing.{after_heard, handles_after_answer};
 ghost use Rattle.task_mind.specs.Value.{progress_in};
 
 use crate::handles::{name_ended, name_made, remove};
@@ -97,9 +97,9 @@ fn is_done(reply: Reply) -> bool
 }
 
 /// Updates the names after an answered call. If it was done, it ends a name or makes one.
-pub fn settle(handles: &mut Vec<Handle>, answer: &Answer)
+pub fn apply_answer(handles: &mut Vec<Handle>, answer: &Answer)
     requires { vec_len handles.old < vec_capacity handles.old }
-    ensures { handles.new.items ≡ handles_settled answer.now handles.old.items }
+    ensures { handles.new.items ≡ handles_after_answer answer.now handles.old.items }
 {
     if !is_done(answer.reply) {
         return;

@@ -13,7 +13,7 @@ ghost use Rattle.std.specs.List.{list_any};
 ghost use Rattle.task_mind.specs.Value.{IsSameTask, awaited_by, due_at, is_over, progress_in, step_of};
 
 use crate::handles::handle_of;
-use crate::heard::{Heard, heard_of, settle};
+use crate::heard::{Heard, apply_answer, heard_of};
 use crate::progress::{Progress, begun};
 use crate::step::{Step, step_by};
 use inode_events::Told;
@@ -269,7 +269,7 @@ impl TaskMind {
             Some(Heard::Over(answer)) => {
                 self.at += 1;
                 self.progress = None;
-                settle(&mut self.handles, &answer);
+                apply_answer(&mut self.handles, &answer);
                 self.replies.push_reserved(answer.reply);
             }
             None => {}

@@ -6,12 +6,12 @@ use Rattle.std.proofs.lemmas.Bool.{cases_lt}
 use Rattle.std.proofs.lemmas.List.{length-append, length-set, take-append-le, take_all}
 use Rattle.std.proofs.lemmas.List.Elements.{All-head, All-tail}
 use Rattle.std.proofs.lemmas.Option.{same_Some}
-use Rattle.task_core.specs.worlds.Frame.{Frame}
+use Rattle.task_core.specs.worlds.WorldConsts.{WorldConsts}
 use Rattle.task_core.specs.worlds.Runs.{AreTasks, program_of}
 use Rattle.task_core.specs.worlds.Tasks.{IsTask, Tasked}
 use Rattle.task_core.specs.worlds.World.{WorldValue}
-use Rattle.task_runner.specs.Parts.{AreStill, GoneFrom, HaveGone}
-use Rattle.task_core.specs.worlds.WorldRuns.{StillRuns}
+use Rattle.task_runner.specs.Parts.{AreSameTasks, GoneFrom, HaveGone}
+use Rattle.task_core.specs.worlds.WorldRuns.{SameRun}
 use Rattle.task_core.proofs.about_closes.Gets.{all_by_get, get_set}
 
 -- a property of all elements holds of the one at a place
@@ -22,29 +22,29 @@ all_at P (y ∷ xs) zero x all h = subst P (same_Some y x h) (All-head P y xs al
 all_at P (y ∷ xs) (suc k) x all h = all_at P xs k x (All-tail P y xs all) h
 
 -- `HaveGone` is reflexive
-pub gone_none : (frame : Frame) (tasks : List Tasked) → All (IsTask frame) tasks
-    → HaveGone frame tasks tasks
-gone_none frame tasks all = record {
+pub gone_none : (consts : WorldConsts) (tasks : List Tasked) → All (IsTask consts) tasks
+    → HaveGone consts tasks tasks
+gone_none consts tasks all = record {
   even = refl;
   each = λ k t at. record {
     before = t;
     at = at;
     number = refl;
     program = refl;
-    task = all_at (IsTask frame) tasks k t all at;
+    task = all_at (IsTask consts) tasks k t all at;
   };
 }
 
 -- tasks that have gone on are all tasks of the world
-pub gone_all : (frame : Frame) (old new : List Tasked) → HaveGone frame old new
-    → All (IsTask frame) new
-gone_all frame old new g =
-    all_by_get (IsTask frame) new (λ k t at. (g.each k t at).task)
+pub gone_all : (consts : WorldConsts) (old new : List Tasked) → HaveGone consts old new
+    → All (IsTask consts) new
+gone_all consts old new g =
+    all_by_get (IsTask consts) new (λ k t at. (g.each k t at).task)
 
 -- `HaveGone` is transitive
-pub gone_more : (frame : Frame) (a b c : List Tasked) → HaveGone frame a b → HaveGone frame b c
-    → HaveGone frame a c
-gone_more frame a b c x y = record {
+pub gone_more : (consts : WorldConsts) (a b c : List Tasked) → HaveGone consts a b
+    → HaveGone consts b c → HaveGone consts a c
+gone_more consts a b c x y = record {
   even = y.even ∙ x.even;
   each = λ k t at.
       let later = y.each k t at in
@@ -59,26 +59,26 @@ gone_more frame a b c x y = record {
 }
 
 -- one of the tasks made a step
-pub gone_step : (frame : Frame) (tasks : List Tasked) (k : ℕ) (t t2 : Tasked)
-    → All (IsTask frame) tasks → slice_get tasks k ≡ Some t → t2.number ≡ t.number
-    → t2.mind.program ≡ t.mind.program → IsTask frame t2
-    → HaveGone frame tasks (slice_set tasks k t2)
-gone_step frame tasks k t t2 all there number program task = record {
+pub gone_step : (consts : WorldConsts) (tasks : List Tasked) (k : ℕ) (t t2 : Tasked)
+    → All (IsTask consts) tasks → slice_get tasks k ≡ Some t → t2.number ≡ t.number
+    → t2.mind.program ≡ t.mind.program → IsTask consts t2
+    → HaveGone consts tasks (slice_set tasks k t2)
+gone_step consts tasks k t t2 all there number program task = record {
   even = length-set tasks k t2;
   each = λ j x h. gone j x (get_set tasks k j t2 x h);
 } where
   gone : (j : ℕ) (x : Tasked)
       → ((k ≡ j) × (t2 ≡ x)) ⊎ ((k ≡ j → ⊥) × (slice_get tasks j ≡ Some x))
-      → GoneFrom frame tasks j x
+      → GoneFrom consts tasks j x
   gone j x (inl w) =
-      subst (λ (y : ℕ × Tasked). GoneFrom frame tasks y.0 y.1) (λ i. (w.0 i, w.1 i))
+      subst (λ (y : ℕ × Tasked). GoneFrom consts tasks y.0 y.1) (λ i. (w.0 i, w.1 i))
       (record { before = t; at = there; number = number; program = program; task = task })
   gone j x (inr w) = record {
     before = x;
     at = w.1;
     number = refl;
     program = refl;
-    task = all_at (IsTask frame) tasks j x all w.1;
+    task = all_at (IsTask consts) tasks j x all w.1;
   }
 
 -- ---- halves of the tasks
@@ -98,14 +98,14 @@ get_back (x ∷ xs) ys k =
     ap (λ (n : ℕ). slice_get (x ∷ (xs ++ ys)) n) (suc-add (length xs) k) ∙ get_back xs ys k
 
 -- if both halves have gone on, all tasks have
-pub gone_both : (frame : Frame) (xs ys xs2 ys2 : List Tasked) → HaveGone frame xs xs2
-    → HaveGone frame ys ys2 → HaveGone frame (xs ++ ys) (xs2 ++ ys2)
-gone_both frame xs ys xs2 ys2 one other = record {
+pub gone_both : (consts : WorldConsts) (xs ys xs2 ys2 : List Tasked) → HaveGone consts xs xs2
+    → HaveGone consts ys ys2 → HaveGone consts (xs ++ ys) (xs2 ++ ys2)
+gone_both consts xs ys xs2 ys2 one other = record {
   even = omega (arith, one.even, other.even, length-append xs ys, length-append xs2 ys2);
   each = λ k t at. gone k t at (cases_lt k (length xs2));
 } where
   gone : (k : ℕ) (t : Tasked) → slice_get (xs2 ++ ys2) k ≡ Some t
-      → (k < length xs2) ⊎ (length xs2 ≤ k) → GoneFrom frame (xs ++ ys) k t
+      → (k < length xs2) ⊎ (length xs2 ≤ k) → GoneFrom consts (xs ++ ys) k t
   gone k t at (inl h) =
       let g = one.each k t (sym (get_front xs2 ys2 k h) ∙ at) in
       let below : k < length xs = omega (arith, h, one.even) in
@@ -133,11 +133,11 @@ gone_both frame xs ys xs2 ys2 one other = record {
 -- ---- all tasks
 
 -- the tasks of a world, in order, are tasks of it
-pub all_tasks : (frame frame2 : Frame) (tasks : List Tasked) → frame ≡ frame2
-    → AreTasks frame tasks → All (IsTask frame2) tasks
-all_tasks frame frame2 tasks same are =
-    subst (λ (f : Frame). All (IsTask f) tasks) same
-    (all_by_get (IsTask frame) tasks (λ k t at. (are.each k t at).task))
+pub all_tasks : (consts frame2 : WorldConsts) (tasks : List Tasked) → consts ≡ frame2
+    → AreTasks consts tasks → All (IsTask frame2) tasks
+all_tasks consts frame2 tasks same are =
+    subst (λ (f : WorldConsts). All (IsTask f) tasks) same
+    (all_by_get (IsTask consts) tasks (λ k t at. (are.each k t at).task))
 
 -- lists of the same length with the same image at each place have the same map
 maps_same : {A B : Type 0} (f : A → B) (xs ys : List A) → length ys ≡ length xs
@@ -155,9 +155,9 @@ maps_same f (x ∷ xs) (y ∷ ys) e each =
     λ i. head i ∷ rest i
 
 -- tasks that have gone on all belong to the world, with the same programs
-pub gone_still : (frame : Frame) (old new : List Tasked) → AreTasks frame old
-    → HaveGone frame old new → AreStill frame old new
-gone_still frame old new are gone = record {
+pub gone_still : (consts : WorldConsts) (old new : List Tasked) → AreTasks consts old
+    → HaveGone consts old new → AreSameTasks consts old new
+gone_still consts old new are gone = record {
   programs = maps_same program_of old new gone.even (λ k t at.
       let g = gone.each k t at in (g.before, (g.at, g.program)));
   each = record {
@@ -171,20 +171,20 @@ gone_still frame old new are gone = record {
 }
 
 -- tasks that still belong to a world run on in another one with the same constants
-pub still_runs : (world after : WorldValue) (old new : List Tasked) → after.frame ≡ world.frame
-    → AreStill world.frame old new → StillRuns world after old new
-still_runs world after old new same still = record {
-  frame = same;
+pub same_run : (world after : WorldValue) (old new : List Tasked) → after.consts ≡ world.consts
+    → AreSameTasks world.consts old new → SameRun world after old new
+same_run world after old new same still = record {
+  consts = same;
   programs = still.programs;
-  each = subst (λ (f : Frame). AreTasks f new) (sym same) still.each;
+  each = subst (λ (f : WorldConsts). AreTasks f new) (sym same) still.each;
 }
 
 -- tasks that run on all belong to the world
 pub runs_still : (world after : WorldValue) (old new : List Tasked)
-    → StillRuns world after old new → AreStill world.frame old new
+    → SameRun world after old new → AreSameTasks world.consts old new
 runs_still world after old new runs = record {
   programs = runs.programs;
-  each = subst (λ (f : Frame). AreTasks f new) runs.frame runs.each;
+  each = subst (λ (f : WorldConsts). AreTasks f new) runs.consts runs.each;
 }
 
 -- the first n elements of a list are its part of length n
@@ -193,11 +193,11 @@ front_is xs ys n e = take-append-le n xs ys (omega arith) ∙ take_all n xs (ome
 
 -- the tasks still belong to the world, with the constants under a name and the tasks lent and
 -- returned
-pub gone_named : (frame frame2 : Frame) (old lent new back : List Tasked) → frame ≡ frame2
-    → lent ≡ old → back ≡ new → AreTasks frame old → HaveGone frame2 lent new
-    → AreStill frame old back
-gone_named frame frame2 old lent new back same is are_back are gone =
-    subst (λ (f : Frame). AreStill f old back) (sym same)
-    (gone_still frame2 old back (subst (λ (f : Frame). AreTasks f old) same are)
+pub gone_named : (consts frame2 : WorldConsts) (old lent new back : List Tasked) → consts ≡ frame2
+    → lent ≡ old → back ≡ new → AreTasks consts old → HaveGone frame2 lent new
+    → AreSameTasks consts old back
+gone_named consts frame2 old lent new back same is are_back are gone =
+    subst (λ (f : WorldConsts). AreSameTasks f old back) (sym same)
+    (gone_still frame2 old back (subst (λ (f : WorldConsts). AreTasks f old) same are)
     (subst (λ (x : List Tasked × List Tasked). HaveGone frame2 x.0 x.1)
     (λ i. (is i, sym are_back i)) gone))

@@ -13,7 +13,7 @@ use Rattle.std.proofs.lemmas.Option.{same_Some, slice_get_past}
 use Rattle.run_model.specs.Rounds.{is_moved}
 use Rattle.run_model.specs.Turns.{go}
 use Rattle.run_model.specs.declared.turn.Turn.{Turn}
-use Rattle.task_core.specs.worlds.Frame.{Frame, scene_of}
+use Rattle.task_core.specs.worlds.WorldConsts.{WorldConsts, scene_of}
 use Rattle.task_core.specs.worlds.Tasks.{Tasked}
 use Rattle.task_core.proofs.about_closes.Gets.{get_last, get_set}
 use Rattle.task_runner.specs.Passes.{AreOver, IsPartIn, HasStayed, HavePassed, HaveRunInParts, HaveStepped, IsPartOver, IsPass, SteppedBy, StepsAt}
@@ -21,17 +21,17 @@ use Rattle.task_runner.specs.Passes.{AreOver, IsPartIn, HasStayed, HavePassed, H
 -- ---- one step
 
 -- a task that stayed, and then made a turn or none, made that turn or none
-stays_and_steps : (frame : Frame) (t mid t2 : Tasked) (r : Option Turn) → HasStayed t mid
-    → SteppedBy frame mid t2 r → SteppedBy frame t t2 r
-stays_and_steps frame t mid t2 (Some r) h s = record {
+stays_and_steps : (consts : WorldConsts) (t mid t2 : Tasked) (r : Option Turn) → HasStayed t mid
+    → SteppedBy consts mid t2 r → SteppedBy consts t t2 r
+stays_and_steps consts t mid t2 (Some r) h s = record {
   old = s.old;
   goes = λ programs.
-      let same : go (scene_of frame programs) mid.number mid.mind.program s.old mid.mind.thought
-      ≡ go (scene_of frame programs) t.number t.mind.program s.old t.mind.thought =
-      λ i. go (scene_of frame programs) (h.number i) (h.program i) s.old (h.thought i) in
+      let same : go (scene_of consts programs) mid.number mid.mind.program s.old mid.mind.thought
+      ≡ go (scene_of consts programs) t.number t.mind.program s.old t.mind.thought =
+      λ i. go (scene_of consts programs) (h.number i) (h.program i) s.old (h.thought i) in
       sym same ∙ s.goes programs;
 }
-stays_and_steps frame t mid t2 None h s = record {
+stays_and_steps consts t mid t2 None h s = record {
   number = s.number ∙ h.number;
   program = s.program ∙ h.program;
   thought = s.thought ∙ h.thought;
@@ -49,27 +49,27 @@ get_before (x ∷ xs) y zero h = refl
 get_before (x ∷ xs) y (suc j) h = get_before xs y j (λ e. h (ap suc e))
 
 -- the task at the next place makes a turn, or none
-module _ (frame : Frame) (old mid new : List Tasked) (turns turns2 : List Turn) (k : ℕ)
-    (r : Option Turn) (made : HaveStepped frame old mid turns) (s : StepsAt frame mid new k r)
+module _ (consts : WorldConsts) (old mid new : List Tasked) (turns turns2 : List Turn) (k : ℕ)
+    (r : Option Turn) (made : HaveStepped consts old mid turns) (s : StepsAt consts mid new k r)
     (none : slice_get turns k ≡ None) (here : slice_get turns2 k ≡ r)
     (others : (j : ℕ) → (k ≡ j → ⊥) → slice_get turns2 j ≡ slice_get turns j) where
   one : (j : ℕ) (t t2 : Tasked) → slice_get old j ≡ Some t
       → ((k ≡ j) × (s.after ≡ t2)) ⊎ ((k ≡ j → ⊥) × (slice_get mid j ≡ Some t2))
-      → SteppedBy frame t t2 (slice_get turns2 j)
+      → SteppedBy consts t t2 (slice_get turns2 j)
   one j t t2 at (inl w) =
       let there : slice_get old k ≡ Some t = ap (λ (n : ℕ). slice_get old n) w.0 ∙ at in
       let stayed : HasStayed t s.before =
-      subst (λ (o : Option Turn). SteppedBy frame t s.before o) none
+      subst (λ (o : Option Turn). SteppedBy consts t s.before o) none
       (made.each k t s.before there s.at) in
-      subst (λ (x : ℕ × Tasked). SteppedBy frame t x.1 (slice_get turns2 x.0))
+      subst (λ (x : ℕ × Tasked). SteppedBy consts t x.1 (slice_get turns2 x.0))
       (λ i. (w.0 i, w.1 i))
-      (subst (λ (o : Option Turn). SteppedBy frame t s.after o) (sym here)
-      (stays_and_steps frame t s.before s.after r stayed s.step))
+      (subst (λ (o : Option Turn). SteppedBy consts t s.after o) (sym here)
+      (stays_and_steps consts t s.before s.after r stayed s.step))
   one j t t2 at (inr w) =
-      subst (λ (o : Option Turn). SteppedBy frame t t2 o) (sym (others j w.0))
+      subst (λ (o : Option Turn). SteppedBy consts t t2 o) (sym (others j w.0))
       (made.each j t t2 at w.1)
 
-  steps_on : HaveStepped frame old new turns2
+  steps_on : HaveStepped consts old new turns2
   steps_on = record {
     even = ap (λ (xs : List Tasked). length xs) s.written ∙ length-set mid k s.after ∙ made.even;
     each = λ j t t2 at at2.
@@ -78,8 +78,8 @@ module _ (frame : Frame) (old mid new : List Tasked) (turns turns2 : List Turn) 
   }
 
 -- a pass before its first turn
-pub pass_none : (frame : Frame) (tasks : List Tasked) → IsPass frame tasks tasks 0 false
-pass_none frame tasks = record {
+pub pass_none : (consts : WorldConsts) (tasks : List Tasked) → IsPass consts tasks tasks 0 false
+pass_none consts tasks = record {
   turns = [];
   count = refl;
   made = record {
@@ -100,13 +100,13 @@ any_last turns r =
     ∙ ap (λ (b : Bool). list_any is_moved turns || b) (or-false (is_moved r))
 
 -- a pass goes on with the turn of the next task
-pub pass_more : (frame : Frame) (old mid new : List Tasked) (k : ℕ) (moved moved2 : Bool)
-    (r : Turn) → IsPass frame old mid k moved → StepsAt frame mid new k (Some r)
-    → moved2 ≡ (is_moved r || moved) → IsPass frame old new (k + 1) moved2
-pass_more frame old mid new k moved moved2 r p s e = record {
+pub pass_more : (consts : WorldConsts) (old mid new : List Tasked) (k : ℕ) (moved moved2 : Bool)
+    (r : Turn) → IsPass consts old mid k moved → StepsAt consts mid new k (Some r)
+    → moved2 ≡ (is_moved r || moved) → IsPass consts old new (k + 1) moved2
+pass_more consts old mid new k moved moved2 r p s e = record {
   turns = p.turns ++ r ∷ [];
   count = omega (arith, length-append p.turns (r ∷ []), p.count);
-  made = steps_on frame old mid new p.turns (p.turns ++ r ∷ []) k (Some r) p.made s
+  made = steps_on consts old mid new p.turns (p.turns ++ r ∷ []) k (Some r) p.made s
       (slice_get_past p.turns k (omega (arith, p.count)))
       (subst (λ (n : ℕ). slice_get (p.turns ++ r ∷ []) n ≡ Some r) p.count (get_last p.turns r))
       (λ j other. get_before p.turns r j (λ x. other (sym p.count ∙ x)));
@@ -117,33 +117,34 @@ pass_more frame old mid new k moved moved2 r p s e = record {
 -- ---- a part
 
 -- one more pass that moved a task
-pub passed_more : (frame : Frame) (n : ℕ) (old mid new : List Tasked) (moved : Bool)
-    → HavePassed frame n old mid → IsPass frame mid new (length mid) moved → moved ≡ true
-    → HavePassed frame (n + 1) old new
-passed_more frame n old mid new moved h p e =
-    subst (λ (m : ℕ). HavePassed frame m old new) (sym (add-one n))
-    (mid, (h, subst (λ (b : Bool). IsPass frame mid new (length mid) b) e p))
+pub passed_more : (consts : WorldConsts) (n : ℕ) (old mid new : List Tasked) (moved : Bool)
+    → HavePassed consts n old mid → IsPass consts mid new (length mid) moved → moved ≡ true
+    → HavePassed consts (n + 1) old new
+passed_more consts n old mid new moved h p e =
+    subst (λ (m : ℕ). HavePassed consts m old new) (sym (add-one n))
+    (mid, (h, subst (λ (b : Bool). IsPass consts mid new (length mid) b) e p))
 
 -- a pass that moved no task ends its part
-pub passed_last : (frame : Frame) (n : ℕ) (old mid new : List Tasked) (moved : Bool)
-    → HavePassed frame n old mid → IsPass frame mid new (length mid) moved → moved ≡ false
-    → IsPartOver frame old new
-passed_last frame n old mid new moved h p e = record {
+pub passed_last : (consts : WorldConsts) (n : ℕ) (old mid new : List Tasked) (moved : Bool)
+    → HavePassed consts n old mid → IsPass consts mid new (length mid) moved → moved ≡ false
+    → IsPartOver consts old new
+passed_last consts n old mid new moved h p e = record {
   count = n;
   mid = mid;
   before = h;
-  last = subst (λ (b : Bool). IsPass frame mid new (length mid) b) e p;
+  last = subst (λ (b : Bool). IsPass consts mid new (length mid) b) e p;
 }
 
 -- all tasks are one part
-pub over_alone : (frame : Frame) (count size : ℕ) (old new : List Tasked) → count ≡ 1
-    → length old ≤ count * size → IsPartOver frame old new → AreOver frame count size old new
-over_alone frame count size old new one most over = record {
+pub over_alone : (consts : WorldConsts) (count size : ℕ) (old new : List Tasked) → count ≡ 1
+    → length old ≤ count * size → IsPartOver consts old new → AreOver consts count size old new
+over_alone consts count size old new one most over = record {
   parts = (old, new) ∷ [];
   few = omega (arith, one);
   before = append-nil old;
   after = append-nil new;
-  each = All-cons (IsPartIn frame size) (old, new) [] (short, over) (All-nil (IsPartIn frame size));
+  each = All-cons (IsPartIn consts size) (old, new) [] (short, over)
+      (All-nil (IsPartIn consts size));
 } where
   short : length old ≤ size
   short = omega (arith, most, ap (λ (n : ℕ). n * size) one ∙ one-mul size)
@@ -161,17 +162,17 @@ halves_fit low count size m cut front back len within m_is cut_is front_is back_
   all = sym (add-mul low (count - low) size) ∙ ap (λ (n : ℕ). n * size) (omega (arith, within))
 
 -- the parts of both halves are the parts of all tasks
-pub over_both : (frame : Frame) (low high count size : ℕ) (xs ys xs2 ys2 : List Tasked)
-    → low + high ≡ count → AreOver frame low size xs xs2 → AreOver frame high size ys ys2
-    → AreOver frame count size (xs ++ ys) (xs2 ++ ys2)
-over_both frame low high count size xs ys xs2 ys2 sum one other = record {
+pub over_both : (consts : WorldConsts) (low high count size : ℕ) (xs ys xs2 ys2 : List Tasked)
+    → low + high ≡ count → AreOver consts low size xs xs2 → AreOver consts high size ys ys2
+    → AreOver consts count size (xs ++ ys) (xs2 ++ ys2)
+over_both consts low high count size xs ys xs2 ys2 sum one other = record {
   parts = one.parts ++ other.parts;
   few = omega (arith, sum, one.few, other.few, length-append one.parts other.parts);
   before = flat_map-append (λ p. p.0) one.parts other.parts
       ∙ (λ i. one.before i ++ other.before i);
   after = flat_map-append (λ p. p.1) one.parts other.parts
       ∙ (λ i. one.after i ++ other.after i);
-  each = All-append (IsPartIn frame size) one.parts other.parts one.each other.each;
+  each = All-append (IsPartIn consts size) one.parts other.parts one.each other.each;
 }
 
 -- n parts of this size hold all tasks, and so many that the last one isn't empty are at most n
@@ -186,9 +187,9 @@ few_enough count n size len most less = fits (cases_lt n count) where
   fits (inr h) = h
 
 -- at most so many parts are at most more
-pub over_most : (frame : Frame) (count n size : ℕ) (old new : List Tasked) → count ≤ n
-    → AreOver frame count size old new → AreOver frame n size old new
-over_most frame count n size old new most over = record {
+pub over_most : (consts : WorldConsts) (count n size : ℕ) (old new : List Tasked) → count ≤ n
+    → AreOver consts count size old new → AreOver consts n size old new
+over_most consts count n size old new most over = record {
   parts = over.parts;
   few = omega (arith, most, over.few);
   before = over.before;
@@ -197,9 +198,9 @@ over_most frame count n size old new most over = record {
 }
 
 -- the parts with the constants under a name and the tasks lent and returned
-pub parts_named : (frame frame2 : Frame) (n : ℕ) (old lent new back : List Tasked)
-    → frame ≡ frame2 → lent ≡ old → back ≡ new → HaveRunInParts frame2 n lent new
-    → HaveRunInParts frame n old back
-parts_named frame frame2 n old lent new back same is are_back parts =
-    subst (λ (x : Frame × (List Tasked × List Tasked)). HaveRunInParts x.0 n x.1.0 x.1.1)
+pub parts_named : (consts frame2 : WorldConsts) (n : ℕ) (old lent new back : List Tasked)
+    → consts ≡ frame2 → lent ≡ old → back ≡ new → HaveRunInParts frame2 n lent new
+    → HaveRunInParts consts n old back
+parts_named consts frame2 n old lent new back same is are_back parts =
+    subst (λ (x : WorldConsts × (List Tasked × List Tasked)). HaveRunInParts x.0 n x.1.0 x.1.1)
     (λ i. (sym same i, (is i, sym are_back i))) parts

@@ -5,7 +5,7 @@ use Rattle.run_model.specs.Rounds.{RoundsTo, is_moved}
 use Rattle.run_model.specs.declared.turn.Turn.{Turn}
 use Rattle.task_core.specs.Shared.{StepsTo}
 use Rattle.task_core.specs.ends.Settled.{HaveSameMinds}
-use Rattle.task_core.specs.worlds.Frame.{Frame}
+use Rattle.task_core.specs.worlds.WorldConsts.{WorldConsts}
 use Rattle.task_core.specs.worlds.Tasks.{Tasked}
 use Rattle.task_core.specs.worlds.World.{WorldValue}
 use Rattle.task_core.specs.worlds.WorldRuns.{moment_in, scene_in}
@@ -21,68 +21,68 @@ pub record HasStayed (t t2 : Tasked) : Type 0 where
   pub mines : mines_of t2.passes ≡ mines_of t.passes
 
 -- the task made a turn with this answer, or none
-abbrev pub SteppedBy : Frame → Tasked → Tasked → Option Turn → Type 0
-SteppedBy frame t t2 (Some r) = StepsTo frame t t2 r
-SteppedBy frame t t2 None = HasStayed t t2
+abbrev pub SteppedBy : WorldConsts → Tasked → Tasked → Option Turn → Type 0
+SteppedBy consts t t2 (Some r) = StepsTo consts t t2 r
+SteppedBy consts t t2 None = HasStayed t t2
 
 -- task k made a turn with this answer, or none, and the others are as they were
-pub record StepsAt (frame : Frame) (old new : List Tasked) (k : ℕ) (r : Option Turn)
+pub record StepsAt (consts : WorldConsts) (old new : List Tasked) (k : ℕ) (r : Option Turn)
     : Type 0 where
   pub before : Tasked
   pub after : Tasked
   pub at : slice_get old k ≡ Some before
   pub written : new ≡ slice_set old k after
-  pub step : SteppedBy frame before after r
+  pub step : SteppedBy consts before after r
 
 -- ---- one pass
 
 -- the first tasks made a turn each, with these answers, and the others none
-pub record HaveStepped (frame : Frame) (old new : List Tasked) (turns : List Turn)
+pub record HaveStepped (consts : WorldConsts) (old new : List Tasked) (turns : List Turn)
     : Type 0 where
   pub even : length new ≡ length old
   pub each : (k : ℕ) (t t2 : Tasked) → slice_get old k ≡ Some t → slice_get new k ≡ Some t2
-      → SteppedBy frame t t2 (slice_get turns k)
+      → SteppedBy consts t t2 (slice_get turns k)
 
 -- the first k tasks made a turn each, and the others none; `moved` says whether one of them moved
-pub record IsPass (frame : Frame) (old new : List Tasked) (k : ℕ) (moved : Bool)
+pub record IsPass (consts : WorldConsts) (old new : List Tasked) (k : ℕ) (moved : Bool)
     : Type 0 where
   pub turns : List Turn
   pub count : length turns ≡ k
-  pub made : HaveStepped frame old new turns
+  pub made : HaveStepped consts old new turns
   pub moves : moved ≡ list_any is_moved turns
 
 -- ---- a part
 
 -- n passes over all tasks, each of which moved one
-abbrev pub HavePassed : Frame → ℕ → List Tasked → List Tasked → Type 0
-HavePassed frame zero old new = new ≡ old
-HavePassed frame (suc n) old new = (mid : List Tasked)
-    × (HavePassed frame n old mid × IsPass frame mid new (length mid) true)
+abbrev pub HavePassed : WorldConsts → ℕ → List Tasked → List Tasked → Type 0
+HavePassed consts zero old new = new ≡ old
+HavePassed consts (suc n) old new = (mid : List Tasked)
+    × (HavePassed consts n old mid × IsPass consts mid new (length mid) true)
 
 -- a part that is over: passes that each moved a task, and a last one that moved none
-pub record IsPartOver (frame : Frame) (old new : List Tasked) : Type 0 where
+pub record IsPartOver (consts : WorldConsts) (old new : List Tasked) : Type 0 where
   pub count : ℕ
   pub mid : List Tasked
-  pub before : HavePassed frame count old mid
-  pub last : IsPass frame mid new (length mid) false
+  pub before : HavePassed consts count old mid
+  pub last : IsPass consts mid new (length mid) false
 
 -- a part of at most this size is over: its tasks before and afterwards
-abbrev pub IsPartIn : Frame → ℕ → List Tasked × List Tasked → Type 0
-IsPartIn frame size p = (length p.0 ≤ size) × IsPartOver frame p.0 p.1
+abbrev pub IsPartIn : WorldConsts → ℕ → List Tasked × List Tasked → Type 0
+IsPartIn consts size p = (length p.0 ≤ size) × IsPartOver consts p.0 p.1
 
 -- the tasks were cut into at most so many parts of at most this size, and each part is over
-pub record AreOver (frame : Frame) (count size : ℕ) (old new : List Tasked) : Type 0 where
+pub record AreOver (consts : WorldConsts) (count size : ℕ) (old new : List Tasked) : Type 0 where
   pub parts : List (List Tasked × List Tasked)
   pub few : length parts ≤ count
   pub before : flat_map (λ p. p.0) parts ≡ old
   pub after : flat_map (λ p. p.1) parts ≡ new
-  pub each : All (IsPartIn frame size) parts
+  pub each : All (IsPartIn consts size) parts
 
 -- the tasks were cut into at most n parts, none longer than n parts need, and each part is over
-pub record HaveRunInParts (frame : Frame) (n : ℕ) (old new : List Tasked) : Type 0 where
+pub record HaveRunInParts (consts : WorldConsts) (n : ℕ) (old new : List Tasked) : Type 0 where
   pub size : ℕ
   pub short : 1 < size → n * (size - 1) < length old
-  pub over : AreOver frame n size old new
+  pub over : AreOver consts n size old new
 
 -- ---- the run
 
@@ -91,7 +91,7 @@ pub record HaveRunInParts (frame : Frame) (n : ℕ) (old new : List Tasked) : Ty
 pub record HasRunOnThreads (world after : WorldValue) (n : ℕ) (old new : List Tasked)
     : Type 0 where
   pub mid : List Tasked
-  pub parts : HaveRunInParts world.frame n old mid
+  pub parts : HaveRunInParts world.consts n old mid
   pub back : WorldValue
   pub looked : List Tasked
   pub minds : HaveSameMinds mid looked

@@ -22,9 +22,9 @@ fn step_at<N: Name, G: Gate, R: Wait>(
     gate: &G,
 ) -> Result<Turn, OutOfMemory>
     requires within { k < length tasks.old }
-    requires tasks { All (IsTask N.frame) tasks.old }
-    ensures gone { HaveGone N.frame tasks.old tasks.new }
-    ensures step { IfOk result (λ r. StepsAt N.frame tasks.old tasks.new k (Some r)) }
+    requires tasks { All (IsTask N.consts) tasks.old }
+    ensures gone { HaveGone N.consts tasks.old tasks.new }
+    ensures step { IfOk result (λ r. StepsAt N.consts tasks.old tasks.new k (Some r)) }
 {
     let task = &mut tasks[k];
     if let Some(who) = task.who() {
@@ -44,9 +44,9 @@ fn pass_over<N: Name, G: Gate, R: Wait>(
     tasks: &mut [Task],
     gate: &G,
 ) -> Result<bool, OutOfMemory>
-    requires { All (IsTask N.frame) tasks.old }
-    ensures gone { HaveGone N.frame tasks.old tasks.new }
-    ensures pass { IfOk result (λ moved. IsPass N.frame tasks.old tasks.new
+    requires { All (IsTask N.consts) tasks.old }
+    ensures gone { HaveGone N.consts tasks.old tasks.new }
+    ensures pass { IfOk result (λ moved. IsPass N.consts tasks.old tasks.new
         (length tasks.old) moved) }
 {
     let mut moved = false;
@@ -63,9 +63,9 @@ fn run_part<N: Name, G: Gate, R: Wait>(
     tasks: &mut [Task],
     gate: &G,
 ) -> Result<(), OutOfMemory>
-    requires { All (IsTask N.frame) tasks.old }
-    ensures gone { HaveGone N.frame tasks.old tasks.new }
-    ensures over { OnOk result (IsPartOver N.frame tasks.old tasks.new) }
+    requires { All (IsTask N.consts) tasks.old }
+    ensures gone { HaveGone N.consts tasks.old tasks.new }
+    ensures over { OnOk result (IsPartOver N.consts tasks.old tasks.new) }
 {
     for _ in 0..u64::MAX {
         if !pass_over(rt, world, tasks, gate)? {
@@ -98,9 +98,9 @@ fn run_halves<N: Name, G: Gate + Sync, R: Threads + Wait + Sync>(
 ) -> Result<(), OutOfMemory>
     requires some { 1 ≤ count }
     requires most { length tasks.old ≤ count * size }
-    requires tasks { All (IsTask N.frame) tasks.old }
-    ensures gone { HaveGone N.frame tasks.old tasks.new }
-    ensures parts { OnOk result (AreOver N.frame count size tasks.old tasks.new) }
+    requires tasks { All (IsTask N.consts) tasks.old }
+    ensures gone { HaveGone N.consts tasks.old tasks.new }
+    ensures parts { OnOk result (AreOver N.consts count size tasks.old tasks.new) }
 {
     if count == 1 {
         return run_part(rt, world, tasks, gate);
@@ -125,23 +125,23 @@ fn run_both<N: Name, G: Gate + Sync, R: Threads + Wait + Sync>(
 ) -> Result<(), OutOfMemory>
     requires some { (1 ≤ low) × (1 ≤ high) }
     requires most { (length front.old ≤ low * size) × (length back.old ≤ high * size) }
-    requires tasks { All (IsTask N.frame) front.old × All (IsTask N.frame) back.old }
-    ensures front { HaveGone N.frame front.old front.new }
-    ensures back { HaveGone N.frame back.old back.new }
-    ensures parts { OnOk result (AreOver N.frame low size front.old front.new
-        × AreOver N.frame high size back.old back.new) }
+    requires tasks { All (IsTask N.consts) front.old × All (IsTask N.consts) back.old }
+    ensures front { HaveGone N.consts front.old front.new }
+    ensures back { HaveGone N.consts back.old back.new }
+    ensures parts { OnOk result (AreOver N.consts low size front.old front.new
+        × AreOver N.consts high size back.old back.new) }
 {
     let mut first = || -> Result<(), OutOfMemory>
         requires { IsSync R.row × IsSync G.row × (1 ≤ low) × (length front.now ≤ low * size)
-            × All (IsTask N.frame) front.now }
-        ensures { HaveGone N.frame front.entry.now front.exit.now
-            × OnOk result (AreOver N.frame low size front.entry.now front.exit.now) }
+            × All (IsTask N.consts) front.now }
+        ensures { HaveGone N.consts front.entry.now front.exit.now
+            × OnOk result (AreOver N.consts low size front.entry.now front.exit.now) }
     { run_halves(rt, world, gate, size, low, front) };
     let mut second = || -> Result<(), OutOfMemory>
         requires { IsSync R.row × IsSync G.row × (1 ≤ high) × (length back.now ≤ high * size)
-            × All (IsTask N.frame) back.now }
-        ensures { HaveGone N.frame back.entry.now back.exit.now
-            × OnOk result (AreOver N.frame high size back.entry.now back.exit.now) }
+            × All (IsTask N.consts) back.now }
+        ensures { HaveGone N.consts back.entry.now back.exit.now
+            × OnOk result (AreOver N.consts high size back.entry.now back.exit.now) }
     { run_halves(rt, world, gate, size, high, back) };
     let (one, other) = join_mut(rt, &mut first, &mut second);
     one?;
@@ -159,9 +159,9 @@ pub(crate) fn run_parts<N: Name, G: Gate + Sync, R: Threads + Wait + Sync>(
     gate: &G,
 ) -> Result<(), OutOfMemory>
     requires threads { 1 ≤ n }
-    requires tasks { All (IsTask N.frame) tasks.old }
-    ensures gone { HaveGone N.frame tasks.old tasks.new }
-    ensures parts { OnOk result (HaveRunInParts N.frame n tasks.old tasks.new) }
+    requires tasks { All (IsTask N.consts) tasks.old }
+    ensures gone { HaveGone N.consts tasks.old tasks.new }
+    ensures parts { OnOk result (HaveRunInParts N.consts n tasks.old tasks.new) }
 {
     let size = part_size(tasks.len(), n as usize);
     let count = tasks.len().div_ceil(size).max(1);

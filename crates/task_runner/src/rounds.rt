@@ -3,7 +3,7 @@
 ghost use Rattle.std.specs.Prelude.{◌≡◌, ℕ, ◌<◌, ◌||◌, false, IfOk, OnErr, OnOk, length};
 ghost use Rattle.run_model.specs.Rounds.{RoundsTo, all_tasks, is_moved, moves};
 ghost use Rattle.task_core.specs.worlds.Runs.{AreTasks};
-ghost use Rattle.task_core.specs.worlds.WorldRuns.{IsRound, StillRuns, moment_in, scene_in};
+ghost use Rattle.task_core.specs.worlds.WorldRuns.{IsRound, SameRun, moment_in, scene_in};
 ghost use Rattle.task_runner.specs.Stops.{StopsIn, StopsInRounds};
 
 use crate::turns::turn_at;
@@ -24,13 +24,13 @@ pub(crate) fn has_moved(before: bool, turn: Turn) -> bool
 
 // Makes one turn of each task. Returns whether one has moved.
 fn round<G: Gate>(world: &mut World, tasks: &mut Vec<Task>, gate: &G) -> Result<bool, OutOfMemory>
-    requires { AreTasks world.old.frame tasks.old.items }
+    requires { AreTasks world.old.consts tasks.old.items }
     ensures round { IfOk result (λ moved. IsRound world.old world.new tasks.old.items
         tasks.new.items moved) }
     ensures err { OnErr result (StopsIn (scene_in world.old tasks.old.items)
         (moment_in world.old tasks.old.items) (all_tasks (scene_in world.old tasks.old.items))
         (moment_in world.new tasks.new.items)) }
-    ensures still { StillRuns world.old world.new tasks.old.items tasks.new.items }
+    ensures still { SameRun world.old world.new tasks.old.items tasks.new.items }
 {
     let mut moved = false;
     for k in 0..tasks.len() {
@@ -47,7 +47,7 @@ pub fn run_rounds<G: Gate>(
     tasks: &mut Vec<Task>,
     gate: &G,
 ) -> Result<(), OutOfMemory>
-    requires { AreTasks world.old.frame tasks.old.items }
+    requires { AreTasks world.old.consts tasks.old.items }
     ensures run { OnOk result (RoundsTo (scene_in world.old tasks.old.items)
         (moment_in world.old tasks.old.items) (moment_in world.new tasks.new.items)) }
     ensures stops { OnOk result ((k : ℕ) → k < length tasks.old.items
@@ -55,7 +55,7 @@ pub fn run_rounds<G: Gate>(
         ≡ false) }
     ensures err { OnErr result (StopsInRounds (scene_in world.old tasks.old.items)
         (moment_in world.old tasks.old.items) (moment_in world.new tasks.new.items)) }
-    ensures still { StillRuns world.old world.new tasks.old.items tasks.new.items }
+    ensures still { SameRun world.old world.new tasks.old.items tasks.new.items }
 {
     for _ in 0..u64::MAX {
         if !round(world, tasks, gate)? {

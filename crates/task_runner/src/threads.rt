@@ -3,9 +3,9 @@
 ghost use Rattle.std.specs.Prelude.{◌≡◌, ℕ, ◌<◌, ◌≤◌, false, IfOk, OnOk, length};
 ghost use Rattle.run_model.specs.Rounds.{moves};
 ghost use Rattle.task_core.specs.worlds.Runs.{AreTasks};
-ghost use Rattle.task_runner.specs.Parts.{AreStill};
+ghost use Rattle.task_runner.specs.Parts.{AreSameTasks};
 ghost use Rattle.task_runner.specs.Passes.{HasRunOnThreads, HaveRunInParts};
-ghost use Rattle.task_core.specs.worlds.WorldRuns.{StillRuns, moment_in, scene_in};
+ghost use Rattle.task_core.specs.worlds.WorldRuns.{SameRun, moment_in, scene_in};
 
 use crate::parts::run_parts;
 use crate::rounds::run_rounds;
@@ -24,11 +24,11 @@ fn run_shared<N: Name, G: Gate + Sync, R: Threads + Wait + Sync>(
     gate: &G,
 ) -> Result<World, OutOfMemory>
     requires threads { 1 ≤ n }
-    requires frame { world.frame ≡ N.frame }
-    requires tasks { AreTasks world.frame tasks.old.items }
-    ensures still { IfOk result (λ w. StillRuns world w tasks.old.items tasks.new.items) }
-    ensures parts { OnOk result (HaveRunInParts world.frame n tasks.old.items tasks.new.items) }
-    ensures tasks { AreStill world.frame tasks.old.items tasks.new.items }
+    requires consts { world.consts ≡ N.consts }
+    requires tasks { AreTasks world.consts tasks.old.items }
+    ensures still { IfOk result (λ w. SameRun world w tasks.old.items tasks.new.items) }
+    ensures parts { OnOk result (HaveRunInParts world.consts n tasks.old.items tasks.new.items) }
+    ensures tasks { AreSameTasks world.consts tasks.old.items tasks.new.items }
 {
     let live = world.share::<N>()?;
     run_parts(rt, &live, tasks.as_mut_slice(), n, gate)?;
@@ -49,13 +49,13 @@ pub fn run_threads<N: Name, G: Gate + Sync, R: Threads + Wait + Sync>(
     gate: &G,
 ) -> Result<World, OutOfMemory>
     requires threads { 1 ≤ n }
-    requires frame { world.frame ≡ N.frame }
-    requires tasks { AreTasks world.frame tasks.old.items }
-    ensures still { IfOk result (λ w. StillRuns world w tasks.old.items tasks.new.items) }
+    requires consts { world.consts ≡ N.consts }
+    requires tasks { AreTasks world.consts tasks.old.items }
+    ensures still { IfOk result (λ w. SameRun world w tasks.old.items tasks.new.items) }
     ensures stops { IfOk result (λ w. (k : ℕ) → k < length tasks.old.items
         → moves (scene_in world tasks.old.items) (moment_in w tasks.new.items) k ≡ false) }
     ensures parts { IfOk result (λ w. HasRunOnThreads world w n tasks.old.items tasks.new.items) }
-    ensures tasks { AreStill world.frame tasks.old.items tasks.new.items }
+    ensures tasks { AreSameTasks world.consts tasks.old.items tasks.new.items }
 {
     let mut after = run_shared::<N, G, R>(rt, world, tasks, n, gate)?;
     look_all(&mut after, tasks);

@@ -3,7 +3,7 @@
 ghost use Rattle.std.specs.Prelude.{◌≡◌, ◌<◌, All, IfOk, OnErr, OnOk, length};
 ghost use Rattle.run_model.specs.Turns.{turns_of};
 ghost use Rattle.task_core.specs.worlds.Runs.{AreTasks};
-ghost use Rattle.task_core.specs.worlds.WorldRuns.{IsTurn, StillRuns, moment_in, scene_in};
+ghost use Rattle.task_core.specs.worlds.WorldRuns.{IsTurn, SameRun, moment_in, scene_in};
 ghost use Rattle.task_runner.specs.Stops.{StopsIn};
 
 use ima_io::{Gate, Who};
@@ -18,13 +18,13 @@ pub fn turn_at<G: Gate>(
     k: usize,
     gate: &G,
 ) -> Result<Turn, OutOfMemory>
-    requires tasks { AreTasks world.old.frame tasks.old.items }
+    requires tasks { AreTasks world.old.consts tasks.old.items }
     requires within { k < length tasks.old.items }
     ensures turned { IfOk result (λ r. IsTurn world.old world.new tasks.old.items tasks.new.items
         k r) }
     ensures err { OnErr result (moment_in world.new tasks.new.items
         ≡ moment_in world.old tasks.old.items) }
-    ensures still { StillRuns world.old world.new tasks.old.items tasks.new.items }
+    ensures still { SameRun world.old world.new tasks.old.items tasks.new.items }
 {
     let task = &mut tasks[k];
     if let Some(who) = task.who() {
@@ -45,14 +45,14 @@ pub fn run_schedule<G: Gate>(
     turns: &[u32],
     gate: &G,
 ) -> Result<(), OutOfMemory>
-    requires tasks { AreTasks world.old.frame tasks.old.items }
+    requires tasks { AreTasks world.old.consts tasks.old.items }
     requires turns { All (λ k. k < length tasks.old.items) turns.now }
     ensures run { OnOk result (moment_in world.new tasks.new.items
         ≡ turns_of (scene_in world.old tasks.old.items) (moment_in world.old tasks.old.items)
         turns.now) }
     ensures err { OnErr result (StopsIn (scene_in world.old tasks.old.items)
         (moment_in world.old tasks.old.items) turns.now (moment_in world.new tasks.new.items)) }
-    ensures still { StillRuns world.old world.new tasks.old.items tasks.new.items }
+    ensures still { SameRun world.old world.new tasks.old.items tasks.new.items }
 {
     for k in turns {
         turn_at(world, tasks, *k as usize, gate)?;

@@ -17,17 +17,17 @@ use Rattle.policy_rules.specs.ActionValue.{ActionValue}
 use Rattle.policy_rules.specs.declared.access.Super.{Super}
 use Rattle.task_steps.specs.laws_of_runs.Stations.{CountsAll}
 use Rattle.run_model.specs.Turns.{State}
-use Rattle.task_steps.specs.worlds.Frame.{Frame, inode_in}
+use Rattle.task_steps.specs.worlds.WorldConsts.{WorldConsts, inode_in}
 use Rattle.task_steps.specs.worlds.Tasks.{ArePassesOf, PassesValue}
 use Rattle.task_steps.specs.worlds.World.{StationValue, journal_of, site_of}
-use Rattle.task_steps.specs.worlds.declared.gathered.Gathered.{Gathered}
+use Rattle.task_steps.specs.worlds.declared.hash_state.HashState.{HashState}
 use Rattle.task_steps.proofs.about_worlds.Eventing.{get_map}
 use Rattle.task_steps.specs.worlds.Ready.{HasLooked, IsReady}
 use Rattle.task_steps.specs.minds.Steps.{deed_in}
 use Rattle.task_steps.specs.minds.declared.step.Doing.{Doing}
 use Rattle.task_steps.specs.minds.declared.step.Doing.TheVariants as doing
 use Rattle.task_steps.specs.Acting.{IsPlacedAt, IsSaid, ReadyAt, told_of}
-use Rattle.task_steps.specs.Parts.{AreParts, frame_by, state_by}
+use Rattle.task_steps.specs.Parts.{AreParts, consts_by, state_by}
 use Rattle.task_steps.specs.declared.answers.Answered.{Answered}
 
 -- no deed other than a check counts rules
@@ -50,10 +50,10 @@ does_count n (doing.CloseFinish file) = tt
 module _ (settings : Settings) (stations : List StationValue) (supers : List Super)
     (book : Grown Entry) (sems : Grown Event) (rules : PolicyValue) (tasks i : ℕ)
     (st : StationValue)
-    (parts : AreParts (frame_by settings stations supers book sems rules tasks) stations book sems
+    (parts : AreParts (consts_by settings stations supers book sems rules tasks) stations book sems
     rules) (there : slice_get stations i ≡ Some st) where
-  abbrev F : Frame
-  F = frame_by settings stations supers book sems rules tasks
+  abbrev F : WorldConsts
+  F = consts_by settings stations supers book sems rules tasks
 
   abbrev S : State
   S = state_by stations book sems rules
@@ -86,7 +86,7 @@ module _ (settings : Settings) (stations : List StationValue) (supers : List Sup
   found_pass n passes pass a at = a.inodes i (site_of st) pass site_there at
 
   -- after a look the deed is ready
-  pub found_ready : (n : ℕ) (passes : List (Passed Event)) (pass : Passed Event) (g : Gathered)
+  pub found_ready : (n : ℕ) (passes : List (Passed Event)) (pass : Passed Event) (g : HashState)
       (action : ActionValue) (slot : Slot) (d : Deed) → slice_get passes i ≡ Some pass
       → pass.number ≡ n + 1 → ReadyAt F i passes n g action slot d
       → HasLooked st.cell.inode pass.number pass.seen st.cell.list pass.mine
@@ -99,7 +99,7 @@ module _ (settings : Settings) (stations : List StationValue) (supers : List Sup
       (subst (λ (k : ℕ). HasLooked st.cell.inode k pass.seen st.cell.list pass.mine) number
       looked))))
 
-  pub found_may : (n : ℕ) (passes : List (Passed Event)) (pass : Passed Event) (g : Gathered)
+  pub found_may : (n : ℕ) (passes : List (Passed Event)) (pass : Passed Event) (g : HashState)
       (action : ActionValue) (slot : Slot) (d : Deed) → slice_get passes i ≡ Some pass
       → pass.number ≡ n + 1 → ReadyAt F i passes n g action slot d
       → HasLooked st.cell.inode pass.number pass.seen st.cell.list pass.mine

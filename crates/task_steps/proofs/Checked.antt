@@ -20,7 +20,7 @@ use Rattle.run_model.specs.Scene.{Program, Station, decided, rules_with}
 use Rattle.run_model.specs.Turns.{State, go_check, go_event, go_step}
 use Rattle.run_model.specs.declared.turn.Turn.TheVariants as turns
 use Rattle.task_steps.specs.declared.listed.Checks.{Checks as Asked}
-use Rattle.task_steps.specs.worlds.Frame.{Frame, Site, inode_in, mode_in, scene_of, station_of, super_at}
+use Rattle.task_steps.specs.worlds.WorldConsts.{Site, WorldConsts, inode_in, mode_in, scene_of, station_of, super_at}
 use Rattle.task_steps.specs.worlds.Tasks.{HasPlayed, PassesValue, Tasked, action_by}
 use Rattle.task_steps.proofs.about_worlds.Blocking.{none_is_played}
 use Rattle.task_steps.proofs.about_worlds.Eventing.{check_is_played, get_map}
@@ -32,7 +32,7 @@ use Rattle.task_steps.specs.Checking.{CheckIn, IsCheckedBy}
 use Rattle.task_steps.specs.Turning.{Goes, Reaches, Stops, Tells, answer_of, reached_by, turned_to}
 use Rattle.task_steps.specs.declared.answers.Answered.{Answered}
 
-module _ (frame : Frame) (t : Tasked) (i file : ℕ) (func : Func) (mask : ℕ) (old new : State)
+module _ (consts : WorldConsts) (t : Tasked) (i file : ℕ) (func : Func) (mask : ℕ) (old new : State)
     (passes : PassesValue)
     (st : step_at t.mind.program t.mind.thought.mind ≡ Some (Checks i file func mask)) where
   abbrev p : Program
@@ -45,22 +45,22 @@ module _ (frame : Frame) (t : Tasked) (i file : ℕ) (func : Func) (mask : ℕ) 
   asked = record { file = file; func = func; mask = mask }
 
   abbrev rules : List RuleValue
-  rules = rules_with (scene_of frame []) old.added
+  rules = rules_with (scene_of consts []) old.added
 
   -- the action of the check, if the inode has this journal
   abbrev action_on : Site → List Event → Action
   action_on s journal =
-      decided rules p.cred (super_at frame s.place) (metadata (past journal)) func mask
+      decided rules p.cred (super_at consts s.place) (metadata (past journal)) func mask
 
   abbrev check_on : Site → List Event → Deed
   check_on s journal = deed.Check file func (action_on s journal) (length rules)
 
   -- the check was made, and the journal was this
-  module _ (s : Site) (there : slice_get frame.sites i ≡ Some s) (a : Answered)
+  module _ (s : Site) (there : slice_get consts.sites i ≡ Some s) (a : Answered)
       (journal : List Event)
-      (e : EventOn frame i s who (check_on s journal) old new t.passes passes t.gathered t.gathered
-      (Some a.told)) (is : e.journal ≡ journal)
-      (by : IsCheckedBy (inode_in frame s) journal old.list rules p.cred (super_at frame s.place)
+      (e : EventOn consts i s who (check_on s journal) old new t.passes passes t.hash_state
+      t.hash_state (Some a.told)) (is : e.journal ≡ journal)
+      (by : IsCheckedBy (inode_in consts s) journal old.list rules p.cred (super_at consts s.place)
       asked a) where
     abbrev count : ℕ
     count = length rules
@@ -77,79 +77,79 @@ module _ (frame : Frame) (t : Tasked) (i file : ℕ) (func : Func) (mask : ℕ) 
         }) (sym by.action)
 
     tells : Some a.told
-        ≡ outcome (inode_in frame s) old.list (check_on s journal) (past e.journal)
+        ≡ outcome (inode_in consts s) old.list (check_on s journal) (past e.journal)
     tells =
         by.told
-        ∙ ap (λ (xs : List Event). outcome (inode_in frame s) old.list (check_on s journal)
+        ∙ ap (λ (xs : List Event). outcome (inode_in consts s) old.list (check_on s journal)
         (past xs)) (sym is)
 
-    goes : Goes frame t old (turned_to new
-        (hear (mode_in frame) p t.mind.thought (answer_of a count)) turns.Moved)
+    goes : Goes consts t old (turned_to new
+        (hear (mode_in consts) p t.mind.thought (answer_of a count)) turns.Moved)
     goes programs =
-        let scene = scene_of frame programs in
+        let scene = scene_of consts programs in
         ap (go_step scene t.number p old t.mind.thought) st
         ∙ ap (λ (x : Option Station).
         go_check scene t.number p old t.mind.thought i x file func mask)
-        (get_map (station_of frame) frame.sites i s there)
+        (get_map (station_of consts) consts.sites i s there)
         ∙ ap (λ (xs : List Event). go_event scene t.number p old t.mind.thought i
-        (inode_in frame s) (check_on s xs) (action_on s xs) count)
+        (inode_in consts s) (check_on s xs) (action_on s xs) count)
         (get_or_from_slice_get old.journals i e.journal [] e.journal_at ∙ is)
-        ∙ goes_event frame t i s (check_on s journal) old new passes t.gathered (Some a.told) e
+        ∙ goes_event consts t i s (check_on s journal) old new passes t.hash_state (Some a.told) e
         there tells programs (action_on s journal) count
-        ∙ ap (λ (b : Answer). turned_to new (hear (mode_in frame) p t.mind.thought b) turns.Moved)
+        ∙ ap (λ (b : Answer). turned_to new (hear (mode_in consts) p t.mind.thought b) turns.Moved)
         same
 
-    check_tells : passes.rules.seen ≡ old.added → Tells frame t old new passes t.gathered a
+    check_tells : passes.rules.seen ≡ old.added → Tells consts t old new passes t.hash_state a
     check_tells seen = record {
       rules = count;
       checked = ap (λ (x : Option Action). unwrap_or x t.mind.checked) by.action
           ∙ sym (ap given by.action)
           ∙ sym (ap (λ (z : Option Step). action_by z (answer_of a count) t.mind.checked) st);
       plays = λ h mind x hd. subst (λ (b : Answer).
-          HasPlayed frame (task_after t mind passes t.gathered) (b ∷ h)) same
-          (check_is_played frame t h i s file func mask (action_on s journal) count a.told old new
-          passes t.gathered mind x st there e tells seen refl
+          HasPlayed consts (task_after t mind passes t.hash_state) (b ∷ h)) same
+          (check_is_played consts t h i s file func mask (action_on s journal) count a.told old new
+          passes t.hash_state mind x st there e tells seen refl
           (ap (action_on s) (sym is))
-          (subst (λ (b : Answer). HasHeard frame t b mind) (sym same) hd));
+          (subst (λ (b : Answer). HasHeard consts t b mind) (sym same) hd));
       goes = goes;
     }
 
   -- on an inode that isn't there the turn is blocked
-  none_stops : slice_get frame.sites i ≡ None → new ≡ old → passes ≡ t.passes
-      → Stops frame t old new passes t.gathered turns.Blocked
+  none_stops : slice_get consts.sites i ≡ None → new ≡ old → passes ≡ t.passes
+      → Stops consts t old new passes t.hash_state turns.Blocked
   none_stops there e f = record {
-    plays = same_left frame t passes t.gathered f refl;
+    plays = same_left consts t passes t.hash_state f refl;
     goes = λ programs.
-        let scene = scene_of frame programs in
+        let scene = scene_of consts programs in
         ap (go_step scene t.number p old t.mind.thought) st
         ∙ ap (λ (x : Option Station).
         go_check scene t.number p old t.mind.thought i x file func mask)
-        (get_map_none (station_of frame) frame.sites i there)
+        (get_map_none (station_of consts) consts.sites i there)
         ∙ ap (λ (x : State). turned_to x t.mind.thought turns.Blocked) (sym e);
   }
 
   by_site : {E : Type 0} (r : Result (Option Answered) E) (o : Option Site)
-      → slice_get frame.sites i ≡ o
-      → CheckIn frame i o who p.cred asked old new t.passes passes t.gathered r
-      → Reaches frame t old new passes t.gathered (reached_by r)
+      → slice_get consts.sites i ≡ o
+      → CheckIn consts i o who p.cred asked old new t.passes passes t.hash_state r
+      → Reaches consts t old new passes t.hash_state (reached_by r)
   by_site (Ok (Some a)) None there c = absurd (no_told a c.told) where
     no_told : (b : Answered) → Some b.told ≡ None → ⊥
     no_told b q = cc
   by_site (Ok None) None there c = none_stops there c.state c.left
   by_site (Err y) None there c =
-      record { plays = same_left frame t passes t.gathered c.left refl; state = c.state }
+      record { plays = same_left consts t passes t.hash_state c.left refl; state = c.state }
   by_site (Ok (Some a)) (Some s) there c =
       check_tells s there a c.journal c.event
       (same_Some c.event.journal c.journal (sym c.event.journal_at ∙ c.journal_at)) c.told c.seen
   by_site (Ok None) (Some s) there c = absurd c.told
   by_site (Err y) (Some s) there c = record {
-    plays = λ h x. none_is_played frame t h i s (check_on s c.journal) old new passes t.gathered x
-        (subst (IsStepFor i (check_on s c.journal)) (sym st) refl) there c.event;
-    state = c.event.state ∙ unmoved frame i s who (check_on s c.journal) old;
+    plays = λ h x. none_is_played consts t h i s (check_on s c.journal) old new passes
+        t.hash_state x (subst (IsStepFor i (check_on s c.journal)) (sym st) refl) there c.event;
+    state = c.event.state ∙ unmoved consts i s who (check_on s c.journal) old;
   }
 
   pub check_reaches : {E : Type 0} (r : Result (Option Answered) E)
-      → CheckIn frame i (slice_get frame.sites i) who p.cred asked old new t.passes passes
-      t.gathered r
-      → Reaches frame t old new passes t.gathered (reached_by r)
-  check_reaches r c = by_site r (slice_get frame.sites i) refl c
+      → CheckIn consts i (slice_get consts.sites i) who p.cred asked old new t.passes passes
+      t.hash_state r
+      → Reaches consts t old new passes t.hash_state (reached_by r)
+  check_reaches r c = by_site r (slice_get consts.sites i) refl c

@@ -19,58 +19,58 @@ use Rattle.run_model.specs.declared.turn.Turn.TheVariants as turns
 use Rattle.task_steps.specs.Acting.{IsPlacedAt}
 use Rattle.task_steps.specs.Turning.{Fails, Stops, Tells, answer_of, turned_to}
 use Rattle.task_steps.specs.declared.answers.Answered.{Answered}
-use Rattle.task_steps.specs.worlds.Frame.{Frame, Site, inode_in, mode_in, scene_of, station_of}
+use Rattle.task_steps.specs.worlds.WorldConsts.{Site, WorldConsts, inode_in, mode_in, scene_of, station_of}
 use Rattle.task_steps.specs.worlds.Tasks.{HasPlayed, PassesValue, Tasked, action_by}
-use Rattle.task_steps.specs.worlds.declared.gathered.Gathered.{Gathered}
+use Rattle.task_steps.specs.worlds.declared.hash_state.HashState.{HashState}
 use Rattle.task_steps.proofs.about_worlds.Blocking.{none_is_played}
 use Rattle.task_steps.proofs.about_worlds.Eventing.{event_is_played, get_map}
 use Rattle.task_steps.specs.worlds.Events.{EventOn}
 use Rattle.task_steps.specs.worlds.Plays.{HasHeard, IsStepFor, task_after}
 
-module _ (frame : Frame) (t : Tasked) (i : ℕ) (s : Site) (d : Deed) (old new : State)
-    (passes : PassesValue) (g : Gathered) (o : Option Told)
-    (e : EventOn frame i s (who_at t.number t.mind.program t.mind.thought.mind) d old new t.passes
-    passes t.gathered g o)
-    (there : slice_get frame.sites i ≡ Some s)
-    (tells : o ≡ outcome (inode_in frame s) old.list d (past e.journal)) where
+module _ (consts : WorldConsts) (t : Tasked) (i : ℕ) (s : Site) (d : Deed) (old new : State)
+    (passes : PassesValue) (g : HashState) (o : Option Told)
+    (e : EventOn consts i s (who_at t.number t.mind.program t.mind.thought.mind) d old new t.passes
+    passes t.hash_state g o)
+    (there : slice_get consts.sites i ≡ Some s)
+    (tells : o ≡ outcome (inode_in consts s) old.list d (past e.journal)) where
   abbrev p : Program
   p = t.mind.program
 
   journal_is : journal_at old i ≡ e.journal
   journal_is = get_or_from_slice_get old.journals i e.journal [] e.journal_at
 
-  outcome_is : outcome (inode_in frame s) old.list d (past (journal_at old i)) ≡ o
+  outcome_is : outcome (inode_in consts s) old.list d (past (journal_at old i)) ≡ o
   outcome_is =
-      ap (λ (xs : List Event). outcome (inode_in frame s) old.list d (past xs)) journal_is
+      ap (λ (xs : List Event). outcome (inode_in consts s) old.list d (past xs)) journal_is
       ∙ sym tells
 
   abbrev heard : Action → ℕ → Thought
   heard action rules =
-      hear_told (mode_in frame) p t.mind.thought (length e.journal) action rules o
+      hear_told (mode_in consts) p t.mind.thought (length e.journal) action rules o
 
   -- the turn of the task makes this event
   pub goes_event : (programs : List Program) (action : Action) (rules : ℕ)
-      → go_event (scene_of frame programs) t.number p old t.mind.thought i (inode_in frame s) d
+      → go_event (scene_of consts programs) t.number p old t.mind.thought i (inode_in consts s) d
       action rules ≡ turned_to new (heard action rules) (turn_of o)
   goes_event programs action rules =
       let who = who_at t.number p t.mind.thought.mind in
-      ap (λ (x : Option Told). turned_to (state_on old i (inode_in frame s) who d x)
-      (hear_told (mode_in frame) p t.mind.thought (length (journal_at old i)) action rules x)
+      ap (λ (x : Option Told). turned_to (state_on old i (inode_in consts s) who d x)
+      (hear_told (mode_in consts) p t.mind.thought (length (journal_at old i)) action rules x)
       (turn_of x)) outcome_is
-      ∙ ap (λ (k : ℕ). turned_to (state_on old i (inode_in frame s) who d o)
-      (hear_told (mode_in frame) p t.mind.thought k action rules o) (turn_of o))
+      ∙ ap (λ (k : ℕ). turned_to (state_on old i (inode_in consts s) who d o)
+      (hear_told (mode_in consts) p t.mind.thought k action rules o) (turn_of o))
       (ap length journal_is)
       ∙ ap (λ (x : State). turned_to x (heard action rules) (turn_of o)) (sym e.state)
 
   -- the turn of a step that does this deed
   goes_does : step_at p t.mind.thought.mind ≡ Some (Does i d) → (programs : List Program)
-      → go (scene_of frame programs) t.number p old t.mind.thought
+      → go (scene_of consts programs) t.number p old t.mind.thought
       ≡ turned_to new (heard no_action 0) (turn_of o)
   goes_does st programs =
-      let scene = scene_of frame programs in
+      let scene = scene_of consts programs in
       ap (go_step scene t.number p old t.mind.thought) st
       ∙ ap (λ (x : Option Station). go_does scene t.number p old t.mind.thought i x d)
-      (get_map (station_of frame) frame.sites i s there)
+      (get_map (station_of consts) consts.sites i s there)
       ∙ goes_event programs no_action 0
 
 -- ---- a deed that was done, was blocked, or ran out of memory
@@ -86,15 +86,15 @@ answer_same a place e f =
       rules = 0;
     }) (sym f)
 
-pub does_tells : (frame : Frame) (t : Tasked) (i : ℕ) (s : Site) (d : Deed) (old new : State)
-    (passes : PassesValue) (g : Gathered) (a : Answered)
+pub does_tells : (consts : WorldConsts) (t : Tasked) (i : ℕ) (s : Site) (d : Deed) (old new : State)
+    (passes : PassesValue) (g : HashState) (a : Answered)
     → step_at t.mind.program t.mind.thought.mind ≡ Some (Does i d)
-    → slice_get frame.sites i ≡ Some s
-    → (e : EventOn frame i s (who_at t.number t.mind.program t.mind.thought.mind) d old new
-    t.passes passes t.gathered g (Some a.told))
-    → Some a.told ≡ outcome (inode_in frame s) old.list d (past e.journal)
-    → IsPlacedAt (length e.journal) (Some a) → Tells frame t old new passes g a
-does_tells frame t i s d old new passes g a st there e tells at =
+    → slice_get consts.sites i ≡ Some s
+    → (e : EventOn consts i s (who_at t.number t.mind.program t.mind.thought.mind) d old new
+    t.passes passes t.hash_state g (Some a.told))
+    → Some a.told ≡ outcome (inode_in consts s) old.list d (past e.journal)
+    → IsPlacedAt (length e.journal) (Some a) → Tells consts t old new passes g a
+does_tells consts t i s d old new passes g a st there e tells at =
     let same : plain_answer (length e.journal) a.told ≡ answer_of a 0 =
     answer_same a (length e.journal) at.0 at.1 in
     record {
@@ -102,38 +102,38 @@ does_tells frame t i s d old new passes g a st there e tells at =
       checked = ap (λ (x : Option Action). unwrap_or x t.mind.checked) at.1
           ∙ sym (ap (λ (z : Option Step). action_by z (answer_of a 0) t.mind.checked) st);
       plays = λ h mind x hd. subst (λ (b : Answer).
-          HasPlayed frame (task_after t mind passes g) (b ∷ h)) same
-          (event_is_played frame t h i s d a.told old new passes g mind x st there e tells
-          (subst (λ (b : Answer). HasHeard frame t b mind) (sym same) hd));
-      goes = λ programs. goes_does frame t i s d old new passes g (Some a.told) e there tells st
+          HasPlayed consts (task_after t mind passes g) (b ∷ h)) same
+          (event_is_played consts t h i s d a.told old new passes g mind x st there e tells
+          (subst (λ (b : Answer). HasHeard consts t b mind) (sym same) hd));
+      goes = λ programs. goes_does consts t i s d old new passes g (Some a.told) e there tells st
           programs
           ∙ ap (λ (b : Answer). turned_to new
-          (hear (mode_in frame) t.mind.program t.mind.thought b) turns.Moved) same;
+          (hear (mode_in consts) t.mind.program t.mind.thought b) turns.Moved) same;
     }
 
-pub does_blocks : (frame : Frame) (t : Tasked) (i : ℕ) (s : Site) (d : Deed) (old new : State)
-    (passes : PassesValue) (g : Gathered)
+pub does_blocks : (consts : WorldConsts) (t : Tasked) (i : ℕ) (s : Site) (d : Deed)
+    (old new : State) (passes : PassesValue) (g : HashState)
     → step_at t.mind.program t.mind.thought.mind ≡ Some (Does i d)
-    → slice_get frame.sites i ≡ Some s
-    → (e : EventOn frame i s (who_at t.number t.mind.program t.mind.thought.mind) d old new
-    t.passes passes t.gathered g None)
-    → None ≡ outcome (inode_in frame s) old.list d (past e.journal)
-    → Stops frame t old new passes g turns.Blocked
-does_blocks frame t i s d old new passes g st there e tells = record {
-  plays = λ h x. none_is_played frame t h i s d old new passes g x
+    → slice_get consts.sites i ≡ Some s
+    → (e : EventOn consts i s (who_at t.number t.mind.program t.mind.thought.mind) d old new
+    t.passes passes t.hash_state g None)
+    → None ≡ outcome (inode_in consts s) old.list d (past e.journal)
+    → Stops consts t old new passes g turns.Blocked
+does_blocks consts t i s d old new passes g st there e tells = record {
+  plays = λ h x. none_is_played consts t h i s d old new passes g x
       (subst (IsStepFor i d) (sym st) (refl, refl)) there e;
-  goes = goes_does frame t i s d old new passes g None e there tells st;
+  goes = goes_does consts t i s d old new passes g None e there tells st;
 }
 
-pub does_fails : (frame : Frame) (t : Tasked) (i : ℕ) (s : Site) (d : Deed) (old new : State)
-    (passes : PassesValue) (g : Gathered)
+pub does_fails : (consts : WorldConsts) (t : Tasked) (i : ℕ) (s : Site) (d : Deed) (old new : State)
+    (passes : PassesValue) (g : HashState)
     → step_at t.mind.program t.mind.thought.mind ≡ Some (Does i d)
-    → slice_get frame.sites i ≡ Some s
-    → EventOn frame i s (who_at t.number t.mind.program t.mind.thought.mind) d old new
-    t.passes passes t.gathered g None
-    → new ≡ old → Fails frame t old new passes g
-does_fails frame t i s d old new passes g st there e same = record {
-  plays = λ h x. none_is_played frame t h i s d old new passes g x
+    → slice_get consts.sites i ≡ Some s
+    → EventOn consts i s (who_at t.number t.mind.program t.mind.thought.mind) d old new
+    t.passes passes t.hash_state g None
+    → new ≡ old → Fails consts t old new passes g
+does_fails consts t i s d old new passes g st there e same = record {
+  plays = λ h x. none_is_played consts t h i s d old new passes g x
       (subst (IsStepFor i d) (sym st) (refl, refl)) there e;
   state = same;
 }

@@ -25,24 +25,24 @@ use Rattle.inode_meta.specs.declared.step.Who.{Who}
 use Rattle.inode_events.specs.pages.Content.{piece_at}
 use Rattle.task_steps.specs.Hashed.{HasGathered}
 use Rattle.world_model.specs.Tasks.{Collects, HasSummed, HasTakenIn}
-use Rattle.world_model.specs.declared.gathered.Gathered.{Gathered}
-use Rattle.world_model.specs.declared.gathered.Gathered.TheVariants as gathered
+use Rattle.world_model.specs.declared.hash_state.HashState.{HashState}
+use Rattle.world_model.specs.declared.hash_state.HashState.TheVariants as hash_state
 use Rattle.world_model.specs.Due.{HashesAfter}
 
 -- what was hashed depends only on the algorithm and the bytes
-taken_same : (g : Gathered) (a b : Collection) → a.algo ≡ b.algo → a.bytes ≡ b.bytes
+taken_same : (g : HashState) (a b : Collection) → a.algo ≡ b.algo → a.bytes ≡ b.bytes
     → HasTakenIn g a → HasTakenIn g b
-taken_same gathered.Nothing a b x y h = h
-taken_same (gathered.Running hashing) a b x y h =
+taken_same hash_state.Idle a b x y h = h
+taken_same (hash_state.Running hashing) a b x y h =
     subst (λ (m : List ℕ). HasHashed hashing b.algo m) y
     (subst (λ (k : Algo). HasHashed hashing k a.bytes) x h)
-taken_same (gathered.Sums chosen sha1) a b x y h = h
+taken_same (hash_state.Done chosen sha1) a b x y h = h
 
-summed_same : (g : Gathered) (a b : Collection) → a.algo ≡ b.algo → a.bytes ≡ b.bytes
+summed_same : (g : HashState) (a b : Collection) → a.algo ≡ b.algo → a.bytes ≡ b.bytes
     → HasSummed g a → HasSummed g b
-summed_same gathered.Nothing a b x y h = h
-summed_same (gathered.Running hashing) a b x y h = h
-summed_same (gathered.Sums chosen sha1) a b x y h = (
+summed_same hash_state.Idle a b x y h = h
+summed_same (hash_state.Running hashing) a b x y h = h
+summed_same (hash_state.Done chosen sha1) a b x y h = (
   h.0 ∙ ap (λ (m : List ℕ). digest_of a.algo m) y ∙ ap (λ (k : Algo). digest_of k b.bytes) x,
   h.1 ∙ ap (λ (m : List ℕ). digest_of Sha1 m) y,
 )
@@ -54,7 +54,7 @@ after : (list list2 : List Event) (who : Who) (d : Deed) (t : Told)
 after list list2 who d t e =
     ap past e ∙ past_more list (record { who = who; deed = d; told = t })
 
-module _ (inode : Inode) (list : List Event) (g g2 : Gathered) (page : List ℕ)
+module _ (inode : Inode) (list : List Event) (g g2 : HashState) (page : List ℕ)
     (c : Collects inode (past list) (HasTakenIn g))
     (taken : (k : Collection) → collecting inode (past list) ≡ Some k
     → page ≡ piece_at (content (past list)) k.pieces) where
@@ -119,7 +119,7 @@ module _ (inode : Inode) (list : List Event) (g g2 : Gathered) (page : List ℕ)
 pub take_left : (inode : Inode) (list list2 : List Event) (file : ℕ) (who : Who) (h : Hashing)
     (algo : Algo) → list2 ≡ list ++ made who (deed.Take file) (Some told.Begun)
     → algo ≡ chosen_algo inode (past list) → HasHashed h algo []
-    → HashesAfter inode list2 (gathered.Running h) (deed.Take file) told.Begun
+    → HashesAfter inode list2 (hash_state.Running h) (deed.Take file) told.Begun
 take_left inode list list2 file who h algo e a x = record {
   collection = collection_of file false (chosen_algo inode (past list)) (length (past list));
   is_open = ap (collecting inode) (after list list2 who (deed.Take file) told.Begun e);
@@ -129,7 +129,7 @@ take_left inode list list2 file who h algo e a x = record {
 pub close_left : (inode : Inode) (list list2 : List Event) (file : ℕ) (who : Who) (h : Hashing)
     (algo : Algo) → list2 ≡ list ++ made who (deed.CloseTake file) (Some told.Begun)
     → algo ≡ inode.settings.hash → HasHashed h algo []
-    → HashesAfter inode list2 (gathered.Running h) (deed.CloseTake file) told.Begun
+    → HashesAfter inode list2 (hash_state.Running h) (deed.CloseTake file) told.Begun
 close_left inode list list2 file who h algo e a x = record {
   collection = collection_of file true inode.settings.hash (length (past list));
   is_open = ap (collecting inode) (after list list2 who (deed.CloseTake file) told.Begun e);
@@ -139,7 +139,7 @@ close_left inode list list2 file who h algo e a x = record {
 -- ---- a collection ends
 
 -- the digests are those of the bytes that the collection took
-pub sums_of : (inode : Inode) (p : List Event) (g : Gathered) (sums : Digest × Digest)
+pub sums_of : (inode : Inode) (p : List Event) (g : HashState) (sums : Digest × Digest)
     → Collects inode p (HasSummed g)
     → ((c : Collection) → HasSummed g c → Some sums ≡ Some (digest_from c, digest_of Sha1 c.bytes))
     → HasSums inode p sums

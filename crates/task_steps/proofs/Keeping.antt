@@ -9,8 +9,8 @@ use Rattle.inode_events.specs.declared.told.Event.{Event}
 use Rattle.policy_cell.specs.declared.cell.RuleEntry.{RuleEntry}
 use Rattle.grow_list.specs.Shown.{Passed}
 use Rattle.task_steps.specs.laws_of_runs.Stations.{StationRules}
-use Rattle.task_steps.specs.Looking.{AreKept, IsKept, KeptAt}
-use Rattle.task_steps.specs.worlds.Frame.{Frame, Site}
+use Rattle.task_steps.specs.Looking.{AreSameStations, IsSameStation, SameAt}
+use Rattle.task_steps.specs.worlds.WorldConsts.{Site, WorldConsts}
 use Rattle.task_steps.specs.worlds.World.{IsStation, StationValue, journal_of, site_of}
 
 -- lists of the same length with the same element at each place are equal
@@ -33,18 +33,19 @@ map_get f (x ∷ xs) (suc k) b h = map_get f xs k b h
 
 -- a function that a look preserves for each inode is preserved for all
 pub kept_map : {B : Type 0} (f : StationValue → B) (old new : List StationValue)
-    → AreKept old new → ((a b : StationValue) → IsKept a b → f b ≡ f a) → map f new ≡ map f old
+    → AreSameStations old new → ((a b : StationValue) → IsSameStation a b → f b ≡ f a)
+    → map f new ≡ map f old
 kept_map f old new k e =
     same_lists (map f new) (map f old)
     (length-map new f ∙ k.even ∙ sym (length-map old f))
     (λ i x y g h.
     let a = map_get f new i x g in
     let b = map_get f old i y h in
-    let c : KeptAt old i a.0 = k.each i a.0 a.1.0 in
+    let c : SameAt old i a.0 = k.each i a.0 a.1.0 in
     let same : c.before ≡ b.0 = same_Some c.before b.0 (sym c.at ∙ b.1.0) in
     sym a.1.1 ∙ e c.before a.0 c.kept ∙ ap f same ∙ b.1.1)
 
-pub site_kept : (a b : StationValue) → IsKept a b → site_of b ≡ site_of a
+pub site_kept : (a b : StationValue) → IsSameStation a b → site_of b ≡ site_of a
 site_kept a b k =
     ap (λ (x : Inode). record {
       path = x.path;
@@ -65,34 +66,35 @@ site_kept a b k =
       journal = x;
     }) k.cell.journal
 
-pub station_kept : (frame : Frame) (i : ℕ) (a b : StationValue) → IsKept a b → IsStation frame i a
-    → IsStation frame i b
-station_kept frame i a b k s = record {
+pub station_kept : (consts : WorldConsts) (i : ℕ) (a b : StationValue) → IsSameStation a b
+    → IsStation consts i a → IsStation consts i b
+station_kept consts i a b k s = record {
   site = s.site ∙ ap (λ (x : Site). Some x) (sym (site_kept a b k));
   settings = ap (λ (x : Inode). x.settings) k.cell.inode ∙ s.settings;
-  place = subst (λ (n : ℕ). n < length frame.supers) (sym k.place) s.place;
+  place = subst (λ (n : ℕ). n < length consts.supers) (sym k.place) s.place;
   callers = k.cell.callers ∙ s.callers;
   book = k.cell.book ∙ s.book;
   booked = k.cell.booked ∙ s.booked;
   rules_name = ap (λ (q : Passed RuleEntry). q.name) k.rules ∙ s.rules_name;
   rules_number = ap (λ (q : Passed RuleEntry). q.number) k.rules ∙ s.rules_number;
   rules_mine = ap (λ (q : Passed RuleEntry). q.mine) k.rules ∙ s.rules_mine;
-  rise = subst (λ (q : Passed RuleEntry). StationRules (length frame.base) b.cell.list q.seen)
+  rise = subst (λ (q : Passed RuleEntry). StationRules (length consts.base) b.cell.list q.seen)
       (sym k.rules)
-      (subst (λ (xs : List Event). StationRules (length frame.base) xs a.rules.seen) (sym k.list)
+      (subst (λ (xs : List Event). StationRules (length consts.base) xs a.rules.seen) (sym k.list)
       s.rise);
 }
 
-pub stations_kept : (frame : Frame) (old new : List StationValue) → AreKept old new
-    → ((i : ℕ) (s : StationValue) → slice_get old i ≡ Some s → IsStation frame i s)
-    → (i : ℕ) (s : StationValue) → slice_get new i ≡ Some s → IsStation frame i s
-stations_kept frame old new k f i s h =
-    let c : KeptAt old i s = k.each i s h in
-    station_kept frame i c.before s c.kept (f i c.before c.at)
+pub stations_kept : (consts : WorldConsts) (old new : List StationValue) → AreSameStations old new
+    → ((i : ℕ) (s : StationValue) → slice_get old i ≡ Some s → IsStation consts i s)
+    → (i : ℕ) (s : StationValue) → slice_get new i ≡ Some s → IsStation consts i s
+stations_kept consts old new k f i s h =
+    let c : SameAt old i s = k.each i s h in
+    station_kept consts i c.before s c.kept (f i c.before c.at)
 
-pub journals_kept : (old new : List StationValue) → AreKept old new
+pub journals_kept : (old new : List StationValue) → AreSameStations old new
     → map journal_of new ≡ map journal_of old
 journals_kept old new k = kept_map journal_of old new k (λ a b c. c.list)
 
-pub sites_kept : (old new : List StationValue) → AreKept old new → map site_of new ≡ map site_of old
+pub sites_kept : (old new : List StationValue) → AreSameStations old new
+    → map site_of new ≡ map site_of old
 sites_kept old new k = kept_map site_of old new k site_kept

@@ -24,11 +24,11 @@ use Rattle.task_steps.proofs.laws_of_runs.Risen.{law_rise_by_outcome}
 use Rattle.task_steps.specs.laws_of_runs.Stations.{CountsAll, StationRules}
 use Rattle.run_model.specs.Turns.{State, state_on}
 use Rattle.task_steps.specs.Acting.{EventIn, StationDid}
-use Rattle.task_steps.specs.Parts.{AreParts, frame_by, state_by}
-use Rattle.task_steps.specs.worlds.Frame.{Frame, Site, boot_in, inode_in}
+use Rattle.task_steps.specs.Parts.{AreParts, consts_by, state_by}
+use Rattle.task_steps.specs.worlds.WorldConsts.{Site, WorldConsts, boot_in, inode_in}
 use Rattle.task_steps.specs.worlds.Tasks.{PassesValue}
 use Rattle.task_steps.specs.worlds.World.{IsStation, StationValue, journal_of, site_of}
-use Rattle.task_steps.specs.worlds.declared.gathered.Gathered.{Gathered}
+use Rattle.task_steps.specs.worlds.declared.hash_state.HashState.{HashState}
 use Rattle.task_steps.proofs.about_worlds.Eventing.{get_map}
 use Rattle.task_steps.specs.worlds.Events.{EventOn}
 use Rattle.task_steps.specs.worlds.Due.{HashesTold}
@@ -71,12 +71,12 @@ listed_first (x ∷ xs) b (Some e) (Some t) h =
 module _ (settings : Settings) (stations : List StationValue) (supers : List Super)
     (book book2 : Grown Entry) (sems : Grown Event) (rules : PolicyValue) (tasks i : ℕ)
     (st st2 : StationValue) (pass pass2 : Passed Event) (listed listed2 : Passed Entry) (who : Who)
-    (d : Deed) (g g2 : Gathered) (o : Option Told)
-    (parts : AreParts (frame_by settings stations supers book sems rules tasks) stations book sems
+    (d : Deed) (g g2 : HashState) (o : Option Told)
+    (parts : AreParts (consts_by settings stations supers book sems rules tasks) stations book sems
     rules) (there : slice_get stations i ≡ Some st)
     (did : StationDid st st2 book book2 pass pass2 listed listed2 who d g g2 o) where
-  abbrev F : Frame
-  F = frame_by settings stations supers book sems rules tasks
+  abbrev F : WorldConsts
+  F = consts_by settings stations supers book sems rules tasks
 
   abbrev stations2 : List StationValue
   stations2 = slice_set stations i st2
@@ -109,14 +109,14 @@ module _ (settings : Settings) (stations : List StationValue) (supers : List Sup
       }) did.leaves.same.journal
 
   -- the constants stay the same
-  pub frame_same : frame_by settings stations2 supers book2 sems rules tasks ≡ F
-  frame_same =
+  pub consts_same : consts_by settings stations2 supers book2 sems rules tasks ≡ F
+  consts_same =
       ap (λ (xs : List Site). record F { boot = boot_in book2.list; sites = xs; book = book2.name })
       (map_same site_of stations i st st2 there site_same)
       ∙ ap (λ (e : Entry). record F { boot = e; book = book2.name }) (ap boot_in first.1)
       ∙ ap (λ (x : ListName). record F { book = x }) did.book_name
 
-  -- the inode still belongs to the frame
+  -- the inode still belongs to the constants
   pub station_same : CountsAll (length F.base + length st.rules.seen) d → IsStation F i st2
   station_same counts =
       let old : IsStation F i st = parts.stations i st there in
@@ -139,7 +139,7 @@ module _ (settings : Settings) (stations : List StationValue) (supers : List Sup
             (sym did.leaves.journal) rise);
       }
 
-  -- all parts still belong to the frame
+  -- all parts still belong to the constants
   pub parts_same : CountsAll (length F.base + length st.rules.seen) d
       → AreParts F stations2 book2 sems rules
   parts_same counts = record {
@@ -161,10 +161,10 @@ module _ (settings : Settings) (stations : List StationValue) (supers : List Sup
     at j s (inr x) = parts.stations j s x.1
 
   pub world_same : CountsAll (length F.base + length st.rules.seen) d
-      → AreParts (frame_by settings stations2 supers book2 sems rules tasks) stations2 book2 sems
+      → AreParts (consts_by settings stations2 supers book2 sems rules tasks) stations2 book2 sems
       rules
   world_same counts =
-      subst (λ (x : Frame). AreParts x stations2 book2 sems rules) (sym frame_same)
+      subst (λ (x : WorldConsts). AreParts x stations2 book2 sems rules) (sym consts_same)
       (parts_same counts)
 
   abbrev S : State
@@ -234,7 +234,7 @@ module _ (settings : Settings) (stations : List StationValue) (supers : List Sup
         did.hashes);
   }
 
-  -- the effect of the deed at the frame's own site of this number
+  -- the effect of the deed at the own site of the constants of this number
   pub event_in : (passes passes2 : PassesValue) → slice_get passes.inodes i ≡ Some pass
       → passes2.inodes ≡ slice_set passes.inodes i pass2 → passes2.sems ≡ passes.sems
       → Adds passes.rules passes2.rules [] → IsPrefix passes.rules.seen passes2.rules.seen

@@ -15,8 +15,8 @@ use Rattle.policy_rules.specs.declared.access.Super.{Super}
 use Rattle.task_steps.proofs.laws_of_runs.Owned.{set_parts}
 use Rattle.task_steps.proofs.laws_of_runs.Risen.{law_rise_by_look}
 use Rattle.task_steps.proofs.Lists.{map_same}
-use Rattle.task_steps.specs.Parts.{AreParts, frame_by}
-use Rattle.task_steps.specs.worlds.Frame.{Frame, Site}
+use Rattle.task_steps.specs.Parts.{AreParts, consts_by}
+use Rattle.task_steps.specs.worlds.WorldConsts.{Site, WorldConsts}
 use Rattle.task_steps.specs.worlds.World.{AreRulesOf, IsStation, StationValue, site_of}
 
 -- the number of rules in force is that of the script's and the appended ones
@@ -28,13 +28,13 @@ force_count p =
 module _ (settings : Settings) (stations : List StationValue) (supers : List Super)
     (book : Grown Entry) (sems : Grown Event) (rules rules2 : PolicyValue) (tasks i : ℕ)
     (st : StationValue) (q : Passed RuleEntry)
-    (parts : AreParts (frame_by settings stations supers book sems rules tasks) stations book sems
+    (parts : AreParts (consts_by settings stations supers book sems rules tasks) stations book sems
     rules) (there : slice_get stations i ≡ Some st)
     (base : rules2.base ≡ rules.base) (list : IsSameList rules.appended rules2.appended)
     (name : q.name ≡ st.rules.name) (number : q.number ≡ st.rules.number)
     (mine : q.mine ≡ st.rules.mine) (more : IsPrefix st.rules.seen q.seen) where
-  abbrev F : Frame
-  F = frame_by settings stations supers book sems rules tasks
+  abbrev F : WorldConsts
+  F = consts_by settings stations supers book sems rules tasks
 
   abbrev st2 : StationValue
   st2 = record st { rules = q }
@@ -42,8 +42,8 @@ module _ (settings : Settings) (stations : List StationValue) (supers : List Sup
   abbrev stations2 : List StationValue
   stations2 = slice_set stations i st2
 
-  pub frame_looked : frame_by settings stations2 supers book sems rules2 tasks ≡ F
-  frame_looked =
+  pub consts_looked : consts_by settings stations2 supers book sems rules2 tasks ≡ F
+  consts_looked =
       ap (λ (xs : List Site). record F {
         sites = xs;
         base = rules2.base;
@@ -77,10 +77,10 @@ module _ (settings : Settings) (stations : List StationValue) (supers : List Sup
         ∙ ap (λ (xs : List RuleEntry). map (λ (r : RuleEntry). r.who.task) xs) (sym list.list);
   }
 
-  pub parts_looked : AreParts (frame_by settings stations2 supers book sems rules2 tasks) stations2
+  pub parts_looked : AreParts (consts_by settings stations2 supers book sems rules2 tasks) stations2
       book sems rules2
   parts_looked =
-      subst (λ (x : Frame). AreParts x stations2 book sems rules2) (sym frame_looked)
+      subst (λ (x : WorldConsts). AreParts x stations2 book sems rules2) (sym consts_looked)
       (record {
         stations = λ j s h.
             at j s (set_parts stations i j st2 s h (slice_get_within stations i st there));

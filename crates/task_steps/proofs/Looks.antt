@@ -7,9 +7,9 @@ use Rattle.grow_list.specs.Shown.{Passed}
 use Rattle.inode_events.specs.declared.told.Event.{Event}
 use Rattle.task_steps.proofs.laws_of_runs.Owned.{set_parts}
 use Rattle.task_steps.specs.worlds.World.{StationValue}
-use Rattle.task_steps.specs.Looking.{HaveLooked, HaveLookedTo, IsKept, IsLooked, KeptAt, LookedAt}
+use Rattle.task_steps.specs.Looking.{HaveLooked, HaveLookedTo, IsLooked, IsSameStation, LookedAt, SameAt}
 
-same_kept : (s : StationValue) → IsKept s s
+same_kept : (s : StationValue) → IsSameStation s s
 same_kept s = record {
   cell = record { inode = refl; journal = refl; callers = refl; book = refl; booked = refl };
   list = refl;
@@ -43,7 +43,8 @@ set_after (y ∷ ys) (suc n) (suc i) x l = set_after ys n i x (omega arith)
 pub looks_more : (n : ℕ) (stations stations2 : List StationValue) (old new : List (Passed Event))
     (s s2 : StationValue) (q q2 : Passed Event)
     → HaveLookedTo n stations stations2 old new
-    → slice_get stations2 n ≡ Some s → slice_get new n ≡ Some q → IsKept s s2 → IsLooked s q q2
+    → slice_get stations2 n ≡ Some s → slice_get new n ≡ Some q → IsSameStation s s2
+    → IsLooked s q q2
     → HaveLookedTo (n + 1) stations (slice_set stations2 n s2) old (slice_set new n q2)
 looks_more n stations stations2 old new s s2 q q2 h at there kept looked = record {
   kept = record {
@@ -62,11 +63,11 @@ looks_more n stations stations2 old new s s2 q q2 h at there kept looked = recor
 
   kept_at : (i : ℕ) (z : StationValue)
       → ((i ≡ n) × (z ≡ s2)) ⊎ ((n ≢ i) × (slice_get stations2 i ≡ Some z))
-      → KeptAt stations i z
+      → SameAt stations i z
   kept_at i z (inl x) = record {
     before = s;
     at = ap (slice_get stations) x.0 ∙ was;
-    kept = subst (IsKept s) (sym x.1) kept;
+    kept = subst (IsSameStation s) (sym x.1) kept;
   }
   kept_at i z (inr x) = h.kept.each i z x.1
 

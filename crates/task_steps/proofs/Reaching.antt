@@ -14,9 +14,9 @@ use Rattle.task_steps.proofs.Going.{does_blocks, does_fails, does_tells}
 use Rattle.task_steps.specs.Acting.{told_in}
 use Rattle.task_steps.specs.Turning.{Reaches, Stops, reached_by}
 use Rattle.task_steps.specs.declared.answers.Answered.{Answered}
-use Rattle.task_steps.specs.worlds.Frame.{Frame, Site, inode_in, scene_of, station_of}
+use Rattle.task_steps.specs.worlds.WorldConsts.{Site, WorldConsts, inode_in, scene_of, station_of}
 use Rattle.task_steps.specs.worlds.Tasks.{HasPlayed, PassesValue, Tasked}
-use Rattle.task_steps.specs.worlds.declared.gathered.Gathered.{Gathered}
+use Rattle.task_steps.specs.worlds.declared.hash_state.HashState.{HashState}
 use Rattle.task_steps.specs.Acting.{EventIn, IsSaid}
 use Rattle.task_steps.specs.worlds.Plays.{task_left}
 
@@ -27,63 +27,64 @@ get_map_none f (x ∷ xs) zero h = absurd (cc)
 get_map_none f (x ∷ xs) (suc k) h = get_map_none f xs k h
 
 -- a deed without an event leaves the lists as they were
-pub unmoved : (frame : Frame) (i : ℕ) (s : Site) (who : Who) (d : Deed) (old : State)
-    → state_on old i (inode_in frame s) who d None ≡ old
-unmoved frame i s who d old =
+pub unmoved : (consts : WorldConsts) (i : ℕ) (s : Site) (who : Who) (d : Deed) (old : State)
+    → state_on old i (inode_in consts s) who d None ≡ old
+unmoved consts i s who d old =
     ap (λ (js : List (List Event)). record old { journals = js })
     (ap (λ (xs : List Event). slice_set old.journals i xs) (append-nil (get_or old.journals i []))
     ∙ set-get_or old.journals i [])
 
 -- with equal passes and hashing the task is the same
-pub same_left : (frame : Frame) (t : Tasked) (passes : PassesValue) (g : Gathered)
-    → passes ≡ t.passes → g ≡ t.gathered
-    → (h : List Answer) → HasPlayed frame t h → HasPlayed frame (task_left t passes g) h
-same_left frame t passes g e f h x =
-    subst (λ (p : PassesValue). HasPlayed frame (task_left t p g) h) (sym e)
-    (subst (λ (k : Gathered). HasPlayed frame (task_left t t.passes k) h) (sym f) x)
+pub same_left : (consts : WorldConsts) (t : Tasked) (passes : PassesValue) (g : HashState)
+    → passes ≡ t.passes → g ≡ t.hash_state
+    → (h : List Answer) → HasPlayed consts t h → HasPlayed consts (task_left t passes g) h
+same_left consts t passes g e f h x =
+    subst (λ (p : PassesValue). HasPlayed consts (task_left t p g) h) (sym e)
+    (subst (λ (k : HashState). HasPlayed consts (task_left t t.passes k) h) (sym f) x)
 
-module _ (frame : Frame) (t : Tasked) (i : ℕ) (d : Deed) (old new : State) (passes : PassesValue)
-    (g : Gathered) (st : step_at t.mind.program t.mind.thought.mind ≡ Some (Does i d)) where
+module _ (consts : WorldConsts) (t : Tasked) (i : ℕ) (d : Deed) (old new : State)
+    (passes : PassesValue)
+    (g : HashState) (st : step_at t.mind.program t.mind.thought.mind ≡ Some (Does i d)) where
   abbrev who : Who
   who = who_at t.number t.mind.program t.mind.thought.mind
 
   -- on an inode that isn't there the turn is blocked
-  none_stops : slice_get frame.sites i ≡ None → new ≡ old → passes ≡ t.passes → g ≡ t.gathered
-      → Stops frame t old new passes g turns.Blocked
+  none_stops : slice_get consts.sites i ≡ None → new ≡ old → passes ≡ t.passes → g ≡ t.hash_state
+      → Stops consts t old new passes g turns.Blocked
   none_stops there e f k = record {
-    plays = same_left frame t passes g f k;
+    plays = same_left consts t passes g f k;
     goes = λ programs.
-        let scene = scene_of frame programs in
+        let scene = scene_of consts programs in
         ap (go_step scene t.number t.mind.program old t.mind.thought) st
         ∙ ap (λ (x : Option Station).
         go_does scene t.number t.mind.program old t.mind.thought i x d)
-        (get_map_none (station_of frame) frame.sites i there)
+        (get_map_none (station_of consts) consts.sites i there)
         ∙ ap (λ (x : State). record { state = x; thought = t.mind.thought; turn = turns.Blocked })
         (sym e);
   }
 
   by_site : {E : Type 0} (r : Result (Option Answered) E) (o : Option Site)
-      → slice_get frame.sites i ≡ o
-      → EventIn frame i o who d old new t.passes passes t.gathered g (told_in r)
-      → IfOk r (IsSaid frame i d old) → Reaches frame t old new passes g (reached_by r)
+      → slice_get consts.sites i ≡ o
+      → EventIn consts i o who d old new t.passes passes t.hash_state g (told_in r)
+      → IfOk r (IsSaid consts i d old) → Reaches consts t old new passes g (reached_by r)
   by_site (Ok (Some a)) None there e x = absurd (no_told a e.told) where
     no_told : (b : Answered) → Some b.told ≡ None → ⊥
     no_told b q = cc
-  by_site (Ok None) None there e x = none_stops there e.state e.left e.gathered
+  by_site (Ok None) None there e x = none_stops there e.state e.left e.hash_state
   by_site (Err y) None there e x =
-      record { plays = same_left frame t passes g e.left e.gathered; state = e.state }
+      record { plays = same_left consts t passes g e.left e.hash_state; state = e.state }
   by_site (Ok (Some a)) (Some s) there e x =
       let said = x s e.journal there e.journal_at in
-      does_tells frame t i s d old new passes g a st there e said.0 said.1
+      does_tells consts t i s d old new passes g a st there e said.0 said.1
   by_site (Ok None) (Some s) there e x =
       let said = x s e.journal there e.journal_at in
-      does_blocks frame t i s d old new passes g st there e said.0
+      does_blocks consts t i s d old new passes g st there e said.0
   by_site (Err y) (Some s) there e x =
-      does_fails frame t i s d old new passes g st there e
-      (e.state ∙ unmoved frame i s who d old)
+      does_fails consts t i s d old new passes g st there e
+      (e.state ∙ unmoved consts i s who d old)
 
   pub does_reaches : {E : Type 0} (r : Result (Option Answered) E)
-      → EventIn frame i (slice_get frame.sites i) who d old new t.passes passes t.gathered g
+      → EventIn consts i (slice_get consts.sites i) who d old new t.passes passes t.hash_state g
       (told_in r)
-      → IfOk r (IsSaid frame i d old) → Reaches frame t old new passes g (reached_by r)
-  does_reaches r e x = by_site r (slice_get frame.sites i) refl e x
+      → IfOk r (IsSaid consts i d old) → Reaches consts t old new passes g (reached_by r)
+  does_reaches r e x = by_site r (slice_get consts.sites i) refl e x

@@ -32,7 +32,7 @@ use Rattle.task_steps.specs.Acting.{IsPlacedAt, told_in, told_of}
 use Rattle.task_steps.specs.Sharing.{AppendsTo, SignalsOn}
 use Rattle.task_steps.specs.Turning.{Reaches, Tells, answer_of, reached_by, turned_to}
 use Rattle.task_steps.specs.declared.answers.Answered.{Answered}
-use Rattle.task_steps.specs.worlds.Frame.{Frame, mode_in, scene_of}
+use Rattle.task_steps.specs.worlds.WorldConsts.{WorldConsts, mode_in, scene_of}
 use Rattle.task_steps.specs.worlds.Tasks.{PassesValue, Tasked, action_by}
 use Rattle.task_steps.proofs.about_worlds.Eventing.{adds_none}
 use Rattle.task_steps.proofs.about_worlds.Quieting.{quiet_is_left, quiet_is_played}
@@ -59,7 +59,7 @@ is_done before (deed.Wait sem) u e = at (nat_lt 0 (left sem before)) e where
   at false f = absurd (cc)
 is_done before d u e = absurd (cc)
 
-module _ (frame : Frame) (t : Tasked) where
+module _ (consts : WorldConsts) (t : Tasked) where
   abbrev due : Option Step
   due = step_at t.mind.program t.mind.thought.mind
 
@@ -69,28 +69,28 @@ module _ (frame : Frame) (t : Tasked) where
   -- a quiet step that was made, by its answer
   quiet_tells : (old new : State) (passes : PassesValue) (a : Answered) (place : ℕ)
       → IsQuiet due → a.place ≡ place → a.action ≡ None
-      → QuietPasses frame t passes (plain_answer place a.told)
-      → ((programs : List Program) → go_step (scene_of frame programs) t.number t.mind.program old
+      → QuietPasses consts t passes (plain_answer place a.told)
+      → ((programs : List Program) → go_step (scene_of consts programs) t.number t.mind.program old
       t.mind.thought due ≡ turned_to new
-      (hear (mode_in frame) t.mind.program t.mind.thought (plain_answer place a.told))
+      (hear (mode_in consts) t.mind.program t.mind.thought (plain_answer place a.told))
       turns.Moved)
-      → Tells frame t old new passes t.gathered a
+      → Tells consts t old new passes t.hash_state a
   quiet_tells old new passes a place quiet e f y goes =
       let same : plain_answer place a.told ≡ answer_of a 0 = answer_same a place e f in
       record {
         rules = 0;
         checked = checked_quiet t.mind.checked a due quiet f;
-        plays = λ h mind x hd. quiet_is_played frame t h (answer_of a 0) passes mind x quiet
-            (subst (λ (b : Answer). QuietPasses frame t passes b) same y) hd;
+        plays = λ h mind x hd. quiet_is_played consts t h (answer_of a 0) passes mind x quiet
+            (subst (λ (b : Answer). QuietPasses consts t passes b) same y) hd;
         goes = λ programs. goes programs
             ∙ ap (λ (b : Answer). turned_to new
-            (hear (mode_in frame) t.mind.program t.mind.thought b) turns.Moved) same;
+            (hear (mode_in consts) t.mind.program t.mind.thought b) turns.Moved) same;
       }
 
   -- a step that does nothing was made
   pub nothing_tells : (old : State) (a : Answered) → due ≡ Some Nothing → a.place ≡ 0
       → a.told ≡ told.Nothing → a.action ≡ None
-      → Tells frame t old old t.passes t.gathered a
+      → Tells consts t old old t.passes t.hash_state a
   nothing_tells old a st e k f =
       quiet_tells old old t.passes a 0 (subst IsQuiet (sym st) tt) e f
       (record {
@@ -103,20 +103,20 @@ module _ (frame : Frame) (t : Tasked) where
             (rule_in who o (plain_answer 0 a.told))) (sym st)
             (adds_none t.passes.rules t.passes.rules refl);
         rules_seen = prefix_refl t.passes.rules.seen;
-        plain = λ programs. subst (λ (o : Option Step). IsPlainStep (scene_of frame programs)
+        plain = λ programs. subst (λ (o : Option Step). IsPlainStep (scene_of consts programs)
             (seen_by t.passes.inodes t.passes.rules) o (plain_answer 0 a.told)) (sym st)
             (ap (plain_answer 0) k);
       })
       (λ programs.
-      ap (go_step (scene_of frame programs) t.number t.mind.program old t.mind.thought) st
+      ap (go_step (scene_of consts programs) t.number t.mind.program old t.mind.thought) st
       ∙ ap (λ (z : Told). turned_to old
-      (hear (mode_in frame) t.mind.program t.mind.thought (plain_answer 0 z)) turns.Moved) (sym k))
+      (hear (mode_in consts) t.mind.program t.mind.thought (plain_answer 0 z)) turns.Moved) (sym k))
 
   -- a post or a wait
   module _ (d : Deed) (old new : State) (passes : PassesValue) (st : due ≡ Some (Signals d)) where
     signals_quiet : (o : Option Told) → SignalsOn old new t.passes passes who d o → (u : Told)
         → o ≡ Some u → u ≡ told.Done
-        → QuietPasses frame t passes (plain_answer (length old.signals) u)
+        → QuietPasses consts t passes (plain_answer (length old.signals) u)
     signals_quiet o e u f k = record {
       inodes = ap (λ (q : PassesValue). q.inodes) e.others;
       book = ap (λ (q : PassesValue). q.book) e.others;
@@ -129,7 +129,7 @@ module _ (frame : Frame) (t : Tasked) where
           (adds_none t.passes.rules passes.rules (ap (λ (q : PassesValue). q.rules) e.others));
       rules_seen = subst (λ (q : Passed RuleEntry). IsPrefix t.passes.rules.seen q.seen)
           (sym (ap (λ (q : PassesValue). q.rules) e.others)) (prefix_refl t.passes.rules.seen);
-      plain = λ programs. subst (λ (z : Option Step). IsPlainStep (scene_of frame programs)
+      plain = λ programs. subst (λ (z : Option Step). IsPlainStep (scene_of consts programs)
           (seen_by passes.inodes passes.rules) z (plain_answer (length old.signals) u)) (sym st)
           (ap (plain_answer (length old.signals)) k);
     }
@@ -144,34 +144,34 @@ module _ (frame : Frame) (t : Tasked) where
 
     signals_go : (o : Option Told) → SignalsOn old new t.passes passes who d o
         → o ≡ semaphore_says (past old.signals) d → (programs : List Program)
-        → go_step (scene_of frame programs) t.number t.mind.program old t.mind.thought due
+        → go_step (scene_of consts programs) t.number t.mind.program old t.mind.thought due
         ≡ turned_to new
-        (hear_told (mode_in frame) t.mind.program t.mind.thought (length old.signals) no_action 0 o)
-        (turn_of o)
+        (hear_told (mode_in consts) t.mind.program t.mind.thought (length old.signals)
+        no_action 0 o) (turn_of o)
     signals_go o e f programs =
-        ap (go_step (scene_of frame programs) t.number t.mind.program old t.mind.thought) st
+        ap (go_step (scene_of consts programs) t.number t.mind.program old t.mind.thought) st
         ∙ ap (λ (z : Option Told). turned_to (record old { signals = old.signals ++ made who d z })
-        (hear_told (mode_in frame) t.mind.program t.mind.thought (length old.signals) no_action 0 z)
-        (turn_of z)) (sym f)
+        (hear_told (mode_in consts) t.mind.program t.mind.thought (length old.signals)
+        no_action 0 z) (turn_of z)) (sym f)
         ∙ ap (λ (x : State). turned_to x
-        (hear_told (mode_in frame) t.mind.program t.mind.thought (length old.signals) no_action 0 o)
-        (turn_of o)) (sym e.state)
+        (hear_told (mode_in consts) t.mind.program t.mind.thought (length old.signals)
+        no_action 0 o) (turn_of o)) (sym e.state)
 
     pub signals_reach : {E : Type 0} (r : Result (Option Answered) E)
         → SignalsOn old new t.passes passes who d (told_in r)
         → IfOk r (λ o. (told_of o ≡ semaphore_says (past old.signals) d)
         × IsPlacedAt (length old.signals) o)
-        → Reaches frame t old new passes t.gathered (reached_by r)
+        → Reaches consts t old new passes t.hash_state (reached_by r)
     signals_reach (Ok (Some a)) e x =
         quiet_tells old new passes a (length old.signals) (subst IsQuiet (sym st) tt) x.1.0 x.1.1
         (signals_quiet (Some a.told) e a.told refl (is_done (past old.signals) d a.told (sym x.0)))
         (signals_go (Some a.told) e x.0)
     signals_reach (Ok None) e x = record {
-      plays = λ h y. quiet_is_left frame t h passes y (signals_left e);
+      plays = λ h y. quiet_is_left consts t h passes y (signals_left e);
       goes = signals_go None e x.0;
     }
     signals_reach (Err y) e x = record {
-      plays = λ h z. quiet_is_left frame t h passes z (signals_left e);
+      plays = λ h z. quiet_is_left consts t h passes z (signals_left e);
       state = e.state ∙ ap (λ (xs : List Event). record old { signals = xs })
           (append-nil old.signals);
     }
@@ -183,7 +183,7 @@ module _ (frame : Frame) (t : Tasked) where
     entry = record { who = who; rule = rule }
 
     appends_quiet : AppendsTo old new t.passes passes entry
-        → QuietPasses frame t passes (plain_answer (length old.added) told.Done)
+        → QuietPasses consts t passes (plain_answer (length old.added) told.Done)
     appends_quiet e =
         let seen : passes.rules.seen ≡ old.added ++ entry ∷ [] =
         e.seen ∙ ap (λ (x : State). x.added) e.state in
@@ -200,7 +200,7 @@ module _ (frame : Frame) (t : Tasked) where
           rules_seen = subst (λ (xs : List RuleEntry). IsPrefix t.passes.rules.seen xs) (sym seen)
               (prefix_trans t.passes.rules.seen old.added (old.added ++ entry ∷ []) e.before
               (prefix_append old.added (entry ∷ [])));
-          plain = λ programs. subst (λ (z : Option Step). IsPlainStep (scene_of frame programs)
+          plain = λ programs. subst (λ (z : Option Step). IsPlainStep (scene_of consts programs)
               (seen_by passes.inodes passes.rules) z (plain_answer (length old.added) told.Done))
               (sym st) (
                 refl,
@@ -212,16 +212,16 @@ module _ (frame : Frame) (t : Tasked) where
     -- the answer to an appended rule
     pub appends_tells : (a : Answered) → AppendsTo old new t.passes passes entry
         → (a.place ≡ length old.added) × (a.told ≡ told.Done) × (a.action ≡ None)
-        → Tells frame t old new passes t.gathered a
+        → Tells consts t old new passes t.hash_state a
     appends_tells a e x =
         quiet_tells old new passes a (length old.added) (subst IsQuiet (sym st) tt) x.0 x.2
-        (subst (λ (u : Told). QuietPasses frame t passes (plain_answer (length old.added) u))
+        (subst (λ (u : Told). QuietPasses consts t passes (plain_answer (length old.added) u))
         (sym x.1) (appends_quiet e))
         (λ programs.
-        ap (go_step (scene_of frame programs) t.number t.mind.program old t.mind.thought) st
+        ap (go_step (scene_of consts programs) t.number t.mind.program old t.mind.thought) st
         ∙ ap (λ (y : State). turned_to y
-        (hear (mode_in frame) t.mind.program t.mind.thought
+        (hear (mode_in consts) t.mind.program t.mind.thought
         (plain_answer (length old.added) told.Done)) turns.Moved) (sym e.state)
         ∙ ap (λ (u : Told). turned_to new
-        (hear (mode_in frame) t.mind.program t.mind.thought
+        (hear (mode_in consts) t.mind.program t.mind.thought
         (plain_answer (length old.added) u)) turns.Moved) (sym x.1))

@@ -14,9 +14,9 @@ use Rattle.policy_rules.specs.ActionValue.{ActionValue}
 use Rattle.run_model.specs.Turns.{State}
 use Rattle.task_steps.specs.declared.answers.Answered.{Answered}
 use Rattle.task_steps.specs.Leaving.{Leaves}
-use Rattle.task_steps.specs.worlds.Frame.{Frame, Site, inode_in}
+use Rattle.task_steps.specs.worlds.WorldConsts.{Site, WorldConsts, inode_in}
 use Rattle.task_steps.specs.worlds.World.{StationValue}
-use Rattle.task_steps.specs.worlds.declared.gathered.Gathered.{Gathered}
+use Rattle.task_steps.specs.worlds.declared.hash_state.HashState.{HashState}
 use Rattle.task_steps.specs.worlds.Tasks.{PassesValue}
 use Rattle.task_steps.specs.worlds.Due.{HashesTold}
 use Rattle.task_steps.specs.worlds.Events.{EventOn}
@@ -44,7 +44,7 @@ IsPlacedAt place (Some a) = (a.place ≡ place) × (a.action ≡ None)
 
 -- the deed on this inode, with this outcome
 pub record StationDid (s s2 : StationValue) (book book2 : Grown Entry) (pass pass2 : Passed Event)
-    (listed listed2 : Passed Entry) (who : Who) (d : Deed) (g g2 : Gathered) (o : Option Told)
+    (listed listed2 : Passed Entry) (who : Who) (d : Deed) (g g2 : HashState) (o : Option Told)
     : Type 0 where
   pub looked : HasLooked s.cell.inode pass.number pass.seen s.cell.list pass.mine
   pub leaves : Leaves s.cell s2.cell book.list book2.list pass pass2 who d o
@@ -59,7 +59,7 @@ pub record StationDid (s s2 : StationValue) (book book2 : Grown Entry) (pass pas
 
 -- the deed on this inode, with this outcome; it didn't consult the measurement list
 pub record StationDidAlone (s s2 : StationValue) (pass pass2 : Passed Event) (who : Who) (d : Deed)
-    (g g2 : Gathered) (o : Option Told) : Type 0 where
+    (g g2 : HashState) (o : Option Told) : Type 0 where
   pub looked : HasLooked s.cell.inode pass.number pass.seen s.cell.list pass.mine
   pub leaves : (list : List Entry) → Leaves s.cell s2.cell list list pass pass2 who d o
   pub rules : s2.rules ≡ s.rules
@@ -67,32 +67,32 @@ pub record StationDidAlone (s s2 : StationValue) (pass pass2 : Passed Event) (wh
   pub hashes : HashesTold s.cell.inode s2.cell.list g g2 d o
 
 -- after a look the deed on the inode of this number is ready
-abbrev pub ReadyAt : Frame → ℕ → List (Passed Event) → ℕ → Gathered → ActionValue → Slot → Deed
-    → Type 0
-ReadyAt frame i passes task g action slot d =
-    (s : Site) (q : Passed Event) (list : List Event) → slice_get frame.sites i ≡ Some s
+abbrev pub ReadyAt : WorldConsts → ℕ → List (Passed Event) → ℕ → HashState → ActionValue → Slot
+    → Deed → Type 0
+ReadyAt consts i passes task g action slot d =
+    (s : Site) (q : Passed Event) (list : List Event) → slice_get consts.sites i ≡ Some s
     → slice_get passes i ≡ Some q
-    → HasLooked (inode_in frame s) (task + 1) q.seen list q.mine
-    → IsReady (inode_in frame s) (task + 1) list g action slot d
+    → HasLooked (inode_in consts s) (task + 1) q.seen list q.mine
+    → IsReady (inode_in consts s) (task + 1) list g action slot d
 
 -- nothing was done
-pub record NoEvent (old new : State) (passes passes2 : PassesValue) (g g2 : Gathered)
+pub record NoEvent (old new : State) (passes passes2 : PassesValue) (g g2 : HashState)
     (o : Option Told) : Type 0 where
   pub state : new ≡ old
   pub left : passes2 ≡ passes
-  pub gathered : g2 ≡ g
+  pub hash_state : g2 ≡ g
   pub told : o ≡ None
 
 -- the deed on the inode of this number; if there is none, which no script names, it is blocked
-abbrev pub EventIn : Frame → ℕ → Option Site → Who → Deed → State → State → PassesValue
-    → PassesValue → Gathered → Gathered → Option Told → Type 0
-EventIn frame i None who d old new passes passes2 g g2 o = NoEvent old new passes passes2 g g2 o
-EventIn frame i (Some s) who d old new passes passes2 g g2 o =
-    EventOn frame i s who d old new passes passes2 g g2 o
+abbrev pub EventIn : WorldConsts → ℕ → Option Site → Who → Deed → State → State → PassesValue
+    → PassesValue → HashState → HashState → Option Told → Type 0
+EventIn consts i None who d old new passes passes2 g g2 o = NoEvent old new passes passes2 g g2 o
+EventIn consts i (Some s) who d old new passes passes2 g g2 o =
+    EventOn consts i s who d old new passes passes2 g g2 o
 
 -- the answer's outcome is the deed's, and its place is the end of the journal
-abbrev pub IsSaid : Frame → ℕ → Deed → State → Option Answered → Type 0
-IsSaid frame i d old o = (s : Site) (journal : List Event) → slice_get frame.sites i ≡ Some s
+abbrev pub IsSaid : WorldConsts → ℕ → Deed → State → Option Answered → Type 0
+IsSaid consts i d old o = (s : Site) (journal : List Event) → slice_get consts.sites i ≡ Some s
     → slice_get old.journals i ≡ Some journal
-    → (told_of o ≡ outcome (inode_in frame s) old.list d (past journal))
+    → (told_of o ≡ outcome (inode_in consts s) old.list d (past journal))
     × IsPlacedAt (length journal) o

@@ -18,9 +18,9 @@ use Rattle.policy_rules.specs.declared.access.Super.{Super}
 use Rattle.run_model.specs.Scene.{decided, rules_with}
 use Rattle.run_model.specs.Turns.{State}
 use Rattle.task_steps.specs.declared.listed.Checks.{Checks}
-use Rattle.task_steps.specs.worlds.Frame.{Frame, Site, inode_in, scene_of, super_at}
+use Rattle.task_steps.specs.worlds.WorldConsts.{Site, WorldConsts, inode_in, scene_of, super_at}
 use Rattle.task_steps.specs.worlds.Tasks.{PassesValue}
-use Rattle.task_steps.specs.worlds.declared.gathered.Gathered.{Gathered}
+use Rattle.task_steps.specs.worlds.declared.hash_state.HashState.{HashState}
 use Rattle.task_steps.specs.worlds.Events.{EventOn}
 use Rattle.task_steps.specs.Acting.{NoEvent, told_in}
 use Rattle.task_steps.specs.declared.answers.Answered.{Answered}
@@ -57,21 +57,21 @@ IsChecked inode journal list rules cred place asked (Ok None) = ⊥
 IsChecked inode journal list rules cred place asked (Err e) = Unit {0}
 
 -- the check on an inode that is there, by all rules in force, which the task's pass has seen
-pub record CheckOn {E : Type 0} (frame : Frame) (i : ℕ) (s : Site) (who : Who) (cred : Cred)
-    (asked : Checks) (old new : State) (passes passes2 : PassesValue) (g : Gathered)
+pub record CheckOn {E : Type 0} (consts : WorldConsts) (i : ℕ) (s : Site) (who : Who) (cred : Cred)
+    (asked : Checks) (old new : State) (passes passes2 : PassesValue) (g : HashState)
     (r : Result (Option Answered) E) : Type 0 where
   pub journal : List Event
   pub journal_at : slice_get old.journals i ≡ Some journal
-  pub event : EventOn frame i s who (check_by (rules_with (scene_of frame []) old.added) cred
-      (super_at frame s.place) (metadata (past journal)) asked) old new passes passes2 g g
+  pub event : EventOn consts i s who (check_by (rules_with (scene_of consts []) old.added) cred
+      (super_at consts s.place) (metadata (past journal)) asked) old new passes passes2 g g
       (told_in r)
   pub seen : passes2.rules.seen ≡ old.added
-  pub told : IsChecked (inode_in frame s) journal old.list
-      (rules_with (scene_of frame []) old.added) cred (super_at frame s.place) asked r
+  pub told : IsChecked (inode_in consts s) journal old.list
+      (rules_with (scene_of consts []) old.added) cred (super_at consts s.place) asked r
 
-abbrev pub CheckIn : {E : Type 0} → Frame → ℕ → Option Site → Who → Cred → Checks → State → State
-    → PassesValue → PassesValue → Gathered → Result (Option Answered) E → Type 0
-CheckIn frame i None who cred asked old new passes passes2 g r =
+abbrev pub CheckIn : {E : Type 0} → WorldConsts → ℕ → Option Site → Who → Cred → Checks → State
+    → State → PassesValue → PassesValue → HashState → Result (Option Answered) E → Type 0
+CheckIn consts i None who cred asked old new passes passes2 g r =
     NoEvent old new passes passes2 g g (told_in r)
-CheckIn frame i (Some s) who cred asked old new passes passes2 g r =
-    CheckOn frame i s who cred asked old new passes passes2 g r
+CheckIn consts i (Some s) who cred asked old new passes passes2 g r =
+    CheckOn consts i s who cred asked old new passes passes2 g r

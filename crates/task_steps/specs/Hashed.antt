@@ -7,17 +7,17 @@ use Rattle.inode_events.specs.Integrity.{Collection}
 use Rattle.inode_events.specs.declared.deed.Deed.{Deed}
 use Rattle.inode_events.specs.declared.deed.Deed.TheVariants as deed
 use Rattle.world_model.specs.Tasks.{HasSummed, HasTakenIn}
-use Rattle.world_model.specs.declared.gathered.Gathered.{Gathered}
-use Rattle.world_model.specs.declared.gathered.Gathered.TheVariants as gathered
+use Rattle.world_model.specs.declared.hash_state.HashState.{HashState}
+use Rattle.world_model.specs.declared.hash_state.HashState.TheVariants as hash_state
 
 -- the piece is hashed, and after the last piece the digests are computed
-abbrev pub HasGathered : Piece → Gathered → Collection → Type 0
+abbrev pub HasGathered : Piece → HashState → Collection → Type 0
 HasGathered piece.More g c = HasTakenIn g c
 HasGathered piece.Last g c = HasSummed g c
 
 -- the digests, if all pieces are hashed
-abbrev pub sums_in : Gathered → Option (DigestValue × DigestValue)
-sums_in (gathered.Sums chosen sha1) = Some (chosen, sha1)
+abbrev pub sums_in : HashState → Option (DigestValue × DigestValue)
+sums_in (hash_state.Done chosen sha1) = Some (chosen, sha1)
 sums_in _ = None
 
 -- the deed neither consults the measurement list nor belongs to a collection

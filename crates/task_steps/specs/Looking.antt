@@ -7,21 +7,21 @@ use Rattle.task_steps.specs.worlds.World.{StationValue}
 use Rattle.task_steps.specs.worlds.Ready.{HasLooked}
 
 -- the inode is unchanged but perhaps for its spare capacity
-pub record IsKept (old new : StationValue) : Type 0 where
+pub record IsSameStation (old new : StationValue) : Type 0 where
   pub cell : IsSameCell old.cell new.cell
   pub list : new.cell.list ≡ old.cell.list
   pub rules : new.rules ≡ old.rules
   pub place : new.place ≡ old.place
 
-pub record KeptAt (old : List StationValue) (i : ℕ) (new : StationValue) : Type 0 where
+pub record SameAt (old : List StationValue) (i : ℕ) (new : StationValue) : Type 0 where
   pub before : StationValue
   pub at : slice_get old i ≡ Some before
-  pub kept : IsKept before new
+  pub kept : IsSameStation before new
 
 -- all inodes are unchanged but perhaps for their spare capacity
-pub record AreKept (old new : List StationValue) : Type 0 where
+pub record AreSameStations (old new : List StationValue) : Type 0 where
   pub even : length new ≡ length old
-  pub each : (i : ℕ) (s : StationValue) → slice_get new i ≡ Some s → KeptAt old i s
+  pub each : (i : ℕ) (s : StationValue) → slice_get new i ≡ Some s → SameAt old i s
 
 -- the pass is up to date with the inode's journal, and otherwise unchanged
 pub record IsLooked (station : StationValue) (old new : Passed Event) : Type 0 where
@@ -48,7 +48,7 @@ pub record HaveLooked (stations : List StationValue) (old new : List (Passed Eve
 -- the passes below n are up to date with their journals, and the others are unchanged
 pub record HaveLookedTo (n : ℕ) (stations stations2 : List StationValue)
     (old new : List (Passed Event)) : Type 0 where
-  pub kept : AreKept stations stations2
+  pub kept : AreSameStations stations stations2
   pub even : length new ≡ length old
   pub below : (i : ℕ) (q : Passed Event) → i < n → slice_get new i ≡ Some q
       → LookedAt stations old i q

@@ -7,13 +7,13 @@ use Rattle.inode_events.specs.declared.told.Event.{Event}
 use Rattle.policy_cell.specs.Policy.{PolicyValue}
 use Rattle.policy_rules.specs.declared.access.Super.{Super}
 use Rattle.run_model.specs.Turns.{State}
-use Rattle.task_steps.specs.worlds.Frame.{Frame, boot_in}
+use Rattle.task_steps.specs.worlds.WorldConsts.{WorldConsts, boot_in}
 use Rattle.task_steps.specs.worlds.World.{AreRulesOf, AreSignalsOf, IsBookOf, IsStation, StationValue, journal_of, site_of}
 
 -- the constants of a world with these parts
-abbrev pub frame_by : Settings → List StationValue → List Super → Grown Entry → Grown Event
-    → PolicyValue → ℕ → Frame
-frame_by settings stations supers book sems rules tasks = record {
+abbrev pub consts_by : Settings → List StationValue → List Super → Grown Entry → Grown Event
+    → PolicyValue → ℕ → WorldConsts
+consts_by settings stations supers book sems rules tasks = record {
   settings = settings;
   boot = boot_in book.list;
   sites = map site_of stations;
@@ -34,10 +34,10 @@ state_by stations book sems rules = record {
   added = rules.appended.list;
 }
 
--- each part belongs to the frame
-pub record AreParts (frame : Frame) (inodes : List StationValue) (list : Grown Entry)
+-- each part belongs to the constants
+pub record AreParts (consts : WorldConsts) (inodes : List StationValue) (list : Grown Entry)
     (signals : Grown Event) (policy : PolicyValue) : Type 0 where
-  pub stations : (i : ℕ) (s : StationValue) → slice_get inodes i ≡ Some s → IsStation frame i s
-  pub book : IsBookOf frame list
-  pub sems : AreSignalsOf frame signals
-  pub rules : AreRulesOf frame policy
+  pub stations : (i : ℕ) (s : StationValue) → slice_get inodes i ≡ Some s → IsStation consts i s
+  pub book : IsBookOf consts list
+  pub sems : AreSignalsOf consts signals
+  pub rules : AreRulesOf consts policy

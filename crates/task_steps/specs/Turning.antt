@@ -9,9 +9,9 @@ use Rattle.run_model.specs.declared.turn.Turn.TheVariants as turns
 use Rattle.task_steps.specs.declared.answers.Answered.{Answered}
 use Rattle.task_steps.specs.declared.answers.Reached.{Reached}
 use Rattle.task_steps.specs.declared.answers.Reached.TheVariants as reached
-use Rattle.task_steps.specs.worlds.Frame.{Frame, mode_in, scene_of}
+use Rattle.task_steps.specs.worlds.WorldConsts.{WorldConsts, mode_in, scene_of}
 use Rattle.task_steps.specs.worlds.Tasks.{HasPlayed, PassesValue, Tasked, action_by}
-use Rattle.task_steps.specs.worlds.declared.gathered.Gathered.{Gathered}
+use Rattle.task_steps.specs.worlds.declared.hash_state.HashState.{HashState}
 use Rattle.task_steps.specs.worlds.Plays.{HasHeard, task_after, task_left}
 use Rattle.task_steps.specs.minds.Value.{TaskValue}
 
@@ -19,9 +19,9 @@ abbrev pub turned_to : State → Thought → Turn → Turned
 turned_to state thought turn = record { state = state; thought = thought; turn = turn }
 
 -- one turn of the task, whatever the programs of the others are
-abbrev pub Goes : Frame → Tasked → State → Turned → Type 0
-Goes frame t old after = (programs : List Program)
-    → go (scene_of frame programs) t.number t.mind.program old t.mind.thought ≡ after
+abbrev pub Goes : WorldConsts → Tasked → State → Turned → Type 0
+Goes consts t old after = (programs : List Program)
+    → go (scene_of consts programs) t.number t.mind.program old t.mind.thought ≡ after
 
 -- the answer to a step; for a check, `rules` is the number of rules in force
 abbrev pub answer_of : Answered → ℕ → Answer
@@ -29,40 +29,40 @@ answer_of a rules =
     record { place = a.place; told = a.told; action = given a.action; rules = rules }
 
 -- the step was made with this answer
-pub record Tells (frame : Frame) (t : Tasked) (old new : State) (passes : PassesValue)
-    (g : Gathered) (a : Answered) : Type 0 where
+pub record Tells (consts : WorldConsts) (t : Tasked) (old new : State) (passes : PassesValue)
+    (g : HashState) (a : Answered) : Type 0 where
   pub rules : ℕ
   -- only a check has an action
   pub checked : unwrap_or a.action t.mind.checked
       ≡ action_by (step_at t.mind.program t.mind.thought.mind) (answer_of a rules) t.mind.checked
-  pub plays : (h : List Answer) (mind : TaskValue) → HasPlayed frame t h
-      → HasHeard frame t (answer_of a rules) mind
-      → HasPlayed frame (task_after t mind passes g) (answer_of a rules ∷ h)
-  pub goes : Goes frame t old (turned_to new
-      (hear (mode_in frame) t.mind.program t.mind.thought (answer_of a rules)) turns.Moved)
+  pub plays : (h : List Answer) (mind : TaskValue) → HasPlayed consts t h
+      → HasHeard consts t (answer_of a rules) mind
+      → HasPlayed consts (task_after t mind passes g) (answer_of a rules ∷ h)
+  pub goes : Goes consts t old (turned_to new
+      (hear (mode_in consts) t.mind.program t.mind.thought (answer_of a rules)) turns.Moved)
 
 -- the task has made no step, so its history is as before
-abbrev pub StillPlays : Frame → Tasked → PassesValue → Gathered → Type 0
-StillPlays frame t passes g =
-    (h : List Answer) → HasPlayed frame t h → HasPlayed frame (task_left t passes g) h
+abbrev pub StillPlays : WorldConsts → Tasked → PassesValue → HashState → Type 0
+StillPlays consts t passes g =
+    (h : List Answer) → HasPlayed consts t h → HasPlayed consts (task_left t passes g) h
 
-pub record Stops (frame : Frame) (t : Tasked) (old new : State) (passes : PassesValue)
-    (g : Gathered) (turn : Turn) : Type 0 where
-  pub plays : StillPlays frame t passes g
-  pub goes : Goes frame t old (turned_to new t.mind.thought turn)
+pub record Stops (consts : WorldConsts) (t : Tasked) (old new : State) (passes : PassesValue)
+    (g : HashState) (turn : Turn) : Type 0 where
+  pub plays : StillPlays consts t passes g
+  pub goes : Goes consts t old (turned_to new t.mind.thought turn)
 
-pub record Fails (frame : Frame) (t : Tasked) (old new : State) (passes : PassesValue)
-    (g : Gathered) : Type 0 where
-  pub plays : StillPlays frame t passes g
+pub record Fails (consts : WorldConsts) (t : Tasked) (old new : State) (passes : PassesValue)
+    (g : HashState) : Type 0 where
+  pub plays : StillPlays consts t passes g
   pub state : new ≡ old
 
-abbrev pub Reaches : {E : Type 0} → Frame → Tasked → State → State → PassesValue → Gathered
+abbrev pub Reaches : {E : Type 0} → WorldConsts → Tasked → State → State → PassesValue → HashState
     → Result Reached E → Type 0
-Reaches frame t old new passes g (Ok (reached.Told a)) = Tells frame t old new passes g a
-Reaches frame t old new passes g (Ok reached.Blocked) =
-    Stops frame t old new passes g turns.Blocked
-Reaches frame t old new passes g (Ok reached.Over) = Stops frame t old new passes g turns.Done
-Reaches frame t old new passes g (Err e) = Fails frame t old new passes g
+Reaches consts t old new passes g (Ok (reached.Told a)) = Tells consts t old new passes g a
+Reaches consts t old new passes g (Ok reached.Blocked) =
+    Stops consts t old new passes g turns.Blocked
+Reaches consts t old new passes g (Ok reached.Over) = Stops consts t old new passes g turns.Done
+Reaches consts t old new passes g (Err e) = Fails consts t old new passes g
 
 -- how a turn ended, by the answer to its step
 abbrev pub reached_by : {E : Type 0} → Result (Option Answered) E → Result Reached E

@@ -15,7 +15,7 @@ use inode_events::Event;
 use measure_book::Book;
 use std::alloc::AllocError as OutOfMemory;
 use task_mind::Doing;
-use world_model::{Gathered, Station};
+use world_model::{HashState, Station};
 
 /// Does the deed on the inode, through its task's passes of the journal and of the measurement
 /// list. `None` means that it is blocked.
@@ -26,7 +26,7 @@ pub fn apply_at(
     listed: &mut Pass<Entry>,
     actor: &Actor<'_>,
     doing: Doing<'_>,
-    gathered: &mut Gathered,
+    hash_state: &mut HashState,
 ) -> Result<Option<Answered>, OutOfMemory>
     requires name { pass.old.name ≡ station.old.cell.journal }
     requires number { pass.old.number ≡ actor.now.who.task + 1 }
@@ -34,10 +34,10 @@ pub fn apply_at(
     requires listed { listed.old.name ≡ book.old.name }
     requires ready { HasLooked station.old.cell.inode pass.old.number pass.old.seen
         station.old.cell.list pass.old.mine
-        → IsReady station.old.cell.inode pass.old.number station.old.cell.list gathered.old
+        → IsReady station.old.cell.inode pass.old.number station.old.cell.list hash_state.old
         actor.now.action actor.now.slot (deed_in doing) }
     ensures did { StationDid station.old station.new book.old book.new pass.old pass.new
-        listed.old listed.new actor.now.who (deed_in doing.entry) gathered.old gathered.new
+        listed.old listed.new actor.now.who (deed_in doing.entry) hash_state.old hash_state.new
         (told_in result) }
     ensures told { IfOk result (λ o. told_of o ≡ outcome station.old.cell.inode book.old.list
         (deed_in doing.entry) (past station.old.cell.list)) }
@@ -45,7 +45,7 @@ pub fn apply_at(
 {
     let place = station.cell.len();
     book.look(listed);
-    let told = look_and_apply(&mut station.cell, pass, actor, doing, book, gathered);
+    let told = look_and_apply(&mut station.cell, pass, actor, doing, book, hash_state);
     book.look(listed);
     told_at(place, told)
 }

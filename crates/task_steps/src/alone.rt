@@ -15,7 +15,7 @@ use grow_list::Pass;
 use inode_events::Event;
 use std::alloc::AllocError as OutOfMemory;
 use task_mind::Doing;
-use world_model::{Gathered, Station};
+use world_model::{HashState, Station};
 
 /// Does a deed that doesn't consult the measurement list on the inode, through its task's pass of
 /// the journal. `None` means that it is blocked.
@@ -24,23 +24,23 @@ pub fn apply_alone_at(
     pass: &mut Pass<Event>,
     actor: &Actor<'_>,
     doing: Doing<'_>,
-    gathered: &mut Gathered,
+    hash_state: &mut HashState,
 ) -> Result<Option<Answered>, OutOfMemory>
     requires name { pass.old.name ≡ station.old.cell.journal }
     requires number { pass.old.number ≡ actor.now.who.task + 1 }
     requires ready { HasLooked station.old.cell.inode pass.old.number pass.old.seen
         station.old.cell.list pass.old.mine
-        → IsReady station.old.cell.inode pass.old.number station.old.cell.list gathered.old
+        → IsReady station.old.cell.inode pass.old.number station.old.cell.list hash_state.old
         actor.now.action actor.now.slot (deed_in doing) }
     requires alone { IsAloneDeed (deed_in doing) }
     ensures did { StationDidAlone station.old station.new pass.old pass.new actor.now.who
-        (deed_in doing.entry) gathered.old gathered.new (told_in result) }
+        (deed_in doing.entry) hash_state.old hash_state.new (told_in result) }
     ensures told { IfOk result (λ o. (list : List AnyEntry) → told_of o
         ≡ outcome station.old.cell.inode list (deed_in doing.entry)
         (past station.old.cell.list)) }
     ensures place { IfOk result (λ o. IsPlacedAt (length station.old.cell.list) o) }
 {
     let place = station.cell.len();
-    let told = look_and_apply_alone(&mut station.cell, pass, actor, doing, gathered);
+    let told = look_and_apply_alone(&mut station.cell, pass, actor, doing, hash_state);
     told_at(place, told)
 }

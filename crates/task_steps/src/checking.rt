@@ -6,7 +6,7 @@ ghost use Rattle.task_steps.specs.inodes.Acts.{MayBy};
 ghost use Rattle.inode_events.specs.Checks.{no_action};
 ghost use Rattle.inode_events.specs.Past.{past};
 ghost use Rattle.inode_events.specs.State.{metadata};
-ghost use Rattle.task_steps.specs.worlds.declared.gathered.Gathered.{Gathered as AnyGathered};
+ghost use Rattle.task_steps.specs.worlds.declared.hash_state.HashState.{HashState as AnyHashState};
 ghost use Rattle.task_steps.specs.worlds.Ready.{HasLooked};
 ghost use Rattle.task_steps.specs.Acting.{StationDid, told_in};
 ghost use Rattle.task_steps.specs.Checking.{IsChecked, check_by};
@@ -42,7 +42,7 @@ pub fn check_at(
         station.old.cell.list pass.old.mine
         → MayBy station.old.cell pass.old.number
         (Deed.Check asked.file asked.func no_action 0) }
-    ensures did { (g : AnyGathered) → StationDid station.old station.new book.old book.new
+    ensures did { (g : AnyHashState) → StationDid station.old station.new book.old book.new
         pass.old pass.new listed.old listed.new actor.now.who
         (check_by rules.now actor.now.cred.now place.now (metadata (past station.old.cell.list))
         asked) g g (told_in result) }

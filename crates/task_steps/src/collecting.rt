@@ -16,7 +16,7 @@ use inode_hashing::Hashing;
 use inode_meta::Who;
 use std::alloc::AllocError as OutOfMemory;
 use task_mind::Doing;
-use world_model::Gathered;
+use world_model::HashState;
 use world_model::inodes::answers::{finished_told, piece_told};
 use world_model::inodes::{CloseTaken, InodeCell};
 
@@ -26,21 +26,21 @@ fn chunk(
     pass: &mut Pass<Event>,
     who: Who,
     file: u64,
-    gathered: &mut Gathered,
+    hash_state: &mut HashState,
 ) -> Result<Told, OutOfMemory>
     requires name { pass.old.name ≡ cell.old.journal }
     requires number { pass.old.number ≡ who.task + 1 }
     requires may { MayBy cell.old pass.old.number (Deed.Chunk file) }
-    requires hashes { HashesBefore cell.old.inode cell.old.list gathered.old (Deed.Chunk file) }
+    requires hashes { HashesBefore cell.old.inode cell.old.list hash_state.old (Deed.Chunk file) }
     ensures acts { IfOk result (λ t. (list : List AnyEntry) → Acts cell.old cell.new list list
         pass.old pass.new who (Deed.Chunk file) (Some t)) }
-    ensures hashes { IfOk result (λ t. HashesTold cell.old.inode cell.new.list gathered.old
-        gathered.new (Deed.Chunk file) (Some t)) }
+    ensures hashes { IfOk result (λ t. HashesTold cell.old.inode cell.new.list hash_state.old
+        hash_state.new (Deed.Chunk file) (Some t)) }
     ensures err { OnErr result (Stays cell.old cell.new pass.old pass.new) }
-    ensures kept { OnErr result (gathered.new ≡ gathered.old) }
+    ensures kept { OnErr result (hash_state.new ≡ hash_state.old) }
 {
     let (piece, page) = cell.chunk(pass, who, file)?;
-    gather(gathered, piece, &page);
+    gather(hash_state, piece, &page);
     Ok(piece_told(piece))
 }
 
@@ -50,22 +50,22 @@ fn close_chunk(
     pass: &mut Pass<Event>,
     who: Who,
     file: u64,
-    gathered: &mut Gathered,
+    hash_state: &mut HashState,
 ) -> Result<Told, OutOfMemory>
     requires name { pass.old.name ≡ cell.old.journal }
     requires number { pass.old.number ≡ who.task + 1 }
     requires may { MayBy cell.old pass.old.number (Deed.CloseChunk file) }
-    requires hashes { HashesBefore cell.old.inode cell.old.list gathered.old
+    requires hashes { HashesBefore cell.old.inode cell.old.list hash_state.old
         (Deed.CloseChunk file) }
     ensures acts { IfOk result (λ t. (list : List AnyEntry) → Acts cell.old cell.new list list
         pass.old pass.new who (Deed.CloseChunk file) (Some t)) }
-    ensures hashes { IfOk result (λ t. HashesTold cell.old.inode cell.new.list gathered.old
-        gathered.new (Deed.CloseChunk file) (Some t)) }
+    ensures hashes { IfOk result (λ t. HashesTold cell.old.inode cell.new.list hash_state.old
+        hash_state.new (Deed.CloseChunk file) (Some t)) }
     ensures err { OnErr result (Stays cell.old cell.new pass.old pass.new) }
-    ensures kept { OnErr result (gathered.new ≡ gathered.old) }
+    ensures kept { OnErr result (hash_state.new ≡ hash_state.old) }
 {
     let (piece, page) = cell.close_chunk(pass, who, file)?;
-    gather(gathered, piece, &page);
+    gather(hash_state, piece, &page);
     Ok(piece_told(piece))
 }
 
@@ -75,21 +75,21 @@ fn close_take(
     pass: &mut Pass<Event>,
     who: Who,
     file: u64,
-    gathered: &mut Gathered,
+    hash_state: &mut HashState,
 ) -> Result<Option<Told>, OutOfMemory>
     requires name { pass.old.name ≡ cell.old.journal }
     requires number { pass.old.number ≡ who.task + 1 }
     requires may { MayBy cell.old pass.old.number (Deed.CloseTake file) }
     ensures acts { IfOk result (λ o. (list : List AnyEntry) → Acts cell.old cell.new list list
         pass.old pass.new who (Deed.CloseTake file) o) }
-    ensures hashes { IfOk result (λ o. HashesTold cell.old.inode cell.new.list gathered.old
-        gathered.new (Deed.CloseTake file) o) }
+    ensures hashes { IfOk result (λ o. HashesTold cell.old.inode cell.new.list hash_state.old
+        hash_state.new (Deed.CloseTake file) o) }
     ensures err { OnErr result (Stays cell.old cell.new pass.old pass.new) }
-    ensures kept { OnErr result (gathered.new ≡ gathered.old) }
+    ensures kept { OnErr result (hash_state.new ≡ hash_state.old) }
 {
     match cell.close_take(pass, who, file)? {
         CloseTaken::Begun(algo) => {
-            *gathered = Gathered::Running(Hashing::begin(algo));
+            *hash_state = HashState::Running(Hashing::begin(algo));
             Ok(Some(Told::Begun))
         }
         CloseTaken::Dropped => Ok(Some(Told::Dropped)),
@@ -103,18 +103,18 @@ fn close_finish(
     pass: &mut Pass<Event>,
     who: Who,
     file: u64,
-    gathered: &Gathered,
+    hash_state: &HashState,
 ) -> Result<Told, OutOfMemory>
     requires name { pass.old.name ≡ cell.old.journal }
     requires number { pass.old.number ≡ who.task + 1 }
     requires may { MayBy cell.old pass.old.number (Deed.CloseFinish file) }
-    requires hashes { HashesBefore cell.old.inode cell.old.list gathered.now
+    requires hashes { HashesBefore cell.old.inode cell.old.list hash_state.now
         (Deed.CloseFinish file) }
     ensures acts { IfOk result (λ t. (list : List AnyEntry) → Acts cell.old cell.new list list
         pass.old pass.new who (Deed.CloseFinish file) (Some t)) }
     ensures err { OnErr result (Stays cell.old cell.new pass.old pass.new) }
 {
-    let Some(sums) = sums(gathered) else {
+    let Some(sums) = sums(hash_state) else {
         unreachable!()
     };
     Ok(finished_told(cell.close_finish(pass, who, file, sums)?))
@@ -126,25 +126,25 @@ pub fn collect(
     pass: &mut Pass<Event>,
     who: Who,
     doing: Doing<'_>,
-    gathered: &mut Gathered,
+    hash_state: &mut HashState,
 ) -> Result<Option<Told>, OutOfMemory>
     requires name { pass.old.name ≡ cell.old.journal }
     requires number { pass.old.number ≡ who.task + 1 }
     requires may { MayBy cell.old pass.old.number (deed_in doing) }
-    requires hashes { HashesBefore cell.old.inode cell.old.list gathered.old (deed_in doing) }
+    requires hashes { HashesBefore cell.old.inode cell.old.list hash_state.old (deed_in doing) }
     requires collects { IsCollectingDeed (deed_in doing) }
     ensures acts { IfOk result (λ o. (list : List AnyEntry) → Acts cell.old cell.new list list
         pass.old pass.new who (deed_in doing.entry) o) }
-    ensures hashes { IfOk result (λ o. HashesTold cell.old.inode cell.new.list gathered.old
-        gathered.new (deed_in doing.entry) o) }
+    ensures hashes { IfOk result (λ o. HashesTold cell.old.inode cell.new.list hash_state.old
+        hash_state.new (deed_in doing.entry) o) }
     ensures err { OnErr result (Stays cell.old cell.new pass.old pass.new) }
-    ensures kept { OnErr result (gathered.new ≡ gathered.old) }
+    ensures kept { OnErr result (hash_state.new ≡ hash_state.old) }
 {
     match doing {
-        Doing::Chunk(file) => Ok(Some(chunk(cell, pass, who, file, gathered)?)),
-        Doing::CloseTake(file) => close_take(cell, pass, who, file, gathered),
-        Doing::CloseChunk(file) => Ok(Some(close_chunk(cell, pass, who, file, gathered)?)),
-        Doing::CloseFinish(file) => Ok(Some(close_finish(cell, pass, who, file, gathered)?)),
+        Doing::Chunk(file) => Ok(Some(chunk(cell, pass, who, file, hash_state)?)),
+        Doing::CloseTake(file) => close_take(cell, pass, who, file, hash_state),
+        Doing::CloseChunk(file) => Ok(Some(close_chunk(cell, pass, who, file, hash_state)?)),
+        Doing::CloseFinish(file) => Ok(Some(close_finish(cell, pass, who, file, hash_state)?)),
         _ => unreachable!(),
     }
 }

@@ -27,7 +27,7 @@ use policy_cell::matching::Index;
 use policy_rules::{Action, Super};
 use std::alloc::AllocError as OutOfMemory;
 use task_mind::Doing;
-use world_model::Gathered;
+use world_model::HashState;
 use world_model::inodes::InodeCell;
 
 /// What a task knows about itself when it does a deed.
@@ -49,23 +49,23 @@ fn dispatch_alone(
     pass: &mut Pass<Event>,
     actor: &Actor<'_>,
     doing: Doing<'_>,
-    gathered: &mut Gathered,
+    hash_state: &mut HashState,
 ) -> Result<Option<Told>, OutOfMemory>
     requires name { pass.old.name ≡ cell.old.journal }
     requires number { pass.old.number ≡ actor.now.who.task + 1 }
     requires seen { pass.old.seen ≡ cell.old.list }
     requires may { MayBy cell.old pass.old.number (deed_in doing) }
-    requires hashes { HashesBefore cell.old.inode cell.old.list gathered.old (deed_in doing) }
+    requires hashes { HashesBefore cell.old.inode cell.old.list hash_state.old (deed_in doing) }
     requires alone { IsAloneDeed (deed_in doing) }
     ensures leaves { (list : List AnyEntry) → Leaves cell.old cell.new list list pass.old pass.new
         actor.now.who (deed_in doing.entry) (told_in result) }
     ensures told { IfOk result (λ o. (list : List AnyEntry)
         → o ≡ outcome cell.old.inode list (deed_in doing.entry) (past cell.old.list)) }
-    ensures hashes { HashesTold cell.old.inode cell.new.list gathered.old gathered.new
+    ensures hashes { HashesTold cell.old.inode cell.new.list hash_state.old hash_state.new
         (deed_in doing.entry) (told_in result) }
 {
     if goes_on(&doing) {
-        collect(cell, pass, actor.who, doing, gathered)
+        collect(cell, pass, actor.who, doing, hash_state)
     } else {
         apply_plain(cell, pass, actor.who, doing, actor.cred)
     }
@@ -89,19 +89,19 @@ fn dispatch(
     actor: &Actor<'_>,
     doing: Doing<'_>,
     book: &mut Book,
-    gathered: &mut Gathered,
+    hash_state: &mut HashState,
 ) -> Result<Option<Told>, OutOfMemory>
     requires name { pass.old.name ≡ cell.old.journal }
     requires number { pass.old.number ≡ actor.now.who.task + 1 }
     requires book_name { cell.old.book ≡ book.old.name }
     requires seen { pass.old.seen ≡ cell.old.list }
-    requires ready { IsReady cell.old.inode pass.old.number cell.old.list gathered.old
+    requires ready { IsReady cell.old.inode pass.old.number cell.old.list hash_state.old
         actor.now.action actor.now.slot (deed_in doing) }
     ensures leaves { Leaves cell.old cell.new book.old.list book.new.list pass.old pass.new
         actor.now.who (deed_in doing.entry) (told_in result) }
     ensures told { IfOk result (λ o. o
         ≡ outcome cell.old.inode book.old.list (deed_in doing.entry) (past cell.old.list)) }
-    ensures hashes { HashesTold cell.old.inode cell.new.list gathered.old gathered.new
+    ensures hashes { HashesTold cell.old.inode cell.new.list hash_state.old hash_state.new
         (deed_in doing.entry) (told_in result) }
     ensures book { (book.new.name ≡ book.old.name) × (book.new.callers ≡ book.old.callers) }
 {
@@ -116,14 +116,14 @@ fn dispatch(
                 actor.slot,
                 &actor.action,
                 book,
-                gathered,
+                hash_state,
             )
         }
-        Doing::Finish(file) => match listed::finish(cell, pass, who, file, book, gathered) {
+        Doing::Finish(file) => match listed::finish(cell, pass, who, file, book, hash_state) {
             Ok(told) => Ok(Some(told)),
             Err(err) => Err(err),
         },
-        _ => dispatch_alone(cell, pass, actor, doing, gathered),
+        _ => dispatch_alone(cell, pass, actor, doing, hash_state),
     }
 }
 
@@ -134,14 +134,14 @@ pub fn look_and_apply(
     actor: &Actor<'_>,
     doing: Doing<'_>,
     book: &mut Book,
-    gathered: &mut Gathered,
+    hash_state: &mut HashState,
 ) -> Result<Option<Told>, OutOfMemory>
     requires name { pass.old.name ≡ cell.old.journal }
     requires number { pass.old.number ≡ actor.now.who.task + 1 }
     requires book_name { cell.old.book ≡ book.old.name }
     requires ready { HasLooked cell.old.inode pass.old.number pass.old.seen cell.old.list
         pass.old.mine
-        → IsReady cell.old.inode pass.old.number cell.old.list gathered.old actor.now.action
+        → IsReady cell.old.inode pass.old.number cell.old.list hash_state.old actor.now.action
         actor.now.slot (deed_in doing) }
     ensures looked { HasLooked cell.old.inode pass.old.number pass.old.seen cell.old.list
         pass.old.mine }
@@ -149,12 +149,12 @@ pub fn look_and_apply(
         actor.now.who (deed_in doing.entry) (told_in result) }
     ensures told { IfOk result (λ o. o
         ≡ outcome cell.old.inode book.old.list (deed_in doing.entry) (past cell.old.list)) }
-    ensures hashes { HashesTold cell.old.inode cell.new.list gathered.old gathered.new
+    ensures hashes { HashesTold cell.old.inode cell.new.list hash_state.old hash_state.new
         (deed_in doing.entry) (told_in result) }
     ensures book { (book.new.name ≡ book.old.name) × (book.new.callers ≡ book.old.callers) }
 {
     cell.look(pass);
-    dispatch(cell, pass, actor, doing, book, gathered)
+    dispatch(cell, pass, actor, doing, book, hash_state)
 }
 
 /// Looks at the journal, then does a deed that doesn't consult the measurement list, whatever that
@@ -164,13 +164,13 @@ pub fn look_and_apply_alone(
     pass: &mut Pass<Event>,
     actor: &Actor<'_>,
     doing: Doing<'_>,
-    gathered: &mut Gathered,
+    hash_state: &mut HashState,
 ) -> Result<Option<Told>, OutOfMemory>
     requires name { pass.old.name ≡ cell.old.journal }
     requires number { pass.old.number ≡ actor.now.who.task + 1 }
     requires ready { HasLooked cell.old.inode pass.old.number pass.old.seen cell.old.list
         pass.old.mine
-        → IsReady cell.old.inode pass.old.number cell.old.list gathered.old actor.now.action
+        → IsReady cell.old.inode pass.old.number cell.old.list hash_state.old actor.now.action
         actor.now.slot (deed_in doing) }
     requires alone { IsAloneDeed (deed_in doing) }
     ensures looked { HasLooked cell.old.inode pass.old.number pass.old.seen cell.old.list
@@ -179,11 +179,11 @@ pub fn look_and_apply_alone(
         actor.now.who (deed_in doing.entry) (told_in result) }
     ensures told { IfOk result (λ o. (list : List AnyEntry)
         → o ≡ outcome cell.old.inode list (deed_in doing.entry) (past cell.old.list)) }
-    ensures hashes { HashesTold cell.old.inode cell.new.list gathered.old gathered.new
+    ensures hashes { HashesTold cell.old.inode cell.new.list hash_state.old hash_state.new
         (deed_in doing.entry) (told_in result) }
 {
     cell.look(pass);
-    dispatch_alone(cell, pass, actor, doing, gathered)
+    dispatch_alone(cell, pass, actor, doing, hash_state)
 }
 
 // Makes a check that is ready.

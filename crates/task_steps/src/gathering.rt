@@ -11,42 +11,42 @@ use hash_algos::Digest;
 use inode_hashing::Hashing;
 use inode_pages::Page;
 use std::mem;
-use world_model::Gathered;
+use world_model::HashState;
 use world_model::inodes::Piece;
 
 // Hashes the piece, and computes the digests after the last one.
-fn hashed(mut hashing: Hashing, piece: Piece, page: &Page) -> Gathered
-    ensures { (c : Collection) → HasTakenIn (Gathered.Running hashing) c
+fn hashed(mut hashing: Hashing, piece: Piece, page: &Page) -> HashState
+    ensures { (c : Collection) → HasTakenIn (HashState.Running hashing) c
         → HasGathered piece result (record c { bytes = c.bytes ++ page.now }) }
 {
     hashing.next_page(page);
     match piece {
-        Piece::More => Gathered::Running(hashing),
+        Piece::More => HashState::Running(hashing),
         Piece::Last => {
             let (chosen, sha1) = hashing.finish();
-            Gathered::Sums(chosen, sha1)
+            HashState::Done(chosen, sha1)
         }
     }
 }
 
 /// Hashes the piece that the collection took.
-pub fn gather(gathered: &mut Gathered, piece: Piece, page: &Page)
-    ensures { (c : Collection) → HasTakenIn gathered.old c
-        → HasGathered piece gathered.new (record c { bytes = c.bytes ++ page.now }) }
+pub fn gather(hash_state: &mut HashState, piece: Piece, page: &Page)
+    ensures { (c : Collection) → HasTakenIn hash_state.old c
+        → HasGathered piece hash_state.new (record c { bytes = c.bytes ++ page.now }) }
 {
-    if let Gathered::Running(hashing) = mem::replace(gathered, Gathered::Nothing) {
-        *gathered = hashed(hashing, piece, page);
+    if let HashState::Running(hashing) = mem::replace(hash_state, HashState::Idle) {
+        *hash_state = hashed(hashing, piece, page);
     }
 }
 
 /// The digests of the collection; `None` if its last piece hasn't been taken.
-pub fn sums(gathered: &Gathered) -> Option<(Digest, Digest)>
-    ensures of { (c : Collection) → HasSummed gathered.now c
+pub fn sums(hash_state: &HashState) -> Option<(Digest, Digest)>
+    ensures of { (c : Collection) → HasSummed hash_state.now c
         → result ≡ Some (digest_from c, digest_of Sha1 c.bytes) }
-    ensures value { result ≡ sums_in gathered.now }
+    ensures value { result ≡ sums_in hash_state.now }
 {
-    match gathered {
-        Gathered::Sums(chosen, sha1) => Some((*chosen, *sha1)),
+    match hash_state {
+        HashState::Done(chosen, sha1) => Some((*chosen, *sha1)),
         _ => None,
     }
 }

@@ -20,7 +20,7 @@ use measure_book::Book;
 use policy_cell::matching::Index;
 use policy_rules::{Action, Func, Super};
 use std::alloc::AllocError as OutOfMemory;
-use world_model::Gathered;
+use world_model::HashState;
 use world_model::inodes::answers::found_told;
 use world_model::inodes::{InodeCell, Taken};
 
@@ -34,7 +34,7 @@ pub fn take(
     slot: Slot,
     action: &Action,
     book: &mut Book,
-    gathered: &mut Gathered,
+    hash_state: &mut HashState,
 ) -> Result<Option<Told>, OutOfMemory>
     requires name { pass.old.name ≡ cell.old.journal }
     requires number { pass.old.number ≡ who.task + 1 }
@@ -43,16 +43,16 @@ pub fn take(
     requires asks { AsksBy cell.old.list action.now slot (Deed.Take file) }
     ensures acts { IfOk result (λ o. Acts cell.old cell.new book.old.list book.new.list
         pass.old pass.new who (Deed.Take file) o) }
-    ensures hashes { IfOk result (λ o. HashesTold cell.old.inode cell.new.list gathered.old
-        gathered.new (Deed.Take file) o) }
+    ensures hashes { IfOk result (λ o. HashesTold cell.old.inode cell.new.list hash_state.old
+        hash_state.new (Deed.Take file) o) }
     ensures book { (book.new.name ≡ book.old.name) × (book.new.callers ≡ book.old.callers) }
     ensures err { OnErr result (Stays cell.old cell.new pass.old pass.new) }
     ensures err_book { OnErr result (book.new.list ≡ book.old.list) }
-    ensures kept { OnErr result (gathered.new ≡ gathered.old) }
+    ensures kept { OnErr result (hash_state.new ≡ hash_state.old) }
 {
     match cell.take(pass, who, file, slot, action, book)? {
         Taken::Begun(algo) => {
-            *gathered = Gathered::Running(Hashing::begin(algo));
+            *hash_state = HashState::Running(Hashing::begin(algo));
             Ok(Some(Told::Begun))
         }
         Taken::Answer(grant) => Ok(Some(Told::Grant(grant))),
@@ -67,20 +67,20 @@ pub fn finish(
     who: Who,
     file: u64,
     book: &mut Book,
-    gathered: &Gathered,
+    hash_state: &HashState,
 ) -> Result<Told, OutOfMemory>
     requires name { pass.old.name ≡ cell.old.journal }
     requires number { pass.old.number ≡ who.task + 1 }
     requires book_name { cell.old.book ≡ book.old.name }
     requires may { MayBy cell.old pass.old.number (Deed.Finish file) }
-    requires hashes { HashesBefore cell.old.inode cell.old.list gathered.now (Deed.Finish file) }
+    requires hashes { HashesBefore cell.old.inode cell.old.list hash_state.now (Deed.Finish file) }
     ensures acts { IfOk result (λ t. Acts cell.old cell.new book.old.list book.new.list
         pass.old pass.new who (Deed.Finish file) (Some t)) }
     ensures book { (book.new.name ≡ book.old.name) × (book.new.callers ≡ book.old.callers) }
     ensures err { OnErr result (Stays cell.old cell.new pass.old pass.new) }
     ensures err_book { OnErr result (book.new.list ≡ book.old.list) }
 {
-    let Some(sums) = sums(gathered) else {
+    let Some(sums) = sums(hash_state) else {
         unreachable!()
     };
     Ok(Told::Grant(cell.finish(pass, who, file, sums, book)?))

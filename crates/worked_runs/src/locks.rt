@@ -38,7 +38,7 @@ struct Flags {
 
 // Holds the file of this number till the task that opens the other has made its steps.
 fn hold<N: Name, R: Wait>(rt: &R, live: &Live<N>, flags: &Flags, inode: u32)
-    requires { inode < length N.frame.sites }
+    requires { inode < length N.consts.sites }
 {
     live.hold(rt, inode, || {
         flags.held.store(true, Ordering::SeqCst);
@@ -50,8 +50,8 @@ fn hold<N: Name, R: Wait>(rt: &R, live: &Live<N>, flags: &Flags, inode: u32)
 
 // One step of the task. Answers whether it moved.
 fn step<N: Name, R: Wait>(rt: &R, live: &Live<N>, task: &mut Task) -> bool
-    requires { IsTask N.frame task.old }
-    ensures { IsTask N.frame task.new }
+    requires { IsTask N.consts task.old }
+    ensures { IsTask N.consts task.new }
 {
     match task.step_shared(rt, live) {
         Ok(Turn::Moved) => true,
@@ -68,7 +68,7 @@ fn step_while_held<N: Name, R: Wait>(
     inode: u32,
     task: Task,
 ) -> bool
-    requires { IsTask N.frame task }
+    requires { IsTask N.consts task }
 {
     let mut task = task;
     let held = sees(&flags.held);
@@ -91,13 +91,13 @@ fn step_all<N: Name, R: Threads + Wait + Sync>(
     inode: u32,
     tasks: Vec<Task>,
 ) -> bool
-    requires { All (IsTask N.frame) tasks.items }
+    requires { All (IsTask N.consts) tasks.items }
 {
     let moved = thread::map_vec(
         rt,
         tasks,
         &|task: Task| -> bool
-            requires { IsTask N.frame task }
+            requires { IsTask N.consts task }
         { step_while_held(rt, live, flags, inode, task) },
     );
     match moved {
@@ -114,9 +114,9 @@ fn are_apart<N: Name, R: Threads + Wait + Sync>(
     inode: u32,
     tasks: Vec<Task>,
 ) -> Result<bool, OutOfMemory>
-    requires frame { world.frame ≡ N.frame }
-    requires inode { inode < length N.frame.sites }
-    requires tasks { All (IsTask N.frame) tasks.items }
+    requires consts { world.consts ≡ N.consts }
+    requires inode { inode < length N.consts.sites }
+    requires tasks { All (IsTask N.consts) tasks.items }
 {
     let live = world.share::<N>()?;
     let shared = &live;
@@ -130,10 +130,10 @@ fn are_apart<N: Name, R: Threads + Wait + Sync>(
     let (_, moved) = join(
         rt,
         ||
-            requires { inode < length N.frame.sites }
+            requires { inode < length N.consts.sites }
         { hold(rt, shared, told, inode) },
         move || -> bool
-            requires { IsSync R.row × All (IsTask N.frame) tasks.items }
+            requires { IsSync R.row × All (IsTask N.consts) tasks.items }
         { step_all(rt, shared, told, inode, tasks) },
     );
     Ok(moved && flags.apart.load(Ordering::SeqCst))

@@ -2,7 +2,7 @@
 ghost use Rattle.std.specs.Prelude.{◌≡◌, All, IfOk, length};
 ghost use Rattle.ima_top.specs.worlds.Tasks.{IsTask};
 
-use ima_top::runs::crew;
+use ima_top::runs::new_tasks;
 use ima_top::scenes::{ScriptParts, parts_of};
 use ima_top::scripts::Script;
 use ima_top::tasks::{Task, World};
@@ -10,8 +10,8 @@ use std::alloc::{AllocError as OutOfMemory, Global};
 
 /// The world and the tasks of the script before their first turn, and the number of inodes.
 pub fn started(alloc: Global, script: Script) -> Result<(World, Vec<Task>, usize), OutOfMemory>
-    ensures tasks { IfOk result (λ r. All (IsTask r.0.frame) r.1.items) }
-    ensures inodes { IfOk result (λ r. length r.0.frame.sites ≡ r.2) }
+    ensures tasks { IfOk result (λ r. All (IsTask r.0.consts) r.1.items) }
+    ensures inodes { IfOk result (λ r. length r.0.consts.sites ≡ r.2) }
 {
     script.keeps();
     let ScriptParts {
@@ -29,6 +29,6 @@ pub fn started(alloc: Global, script: Script) -> Result<(World, Vec<Task>, usize
     let (world, passes) = World::start(
         alloc, settings, boot, inodes, supers, places, rules, count,
     )?;
-    let tasks = crew(alloc, blocks, passes)?;
+    let tasks = new_tasks(alloc, blocks, passes)?;
     Ok((world, tasks, many))
 }

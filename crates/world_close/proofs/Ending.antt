@@ -10,7 +10,7 @@ use Rattle.run_model.specs.rules.declared.cell.RuleEntry.{RuleEntry}
 use Rattle.run_model.specs.EndedValue.{EndedValue}
 use Rattle.run_model.specs.Scene.{Scene}
 use Rattle.run_model.specs.Turns.{Moment, State}
-use Rattle.world_close.specs.worlds.Frame.{Frame, scene_of}
+use Rattle.world_close.specs.worlds.WorldConsts.{WorldConsts, scene_of}
 use Rattle.world_close.specs.worlds.Runs.{AreTasks, moment_of, programs_of, thought_of}
 use Rattle.world_close.specs.worlds.Tasks.{Tasked}
 use Rattle.world_close.specs.worlds.World.{StationValue}
@@ -32,31 +32,31 @@ vain left_of (Some sem) = left_of sem == 0
 -- ---- the world
 
 -- the final state, by the closed lists and the tasks
-pub closed_ended : (frame : Frame) (stations : List StationValue) (list : List Entry)
+pub closed_ended : (consts : WorldConsts) (stations : List StationValue) (list : List Entry)
     (signals : List Event) (added : List RuleEntry) (tasks : List Tasked) (e : EndedValue)
-    → AreStations frame stations → AreTasks frame tasks → length tasks ≡ frame.tasks
-    → HaveMade frame (state_at stations list signals added) tasks
-    → WorldClosed frame stations list signals added (map (λ (t : Tasked). t.passes) tasks)
-    → e ≡ left_by frame stations list signals added tasks
-    → HasEnded (scene_of frame (programs_of tasks))
+    → AreStations consts stations → AreTasks consts tasks → length tasks ≡ consts.tasks
+    → HaveMade consts (state_at stations list signals added) tasks
+    → WorldClosed consts stations list signals added (map (λ (t : Tasked). t.passes) tasks)
+    → e ≡ left_by consts stations list signals added tasks
+    → HasEnded (scene_of consts (programs_of tasks))
     (moment_of (state_at stations list signals added) tasks) e
-closed_ended frame stations list signals added tasks e are of count made closed is =
-    let done = finished frame stations list signals added tasks are of count made closed in
+closed_ended consts stations list signals added tasks e are of count made closed is =
+    let done = finished consts stations list signals added tasks are of count made closed in
     record {
-      ended = is ∙ closed_left frame stations list signals added tasks are done;
+      ended = is ∙ closed_left consts stations list signals added tasks are done;
       entries = subst (All IsEntry) (sym (ap (λ (x : EndedValue). x.list) is)) closed.entries;
       finished = done;
     }
 
 -- the final state doesn't change if the tasks have only looked at the lists
-pub ended_same : (frame frame2 : Frame) (state state2 : State) (old new : List Tasked)
-    (e : EndedValue) → frame2 ≡ frame → state2 ≡ state → HaveSameMinds old new
+pub ended_same : (consts frame2 : WorldConsts) (state state2 : State) (old new : List Tasked)
+    (e : EndedValue) → frame2 ≡ consts → state2 ≡ state → HaveSameMinds old new
     → HasEnded (scene_of frame2 (programs_of new)) (moment_of state2 new) e
-    → HasEnded (scene_of frame (programs_of old)) (moment_of state old) e
-ended_same frame frame2 state state2 old new e frames states same =
+    → HasEnded (scene_of consts (programs_of old)) (moment_of state old) e
+ended_same consts frame2 state state2 old new e consts_same states same =
     subst (λ (x : Scene × Moment). HasEnded x.0 x.1 e)
     (λ i. (
-      scene_of (frames i) (programs i),
+      scene_of (consts_same i) (programs i),
       record { state = states i; thoughts = thoughts i },
     )) where
       programs : programs_of new ≡ programs_of old

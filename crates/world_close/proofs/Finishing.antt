@@ -31,7 +31,7 @@ use Rattle.world_model.specs.laws_of_progress.NextSteps.{IsFit}
 use Rattle.world_model.specs.laws_of_progress.Rests.{AreFit}
 use Rattle.world_model.specs.laws_of_progress.Stations.{IsWithin}
 use Rattle.world_model.proofs.laws_of_progress.Rests.{rests}
-use Rattle.world_model.specs.Frame.{Frame, mode_in, scene_of, station_of}
+use Rattle.world_model.specs.WorldConsts.{WorldConsts, mode_in, scene_of, station_of}
 use Rattle.world_model.specs.Runs.{AreTasks, HasMade, moment_of, program_of, programs_of, thought_of}
 use Rattle.world_model.specs.Tasks.{PassesValue, Tasked}
 use Rattle.world_model.specs.World.{StationValue, journal_of}
@@ -81,37 +81,37 @@ record IsServedRising (scene : Scene) (run : Run) (n : ℕ) (p : Program) (t : T
   pub rise : Rises (log (mode_of scene) n p served.history)
 
 -- a task that has looked at all lists is served
-served_task : (frame : Frame) (s : State) (tasks : List Tasked) (n : ℕ) (task : Tasked)
-    → task.number ≡ n → HasMade frame s task
-    → IsServedRising (scene_of frame (programs_of tasks)) (run_at (moment_of s tasks)) n
+served_task : (consts : WorldConsts) (s : State) (tasks : List Tasked) (n : ℕ) (task : Tasked)
+    → task.number ≡ n → HasMade consts s task
+    → IsServedRising (scene_of consts (programs_of tasks)) (run_at (moment_of s tasks)) n
     (program_of task) (thought_of task)
-served_task frame s tasks n task number made = record {
+served_task consts s tasks n task number made = record {
   served = record {
     history = made.history;
     stands = made.stands;
-    suited = law_fits_are_suited (scene_of frame (programs_of tasks)) (program_of task)
+    suited = law_fits_are_suited (scene_of consts (programs_of tasks)) (program_of task)
         (seen_in s) (run_at (moment_of s tasks)) made.history
         (sees_all s (map thought_of tasks)) (made.checks (programs_of tasks));
     events = λ i journal e. subst (λ (k : ℕ). events_of k journal
-        ≡ own (mode_in frame) k (program_of task) i made.history) number
+        ≡ own (mode_in consts) k (program_of task) i made.history) number
         (made.events i journal e);
     rules = subst (λ (k : ℕ). rules_of k s.added
-        ≡ own_rules (mode_in frame) k (program_of task) made.history) number made.rules;
+        ≡ own_rules (mode_in consts) k (program_of task) made.history) number made.rules;
   };
-  rise = subst (λ (k : ℕ). Rises (log (mode_in frame) k (program_of task) made.history)) number
+  rise = subst (λ (k : ℕ). Rises (log (mode_in consts) k (program_of task) made.history)) number
       made.rises.rises;
 }
 
 -- the task of this number in the scene and the run is served
-served_at : (frame : Frame) (s : State) (tasks : List Tasked) → AreTasks frame tasks
-    → HaveMade frame s tasks → (n : ℕ) (p : Program) (t : Thought) → IsTaskAt tasks n p t
-    → IsServedRising (scene_of frame (programs_of tasks)) (run_at (moment_of s tasks)) n p t
-served_at frame s tasks are made n p t x =
-    subst (λ (q : Program). IsServedRising (scene_of frame (programs_of tasks))
+served_at : (consts : WorldConsts) (s : State) (tasks : List Tasked) → AreTasks consts tasks
+    → HaveMade consts s tasks → (n : ℕ) (p : Program) (t : Thought) → IsTaskAt tasks n p t
+    → IsServedRising (scene_of consts (programs_of tasks)) (run_at (moment_of s tasks)) n p t
+served_at consts s tasks are made n p t x =
+    subst (λ (q : Program). IsServedRising (scene_of consts (programs_of tasks))
     (run_at (moment_of s tasks)) n q t) x.program
-    (subst (λ (u : Thought). IsServedRising (scene_of frame (programs_of tasks))
+    (subst (λ (u : Thought). IsServedRising (scene_of consts (programs_of tasks))
     (run_at (moment_of s tasks)) n (program_of x.task) u) x.stands
-    (served_task frame s tasks n x.task (are.each n x.task x.at).number (made n x.task x.at)))
+    (served_task consts s tasks n x.task (are.each n x.task x.at).number (made n x.task x.at)))
 
 -- ---- all inodes
 
@@ -143,29 +143,29 @@ legal_at s q tasks callers closed = record {
   within c l = omega (arith, callers)
 
 -- the journal of number i is legal
-legal_in : (frame : Frame) (programs : List Program) (stations : List StationValue)
-    (inodes : List (Passed Entry)) → AreStations frame stations
+legal_in : (consts : WorldConsts) (programs : List Program) (stations : List StationValue)
+    (inodes : List (Passed Entry)) → AreStations consts stations
     → AllZip StationClosed stations inodes → (i : ℕ) (station : Station) (journal : List Event)
-    → slice_get (scene_of frame programs).stations i ≡ Some station
+    → slice_get (scene_of consts programs).stations i ≡ Some station
     → slice_get (map journal_of stations) i ≡ Some journal
-    → IsLegalAt (inode_of (scene_of frame programs) station) journal frame.tasks
-legal_in frame programs stations inodes are closed i station journal a b =
-    at (is_at frame programs stations i station journal are a b) where
-      at : IsAt (scene_of frame programs) stations i station journal
-          → IsLegalAt (inode_of (scene_of frame programs) station) journal frame.tasks
+    → IsLegalAt (inode_of (scene_of consts programs) station) journal consts.tasks
+legal_in consts programs stations inodes are closed i station journal a b =
+    at (is_at consts programs stations i station journal are a b) where
+      at : IsAt (scene_of consts programs) stations i station journal
+          → IsLegalAt (inode_of (scene_of consts programs) station) journal consts.tasks
       at w =
           let q = zip_at StationClosed stations inodes i w.there closed w.at in
-          subst (λ (x : Inode × List Event). IsLegalAt x.0 x.1 frame.tasks)
+          subst (λ (x : Inode × List Event). IsLegalAt x.0 x.1 consts.tasks)
           (λ k. (w.inode_is k, w.journal_is k))
-          (legal_at w.there q.0 frame.tasks (are.each i w.there w.at).callers q.1.1)
+          (legal_at w.there q.0 consts.tasks (are.each i w.there w.at).callers q.1.1)
 
 -- all events of the journals are of the tasks, or births
-all_within : (frame : Frame) (stations : List StationValue) (inodes : List (Passed Entry))
-    (count : ℕ) → frame.tasks ≡ count → AreStations frame stations
+all_within : (consts : WorldConsts) (stations : List StationValue) (inodes : List (Passed Entry))
+    (count : ℕ) → consts.tasks ≡ count → AreStations consts stations
     → AllZip StationClosed stations inodes
     → All (λ (journal : List Event). All (λ (e : Event). caller_of e ≤ count) journal)
     (map journal_of stations)
-all_within frame stations inodes count same are closed =
+all_within consts stations inodes count same are closed =
     all_by_get (λ (journal : List Event). All (λ (e : Event). caller_of e ≤ count) journal)
     (map journal_of stations)
     (λ i journal b. at i journal (get_map journal_of stations i journal b)) where
@@ -179,40 +179,40 @@ all_within frame stations inodes count same are closed =
           ∙ ap (λ (n : ℕ). n + 1) same) q.1.1).within
 
 -- along each journal the rules that checks count never decrease
-all_rise : (frame : Frame) (stations : List StationValue) → AreStations frame stations
-    → All (λ (journal : List Event). RulesRise (length frame.base) (past journal))
+all_rise : (consts : WorldConsts) (stations : List StationValue) → AreStations consts stations
+    → All (λ (journal : List Event). RulesRise (length consts.base) (past journal))
     (map journal_of stations)
-all_rise frame stations are =
-    all_by_get (λ (journal : List Event). RulesRise (length frame.base) (past journal))
+all_rise consts stations are =
+    all_by_get (λ (journal : List Event). RulesRise (length consts.base) (past journal))
     (map journal_of stations)
     (λ i journal b. at i journal (get_map journal_of stations i journal b)) where
       at : (i : ℕ) (journal : List Event)
           → (s : StationValue) × ((slice_get stations i ≡ Some s) × (journal_of s ≡ journal))
-          → RulesRise (length frame.base) (past journal)
+          → RulesRise (length consts.base) (past journal)
       at i journal x =
-          subst (λ (l : List Event). RulesRise (length frame.base) (past l)) x.1.1
+          subst (λ (l : List Event). RulesRise (length consts.base) (past l)) x.1.1
           (are.each i x.0 x.1.0).rise.rise
 
 -- ---- all tasks
 
 -- the calls of each task are those of a script
-all_fit : (frame : Frame) (tasks : List Tasked) → AreTasks frame tasks
-    → AreFit (scene_of frame (programs_of tasks))
-all_fit frame tasks are n p a k c e = at (get_map program_of tasks n p a) where
+all_fit : (consts : WorldConsts) (tasks : List Tasked) → AreTasks consts tasks
+    → AreFit (scene_of consts (programs_of tasks))
+all_fit consts tasks are n p a k c e = at (get_map program_of tasks n p a) where
   at : (t : Tasked) × ((slice_get tasks n ≡ Some t) × (program_of t ≡ p))
-      → IsFit c × IsWithin (length (scene_of frame (programs_of tasks)).stations) c
+      → IsFit c × IsWithin (length (scene_of consts (programs_of tasks)).stations) c
   at x =
       let fit = (are.each n x.0 x.1.0).task.played.calls k c
       (ap (λ (q : Program). slice_get q.calls k) x.1.1 ∙ e) in (
         fit.0,
-        subst (λ (m : ℕ). IsWithin m c) (sym (length-map frame.sites (station_of frame))) fit.1,
+        subst (λ (m : ℕ). IsWithin m c) (sym (length-map consts.sites (station_of consts))) fit.1,
       )
 
 -- no task has added to the measurement list
-all_unlisted : (frame : Frame) (tasks : List Tasked) → AreTasks frame tasks
+all_unlisted : (consts : WorldConsts) (tasks : List Tasked) → AreTasks consts tasks
     → All (λ (q : Passed Entry). q.mine ≡ []) (map (λ (p : PassesValue). p.book)
     (map (λ (t : Tasked). t.passes) tasks))
-all_unlisted frame tasks are =
+all_unlisted consts tasks are =
     All-map (λ (q : Passed Entry). q.mine ≡ []) (λ (p : PassesValue). p.book)
     (map (λ (t : Tasked). t.passes) tasks)
     (All-map (λ (p : PassesValue). p.book.mine ≡ []) (λ (t : Tasked). t.passes) tasks
@@ -221,46 +221,46 @@ all_unlisted frame tasks are =
 
 -- ---- the run
 
-abbrev served_run : (frame : Frame) (stations : List StationValue) (list : List Entry)
+abbrev served_run : (consts : WorldConsts) (stations : List StationValue) (list : List Entry)
     (signals : List Event) (added : List RuleEntry) (tasks : List Tasked)
-    → AreStations frame stations → AreTasks frame tasks → length tasks ≡ frame.tasks
-    → HaveMade frame (state_at stations list signals added) tasks
-    → WorldClosed frame stations list signals added (map (λ (t : Tasked). t.passes) tasks)
-    → Served (scene_of frame (programs_of tasks))
+    → AreStations consts stations → AreTasks consts tasks → length tasks ≡ consts.tasks
+    → HaveMade consts (state_at stations list signals added) tasks
+    → WorldClosed consts stations list signals added (map (λ (t : Tasked). t.passes) tasks)
+    → Served (scene_of consts (programs_of tasks))
     (run_at (moment_of (state_at stations list signals added) tasks))
-served_run frame stations list signals added tasks are each count made closed = record {
-  journals = lists_even frame (programs_of tasks) stations are;
+served_run consts stations list signals added tasks are each count made closed = record {
+  journals = lists_even consts (programs_of tasks) stations are;
   thoughts = length-map tasks thought_of ∙ sym (length-map tasks program_of);
-  tasks = λ n p t a b. (served_at frame (state_at stations list signals added) tasks each made
+  tasks = λ n p t a b. (served_at consts (state_at stations list signals added) tasks each made
       n p t (task_at tasks n p t a b)).served;
-  no_other_events = all_within frame stations closed.inodes (length (programs_of tasks))
+  no_other_events = all_within consts stations closed.inodes (length (programs_of tasks))
       (sym count ∙ sym (length-map tasks program_of)) are closed.closed;
   no_other_rules = subst (λ (m : ℕ). All (λ (r : RuleEntry). r.who.task < m) added)
       (sym count ∙ sym (length-map tasks program_of)) closed.ruled;
-  rules_rise = all_rise frame stations are;
+  rules_rise = all_rise consts stations are;
 }
 
-reached_moment : (frame : Frame) (stations : List StationValue) (list : List Entry)
+reached_moment : (consts : WorldConsts) (stations : List StationValue) (list : List Entry)
     (signals : List Event) (added : List RuleEntry) (tasks : List Tasked)
-    → AreStations frame stations → AreTasks frame tasks → length tasks ≡ frame.tasks
-    → HaveMade frame (state_at stations list signals added) tasks
-    → WorldClosed frame stations list signals added (map (λ (t : Tasked). t.passes) tasks)
-    → IsReached (scene_of frame (programs_of tasks))
+    → AreStations consts stations → AreTasks consts tasks → length tasks ≡ consts.tasks
+    → HaveMade consts (state_at stations list signals added) tasks
+    → WorldClosed consts stations list signals added (map (λ (t : Tasked). t.passes) tasks)
+    → IsReached (scene_of consts (programs_of tasks))
     (moment_of (state_at stations list signals added) tasks)
-reached_moment frame stations list signals added tasks are each count made closed =
+reached_moment consts stations list signals added tasks are each count made closed =
     record { legal = legal; tasks = λ n p t a b. rest n p t a (task_at tasks n p t a b) } where
       scene : Scene
-      scene = scene_of frame (programs_of tasks)
+      scene = scene_of consts (programs_of tasks)
 
-      programs : length (programs_of tasks) ≡ frame.tasks
+      programs : length (programs_of tasks) ≡ consts.tasks
       programs = length-map tasks program_of ∙ count
 
-      legal : AreLegal (scene_of frame (programs_of tasks))
+      legal : AreLegal (scene_of consts (programs_of tasks))
           (state_at stations list signals added) (map thought_of tasks)
       legal = record {
         thoughts_even = length-map tasks thought_of ∙ sym (length-map tasks program_of);
         follows = λ i station journal a b.
-            let l = legal_in frame (programs_of tasks) stations closed.inodes are closed.closed i
+            let l = legal_in consts (programs_of tasks) stations closed.inodes are closed.closed i
             station journal a b in (
               l.follows,
               l.owned,
@@ -275,40 +275,40 @@ reached_moment frame stations list signals added tasks are each count made close
 
       rest : (n : ℕ) (p : Program) (t : Thought) → slice_get (programs_of tasks) n ≡ Some p
           → IsTaskAt tasks n p t
-          → Resting (scene_of frame (programs_of tasks)) (state_at stations list signals added)
+          → Resting (scene_of consts (programs_of tasks)) (state_at stations list signals added)
           n p t
       rest n p t a x =
           let h = made n x.task x.at in
           let number = (each.each n x.task x.at).number in
-          rests (scene_of frame (programs_of tasks)) (state_at stations list signals added)
-          (map thought_of tasks) n p t h.history (all_fit frame tasks each)
-          (lists_even frame (programs_of tasks) stations are) legal a
-          (ap (λ (q : Program). thought (mode_in frame) q h.history) (sym x.program)
+          rests (scene_of consts (programs_of tasks)) (state_at stations list signals added)
+          (map thought_of tasks) n p t h.history (all_fit consts tasks each)
+          (lists_even consts (programs_of tasks) stations are) legal a
+          (ap (λ (q : Program). thought (mode_in consts) q h.history) (sym x.program)
           ∙ h.stands ∙ x.stands)
           (λ i journal e. subst (λ (y : ℕ × Program). events_of y.0 journal
-          ≡ own (mode_in frame) y.0 y.1 i h.history) (λ k. (number k, x.program k))
+          ≡ own (mode_in consts) y.0 y.1 i h.history) (λ k. (number k, x.program k))
           (h.events i journal e))
           (subst (λ (y : ℕ × Program). events_of y.0 signals
-          ≡ own_signals (mode_in frame) y.0 y.1 h.history) (λ k. (number k, x.program k))
+          ≡ own_signals (mode_in consts) y.0 y.1 h.history) (λ k. (number k, x.program k))
           h.signals)
 
 -- proof of `ClosedIsFinished`
 pub finished : ClosedIsFinished
-finished frame stations list signals added tasks are each count made closed = record {
-  legal = all_legal frame (programs_of tasks) stations closed.inodes are closed.closed;
+finished consts stations list signals added tasks are each count made closed = record {
+  legal = all_legal consts (programs_of tasks) stations closed.inodes are closed.closed;
   merged =
-      joined (scene_of frame (programs_of tasks))
+      joined (scene_of consts (programs_of tasks))
       (run_at (moment_of (state_at stations list signals added) tasks)) closed.inodes
       (map (λ (p : PassesValue). p.book) (map (λ (t : Tasked). t.passes) tasks)) closed.book
-      (all_booked frame (programs_of tasks) stations closed.inodes are closed.closed)
-      (all_unlisted frame tasks each)
+      (all_booked consts (programs_of tasks) stations closed.inodes are closed.closed)
+      (all_unlisted consts tasks each)
       (length-map (map (λ (t : Tasked). t.passes) tasks) (λ (p : PassesValue). p.book)
       ∙ length-map tasks (λ (t : Tasked). t.passes) ∙ sym (length-map tasks program_of))
-      (served_run frame stations list signals added tasks are each count made closed)
-      (λ n p t a b. (served_at frame (state_at stations list signals added) tasks each made
+      (served_run consts stations list signals added tasks are each count made closed)
+      (λ n p t a b. (served_at consts (state_at stations list signals added) tasks each made
       n p t (task_at tasks n p t a b)).rise);
-  served = served_run frame stations list signals added tasks are each count made closed;
-  reached = reached_moment frame stations list signals added tasks are each count made closed;
+  served = served_run consts stations list signals added tasks are each count made closed;
+  reached = reached_moment consts stations list signals added tasks are each count made closed;
 }
 
 -- proof of `FinishedEnds`

@@ -12,7 +12,7 @@ use Rattle.inode_events.specs.Semaphores.{left as count_left}
 use Rattle.run_model.specs.Ended.{all_done, all_wait, left}
 use Rattle.run_model.specs.EndedValue.{EndedTaskValue, appends, inodes_ended, tasks_ended}
 use Rattle.run_model.specs.Scene.{Program, Scene, Station, inode_of}
-use Rattle.world_close.specs.worlds.Frame.{scene_of, station_of}
+use Rattle.world_close.specs.worlds.WorldConsts.{scene_of, station_of}
 use Rattle.world_close.specs.worlds.Runs.{moment_of, program_of, programs_of, thought_of}
 use Rattle.world_close.specs.worlds.Tasks.{Tasked}
 use Rattle.world_close.specs.worlds.World.{StationValue, journal_of}
@@ -68,24 +68,25 @@ grown (t ∷ tasks) = ap (λ (b : Bool). may_append t || b) (grown tasks)
 -- ---- the world
 
 pub closed_left : ClosedIsLeft
-closed_left frame stations list signals added tasks are finished = λ i. record {
+closed_left consts stations list signals added tasks are finished = λ i. record {
   inodes = inodes i;
   list = list;
   banks = banks_of list;
   tasks = tasks_are tasks i;
   stuck = not (dones tasks i) && wait i;
-  template = frame.settings.template;
+  template = consts.settings.template;
   rules = added;
-  base = length frame.base;
+  base = length consts.base;
   grows = grown tasks i;
 } where
   inodes : map ended_station stations
-      ≡ inodes_ended (scene_of frame (programs_of tasks)) (map (station_of frame) frame.sites)
+      ≡ inodes_ended (scene_of consts (programs_of tasks)) (map (station_of consts) consts.sites)
       (map journal_of stations)
   inodes =
-      inodes_are (scene_of frame (programs_of tasks)) (map (station_of frame) frame.sites) stations
-      (length-map frame.sites (station_of frame) ∙ sym are.even)
-      (λ k x s a b. let w = is_at frame (programs_of tasks) stations k x (journal_of s) are a
+      inodes_are (scene_of consts (programs_of tasks))
+      (map (station_of consts) consts.sites) stations
+      (length-map consts.sites (station_of consts) ∙ sym are.even)
+      (λ k x s a b. let w = is_at consts (programs_of tasks) stations k x (journal_of s) are a
       (map_get journal_of stations k s b) in
       sym w.inode_is ∙ ap (λ (t : StationValue). t.cell.inode)
       (same_Some w.there s (sym w.at ∙ b)))
@@ -94,7 +95,7 @@ closed_left frame stations list signals added tasks are finished = λ i. record 
   left_is : (sem : ℕ) → count_left sem (past signals)
       ≡ left sem (map program_of tasks) (map thought_of tasks)
   left_is sem =
-      let both = counted_when_reached (scene_of frame (programs_of tasks))
+      let both = counted_when_reached (scene_of consts (programs_of tasks))
       (moment_of (state_at stations list signals added) tasks) finished.reached sem in
       let same = count_past sem signals in
       omega (arith, both.0, both.1, same.0, same.1)

@@ -15,50 +15,50 @@ use Rattle.ima_templates.specs.declared.entry.Entry.{Entry}
 use Rattle.inode_events.specs.declared.told.Event.{Event}
 use Rattle.policy_cell.specs.Policy.{PolicyValue}
 use Rattle.policy_cell.specs.declared.cell.RuleEntry.{RuleEntry}
-use Rattle.world_model.specs.Frame.{Frame, Site}
+use Rattle.world_model.specs.WorldConsts.{Site, WorldConsts}
 use Rattle.world_model.specs.Tasks.{ArePassesOf, PassesValue}
 use Rattle.world_model.specs.World.{AreRulesOf, AreSignalsOf, IsBookOf, StationValue}
-use Rattle.world_close.specs.Closed.{AreIdle, AreStations, StationClosed, journal_name, no_site}
+use Rattle.world_close.specs.Closed.{AreSpares, AreStations, StationClosed, journal_name, no_site}
 use Rattle.world_close.specs.Rows.{AreNamed, RowFits, RowsFit}
 use Rattle.world_close.proofs.Gets.{all_by_get, get_map, get_parts, got, map_get}
 use Rattle.world_close.proofs.Scening.{zip_even}
 
 -- the passes are those of the tasks, in order
-abbrev pub AreOfTasks : Frame → List PassesValue → Type 0
-AreOfTasks frame passes = (n : ℕ) (p : PassesValue) → slice_get passes n ≡ Some p
-    → ArePassesOf frame n p
+abbrev pub AreOfTasks : WorldConsts → List PassesValue → Type 0
+AreOfTasks consts passes = (n : ℕ) (p : PassesValue) → slice_get passes n ≡ Some p
+    → ArePassesOf consts n p
 
 -- ---- the journals
 
 -- each row has a pass of each journal
-pub rows_fit : (frame : Frame) (passes : List PassesValue) (count : ℕ)
-    → count ≡ length frame.sites → AreOfTasks frame passes
-    → RowsFit count (journal_name frame) (map (λ (q : PassesValue). q.inodes) passes)
-rows_fit frame passes count even of k row at =
+pub rows_fit : (consts : WorldConsts) (passes : List PassesValue) (count : ℕ)
+    → count ≡ length consts.sites → AreOfTasks consts passes
+    → RowsFit count (journal_name consts) (map (λ (q : PassesValue). q.inodes) passes)
+rows_fit consts passes count even of k row at =
     fit (get_map (λ (q : PassesValue). q.inodes) passes k row at) where
       fit : (p : PassesValue) × ((slice_get passes k ≡ Some p) × (p.inodes ≡ row))
-          → RowFits count (journal_name frame) k row
+          → RowFits count (journal_name consts) k row
       fit p = record {
         count = sym (ap length p.1.1) ∙ (of k p.0 p.1.0).even ∙ sym even;
         each = λ i q here.
             let there : slice_get p.0.inodes i ≡ Some q =
             ap (λ (l : List (Passed Event)). slice_get l i) p.1.1 ∙ here in
-            let inside : i < length frame.sites =
+            let inside : i < length consts.sites =
             subst (λ (n : ℕ). i < n) (of k p.0 p.1.0).even
             (slice_get_within p.0.inodes i q there) in
-            let is = (of k p.0 p.1.0).inodes i (get_or frame.sites i no_site) q
-            (got frame.sites i no_site inside) there in
+            let is = (of k p.0 p.1.0).inodes i (get_or consts.sites i no_site) q
+            (got consts.sites i no_site inside) there in
             (is.1, is.0);
       }
 
--- the journals of the inodes have the names of the frame
-pub are_named : (frame : Frame) (stations : List StationValue) (rows : ℕ)
-    → rows ≡ frame.tasks → AreStations frame stations
-    → AreNamed (journal_name frame) rows stations
-are_named frame stations rows even are k s at =
+-- the journals of the inodes have the names of the constants
+pub are_named : (consts : WorldConsts) (stations : List StationValue) (rows : ℕ)
+    → rows ≡ consts.tasks → AreStations consts stations
+    → AreNamed (journal_name consts) rows stations
+are_named consts stations rows even are k s at =
     let is = are.each k s at in (
       ap (λ (x : Site). x.journal)
-          (sym (get_or_from_slice_get frame.sites k _ no_site is.site)),
+          (sym (get_or_from_slice_get consts.sites k _ no_site is.site)),
       is.callers ∙ ap (λ (n : ℕ). n + 1) (sym even),
     )
 
@@ -77,10 +77,10 @@ zip_back R (x ∷ xs) (w ∷ ys) (suc k) y z h = zip_back R xs ys k y z.1 h
 -- ---- the measurement list
 
 -- the other passes of the measurement list are the inodes', followed by the tasks'
-module _ (frame : Frame) (book : Grown Entry) (stations : List StationValue)
+module _ (consts : WorldConsts) (book : Grown Entry) (stations : List StationValue)
     (inodes : List (Passed Entry)) (passes : List PassesValue) where
-  book_pass : IsBookOf frame book → AreStations frame stations
-      → AllZip StationClosed stations inodes → AreOfTasks frame passes → (k : ℕ)
+  book_pass : IsBookOf consts book → AreStations consts stations
+      → AllZip StationClosed stations inodes → AreOfTasks consts passes → (k : ℕ)
       → (q : Passed Entry)
       → slice_get (inodes ++ map (λ (p : PassesValue). p.book) passes) k ≡ Some q
       → (q.name ≡ book.name) × (q.number ≡ k + 1)
@@ -91,7 +91,7 @@ module _ (frame : Frame) (book : Grown Entry) (stations : List StationValue)
             → (q.name ≡ book.name) × (q.number ≡ k + 1)
         tasks j here p =
             let its = (of j p.0 p.1.0).book in
-            let count : length inodes ≡ length frame.sites =
+            let count : length inodes ≡ length consts.sites =
             zip_even StationClosed stations inodes closed ∙ are.even in (
               sym (ap (λ (x : Passed Entry). x.name) p.1.1) ∙ its.0 ∙ sym is.name,
               sym (ap (λ (x : Passed Entry). x.number) p.1.1) ∙ its.1 ∙ omega arith,
@@ -110,9 +110,9 @@ module _ (frame : Frame) (book : Grown Entry) (stations : List StationValue)
         by (inr w) =
             tasks w.0 w.1.0 (get_map (λ (p : PassesValue). p.book) passes w.0 q w.1.1)
 
-  pub book_others : IsBookOf frame book → AreStations frame stations
-      → AllZip StationClosed stations inodes → AreOfTasks frame passes
-      → length passes ≡ frame.tasks
+  pub book_others : IsBookOf consts book → AreStations consts stations
+      → AllZip StationClosed stations inodes → AreOfTasks consts passes
+      → length passes ≡ consts.tasks
       → HasOthers book (inodes ++ map (λ (p : PassesValue). p.book) passes)
   book_others is are closed of count =
       others_in_order book (inodes ++ map (λ (p : PassesValue). p.book) passes)
@@ -132,10 +132,10 @@ module _ (frame : Frame) (book : Grown Entry) (stations : List StationValue)
 
 -- ---- the semaphores
 
-pub sem_others : (frame : Frame) (sems : Grown Event) (passes : List PassesValue)
-    → AreSignalsOf frame sems → AreOfTasks frame passes → length passes ≡ frame.tasks
+pub sem_others : (consts : WorldConsts) (sems : Grown Event) (passes : List PassesValue)
+    → AreSignalsOf consts sems → AreOfTasks consts passes → length passes ≡ consts.tasks
     → HasOthers sems (map (λ (p : PassesValue). p.sems) passes)
-sem_others frame sems passes is of count =
+sem_others consts sems passes is of count =
     others_in_order sems (map (λ (p : PassesValue). p.sems) passes)
     (omega (arith, length-map passes (λ (p : PassesValue). p.sems), count, is.callers))
     (all_by_get (λ (q : Passed Event). q.name ≡ sems.name)
@@ -184,30 +184,30 @@ all_at P xs k x all at =
     (All-get_or P xs k x (slice_get_within xs k x at) all)
 
 -- a pass of the rules has its number in order, and is a task's or has added nothing
-record IsRulesPass (frame : Frame) (p : PolicyValue) (k : ℕ) (q : Passed RuleEntry)
+record IsRulesPass (consts : WorldConsts) (p : PolicyValue) (k : ℕ) (q : Passed RuleEntry)
     : Type 0 where
   pub name : q.name ≡ p.appended.name
   pub number : q.number ≡ k
-  pub whose : (k < frame.tasks) ⊎ (q.mine ≡ [])
+  pub whose : (k < consts.tasks) ⊎ (q.mine ≡ [])
 
-module _ (frame : Frame) (rules : PolicyValue) (stations : List StationValue)
-    (passes : List PassesValue) (idle : List (Passed RuleEntry)) where
+module _ (consts : WorldConsts) (rules : PolicyValue) (stations : List StationValue)
+    (passes : List PassesValue) (spares : List (Passed RuleEntry)) where
   abbrev pub all_rules : List (Passed RuleEntry)
   all_rules = map (λ (p : PassesValue). p.rules) passes
-      ++ map (λ (s : StationValue). s.rules) stations ++ idle
+      ++ map (λ (s : StationValue). s.rules) stations ++ spares
 
-  rules_pass : AreRulesOf frame rules → AreStations frame stations → AreIdle frame idle
-      → AreOfTasks frame passes → length passes ≡ frame.tasks → (k : ℕ)
-      → (q : Passed RuleEntry) → slice_get all_rules k ≡ Some q → IsRulesPass frame rules k q
+  rules_pass : AreRulesOf consts rules → AreStations consts stations → AreSpares consts spares
+      → AreOfTasks consts passes → length passes ≡ consts.tasks → (k : ℕ)
+      → (q : Passed RuleEntry) → slice_get all_rules k ≡ Some q → IsRulesPass consts rules k q
   rules_pass is are rest of count k q at =
       by (get_parts (map (λ (p : PassesValue). p.rules) passes
-      ++ map (λ (s : StationValue). s.rules) stations) idle k q at) where
-        counts : length (map (λ (p : PassesValue). p.rules) passes) ≡ frame.tasks
+      ++ map (λ (s : StationValue). s.rules) stations) spares k q at) where
+        counts : length (map (λ (p : PassesValue). p.rules) passes) ≡ consts.tasks
         counts = length-map passes (λ (p : PassesValue). p.rules) ∙ count
 
         both : length (map (λ (p : PassesValue). p.rules) passes
             ++ map (λ (s : StationValue). s.rules) stations)
-            ≡ frame.tasks + length frame.sites
+            ≡ consts.tasks + length consts.sites
         both = omega (
           arith,
           counts,
@@ -218,7 +218,7 @@ module _ (frame : Frame) (rules : PolicyValue) (stations : List StationValue)
         )
 
         task : (p : PassesValue) × ((slice_get passes k ≡ Some p) × (p.rules ≡ q))
-            → IsRulesPass frame rules k q
+            → IsRulesPass consts rules k q
         task p =
             let its = (of k p.0 p.1.0).rules in
             record {
@@ -230,7 +230,7 @@ module _ (frame : Frame) (rules : PolicyValue) (stations : List StationValue)
 
         inode : (j : ℕ) → k ≡ length (map (λ (p : PassesValue). p.rules) passes) + j
             → (s : StationValue) × ((slice_get stations j ≡ Some s) × (s.rules ≡ q))
-            → IsRulesPass frame rules k q
+            → IsRulesPass consts rules k q
         inode j here s =
             let its = are.each j s.0 s.1.0 in
             record {
@@ -244,7 +244,7 @@ module _ (frame : Frame) (rules : PolicyValue) (stations : List StationValue)
         front : (slice_get (map (λ (p : PassesValue). p.rules) passes) k ≡ Some q)
             ⊎ ((j : ℕ) × ((k ≡ length (map (λ (p : PassesValue). p.rules) passes) + j)
             × (slice_get (map (λ (s : StationValue). s.rules) stations) j ≡ Some q)))
-            → IsRulesPass frame rules k q
+            → IsRulesPass consts rules k q
         front (inl w) = task (get_map (λ (p : PassesValue). p.rules) passes k q w)
         front (inr w) =
             inode w.0 w.1.0 (get_map (λ (s : StationValue). s.rules) stations w.0 q w.1.1)
@@ -253,7 +253,7 @@ module _ (frame : Frame) (rules : PolicyValue) (stations : List StationValue)
             ++ map (λ (s : StationValue). s.rules) stations) k ≡ Some q)
             ⊎ ((j : ℕ) × ((k ≡ length (map (λ (p : PassesValue). p.rules) passes
             ++ map (λ (s : StationValue). s.rules) stations) + j)
-            × (slice_get idle j ≡ Some q))) → IsRulesPass frame rules k q
+            × (slice_get spares j ≡ Some q))) → IsRulesPass consts rules k q
         by (inl w) =
             front (get_parts (map (λ (p : PassesValue). p.rules) passes)
             (map (λ (s : StationValue). s.rules) stations) k q w)
@@ -265,15 +265,15 @@ module _ (frame : Frame) (rules : PolicyValue) (stations : List StationValue)
               whose = inr its.2;
             }
 
-  pub rules_each : AreRulesOf frame rules → AreStations frame stations → AreIdle frame idle
-      → AreOfTasks frame passes → length passes ≡ frame.tasks
+  pub rules_each : AreRulesOf consts rules → AreStations consts stations → AreSpares consts spares
+      → AreOfTasks consts passes → length passes ≡ consts.tasks
       → HasEach rules.appended all_rules
   rules_each is are rest of count =
       each_in_order rules.appended all_rules
       (omega (
         arith,
         length-append (map (λ (p : PassesValue). p.rules) passes
-            ++ map (λ (s : StationValue). s.rules) stations) idle,
+            ++ map (λ (s : StationValue). s.rules) stations) spares,
         length-append (map (λ (p : PassesValue). p.rules) passes)
             (map (λ (s : StationValue). s.rules) stations),
         length-map passes (λ (p : PassesValue). p.rules),
@@ -288,14 +288,14 @@ module _ (frame : Frame) (rules : PolicyValue) (stations : List StationValue)
       (λ k q at. (rules_pass is are rest of count k q at).number)
 
   -- each appended rule is of a task
-  pub all_ruled : AreRulesOf frame rules → AreStations frame stations → AreIdle frame idle
-      → AreOfTasks frame passes → length passes ≡ frame.tasks
+  pub all_ruled : AreRulesOf consts rules → AreStations consts stations → AreSpares consts spares
+      → AreOfTasks consts passes → length passes ≡ consts.tasks
       → All (λ (q : Passed RuleEntry). HasItsOwn rules.appended q) all_rules
       → ((k : ℕ) → k < length rules.appended.list
       → count_by (λ (q : Passed RuleEntry). has_place k q.mine) all_rules ≡ 1)
-      → All (λ (r : RuleEntry). r.who.task < frame.tasks) rules.appended.list
+      → All (λ (r : RuleEntry). r.who.task < consts.tasks) rules.appended.list
   all_ruled is are rest of count own places =
-      all_by_get (λ (r : RuleEntry). r.who.task < frame.tasks) rules.appended.list
+      all_by_get (λ (r : RuleEntry). r.who.task < consts.tasks) rules.appended.list
       (λ k r at. by k r at (counted (λ (q : Passed RuleEntry). has_place k q.mine) all_rules
       (places k (slice_get_within rules.appended.list k r at)))) where
         numbers : (k : ℕ) (r : RuleEntry) → slice_get rules.appended.list k ≡ Some r
@@ -312,14 +312,14 @@ module _ (frame : Frame) (rules : PolicyValue) (stations : List StationValue)
 
         whose : (k : ℕ) (r : RuleEntry) (j : ℕ) (q : Passed RuleEntry)
             → q.number ≡ j → q.number ≡ r.who.task → has_place k q.mine ≡ true
-            → (j < frame.tasks) ⊎ (q.mine ≡ []) → r.who.task < frame.tasks
+            → (j < consts.tasks) ⊎ (q.mine ≡ []) → r.who.task < consts.tasks
         whose k r j q number same has (inl below) = omega (arith, number, same, below)
         whose k r j q number same has (inr none) =
             let no : false ≡ true = sym (ap (has_place k) none) ∙ has in absurd (cc)
 
         by : (k : ℕ) (r : RuleEntry) → slice_get rules.appended.list k ≡ Some r
             → Counted (λ (q : Passed RuleEntry). has_place k q.mine) all_rules
-            → r.who.task < frame.tasks
+            → r.who.task < consts.tasks
         by k r at c =
             let pass = rules_pass is are rest of count c.place c.item c.at in
             let mine : HasItsOwn rules.appended c.item =

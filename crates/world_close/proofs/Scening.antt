@@ -13,7 +13,7 @@ use Rattle.inode_events.specs.declared.told.Event.{Event}
 use Rattle.world_model.specs.laws_of_runs.Laws.{InodeClosed}
 use Rattle.world_model.specs.model.Scene.{Program, Scene, Station, inode_of}
 use Rattle.world_model.specs.model.Shown.{journals_of}
-use Rattle.world_model.specs.Frame.{Frame, Site, scene_of, station_of}
+use Rattle.world_model.specs.WorldConsts.{Site, WorldConsts, scene_of, station_of}
 use Rattle.world_model.specs.World.{StationValue, journal_of, site_of}
 use Rattle.world_close.specs.Closed.{AreStations, StationClosed}
 use Rattle.world_close.proofs.Gets.{all_by_get, get_map}
@@ -57,18 +57,18 @@ pub record IsAt (scene : Scene) (stations : List StationValue) (i : ℕ) (statio
   pub inode_is : there.cell.inode ≡ inode_of scene station
 
 -- inode number i is that of the scene
-pub is_at : (frame : Frame) (programs : List Program) (stations : List StationValue) (i : ℕ)
-    (station : Station) (journal : List Event) → AreStations frame stations
-    → slice_get (scene_of frame programs).stations i ≡ Some station
+pub is_at : (consts : WorldConsts) (programs : List Program) (stations : List StationValue) (i : ℕ)
+    (station : Station) (journal : List Event) → AreStations consts stations
+    → slice_get (scene_of consts programs).stations i ≡ Some station
     → slice_get (map journal_of stations) i ≡ Some journal
-    → IsAt (scene_of frame programs) stations i station journal
-is_at frame programs stations i station journal are a b =
-    at (get_map (station_of frame) frame.sites i station a)
+    → IsAt (scene_of consts programs) stations i station journal
+is_at consts programs stations i station journal are a b =
+    at (get_map (station_of consts) consts.sites i station a)
     (get_map journal_of stations i journal b)
   where
-    at : (x : Site) × ((slice_get frame.sites i ≡ Some x) × (station_of frame x ≡ station))
+    at : (x : Site) × ((slice_get consts.sites i ≡ Some x) × (station_of consts x ≡ station))
         → (s : StationValue) × ((slice_get stations i ≡ Some s) × (journal_of s ≡ journal))
-        → IsAt (scene_of frame programs) stations i station journal
+        → IsAt (scene_of consts programs) stations i station journal
     at x s =
         let is = are.each i s.0 s.1.0 in
         let site : x.0 ≡ site_of s.0 = same_Some x.0 (site_of s.0) (sym x.1.0 ∙ is.site) in
@@ -77,8 +77,8 @@ is_at frame programs stations i station journal are a b =
           at = s.1.0;
           journal_is = s.1.1;
           inode_is =
-              sym (ap (inode_of (scene_of frame programs))
-              (sym x.1.1 ∙ ap (station_of frame) site)
+              sym (ap (inode_of (scene_of consts programs))
+              (sym x.1.1 ∙ ap (station_of consts) site)
               ∙ (λ k. record {
                 path = s.0.cell.inode.path;
                 settings = sym is.settings k;
@@ -131,11 +131,11 @@ journals_even scene (s ∷ stations) (l ∷ lists) even =
     let e = journals_even scene stations lists (omega arith) in omega arith
 
 -- there are as many journals as stations
-pub lists_even : (frame : Frame) (programs : List Program) (stations : List StationValue)
-    → AreStations frame stations
-    → length (map journal_of stations) ≡ length (scene_of frame programs).stations
-lists_even frame programs stations are =
-    length-map stations journal_of ∙ are.even ∙ sym (length-map frame.sites (station_of frame))
+pub lists_even : (consts : WorldConsts) (programs : List Program) (stations : List StationValue)
+    → AreStations consts stations
+    → length (map journal_of stations) ≡ length (scene_of consts programs).stations
+lists_even consts programs stations are =
+    length-map stations journal_of ∙ are.even ∙ sym (length-map consts.sites (station_of consts))
 
 -- the closed inode of number i and its pass, for the scene's journal of that number
 record IsClosedAt (stations : List StationValue) (inodes : List (Passed Entry)) (i : ℕ)
@@ -145,18 +145,18 @@ record IsClosedAt (stations : List StationValue) (inodes : List (Passed Entry)) 
   pub legal : Legal j.inode j.events
   pub booked : InodeClosed j pass
 
-closed_at : (frame : Frame) (programs : List Program) (stations : List StationValue)
-    (inodes : List (Passed Entry)) → AreStations frame stations
+closed_at : (consts : WorldConsts) (programs : List Program) (stations : List StationValue)
+    (inodes : List (Passed Entry)) → AreStations consts stations
     → AllZip StationClosed stations inodes → (i : ℕ) (j : Journal)
-    → slice_get (journals_of (scene_of frame programs) (scene_of frame programs).stations
+    → slice_get (journals_of (scene_of consts programs) (scene_of consts programs).stations
     (map journal_of stations)) i ≡ Some j → IsClosedAt stations inodes i j
-closed_at frame programs stations inodes are closed i j h =
-    at (journal_is_at (scene_of frame programs) (scene_of frame programs).stations
+closed_at consts programs stations inodes are closed i j h =
+    at (journal_is_at (scene_of consts programs) (scene_of consts programs).stations
     (map journal_of stations) i j h) where
-      at : IsJournalAt (scene_of frame programs) (scene_of frame programs).stations
+      at : IsJournalAt (scene_of consts programs) (scene_of consts programs).stations
           (map journal_of stations) i j → IsClosedAt stations inodes i j
       at w =
-          let s = is_at frame programs stations i w.station w.journal are w.at w.journal_at in
+          let s = is_at consts programs stations i w.station w.journal are w.at w.journal_at in
           let q = zip_at StationClosed stations inodes i s.there closed s.at in
           let same : record { inode = s.there.cell.inode; events = past s.there.cell.list } ≡ j =
           (λ k. record { inode = s.inode_is k; events = past (s.journal_is k) }) ∙ w.is in
@@ -168,31 +168,31 @@ closed_at frame programs stations inodes are closed i j h =
           }
 
 -- each journal of the scene is legal
-pub all_legal : (frame : Frame) (programs : List Program) (stations : List StationValue)
-    (inodes : List (Passed Entry)) → AreStations frame stations
+pub all_legal : (consts : WorldConsts) (programs : List Program) (stations : List StationValue)
+    (inodes : List (Passed Entry)) → AreStations consts stations
     → AllZip StationClosed stations inodes
-    → All (λ (j : Journal). Legal j.inode j.events) (journals_of (scene_of frame programs)
-    (scene_of frame programs).stations (map journal_of stations))
-all_legal frame programs stations inodes are closed =
+    → All (λ (j : Journal). Legal j.inode j.events) (journals_of (scene_of consts programs)
+    (scene_of consts programs).stations (map journal_of stations))
+all_legal consts programs stations inodes are closed =
     all_by_get (λ (j : Journal). Legal j.inode j.events)
-    (journals_of (scene_of frame programs) (scene_of frame programs).stations
+    (journals_of (scene_of consts programs) (scene_of consts programs).stations
     (map journal_of stations))
-    (λ i j h. (closed_at frame programs stations inodes are closed i j h).legal)
+    (λ i j h. (closed_at consts programs stations inodes are closed i j h).legal)
 
 -- each journal of the scene has its pass of the measurement list
-pub all_booked : (frame : Frame) (programs : List Program) (stations : List StationValue)
-    (inodes : List (Passed Entry)) → AreStations frame stations
+pub all_booked : (consts : WorldConsts) (programs : List Program) (stations : List StationValue)
+    (inodes : List (Passed Entry)) → AreStations consts stations
     → AllZip StationClosed stations inodes
-    → AllZip InodeClosed (journals_of (scene_of frame programs)
-    (scene_of frame programs).stations (map journal_of stations)) inodes
-all_booked frame programs stations inodes are closed =
-    zip_by_get InodeClosed (journals_of (scene_of frame programs)
-    (scene_of frame programs).stations (map journal_of stations)) inodes
+    → AllZip InodeClosed (journals_of (scene_of consts programs)
+    (scene_of consts programs).stations (map journal_of stations)) inodes
+all_booked consts programs stations inodes are closed =
+    zip_by_get InodeClosed (journals_of (scene_of consts programs)
+    (scene_of consts programs).stations (map journal_of stations)) inodes
     (zip_even StationClosed stations inodes closed
-    ∙ sym (journals_even (scene_of frame programs) (scene_of frame programs).stations
-    (map journal_of stations) (lists_even frame programs stations are)
-    ∙ length-map frame.sites (station_of frame) ∙ sym are.even))
-    (λ i j q a b. booked i j q b (closed_at frame programs stations inodes are closed i j a))
+    ∙ sym (journals_even (scene_of consts programs) (scene_of consts programs).stations
+    (map journal_of stations) (lists_even consts programs stations are)
+    ∙ length-map consts.sites (station_of consts) ∙ sym are.even))
+    (λ i j q a b. booked i j q b (closed_at consts programs stations inodes are closed i j a))
   where
     booked : (i : ℕ) (j : Journal) (q : Passed Entry) → slice_get inodes i ≡ Some q
         → IsClosedAt stations inodes i j → InodeClosed j q

@@ -19,7 +19,7 @@ use Rattle.world_model.specs.laws_of_runs.Laws.{BookClosed}
 use Rattle.policy_cell.specs.declared.cell.RuleEntry.{RuleEntry}
 use Rattle.world_model.specs.inodes.Value.{CellValue}
 use Rattle.world_model.specs.states.Value.{nothing}
-use Rattle.world_model.specs.Frame.{Frame, Site}
+use Rattle.world_model.specs.WorldConsts.{Site, WorldConsts}
 use Rattle.world_model.specs.Tasks.{PassesValue}
 use Rattle.world_model.specs.World.{IsStation, StationValue}
 
@@ -70,21 +70,21 @@ pub record AreClosedAfter (all left : List StationValue) (inodes : List EndedIno
 
 -- ---- all lists
 
--- the inodes are those of the frame, in order
-pub record AreStations (frame : Frame) (stations : List StationValue) : Type 0 where
-  pub even : length stations ≡ length frame.sites
-  pub each : (i : ℕ) (s : StationValue) → slice_get stations i ≡ Some s → IsStation frame i s
+-- the inodes are those of the constants, in order
+pub record AreStations (consts : WorldConsts) (stations : List StationValue) : Type 0 where
+  pub even : length stations ≡ length consts.sites
+  pub each : (i : ℕ) (s : StationValue) → slice_get stations i ≡ Some s → IsStation consts i s
 
 -- the spare passes of the rules, which come after all others and have added nothing
-pub record AreIdle (frame : Frame) (idle : List (Passed RuleEntry)) : Type 0 where
-  pub count : frame.tasks + length frame.sites + length idle
-      ≡ max 1 (frame.tasks + length frame.sites)
-  pub each : (k : ℕ) (q : Passed RuleEntry) → slice_get idle k ≡ Some q
-      → (q.name ≡ frame.rules) × (q.number ≡ frame.tasks + length frame.sites + k)
+pub record AreSpares (consts : WorldConsts) (spares : List (Passed RuleEntry)) : Type 0 where
+  pub count : consts.tasks + length consts.sites + length spares
+      ≡ max 1 (consts.tasks + length consts.sites)
+  pub each : (k : ℕ) (q : Passed RuleEntry) → slice_get spares k ≡ Some q
+      → (q.name ≡ consts.rules) × (q.number ≡ consts.tasks + length consts.sites + k)
       × (q.mine ≡ [])
 
 -- the closed inodes of the stations, and the passes that each other list takes back, in order
-pub record AreReturned (stations : List StationValue) (idle : List (Passed RuleEntry))
+pub record AreReturned (stations : List StationValue) (spares : List (Passed RuleEntry))
     (passes : List PassesValue) (inodes : List EndedInodeValue) (listers : List (Passed Entry))
     (signals : List (Passed Event)) (appenders : List (Passed RuleEntry)) : Type 0 where
   pub book : List (Passed Entry)
@@ -93,15 +93,15 @@ pub record AreReturned (stations : List StationValue) (idle : List (Passed RuleE
   pub listers_are : listers ≡ book ++ map (λ (p : PassesValue). p.book) passes
   pub signals_are : signals ≡ map (λ (p : PassesValue). p.sems) passes
   pub appenders_are : appenders ≡ map (λ (p : PassesValue). p.rules) passes
-      ++ map (λ (s : StationValue). s.rules) stations ++ idle
+      ++ map (λ (s : StationValue). s.rules) stations ++ spares
 
 -- a placeholder for an inode that isn't there
 abbrev pub no_site : Site
 no_site = record { path = []; birth = nothing; place = 0; journal = no_name }
 
 -- the name of the journal of this number
-abbrev pub journal_name : Frame → ℕ → ListName
-journal_name frame i = (get_or frame.sites i no_site).journal
+abbrev pub journal_name : WorldConsts → ℕ → ListName
+journal_name consts i = (get_or consts.sites i no_site).journal
 
 -- the closed lists of a world
 pub record ListsValue : Type 0 where
@@ -111,12 +111,12 @@ pub record ListsValue : Type 0 where
   pub rules : List RuleEntry
 
 -- what is known of the closed lists, with the passes of the inodes and of the tasks
-pub record WorldClosed (frame : Frame) (stations : List StationValue) (list : List Entry)
+pub record WorldClosed (consts : WorldConsts) (stations : List StationValue) (list : List Entry)
     (signals : List Event) (added : List RuleEntry) (tasks : List PassesValue) : Type 0 where
   pub inodes : List (Passed Entry)
   pub closed : AllZip StationClosed stations inodes
-  pub book : BookClosed frame.boot list (inodes ++ map (λ (p : PassesValue). p.book) tasks)
+  pub book : BookClosed consts.boot list (inodes ++ map (λ (p : PassesValue). p.book) tasks)
   pub entries : All IsEntry list
   pub are_signals : LegalSemaphores (past signals)
-  pub signed : All (λ e. (0 < caller_of e) × (caller_of e ≤ frame.tasks)) signals
-  pub ruled : All (λ (r : RuleEntry). r.who.task < frame.tasks) added
+  pub signed : All (λ e. (0 < caller_of e) × (caller_of e ≤ consts.tasks)) signals
+  pub ruled : All (λ (r : RuleEntry). r.who.task < consts.tasks) added

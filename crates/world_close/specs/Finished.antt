@@ -13,7 +13,7 @@ use Rattle.world_model.specs.model.Scene.{Scene}
 use Rattle.world_model.specs.model.Served.{Served}
 use Rattle.world_model.specs.model.Shown.{IsShown, journals_of}
 use Rattle.world_model.specs.model.Turns.{Moment, State, run_at}
-use Rattle.world_model.specs.Frame.{Frame, scene_of}
+use Rattle.world_model.specs.WorldConsts.{WorldConsts, scene_of}
 use Rattle.world_model.specs.Runs.{AreTasks, HasMade, moment_of, programs_of}
 use Rattle.world_model.specs.Tasks.{Tasked}
 use Rattle.world_model.specs.World.{StationValue, journal_of}
@@ -29,8 +29,8 @@ state_at stations list signals added = record {
 }
 
 -- each task has looked at all lists
-abbrev pub HaveMade : Frame → State → List Tasked → Type 0
-HaveMade frame s tasks = (k : ℕ) (t : Tasked) → slice_get tasks k ≡ Some t → HasMade frame s t
+abbrev pub HaveMade : WorldConsts → State → List Tasked → Type 0
+HaveMade consts s tasks = (k : ℕ) (t : Tasked) → slice_get tasks k ≡ Some t → HasMade consts s t
 
 -- a moment of a run at which the run may be shown, however it was reached
 pub record IsFinished (scene : Scene) (m : Moment) : Type 0 where
@@ -46,12 +46,12 @@ pub record IsFinished (scene : Scene) (m : Moment) : Type 0 where
 -- if each task has looked at all lists, closing them yields a finished moment
 abbrev pub ClosedIsFinished : Type 0
 ClosedIsFinished =
-    (frame : Frame) (stations : List StationValue) (list : List Entry) (signals : List Event)
+    (consts : WorldConsts) (stations : List StationValue) (list : List Entry) (signals : List Event)
     (added : List RuleEntry) (tasks : List Tasked)
-    → AreStations frame stations → AreTasks frame tasks → length tasks ≡ frame.tasks
-    → HaveMade frame (state_at stations list signals added) tasks
-    → WorldClosed frame stations list signals added (map (λ (t : Tasked). t.passes) tasks)
-    → IsFinished (scene_of frame (programs_of tasks))
+    → AreStations consts stations → AreTasks consts tasks → length tasks ≡ consts.tasks
+    → HaveMade consts (state_at stations list signals added) tasks
+    → WorldClosed consts stations list signals added (map (λ (t : Tasked). t.passes) tasks)
+    → IsFinished (scene_of consts (programs_of tasks))
     (moment_of (state_at stations list signals added) tasks)
 
 -- at a finished moment at which no task can move, each is done or the run is stuck

@@ -10,7 +10,7 @@ use Rattle.run_model.specs.rules.declared.cell.RuleEntry.{RuleEntry}
 use Rattle.run_model.specs.Ended.{is_done, waits_in_vain}
 use Rattle.run_model.specs.EndedValue.{EndedTaskValue, EndedValue, appends, ended_of}
 use Rattle.run_model.specs.Turns.{run_at}
-use Rattle.world_close.specs.worlds.Frame.{Frame, scene_of}
+use Rattle.world_close.specs.worlds.WorldConsts.{WorldConsts, scene_of}
 use Rattle.world_close.specs.worlds.Runs.{moment_of, programs_of}
 use Rattle.world_close.specs.worlds.Tasks.{Tasked}
 use Rattle.world_close.specs.worlds.World.{StationValue}
@@ -44,27 +44,27 @@ are_stuck left_of tasks = not (list_all done_by tasks) && list_all (rests left_o
 
 -- ---- the world
 
-abbrev pub left_by : Frame → List StationValue → List Entry → List Event → List RuleEntry
+abbrev pub left_by : WorldConsts → List StationValue → List Entry → List Event → List RuleEntry
     → List Tasked → EndedValue
-left_by frame stations list signals added tasks = record {
+left_by consts stations list signals added tasks = record {
   inodes = map ended_station stations;
   list = list;
   banks = banks_of list;
   tasks = map task_left tasks;
   stuck = are_stuck (λ sem. left sem (past signals)) tasks;
-  template = frame.settings.template;
+  template = consts.settings.template;
   rules = added;
-  base = length frame.base;
+  base = length consts.base;
   grows = list_any may_append tasks;
 }
 
 -- the final state of the closed lists and the tasks is the final state of the run
 abbrev pub ClosedIsLeft : Type 0
 ClosedIsLeft =
-    (frame : Frame) (stations : List StationValue) (list : List Entry) (signals : List Event)
-    (added : List RuleEntry) (tasks : List Tasked) → AreStations frame stations
-    → IsFinished (scene_of frame (programs_of tasks))
+    (consts : WorldConsts) (stations : List StationValue) (list : List Entry) (signals : List Event)
+    (added : List RuleEntry) (tasks : List Tasked) → AreStations consts stations
+    → IsFinished (scene_of consts (programs_of tasks))
     (moment_of (state_at stations list signals added) tasks)
-    → left_by frame stations list signals added tasks
-    ≡ ended_of (scene_of frame (programs_of tasks))
+    → left_by consts stations list signals added tasks
+    ≡ ended_of (scene_of consts (programs_of tasks))
     (run_at (moment_of (state_at stations list signals added) tasks))

@@ -5,7 +5,7 @@ use Rattle.run_model.specs.Ended.{all_done, is_stuck}
 use Rattle.run_model.specs.EndedValue.{EndedValue, ended_of}
 use Rattle.run_model.specs.Scene.{Scene}
 use Rattle.run_model.specs.Turns.{Moment, State, run_at}
-use Rattle.world_close.specs.worlds.Frame.{Frame}
+use Rattle.world_close.specs.worlds.WorldConsts.{WorldConsts}
 use Rattle.world_close.specs.worlds.Runs.{AreTasks, HasMade}
 use Rattle.world_close.specs.worlds.Tasks.{Tasked}
 use Rattle.world_close.specs.minds.Value.{TaskValue}
@@ -19,10 +19,10 @@ abbrev pub HaveSameMinds : List Tasked → List Tasked → Type 0
 HaveSameMinds old new = map mind_of new ≡ map mind_of old
 
 -- the tasks below k have looked at all lists
-pub record HaveLooked (frame : Frame) (state : State) (k : ℕ) (old new : List Tasked)
+pub record HaveLooked (consts : WorldConsts) (state : State) (k : ℕ) (old new : List Tasked)
     : Type 0 where
-  pub made : (j : ℕ) (t : Tasked) → j < k → slice_get new j ≡ Some t → HasMade frame state t
-  pub tasks : AreTasks frame new
+  pub made : (j : ℕ) (t : Tasked) → j < k → slice_get new j ≡ Some t → HasMade consts state t
+  pub tasks : AreTasks consts new
   pub same : HaveSameMinds old new
 
 -- each task is done, or the run is stuck

@@ -1,9 +1,9 @@
 ghost use Rattle.std.specs.Prelude.{◌≡◌, ℕ, ◌+◌, ◌++◌, [], length, map, All, IfOk, Some, slice_get};
 ghost use Rattle.measure_book.specs.Replay.{banks_of};
-ghost use Rattle.world_model.specs.Frame.{Frame};
+ghost use Rattle.world_model.specs.WorldConsts.{WorldConsts};
 ghost use Rattle.world_model.specs.Tasks.{ArePassesOf, PassesValue};
 ghost use Rattle.world_model.specs.World.{AreRulesOf, AreSignalsOf, IsBookOf};
-ghost use Rattle.world_close.specs.Closed.{AreIdle, AreReturned, AreStations, WorldClosed, ended_station};
+ghost use Rattle.world_close.specs.Closed.{AreReturned, AreSpares, AreStations, WorldClosed, ended_station};
 
 use crate::rows::Row;
 use crate::stations::{Closed, close_stations};
@@ -108,15 +108,15 @@ fn join_listers(
 fn join_appenders(
     tasks: Vec<Pass<RuleEntry>>,
     inodes: Vec<Pass<RuleEntry>>,
-    idle: Vec<Pass<RuleEntry>>,
+    spares: Vec<Pass<RuleEntry>>,
 ) -> Result<Vec<Pass<RuleEntry>>, OutOfMemory>
-    ensures { IfOk result (λ v. v.items ≡ tasks.items ++ inodes.items ++ idle.items) }
+    ensures { IfOk result (λ v. v.items ≡ tasks.items ++ inodes.items ++ spares.items) }
 {
     let mut all = tasks;
     let mut inodes = inodes;
-    let mut idle = idle;
+    let mut spares = spares;
     all.append(&mut inodes)?;
-    all.append(&mut idle)?;
+    all.append(&mut spares)?;
     Ok(all)
 }
 
@@ -124,15 +124,15 @@ fn join_appenders(
 fn take_back(
     alloc: Global,
     stations: Vec<Station>,
-    idle: Vec<Pass<RuleEntry>>,
+    spares: Vec<Pass<RuleEntry>>,
     passes: Vec<Passes>,
 ) -> Result<Returned, OutOfMemory>
-    ghost frame: { Frame }
-    requires stations { AreStations frame stations.items }
-    requires count { length passes.items ≡ frame.tasks }
+    ghost consts: { WorldConsts }
+    requires stations { AreStations consts stations.items }
+    requires count { length passes.items ≡ consts.tasks }
     requires passes { (n : ℕ) (p : PassesValue) → slice_get passes.items n ≡ Some p
-        → ArePassesOf frame n p }
-    ensures { IfOk result (λ r. AreReturned stations.items idle.items passes.items r.inodes.items
+        → ArePassesOf consts n p }
+    ensures { IfOk result (λ r. AreReturned stations.items spares.items passes.items r.inodes.items
         r.listers.items r.signals.items r.appenders.items) }
 {
     let parted = part(alloc, passes)?;
@@ -149,7 +149,7 @@ fn take_back(
         rules: counters,
     } = closed;
     let listers = join_listers(listers, tasks)?;
-    let appenders = join_appenders(appenders, counters, idle)?;
+    let appenders = join_appenders(appenders, counters, spares)?;
     Ok(Returned {
         inodes,
         listers,
@@ -165,26 +165,26 @@ pub fn close_lists(
     book: Book,
     sems: SemaphoreCell,
     rules: PolicyCell,
-    idle: Vec<Pass<RuleEntry>>,
+    spares: Vec<Pass<RuleEntry>>,
     passes: Vec<Passes>,
 ) -> Result<Lists, OutOfMemory>
-    ghost frame: { Frame }
-    requires stations { AreStations frame stations.items }
-    requires book { IsBookOf frame book }
-    requires sems { AreSignalsOf frame sems }
-    requires rules { AreRulesOf frame rules }
-    requires idle { AreIdle frame idle.items }
-    requires count { length passes.items ≡ frame.tasks }
+    ghost consts: { WorldConsts }
+    requires stations { AreStations consts stations.items }
+    requires book { IsBookOf consts book }
+    requires sems { AreSignalsOf consts sems }
+    requires rules { AreRulesOf consts rules }
+    requires spares { AreSpares consts spares.items }
+    requires count { length passes.items ≡ consts.tasks }
     requires passes { (n : ℕ) (p : PassesValue) → slice_get passes.items n ≡ Some p
-        → ArePassesOf frame n p }
+        → ArePassesOf consts n p }
     ensures inodes { IfOk result (λ r. r.inodes ≡ map ended_station stations.items) }
     ensures list { IfOk result (λ r. r.list ≡ book.list) }
     ensures banks { IfOk result (λ r. r.banks ≡ banks_of book.list) }
     ensures rules { IfOk result (λ r. r.rules ≡ rules.appended.list) }
-    ensures closed { IfOk result (λ r. WorldClosed frame stations.items book.list sems.list
+    ensures closed { IfOk result (λ r. WorldClosed consts stations.items book.list sems.list
         rules.appended.list passes.items) }
 {
-    let back = take_back(alloc, stations, idle, passes)?;
+    let back = take_back(alloc, stations, spares, passes)?;
     let Returned {
         inodes,
         listers,

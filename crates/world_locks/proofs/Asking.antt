@@ -19,10 +19,10 @@ use Rattle.policy_rules.specs.declared.access.Super.{Super}
 use Rattle.world_close.specs.laws_of_runs.Stations.{CountsAll}
 use Rattle.run_model.specs.Scene.{no_super, rules_with}
 use Rattle.task_steps.specs.declared.listed.Checks.{Checks}
-use Rattle.world_close.specs.worlds.Frame.{Frame, scene_of, super_at}
+use Rattle.world_close.specs.worlds.WorldConsts.{WorldConsts, scene_of, super_at}
 use Rattle.world_close.specs.worlds.World.{AreRulesOf, IsBookOf, IsStation, StationValue}
-use Rattle.world_close.specs.worlds.declared.gathered.Gathered.{Gathered}
-use Rattle.world_close.specs.worlds.declared.gathered.Gathered.TheVariants as gathered
+use Rattle.world_close.specs.worlds.declared.hash_state.HashState.{HashState}
+use Rattle.world_close.specs.worlds.declared.hash_state.HashState.TheVariants as hash_state
 use Rattle.task_steps.proofs.Looked.{force_count}
 use Rattle.task_steps.proofs.Looks.{at_index}
 use Rattle.task_steps.specs.Acting.{StationDid, told_in}
@@ -30,7 +30,7 @@ use Rattle.task_steps.specs.Checking.{IsChecked, check_by}
 use Rattle.task_steps.specs.declared.answers.Answered.{Answered}
 use Rattle.world_locks.proofs.Lists.{book_still, rules_still}
 use Rattle.world_locks.proofs.Stations.{station_looked, station_still}
-use Rattle.world_locks.specs.Kept.{AskMet}
+use Rattle.world_locks.specs.Tagged.{AskMet}
 
 -- a look of a pass at the appended rules, which leaves the rules as they were
 pub record LooksAt (rules rules2 : PolicyValue) (q q2 : Passed RuleEntry) : Type 0 where
@@ -53,66 +53,67 @@ super_is : (supers : List Super) (k : ℕ) (x : Super) → k < length supers →
 super_is supers k x l e =
     sym (get_or_from_slice_get supers k x no_super (at_index supers k x x l e))
 
-module _ {E : Type 0} (frame : Frame) (i : ℕ) (st st2 : StationValue) (is : IsStation frame i st)
-    (rules between rules2 : PolicyValue) (are : AreRulesOf frame rules)
+module _ {E : Type 0} (consts : WorldConsts) (i : ℕ) (st st2 : StationValue)
+    (is : IsStation consts i st)
+    (rules between rules2 : PolicyValue) (are : AreRulesOf consts rules)
     (q own own2 : Passed RuleEntry) (first : LooksAt rules between st.rules q)
     (second : LooksAt between rules2 own own2) (supers : List Super)
-    (supers_are : supers ≡ frame.supers) (place : Super) (within : st.place < length supers)
+    (supers_are : supers ≡ consts.supers) (place : Super) (within : st.place < length supers)
     (place_is : place ≡ get_or supers st.place place) (index : List RuleValue)
     (index_is : index ≡ in_force rules2) (book book2 : Grown Entry) (pass pass2 : Passed Event)
     (listed listed2 : Passed Entry) (who : Who) (cred : Cred) (asked : Checks)
     (r : Result (Option Answered) E)
-    (did : (g : Gathered) → StationDid (record st { rules = q }) st2 book book2 pass pass2 listed
+    (did : (g : HashState) → StationDid (record st { rules = q }) st2 book book2 pass pass2 listed
     listed2 who (check_by index cred place (metadata (past st.cell.list)) asked) g g (told_in r))
     (told : IsChecked st.cell.inode st.cell.list book.list index cred place asked r) where
   -- the inode after its pass has looked
   abbrev st1 : StationValue
   st1 = record st { rules = q }
 
-  is1 : IsStation frame i st1
-  is1 = station_looked frame i st is q first.same first.mine
+  is1 : IsStation consts i st1
+  is1 = station_looked consts i st is q first.same first.mine
       (looks_more rules between st.rules q first)
 
-  pub rules_kept : AreRulesOf frame rules2
+  pub rules_kept : AreRulesOf consts rules2
   rules_kept =
-      rules_still frame between rules2 second.base second.list
-      (rules_still frame rules between first.base first.list are)
+      rules_still consts between rules2 second.base second.list
+      (rules_still consts rules between first.base first.list are)
 
   seen : q.seen ≡ rules2.appended.list
   seen = first.seen ∙ sym second.list.list
 
   -- the check counts all rules that the inode's pass has seen
-  counts : CountsAll (length frame.base + length q.seen)
+  counts : CountsAll (length consts.base + length q.seen)
       (check_by index cred place (metadata (past st.cell.list)) asked)
   counts =
       ap length index_is ∙ force_count rules2
       ∙ ap (λ (xs : List RuleEntry). length rules2.base + length xs) (sym seen)
       ∙ ap (λ (xs : List RuleValue). length xs + length q.seen) rules_kept.base
 
-  pub asked_station : IsStation frame i st2
+  pub asked_station : IsStation consts i st2
   asked_station =
-      station_still frame i st1 is1 st2 book book2 pass pass2 listed listed2 who
-      (check_by index cred place (metadata (past st.cell.list)) asked) gathered.Nothing
-      gathered.Nothing (told_in r) (did gathered.Nothing) counts
+      station_still consts i st1 is1 st2 book book2 pass pass2 listed listed2 who
+      (check_by index cred place (metadata (past st.cell.list)) asked) hash_state.Idle
+      hash_state.Idle (told_in r) (did hash_state.Idle) counts
 
-  pub asked_book : IsBookOf frame book → IsBookOf frame book2
+  pub asked_book : IsBookOf consts book → IsBookOf consts book2
   asked_book =
-      book_still frame st1 st2 book book2 pass pass2 listed listed2 who
-      (check_by index cred place (metadata (past st.cell.list)) asked) gathered.Nothing
-      gathered.Nothing (told_in r) (did gathered.Nothing)
+      book_still consts st1 st2 book book2 pass pass2 listed listed2 who
+      (check_by index cred place (metadata (past st.cell.list)) asked) hash_state.Idle
+      hash_state.Idle (told_in r) (did hash_state.Idle)
 
   -- these are all rules in force, and the file system is the inode's
-  all_rules : index ≡ rules_with (scene_of frame []) rules2.appended.list
+  all_rules : index ≡ rules_with (scene_of consts []) rules2.appended.list
   all_rules =
       index_is
       ∙ ap (λ (xs : List RuleValue). xs ++ rules_in rules2.appended.list) rules_kept.base
 
-  its_super : place ≡ super_at frame st.place
+  its_super : place ≡ super_at consts st.place
   its_super =
       super_is supers st.place place within place_is
       ∙ ap (λ (xs : List Super). get_or xs st.place no_super) supers_are
 
-  pub asks : AskMet frame i pass pass2 own own2 listed listed2 who cred asked r
+  pub asks : AskMet consts i pass pass2 own own2 listed listed2 who cred asked r
   asks = record {
     station = st1;
     station2 = st2;
@@ -124,10 +125,10 @@ module _ {E : Type 0} (frame : Frame) (i : ℕ) (st st2 : StationValue) (is : Is
         g (told_in r))
         (ap (λ (xs : List RuleValue). check_by xs cred place (metadata (past st.cell.list)) asked)
         all_rules
-        ∙ ap (λ (x : Super). check_by (rules_with (scene_of frame []) rules2.appended.list) cred x
+        ∙ ap (λ (x : Super). check_by (rules_with (scene_of consts []) rules2.appended.list) cred x
         (metadata (past st.cell.list)) asked) its_super) (did g);
     told = subst (λ (x : Super). IsChecked st.cell.inode st.cell.list book.list
-        (rules_with (scene_of frame []) rules2.appended.list) cred x asked r) its_super
+        (rules_with (scene_of consts []) rules2.appended.list) cred x asked r) its_super
         (subst (λ (xs : List RuleValue). IsChecked st.cell.inode st.cell.list book.list xs cred
         place asked r) all_rules told);
     adds = record {

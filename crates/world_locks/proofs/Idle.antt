@@ -13,10 +13,10 @@ use Rattle.inode_events.specs.declared.told.Told.{Told}
 use Rattle.run_model.specs.Scene.{rules_with}
 use Rattle.run_model.specs.Turns.{State}
 use Rattle.task_steps.specs.declared.listed.Checks.{Checks}
-use Rattle.world_close.specs.worlds.Frame.{Frame, Site, scene_of, super_at}
+use Rattle.world_close.specs.worlds.WorldConsts.{Site, WorldConsts, scene_of, super_at}
 use Rattle.world_close.specs.worlds.Tasks.{PassesValue}
-use Rattle.world_close.specs.worlds.declared.gathered.Gathered.{Gathered}
-use Rattle.world_close.specs.worlds.declared.gathered.Gathered.TheVariants as gathered
+use Rattle.world_close.specs.worlds.declared.hash_state.HashState.{HashState}
+use Rattle.world_close.specs.worlds.declared.hash_state.HashState.TheVariants as hash_state
 use Rattle.task_steps.specs.worlds.Events.{EventOn}
 use Rattle.task_steps.proofs.Lists.{map_same}
 use Rattle.task_steps.specs.Acting.{EventIn, told_in}
@@ -25,11 +25,11 @@ use Rattle.task_steps.specs.Sharing.{SignalsOn}
 use Rattle.task_steps.specs.declared.answers.Answered.{Answered}
 use Rattle.world_locks.specs.Met.{CheckMet, EventMet, SignalsMet, mine_of, mines_of, state_seen}
 
-event_on_idle : (frame : Frame) (i : ℕ) (s : Site) (who : Who) (d : Deed) (old new : State)
-    (passes passes2 : PassesValue) (g g2 : Gathered)
-    → EventOn frame i s who d old new passes passes2 g g2 None
+event_on_idle : (consts : WorldConsts) (i : ℕ) (s : Site) (who : Who) (d : Deed) (old new : State)
+    (passes passes2 : PassesValue) (g g2 : HashState)
+    → EventOn consts i s who d old new passes passes2 g g2 None
     → mines_of passes2 ≡ mines_of passes
-event_on_idle frame i s who d old new passes passes2 g g2 e =
+event_on_idle consts i s who d old new passes passes2 g g2 e =
     let journals : map mine_of passes2.inodes ≡ map mine_of passes.inodes =
     ap (λ (qs : List (Passed Event)). map mine_of qs) e.inodes
     ∙ map_same mine_of passes.inodes i e.pass e.pass2 e.pass_at
@@ -41,46 +41,46 @@ event_on_idle frame i s who d old new passes passes2 g g2 e =
       added = (e.rules.mine ∙ append-nil passes.rules.mine) k;
     }
 
-event_in_idle : (frame : Frame) (i : ℕ) (x : Option Site) (who : Who) (d : Deed)
-    (old new : State) (passes passes2 : PassesValue) (g g2 : Gathered)
-    → EventIn frame i x who d old new passes passes2 g g2 None
+event_in_idle : (consts : WorldConsts) (i : ℕ) (x : Option Site) (who : Who) (d : Deed)
+    (old new : State) (passes passes2 : PassesValue) (g g2 : HashState)
+    → EventIn consts i x who d old new passes passes2 g g2 None
     → mines_of passes2 ≡ mines_of passes
-event_in_idle frame i None who d old new passes passes2 g g2 e =
+event_in_idle consts i None who d old new passes passes2 g g2 e =
     ap (λ (p : PassesValue). mines_of p) e.left
-event_in_idle frame i (Some s) who d old new passes passes2 g g2 e =
-    event_on_idle frame i s who d old new passes passes2 g g2 e
+event_in_idle consts i (Some s) who d old new passes passes2 g g2 e =
+    event_on_idle consts i s who d old new passes passes2 g g2 e
 
-pub event_idle : {E : Type 0} (frame : Frame) (i : ℕ) (who : Who) (d : Deed)
-    (passes passes2 : PassesValue) (g g2 : Gathered) (r : Result (Option Answered) E)
-    → EventMet frame i who d passes passes2 g g2 r → told_in r ≡ None
+pub event_idle : {E : Type 0} (consts : WorldConsts) (i : ℕ) (who : Who) (d : Deed)
+    (passes passes2 : PassesValue) (g g2 : HashState) (r : Result (Option Answered) E)
+    → EventMet consts i who d passes passes2 g g2 r → told_in r ≡ None
     → mines_of passes2 ≡ mines_of passes
-event_idle frame i who d passes passes2 g g2 r m e =
-    event_in_idle frame i (slice_get frame.sites i) who d m.old (state_seen passes2) passes passes2
-    g g2
-    (subst (λ (o : Option Told). EventIn frame i (slice_get frame.sites i) who d m.old
+event_idle consts i who d passes passes2 g g2 r m e =
+    event_in_idle consts i (slice_get consts.sites i) who d m.old (state_seen passes2)
+    passes passes2 g g2
+    (subst (λ (o : Option Told). EventIn consts i (slice_get consts.sites i) who d m.old
     (state_seen passes2) passes passes2 g g2 o) e m.event)
 
-check_in_idle : {E : Type 0} (frame : Frame) (i : ℕ) (x : Option Site) (who : Who) (cred : Cred)
-    (asked : Checks) (old new : State) (passes passes2 : PassesValue) (g : Gathered)
-    (r : Result (Option Answered) E) → CheckIn frame i x who cred asked old new passes passes2 g r
+check_in_idle : {E : Type 0} (consts : WorldConsts) (i : ℕ) (x : Option Site) (who : Who)
+    (cred : Cred) (asked : Checks) (old new : State) (passes passes2 : PassesValue) (g : HashState)
+    (r : Result (Option Answered) E) → CheckIn consts i x who cred asked old new passes passes2 g r
     → told_in r ≡ None → mines_of passes2 ≡ mines_of passes
-check_in_idle frame i None who cred asked old new passes passes2 g r c e =
+check_in_idle consts i None who cred asked old new passes passes2 g r c e =
     ap (λ (p : PassesValue). mines_of p) c.left
-check_in_idle frame i (Some s) who cred asked old new passes passes2 g r c e =
+check_in_idle consts i (Some s) who cred asked old new passes passes2 g r c e =
     let d : Deed =
-    check_by (rules_with (scene_of frame []) old.added) cred (super_at frame s.place)
+    check_by (rules_with (scene_of consts []) old.added) cred (super_at consts s.place)
     (metadata (past c.journal)) asked in
-    event_on_idle frame i s who d old new passes passes2 g g
-    (subst (λ (o : Option Told). EventOn frame i s who d old new passes passes2 g g o) e c.event)
+    event_on_idle consts i s who d old new passes passes2 g g
+    (subst (λ (o : Option Told). EventOn consts i s who d old new passes passes2 g g o) e c.event)
 
-pub check_idle : {E : Type 0} (frame : Frame) (i : ℕ) (who : Who) (cred : Cred) (asked : Checks)
-    (passes passes2 : PassesValue) (r : Result (Option Answered) E)
-    → CheckMet frame i who cred asked passes passes2 r → told_in r ≡ None
+pub check_idle : {E : Type 0} (consts : WorldConsts) (i : ℕ) (who : Who) (cred : Cred)
+    (asked : Checks) (passes passes2 : PassesValue) (r : Result (Option Answered) E)
+    → CheckMet consts i who cred asked passes passes2 r → told_in r ≡ None
     → mines_of passes2 ≡ mines_of passes
-check_idle frame i who cred asked passes passes2 r m e =
-    check_in_idle frame i (slice_get frame.sites i) who cred asked m.old (state_seen passes2) passes
-    passes2
-    gathered.Nothing r (m.check gathered.Nothing) e
+check_idle consts i who cred asked passes passes2 r m e =
+    check_in_idle consts i (slice_get consts.sites i) who cred asked m.old
+    (state_seen passes2) passes passes2
+    hash_state.Idle r (m.check hash_state.Idle) e
 
 pub signals_idle : {E : Type 0} (passes passes2 : PassesValue) (who : Who) (d : Deed)
     (r : Result (Option Answered) E) → SignalsMet passes passes2 who d r → told_in r ≡ None

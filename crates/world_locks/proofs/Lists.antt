@@ -13,9 +13,9 @@ use Rattle.inode_events.specs.declared.told.Event.{Event}
 use Rattle.inode_events.specs.declared.told.Told.{Told}
 use Rattle.policy_cell.specs.Policy.{PolicyValue}
 use Rattle.policy_cell.specs.declared.cell.RuleEntry.{RuleEntry}
-use Rattle.world_close.specs.worlds.Frame.{Frame}
+use Rattle.world_close.specs.worlds.WorldConsts.{WorldConsts}
 use Rattle.world_close.specs.worlds.World.{AreRulesOf, IsBookOf, StationValue}
-use Rattle.world_close.specs.worlds.declared.gathered.Gathered.{Gathered}
+use Rattle.world_close.specs.worlds.declared.hash_state.HashState.{HashState}
 use Rattle.task_steps.specs.Acting.{StationDid}
 
 -- ---- the measurement list
@@ -36,25 +36,25 @@ first_stays (x ∷ xs) b e None h = h
 first_stays (x ∷ xs) b None (Some t) h = h
 first_stays (x ∷ xs) b (Some e) (Some t) h = added_first x xs e ∙ h
 
-pub book_still : (frame : Frame) (st st2 : StationValue) (book book2 : Grown Entry)
+pub book_still : (consts : WorldConsts) (st st2 : StationValue) (book book2 : Grown Entry)
     (pass pass2 : Passed Event) (listed listed2 : Passed Entry) (who : Who) (d : Deed)
-    (g g2 : Gathered) (o : Option Told)
+    (g g2 : HashState) (o : Option Told)
     → StationDid st st2 book book2 pass pass2 listed listed2 who d g g2 o
-    → IsBookOf frame book → IsBookOf frame book2
-book_still frame st st2 book book2 pass pass2 listed listed2 who d g g2 o did is = record {
+    → IsBookOf consts book → IsBookOf consts book2
+book_still consts st st2 book book2 pass pass2 listed listed2 who d g g2 o did is = record {
   name = did.book_name ∙ is.name;
   boot = ap (λ (xs : List Entry). slice_get xs 0) did.leaves.book
-      ∙ first_stays book.list frame.boot (asked st.cell.inode d (past st.cell.list)) o is.boot;
+      ∙ first_stays book.list consts.boot (asked st.cell.inode d (past st.cell.list)) o is.boot;
   callers = did.book_callers ∙ is.callers;
 }
 
 -- ---- the rules
 
 -- a look at the rules leaves them as they were
-pub rules_still : (frame : Frame) (rules rules2 : PolicyValue) → rules2.base ≡ rules.base
-    → IsSameList rules.appended rules2.appended → AreRulesOf frame rules
-    → AreRulesOf frame rules2
-rules_still frame rules rules2 base list is = record {
+pub rules_still : (consts : WorldConsts) (rules rules2 : PolicyValue) → rules2.base ≡ rules.base
+    → IsSameList rules.appended rules2.appended → AreRulesOf consts rules
+    → AreRulesOf consts rules2
+rules_still consts rules rules2 base list is = record {
   name = list.name ∙ is.name;
   base = base ∙ is.base;
   callers = list.callers ∙ is.callers;
@@ -63,13 +63,13 @@ rules_still frame rules rules2 base list is = record {
 }
 
 -- a rule appended by the task of its `Who` leaves the invariant of the rules intact
-pub rules_more : (frame : Frame) (rules rules2 : PolicyValue) (e : RuleEntry) (n : ℕ)
+pub rules_more : (consts : WorldConsts) (rules rules2 : PolicyValue) (e : RuleEntry) (n : ℕ)
     → (rules2.base ≡ rules.base) × (rules2.appended.name ≡ rules.appended.name)
     × (rules2.appended.callers ≡ rules.appended.callers)
     → rules2.appended.list ≡ rules.appended.list ++ e ∷ []
     → rules2.appended.numbers ≡ rules.appended.numbers ++ n ∷ [] → n ≡ e.who.task
-    → AreRulesOf frame rules → AreRulesOf frame rules2
-rules_more frame rules rules2 e n kept list numbers by is = record {
+    → AreRulesOf consts rules → AreRulesOf consts rules2
+rules_more consts rules rules2 e n kept list numbers by is = record {
   name = kept.1 ∙ is.name;
   base = kept.0 ∙ is.base;
   callers = kept.2 ∙ is.callers;

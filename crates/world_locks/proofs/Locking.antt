@@ -4,41 +4,42 @@ use Rattle.std.specs.Prelude.{slice_get}
 use Rattle.std.proofs.lemmas.List.{length-map}
 use Rattle.std.proofs.lemmas.Option.{same_Some}
 use Rattle.ima_templates.specs.declared.entry.Entry.{Entry}
-use Rattle.world_close.specs.worlds.Frame.{Frame, Site, boot_in}
+use Rattle.world_close.specs.worlds.WorldConsts.{Site, WorldConsts, boot_in}
 use Rattle.world_close.specs.worlds.World.{IsStation, StationValue, site_of}
 use Rattle.world_close.proofs.Gets.{get_last, get_left, get_map, get_parts}
 use Rattle.world_close.specs.Closed.{AreStations}
-use Rattle.world_locks.specs.Parts.{AreEach, KeepFrame, frame_of_parts}
+use Rattle.world_locks.specs.Parts.{AreEach, KeepConsts, consts_of_parts}
 use Rattle.world_locks.specs.declared.parts.Parts.{Parts}
 
 -- the inodes before the last one are each the one of their number
-pub each_before : (frame : Frame) (all left : List StationValue) (s : StationValue)
-    → all ≡ left ++ s ∷ [] → AreEach frame all → AreEach frame left
-each_before frame all left s e each i x at =
+pub each_before : (consts : WorldConsts) (all left : List StationValue) (s : StationValue)
+    → all ≡ left ++ s ∷ [] → AreEach consts all → AreEach consts left
+each_before consts all left s e each i x at =
     each i x (ap (λ (xs : List StationValue). slice_get xs i) e ∙ get_left left (s ∷ []) i x at)
 
 -- the last inode is the one whose number is the count of those before it
-pub last_is : (frame : Frame) (all left : List StationValue) (s : StationValue)
-    → all ≡ left ++ s ∷ [] → AreEach frame all → IsStation frame (length left) s
-last_is frame all left s e each =
+pub last_is : (consts : WorldConsts) (all left : List StationValue) (s : StationValue)
+    → all ≡ left ++ s ∷ [] → AreEach consts all → IsStation consts (length left) s
+last_is consts all left s e each =
     each (length left) s
     (ap (λ (xs : List StationValue). slice_get xs (length left)) e ∙ get_last left s)
 
 -- with the next inode added, each is still the one of its number
-pub each_more : (frame : Frame) (stations all : List StationValue) (n : ℕ) (s : StationValue)
-    → all ≡ stations ++ s ∷ [] → n ≡ length stations → IsStation frame n s
-    → AreEach frame stations → AreEach frame all
-each_more frame stations all n s e number is each i x at =
+pub each_more : (consts : WorldConsts) (stations all : List StationValue) (n : ℕ) (s : StationValue)
+    → all ≡ stations ++ s ∷ [] → n ≡ length stations → IsStation consts n s
+    → AreEach consts stations → AreEach consts all
+each_more consts stations all n s e number is each i x at =
     elim (get_parts stations (s ∷ []) i x (ap (λ (xs : List StationValue). slice_get xs i) (sym e)
     ∙ at)) [
       | inl w ↦ each i x w
       | inr w ↦ last w.0 w.1.0 w.1.1
     ] where
-      last : (j : ℕ) → i ≡ length stations + j → slice_get (s ∷ []) j ≡ Some x → IsStation frame i x
+      last : (j : ℕ) → i ≡ length stations + j → slice_get (s ∷ []) j ≡ Some x
+          → IsStation consts i x
       last zero k h =
-          subst (λ (m : ℕ). IsStation frame m x)
+          subst (λ (m : ℕ). IsStation consts m x)
           (let l : n ≡ i = omega arith in l)
-          (subst (λ (y : StationValue). IsStation frame n y) (same_Some s x h) is)
+          (subst (λ (y : StationValue). IsStation consts n y) (same_Some s x h) is)
       last (suc j) k h = absurd (cc)
 
 -- ---- the constants
@@ -54,10 +55,10 @@ same_lists (x ∷ xs) (y ∷ ys) e f =
     let rest : xs ≡ ys = same_lists xs ys (omega arith) (λ k z h. f (suc k) z h) in
     λ i. sym first i ∷ rest i
 
-sites_are : (frame : Frame) (stations : List StationValue) → AreStations frame stations
-    → map site_of stations ≡ frame.sites
-sites_are frame stations are =
-    same_lists (map site_of stations) frame.sites (length-map stations site_of ∙ are.even)
+sites_are : (consts : WorldConsts) (stations : List StationValue) → AreStations consts stations
+    → map site_of stations ≡ consts.sites
+sites_are consts stations are =
+    same_lists (map site_of stations) consts.sites (length-map stations site_of ∙ are.even)
     (λ k x h.
     let s = get_map site_of stations k x h in
     (are.each k s.0 s.1.0).site ∙ ap (λ (y : Site). Some y) s.1.1)
@@ -67,12 +68,13 @@ boot_is : (list : List Entry) (boot : Entry) → slice_get list 0 ≡ Some boot
 boot_is [] boot h = absurd (cc)
 boot_is (e ∷ es) boot h = same_Some e boot h
 
--- the constants of lists that belong to the frame are the frame
-pub frame_kept : (frame : Frame) (p : Parts) → KeepFrame frame p → frame_of_parts p ≡ frame
-frame_kept frame p keep = λ i. record {
+-- the constants of lists that belong to some constants are these
+pub consts_kept : (consts : WorldConsts) (p : Parts) → KeepConsts consts p
+    → consts_of_parts p ≡ consts
+consts_kept consts p keep = λ i. record {
   settings = keep.settings i;
-  boot = boot_is p.book.list frame.boot keep.book.boot i;
-  sites = sites_are frame p.stations.items keep.stations i;
+  boot = boot_is p.book.list consts.boot keep.book.boot i;
+  sites = sites_are consts p.stations.items keep.stations i;
   supers = keep.supers i;
   base = keep.rules.base i;
   book = keep.book.name i;

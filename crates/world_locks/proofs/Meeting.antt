@@ -20,10 +20,10 @@ use Rattle.policy_cell.specs.declared.cell.RuleEntry.{RuleEntry}
 use Rattle.run_model.specs.Scene.{rules_with}
 use Rattle.run_model.specs.Turns.{State, state_on}
 use Rattle.task_steps.specs.declared.listed.Checks.{Checks}
-use Rattle.world_close.specs.worlds.Frame.{Frame, Site, inode_in, scene_of, super_at}
+use Rattle.world_close.specs.worlds.WorldConsts.{Site, WorldConsts, inode_in, scene_of, super_at}
 use Rattle.world_close.specs.worlds.Tasks.{PassesValue}
 use Rattle.world_close.specs.worlds.World.{IsStation, StationValue, site_of}
-use Rattle.world_close.specs.worlds.declared.gathered.Gathered.{Gathered}
+use Rattle.world_close.specs.worlds.declared.hash_state.HashState.{HashState}
 use Rattle.task_steps.proofs.about_worlds.Eventing.{adds_none, get_map, get_set}
 use Rattle.task_steps.specs.worlds.Due.{HashesTold}
 use Rattle.task_steps.specs.worlds.Events.{EventOn}
@@ -34,7 +34,7 @@ use Rattle.task_steps.specs.Acting.{EventIn, IsPlacedAt, IsSaid, StationDid, tol
 use Rattle.task_steps.specs.Checking.{CheckIn, IsChecked, check_by}
 use Rattle.task_steps.specs.declared.answers.Answered.{Answered}
 use Rattle.world_locks.proofs.Stations.{inode_same}
-use Rattle.world_locks.specs.Kept.{AskMet, DeedMet}
+use Rattle.world_locks.specs.Tagged.{AskMet, DeedMet}
 use Rattle.world_locks.specs.Met.{CheckMet, EventMet, seen_of, state_met, state_seen}
 
 -- of two elements written at the same place the second is found there
@@ -52,9 +52,9 @@ nothing_after (x ∷ xs) (suc i) h = nothing_after xs i (omega arith)
 
 -- ---- a step on an inode that is there
 
-module _ (frame : Frame) (i : ℕ) (passes passes2 : PassesValue) (who : Who) (d : Deed)
-    (g g2 : Gathered) (o : Option Told) (pass pass2 : Passed Event) (st st2 : StationValue)
-    (book book2 : Grown Entry) (added : List RuleEntry) (is : IsStation frame i st)
+module _ (consts : WorldConsts) (i : ℕ) (passes passes2 : PassesValue) (who : Who) (d : Deed)
+    (g g2 : HashState) (o : Option Told) (pass pass2 : Passed Event) (st st2 : StationValue)
+    (book book2 : Grown Entry) (added : List RuleEntry) (is : IsStation consts i st)
     (did : StationDid st st2 book book2 pass pass2 passes.book passes2.book who d g g2 o)
     (at : slice_get passes.inodes i ≡ Some pass) (number : pass.number ≡ who.task + 1)
     (inodes : passes2.inodes ≡ slice_set passes.inodes i pass2)
@@ -101,7 +101,7 @@ module _ (frame : Frame) (i : ℕ) (passes passes2 : PassesValue) (who : Who) (d
   }
 
   -- the event, from the view of its task
-  pub event_met : EventOn frame i (site_of st) who d Old (state_seen passes2) passes passes2 g g2 o
+  pub event_met : EventOn consts i (site_of st) who d Old (state_seen passes2) passes passes2 g g2 o
   event_met = record {
     journal = st.cell.list;
     journal_at = journal_met;
@@ -110,7 +110,7 @@ module _ (frame : Frame) (i : ℕ) (passes passes2 : PassesValue) (who : Who) (d
     pass2 = pass2;
     inodes = inodes;
     looked = subst (λ (x : Inode). HasLooked x (who.task + 1) pass.seen st.cell.list pass.mine)
-        (sym (inode_same frame i st is))
+        (sym (inode_same consts i st is))
         (subst (λ (n : ℕ). HasLooked st.cell.inode n pass.seen st.cell.list pass.mine) number
         did.looked);
     name = did.leaves.pass_name;
@@ -118,7 +118,7 @@ module _ (frame : Frame) (i : ℕ) (passes passes2 : PassesValue) (who : Who) (d
     seen = did.leaves.seen ∙ did.leaves.journal;
     mine = did.leaves.mine;
     state = state_is
-        ∙ ap (λ (x : Inode). state_on Old i x who d o) (sym (inode_same frame i st is));
+        ∙ ap (λ (x : Inode). state_on Old i x who d o) (sym (inode_same consts i st is));
     sems = semaphores;
     rules = adds;
     rules_seen = more;
@@ -126,7 +126,7 @@ module _ (frame : Frame) (i : ℕ) (passes passes2 : PassesValue) (who : Who) (d
     book_before = did.before;
     book_seen = refl;
     hashes = subst (λ (x : Inode). HashesTold x (st.cell.list ++ made who d o) g g2 d o)
-        (sym (inode_same frame i st is))
+        (sym (inode_same consts i st is))
         (subst (λ (xs : List Event). HashesTold st.cell.inode xs g g2 d o) did.leaves.journal
         did.hashes);
   }
@@ -134,50 +134,51 @@ module _ (frame : Frame) (i : ℕ) (passes passes2 : PassesValue) (who : Who) (d
   -- the answer's outcome is the one on the lists that the deed met
   pub said_met : (a : Option Answered)
       → told_of a ≡ outcome st.cell.inode book.list d (past st.cell.list)
-      → IsPlacedAt (length st.cell.list) a → IsSaid frame i d Old a
+      → IsPlacedAt (length st.cell.list) a → IsSaid consts i d Old a
   said_met a told place s journal there journal_at =
       let site : site_of st ≡ s = same_Some (site_of st) s (sym is.site ∙ there) in
       let list : st.cell.list ≡ journal =
       same_Some st.cell.list journal (sym journal_met ∙ journal_at) in (
         told
             ∙ ap (λ (x : Inode). outcome x book.list d (past st.cell.list))
-            (sym (inode_same frame i st is) ∙ ap (inode_in frame) site)
-            ∙ ap (λ (xs : List Event). outcome (inode_in frame s) book.list d (past xs)) list,
+            (sym (inode_same consts i st is) ∙ ap (inode_in consts) site)
+            ∙ ap (λ (xs : List Event). outcome (inode_in consts s) book.list d (past xs)) list,
         subst (λ (xs : List Event). IsPlacedAt (length xs) a) list place,
       )
 
 -- ---- the steps
 
 -- on an inode that isn't there nothing is done
-pub none_met : {E : Type 0} (frame : Frame) (i : ℕ) (passes : PassesValue) (who : Who) (d : Deed)
-    (g : Gathered) → length frame.sites ≤ i
-    → EventMet {E = E} frame i who d passes passes g g (Ok None)
-none_met frame i passes who d g h =
-    let none : slice_get frame.sites i ≡ None = nothing_after frame.sites i h in
+pub none_met : {E : Type 0} (consts : WorldConsts) (i : ℕ) (passes : PassesValue) (who : Who)
+    (d : Deed) (g : HashState) → length consts.sites ≤ i
+    → EventMet {E = E} consts i who d passes passes g g (Ok None)
+none_met consts i passes who d g h =
+    let none : slice_get consts.sites i ≡ None = nothing_after consts.sites i h in
     record {
       old = state_seen passes;
-      event = subst (λ (x : Option Site). EventIn frame i x who d (state_seen passes)
+      event = subst (λ (x : Option Site). EventIn consts i x who d (state_seen passes)
           (state_seen passes) passes passes g g None) (sym none)
-          (record { state = refl; left = refl; gathered = refl; told = refl });
+          (record { state = refl; left = refl; hash_state = refl; told = refl });
       told = λ s journal there journal_at. absurd (no_site s (sym none ∙ there));
     } where
       no_site : (s : Site) → None ≡ Some s → ⊥
       no_site s e = cc
 
-pub deed_met : {E : Type 0} (frame : Frame) (i : ℕ) (passes passes2 : PassesValue) (who : Who)
-    (d : Deed) (g g2 : Gathered) (pass pass2 : Passed Event) (r : Result (Option Answered) E)
-    → DeedMet frame i pass pass2 passes.book passes2.book who d g g2 r
+pub deed_met : {E : Type 0} (consts : WorldConsts) (i : ℕ) (passes passes2 : PassesValue)
+    (who : Who)
+    (d : Deed) (g g2 : HashState) (pass pass2 : Passed Event) (r : Result (Option Answered) E)
+    → DeedMet consts i pass pass2 passes.book passes2.book who d g g2 r
     → slice_get passes.inodes i ≡ Some pass → pass.number ≡ who.task + 1
     → passes2.inodes ≡ slice_set passes.inodes i pass2 → passes2.sems ≡ passes.sems
     → passes2.rules ≡ passes.rules
-    → EventMet frame i who d passes passes2 g g2 r
-deed_met {E} frame i passes passes2 who d g g2 pass pass2 r m at number inodes semaphores rules =
+    → EventMet consts i who d passes passes2 g g2 r
+deed_met {E} consts i passes passes2 who d g g2 pass pass2 r m at number inodes semaphores rules =
     record {
       old = state_met passes i m.station.cell.list m.book.list passes.rules.seen;
-      event = subst (λ (x : Option Site). EventIn frame i x who d
+      event = subst (λ (x : Option Site). EventIn consts i x who d
           (state_met passes i m.station.cell.list m.book.list passes.rules.seen)
           (state_seen passes2) passes passes2 g g2 (told_in r)) (sym m.is.site)
-          (event_met frame i passes passes2 who d g g2 (told_in r) pass pass2 m.station m.station2
+          (event_met consts i passes passes2 who d g g2 (told_in r) pass pass2 m.station m.station2
           m.book m.book2 passes.rules.seen m.is m.did at number inodes semaphores
           (adds_none passes.rules passes2.rules rules)
           (subst (λ (q : Passed RuleEntry). IsPrefix passes.rules.seen q.seen) (sym rules)
@@ -189,10 +190,10 @@ deed_met {E} frame i passes passes2 who d g g2 pass pass2 r m at number inodes s
           → IfOk x (λ o. told_of o
           ≡ outcome m.station.cell.inode m.book.list d (past m.station.cell.list))
           → IfOk x (λ o. IsPlacedAt (length m.station.cell.list) o)
-          → IfOk x (λ o. IsSaid frame i d
+          → IfOk x (λ o. IsSaid consts i d
           (state_met passes i m.station.cell.list m.book.list passes.rules.seen) o)
       said (Ok a) told place =
-          said_met frame i passes passes2 who d g g2 (told_in r) pass pass2 m.station m.station2
+          said_met consts i passes passes2 who d g g2 (told_in r) pass pass2 m.station m.station2
           m.book m.book2 passes.rules.seen m.is m.did at number inodes semaphores
           (adds_none passes.rules passes2.rules rules)
           (subst (λ (q : Passed RuleEntry). IsPrefix passes.rules.seen q.seen) (sym rules)
@@ -201,43 +202,43 @@ deed_met {E} frame i passes passes2 who d g g2 pass pass2 r m at number inodes s
       said (Err e) told place = tt
 
 -- a check of an inode that isn't there
-pub unasked_met : {E : Type 0} (frame : Frame) (i : ℕ) (passes : PassesValue) (who : Who)
-    (cred : Cred) (asked : Checks) → length frame.sites ≤ i
-    → CheckMet {E = E} frame i who cred asked passes passes (Ok None)
-unasked_met {E} frame i passes who cred asked h = record {
+pub unasked_met : {E : Type 0} (consts : WorldConsts) (i : ℕ) (passes : PassesValue) (who : Who)
+    (cred : Cred) (asked : Checks) → length consts.sites ≤ i
+    → CheckMet {E = E} consts i who cred asked passes passes (Ok None)
+unasked_met {E} consts i passes who cred asked h = record {
   old = state_seen passes;
-  check = λ g. subst (λ (x : Option Site). CheckIn {E = E} frame i x who cred asked
+  check = λ g. subst (λ (x : Option Site). CheckIn {E = E} consts i x who cred asked
       (state_seen passes) (state_seen passes) passes passes g (Ok None))
-      (sym (nothing_after frame.sites i h))
-      (record { state = refl; left = refl; gathered = refl; told = refl });
+      (sym (nothing_after consts.sites i h))
+      (record { state = refl; left = refl; hash_state = refl; told = refl });
 }
 
-pub ask_met : {E : Type 0} (frame : Frame) (i : ℕ) (passes passes2 : PassesValue) (who : Who)
+pub ask_met : {E : Type 0} (consts : WorldConsts) (i : ℕ) (passes passes2 : PassesValue) (who : Who)
     (cred : Cred) (asked : Checks) (pass pass2 : Passed Event) (r : Result (Option Answered) E)
-    → AskMet frame i pass pass2 passes.rules passes2.rules passes.book passes2.book who cred asked
+    → AskMet consts i pass pass2 passes.rules passes2.rules passes.book passes2.book who cred asked
     r → slice_get passes.inodes i ≡ Some pass → pass.number ≡ who.task + 1
     → passes2.inodes ≡ slice_set passes.inodes i pass2 → passes2.sems ≡ passes.sems
-    → CheckMet frame i who cred asked passes passes2 r
-ask_met {E} frame i passes passes2 who cred asked pass pass2 r m at number inodes semaphores =
+    → CheckMet consts i who cred asked passes passes2 r
+ask_met {E} consts i passes passes2 who cred asked pass pass2 r m at number inodes semaphores =
     let old : State = state_met passes i m.station.cell.list m.book.list m.added in
     let found : Deed =
-    check_by (rules_with (scene_of frame []) m.added) cred (super_at frame m.station.place)
+    check_by (rules_with (scene_of consts []) m.added) cred (super_at consts m.station.place)
     (metadata (past m.station.cell.list)) asked in
     record {
       old = old;
-      check = λ g. subst (λ (x : Option Site). CheckIn frame i x who cred asked old
+      check = λ g. subst (λ (x : Option Site). CheckIn consts i x who cred asked old
           (state_seen passes2) passes passes2 g r) (sym m.is.site)
           (record {
             journal = m.station.cell.list;
-            journal_at = journal_met frame i passes passes2 who found g g (told_in r) pass pass2
+            journal_at = journal_met consts i passes passes2 who found g g (told_in r) pass pass2
                 m.station m.station2 m.book m.book2 m.added m.is (m.did g) at number inodes
                 semaphores m.adds m.before m.seen;
-            event = event_met frame i passes passes2 who found g g (told_in r) pass pass2 m.station
+            event = event_met consts i passes passes2 who found g g (told_in r) pass pass2 m.station
                 m.station2 m.book m.book2 m.added m.is (m.did g) at number inodes semaphores m.adds
                 m.before m.seen;
             seen = m.seen;
             told = subst (λ (x : Inode). IsChecked x m.station.cell.list m.book.list
-                (rules_with (scene_of frame []) m.added) cred (super_at frame m.station.place)
-                asked r) (sym (inode_same frame i m.station m.is)) m.told;
+                (rules_with (scene_of consts []) m.added) cred (super_at consts m.station.place)
+                asked r) (sym (inode_same consts i m.station m.is)) m.told;
           });
     }

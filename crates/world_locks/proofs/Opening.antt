@@ -11,9 +11,9 @@ use Rattle.inode_events.specs.declared.told.Event.{Event}
 use Rattle.policy_cell.specs.declared.cell.RuleEntry.{RuleEntry}
 use Rattle.policy_rules.specs.ActionValue.{ActionValue}
 use Rattle.task_steps.specs.declared.listed.Checks.{Checks}
-use Rattle.world_close.specs.worlds.Frame.{Frame}
+use Rattle.world_close.specs.worlds.WorldConsts.{WorldConsts}
 use Rattle.world_close.specs.worlds.Tasks.{ArePassesOf, PassesValue}
-use Rattle.world_close.specs.worlds.declared.gathered.Gathered.{Gathered}
+use Rattle.world_close.specs.worlds.declared.hash_state.HashState.{HashState}
 use Rattle.world_close.proofs.Gets.{got}
 use Rattle.world_close.specs.Closed.{no_site}
 use Rattle.task_steps.proofs.Looks.{at_index}
@@ -21,7 +21,7 @@ use Rattle.task_steps.specs.Acting.{ReadyAt}
 use Rattle.task_steps.specs.declared.answers.Answered.{Answered}
 use Rattle.world_locks.proofs.Meeting.{ask_met, deed_met}
 use Rattle.world_locks.proofs.Signals.{appends_met, signals_met}
-use Rattle.world_locks.specs.Kept.{AppendMet, AskMet, DeedMet, IsPassAt, IsReadyBy, SignalMet}
+use Rattle.world_locks.specs.Tagged.{AppendMet, AskMet, DeedMet, IsPassAt, IsReadyBy, SignalMet}
 use Rattle.world_locks.specs.Pages.{MayAt, MayByLook}
 use Rattle.world_locks.specs.Met.{AppendsMet, CheckMet, EventMet, SignalsMet}
 
@@ -55,8 +55,8 @@ module _ (inodes : List (Passed Event)) (sems : Passed Event) (book : Passed Ent
 
   -- ---- on the inode of a number, which is there
 
-  module _ (frame : Frame) (are : ArePassesOf frame who.task p) (i k : ℕ) (taken : k ≡ i)
-      (below : i < length frame.sites) (pass : Passed Event)
+  module _ (consts : WorldConsts) (are : ArePassesOf consts who.task p) (i k : ℕ) (taken : k ≡ i)
+      (below : i < length consts.sites) (pass : Passed Event)
       (pass_is : pass ≡ get_or inodes i pass) where
     -- the task's pass of the inode's journal is at its place
     pass_at : slice_get p.inodes i ≡ Some pass
@@ -67,50 +67,50 @@ module _ (inodes : List (Passed Event)) (sems : Passed Event) (book : Passed Ent
 
     its_number : pass.number ≡ who.task + 1
     its_number =
-        (are.inodes i (get_or frame.sites i no_site) pass (got frame.sites i no_site below)
+        (are.inodes i (get_or consts.sites i no_site) pass (got consts.sites i no_site below)
         pass_at).1
 
     -- the pass has the name of the inode's journal and the number of the task
-    pub pass_of : IsPassAt frame k who.task pass
+    pub pass_of : IsPassAt consts k who.task pass
     pass_of s at =
-        are.inodes i s pass (ap (λ (n : ℕ). slice_get frame.sites n) (sym taken) ∙ at) pass_at
+        are.inodes i s pass (ap (λ (n : ℕ). slice_get consts.sites n) (sym taken) ∙ at) pass_at
 
     -- after a look by the pass the deed is ready
-    pub ready_of : (g : Gathered) (action : ActionValue) (slot : Slot) (d : Deed)
-        → ReadyAt frame i p.inodes who.task g action slot d
-        → IsReadyBy frame k who.task pass g action slot d
+    pub ready_of : (g : HashState) (action : ActionValue) (slot : Slot) (d : Deed)
+        → ReadyAt consts i p.inodes who.task g action slot d
+        → IsReadyBy consts k who.task pass g action slot d
     ready_of g action slot d ready s list at looked =
-        ready s pass list (ap (λ (n : ℕ). slice_get frame.sites n) (sym taken) ∙ at) pass_at looked
+        ready s pass list (ap (λ (n : ℕ). slice_get consts.sites n) (sym taken) ∙ at) pass_at looked
 
     -- after a look by the pass the deed may be done
-    pub look_of : (d : Deed) → MayAt frame i p.inodes who.task d
-        → MayByLook frame k who.task pass d
+    pub look_of : (d : Deed) → MayAt consts i p.inodes who.task d
+        → MayByLook consts k who.task pass d
     look_of d may s list at looked =
-        may s pass list (ap (λ (n : ℕ). slice_get frame.sites n) (sym taken) ∙ at) pass_at looked
+        may s pass list (ap (λ (n : ℕ). slice_get consts.sites n) (sym taken) ∙ at) pass_at looked
 
     opened_at : slice_get inodes i ≡ Some pass
     opened_at = subst (λ (x : PassesValue). slice_get x.inodes i ≡ Some pass) (sym view) pass_at
 
     -- a deed on the inode
     pub deed_opened : {E : Type 0} (pass2 : Passed Event) (book2 : Passed Entry) (d : Deed)
-        (g g2 : Gathered) (r : Result (Option Answered) E)
-        → DeedMet frame k pass pass2 book book2 who d g g2 r
-        → EventMet frame i who d p
+        (g g2 : HashState) (r : Result (Option Answered) E)
+        → DeedMet consts k pass pass2 book book2 who d g g2 r
+        → EventMet consts i who d p
         (record opened { inodes = slice_set inodes i pass2; book = book2 }) g g2 r
     deed_opened pass2 book2 d g g2 r m =
         let after : PassesValue =
         record opened { inodes = slice_set inodes i pass2; book = book2 } in
-        subst (λ (x : PassesValue). EventMet frame i who d x after g g2 r) view
-        (deed_met frame i opened after who d g g2 pass pass2 r
-        (subst (λ (n : ℕ). DeedMet frame n pass pass2 book book2 who d g g2 r) taken m) opened_at
+        subst (λ (x : PassesValue). EventMet consts i who d x after g g2 r) view
+        (deed_met consts i opened after who d g g2 pass pass2 r
+        (subst (λ (n : ℕ). DeedMet consts n pass pass2 book book2 who d g g2 r) taken m) opened_at
         its_number refl refl refl)
 
     -- a check of the inode
     pub ask_opened : {E : Type 0} (pass2 : Passed Event) (book2 : Passed Entry)
         (rules2 : Passed RuleEntry) (cred : Cred) (asked : Checks)
         (r : Result (Option Answered) E)
-        → AskMet frame k pass pass2 rules rules2 book book2 who cred asked r
-        → CheckMet frame i who cred asked p (record opened {
+        → AskMet consts k pass pass2 rules rules2 book book2 who cred asked r
+        → CheckMet consts i who cred asked p (record opened {
           inodes = slice_set inodes i pass2;
           book = book2;
           rules = rules2;
@@ -118,14 +118,14 @@ module _ (inodes : List (Passed Event)) (sems : Passed Event) (book : Passed Ent
     ask_opened pass2 book2 rules2 cred asked r m =
         let after : PassesValue =
         record opened { inodes = slice_set inodes i pass2; book = book2; rules = rules2 } in
-        subst (λ (x : PassesValue). CheckMet frame i who cred asked x after r) view
-        (ask_met frame i opened after who cred asked pass pass2 r
-        (subst (λ (n : ℕ). AskMet frame n pass pass2 rules rules2 book book2 who cred asked r)
+        subst (λ (x : PassesValue). CheckMet consts i who cred asked x after r) view
+        (ask_met consts i opened after who cred asked pass pass2 r
+        (subst (λ (n : ℕ). AskMet consts n pass pass2 rules rules2 book book2 who cred asked r)
         taken m) opened_at its_number refl refl)
 
 -- a deed that is ready may be done
-pub may_of : (frame : Frame) (i : ℕ) (passes : List (Passed Event)) (n : ℕ) (g : Gathered)
-    (action : ActionValue) (slot : Slot) (d : Deed) → ReadyAt frame i passes n g action slot d
-    → MayAt frame i passes n d
-may_of frame i passes n g action slot d ready s q list at there looked =
+pub may_of : (consts : WorldConsts) (i : ℕ) (passes : List (Passed Event)) (n : ℕ) (g : HashState)
+    (action : ActionValue) (slot : Slot) (d : Deed) → ReadyAt consts i passes n g action slot d
+    → MayAt consts i passes n d
+may_of consts i passes n g action slot d ready s q list at there looked =
     let x = ready s q list at there looked in (x.may, x.by)

@@ -25,30 +25,30 @@ use Rattle.inode_cell.specs.laws_of_journals.Own.{IsBy}
 use Rattle.task_steps.proofs.Hashing.{close_piece_left, piece_left}
 use Rattle.task_steps.specs.Hashed.{HasGathered}
 use Rattle.task_steps.specs.Leaving.{Leaves, told_by}
-use Rattle.world_close.specs.worlds.Frame.{Frame}
+use Rattle.world_close.specs.worlds.WorldConsts.{WorldConsts}
 use Rattle.world_close.specs.worlds.Tasks.{HashesBefore, HasTakenIn}
 use Rattle.world_close.specs.worlds.World.{IsStation, StationValue, site_of}
-use Rattle.world_close.specs.worlds.declared.gathered.Gathered.{Gathered}
+use Rattle.world_close.specs.worlds.declared.hash_state.HashState.{HashState}
 use Rattle.task_steps.proofs.about_worlds.Eventing.{adds_none}
 use Rattle.task_steps.specs.worlds.Due.{HashesAfter, HashesTold}
 use Rattle.task_steps.specs.worlds.Ready.{HasLooked}
 use Rattle.task_steps.specs.Acting.{IsPlacedAt, StationDid, StationDidAlone, told_in, told_of}
 use Rattle.task_steps.specs.declared.answers.Answered.{Answered}
 use Rattle.world_locks.proofs.Stations.{inode_same, its_pass}
-use Rattle.world_locks.specs.Kept.{DeedMet, IsPassAt}
+use Rattle.world_locks.specs.Tagged.{DeedMet, IsPassAt}
 use Rattle.world_locks.specs.Pages.{AloneMet, IsPageDeed, MayByLook, PageMet, taken_in}
 use Rattle.world_locks.specs.declared.pages.TakenPage.{TakenPage}
 
 -- ---- the inode under its lock
 
-module _ (frame : Frame) (i : ℕ) (st : StationValue) (is : IsStation frame i st) where
+module _ (consts : WorldConsts) (i : ℕ) (st : StationValue) (is : IsStation consts i st) where
   -- after a look the deed may be done
-  pub may_alone : (n : ℕ) (q : Passed Event) (d : Deed) → IsPassAt frame i n q
-      → MayByLook frame i n q d
+  pub may_alone : (n : ℕ) (q : Passed Event) (d : Deed) → IsPassAt consts i n q
+      → MayByLook consts i n q d
       → HasLooked st.cell.inode q.number q.seen st.cell.list q.mine → MayBy st.cell q.number d
   may_alone n q d at may looked =
-      let number : q.number ≡ n + 1 = (its_pass frame i st is n q at).1 in
-      let same = inode_same frame i st is in
+      let number : q.number ≡ n + 1 = (its_pass consts i st is n q at).1 in
+      let same = inode_same consts i st is in
       let x : May st.cell.inode (past st.cell.list) d × IsBy (n + 1) d (past st.cell.list) =
       subst (λ (y : Inode). May y (past st.cell.list) d × IsBy (n + 1) d (past st.cell.list)) same
       (may (site_of st) st.cell.list is.site
@@ -64,7 +64,7 @@ module _ (frame : Frame) (i : ℕ) (st : StationValue) (is : IsStation frame i s
       (place : ℕ) (place_is : place ≡ length st.cell.list) where
     alone : (o : Option Told)
         → ((list : List Entry) → Leaves st.cell cell2 list list pass pass2 who d o)
-        → AloneMet frame i pass pass2 who d o st (record st { cell = cell2 })
+        → AloneMet consts i pass pass2 who d o st (record st { cell = cell2 })
     alone o leaves = record {
       is = is;
       looked = looked;
@@ -82,7 +82,7 @@ module _ (frame : Frame) (i : ℕ) (st : StationValue) (is : IsStation frame i s
         → IfOk r (λ x. (c : Collection)
         → collecting st.cell.inode (past st.cell.list) ≡ Some c
         → x.1 ≡ piece_at (content (past st.cell.list)) c.pieces)
-        → PageMet frame i pass pass2 who d (taken_in place r)
+        → PageMet consts i pass pass2 who d (taken_in place r)
     page_is_met (Ok x) leaves told page = record {
       station = st;
       station2 = record st { cell = cell2 };
@@ -108,7 +108,7 @@ as_seen q = record { name = q.name; callers = 0; spare = 0; list = q.seen; numbe
 
 -- the deed left the measurement list as the pass had seen it
 did_alone : (pass pass2 : Passed Event) (listed : Passed Entry) (who : Who) (d : Deed)
-    (g g2 : Gathered) (o : Option Told) (st st2 : StationValue)
+    (g g2 : HashState) (o : Option Told) (st st2 : StationValue)
     → StationDidAlone st st2 pass pass2 who d g g2 o
     → StationDid st st2 (as_seen listed) (as_seen listed) pass pass2 listed listed who d g g2 o
 did_alone pass pass2 listed who d g g2 o st st2 did = record {
@@ -125,15 +125,15 @@ did_alone pass pass2 listed who d g g2 o st st2 did = record {
 }
 
 -- a deed that didn't consult the measurement list, from the view of a pass of that list
-pub alone_met : {E : Type 0} (frame : Frame) (i : ℕ) (pass pass2 : Passed Event)
-    (listed : Passed Entry) (who : Who) (d : Deed) (g g2 : Gathered) (st st2 : StationValue)
-    (r : Result (Option Answered) E) → IsStation frame i st
+pub alone_met : {E : Type 0} (consts : WorldConsts) (i : ℕ) (pass pass2 : Passed Event)
+    (listed : Passed Entry) (who : Who) (d : Deed) (g g2 : HashState) (st st2 : StationValue)
+    (r : Result (Option Answered) E) → IsStation consts i st
     → StationDidAlone st st2 pass pass2 who d g g2 (told_in r)
     → IfOk r (λ o. (list : List Entry)
     → told_of o ≡ outcome st.cell.inode list d (past st.cell.list))
     → IfOk r (λ o. IsPlacedAt (length st.cell.list) o)
-    → DeedMet frame i pass pass2 listed listed who d g g2 r
-alone_met frame i pass pass2 listed who d g g2 st st2 (Ok o) is did told place = record {
+    → DeedMet consts i pass pass2 listed listed who d g g2 r
+alone_met consts i pass pass2 listed who d g g2 st st2 (Ok o) is did told place = record {
   station = st;
   station2 = st2;
   book = as_seen listed;
@@ -143,7 +143,7 @@ alone_met frame i pass pass2 listed who d g g2 st st2 (Ok o) is did told place =
   told = told listed.seen;
   place = place;
 }
-alone_met frame i pass pass2 listed who d g g2 st st2 (Err e) is did told place = record {
+alone_met consts i pass pass2 listed who d g g2 st st2 (Err e) is did told place = record {
   station = st;
   station2 = st2;
   book = as_seen listed;
@@ -155,12 +155,12 @@ alone_met frame i pass pass2 listed who d g g2 st st2 (Err e) is did told place 
 }
 
 -- a deed under the inode's lock alone, with what its task has hashed
-hashed_alone : (frame : Frame) (i : ℕ) (pass pass2 : Passed Event) (who : Who) (d : Deed)
-    (g g2 : Gathered) (o : Option Told) (st st2 : StationValue)
-    → AloneMet frame i pass pass2 who d o st st2
+hashed_alone : (consts : WorldConsts) (i : ℕ) (pass pass2 : Passed Event) (who : Who) (d : Deed)
+    (g g2 : HashState) (o : Option Told) (st st2 : StationValue)
+    → AloneMet consts i pass pass2 who d o st st2
     → HashesTold st.cell.inode st2.cell.list g g2 d o
     → StationDidAlone st st2 pass pass2 who d g g2 o
-hashed_alone frame i pass pass2 who d g g2 o st st2 m hashes = record {
+hashed_alone consts i pass pass2 who d g g2 o st st2 m hashes = record {
   looked = m.looked;
   leaves = m.leaves;
   rules = m.rules;
@@ -168,7 +168,7 @@ hashed_alone frame i pass pass2 who d g g2 o st st2 m hashes = record {
   hashes = hashes;
 }
 
-page_hashes : (inode : Inode) (list list2 : List Event) (g g2 : Gathered) (page : List ℕ)
+page_hashes : (inode : Inode) (list list2 : List Event) (g g2 : HashState) (page : List ℕ)
     (who : Who) (p : Piece) (d : Deed) → IsPageDeed d → HashesBefore inode list g d
     → ((c : Collection) → collecting inode (past list) ≡ Some c
     → page ≡ piece_at (content (past list)) c.pieces)
@@ -183,17 +183,17 @@ page_hashes inode list list2 g g2 page who p (deed.CloseChunk file) is before ta
 page_hashes inode list list2 g g2 page who p d is before taken e h = absurd is
 
 -- the page of a collection, which is hashed, from the view of the task
-pub page_met : {E : Type 0} (frame : Frame) (i : ℕ) (pass pass2 : Passed Event)
-    (listed : Passed Entry) (who : Who) (d : Deed) (g g2 : Gathered) (t : TakenPage)
-    → IsPageDeed d → (m : PageMet {E = E} frame i pass pass2 who d (Ok t))
+pub page_met : {E : Type 0} (consts : WorldConsts) (i : ℕ) (pass pass2 : Passed Event)
+    (listed : Passed Entry) (who : Who) (d : Deed) (g g2 : HashState) (t : TakenPage)
+    → IsPageDeed d → (m : PageMet {E = E} consts i pass pass2 who d (Ok t))
     → HashesBefore m.station.cell.inode m.station.cell.list g d
     → ((c : Collection) → HasTakenIn g c
     → HasGathered t.piece g2 (record c { bytes = c.bytes ++ t.page }))
     → (u : Told) → u ≡ piece_told t.piece
-    → DeedMet {E = E} frame i pass pass2 listed listed who d g g2
+    → DeedMet {E = E} consts i pass pass2 listed listed who d g g2
     (Ok (Some (record { place = t.place; told = u; action = None })))
-page_met {E} frame i pass pass2 listed who d g g2 t is m before gathered u e =
-    subst (λ (x : Told). DeedMet {E = E} frame i pass pass2 listed listed who d g g2
+page_met {E} consts i pass pass2 listed who d g g2 t is m before hash_state u e =
+    subst (λ (x : Told). DeedMet {E = E} consts i pass pass2 listed listed who d g g2
     (Ok (Some (record { place = t.place; told = x; action = None })))) (sym e)
     (record {
       station = m.station;
@@ -202,27 +202,27 @@ page_met {E} frame i pass pass2 listed who d g g2 t is m before gathered u e =
       book2 = as_seen listed;
       is = m.alone.is;
       did = did_alone pass pass2 listed who d g g2 (Some (piece_told t.piece)) m.station m.station2
-          (hashed_alone frame i pass pass2 who d g g2 (Some (piece_told t.piece)) m.station
+          (hashed_alone consts i pass pass2 who d g g2 (Some (piece_told t.piece)) m.station
           m.station2 m.alone
           (page_hashes m.station.cell.inode m.station.cell.list m.station2.cell.list g g2 t.page
-          who t.piece d is before m.page (m.alone.leaves listed.seen).journal gathered));
+          who t.piece d is before m.page (m.alone.leaves listed.seen).journal hash_state));
       told = m.told listed.seen;
       place = (m.at, refl);
     })
 
 -- no page was taken, since memory ran out
-pub page_failed : {E : Type 0} (frame : Frame) (i : ℕ) (pass pass2 : Passed Event)
-    (listed : Passed Entry) (who : Who) (d : Deed) (g : Gathered) (e e2 : E)
-    → PageMet {E = E} frame i pass pass2 who d (Err e)
-    → DeedMet {E = E} frame i pass pass2 listed listed who d g g (Err e2)
-page_failed frame i pass pass2 listed who d g e e2 m = record {
+pub page_failed : {E : Type 0} (consts : WorldConsts) (i : ℕ) (pass pass2 : Passed Event)
+    (listed : Passed Entry) (who : Who) (d : Deed) (g : HashState) (e e2 : E)
+    → PageMet {E = E} consts i pass pass2 who d (Err e)
+    → DeedMet {E = E} consts i pass pass2 listed listed who d g g (Err e2)
+page_failed consts i pass pass2 listed who d g e e2 m = record {
   station = m.station;
   station2 = m.station2;
   book = as_seen listed;
   book2 = as_seen listed;
   is = m.alone.is;
   did = did_alone pass pass2 listed who d g g None m.station m.station2
-      (hashed_alone frame i pass pass2 who d g g None m.station m.station2 m.alone refl);
+      (hashed_alone consts i pass pass2 who d g g None m.station m.station2 m.alone refl);
   told = tt;
   place = tt;
 }

@@ -16,7 +16,7 @@ use Rattle.world_close.specs.worlds.Tasks.{PassesValue}
 use Rattle.task_steps.proofs.about_worlds.Eventing.{adds_none}
 use Rattle.task_steps.specs.Acting.{IsPlacedAt, told_of}
 use Rattle.task_steps.specs.declared.answers.Answered.{Answered}
-use Rattle.world_locks.specs.Kept.{AppendMet, SignalMet, signalled_at}
+use Rattle.world_locks.specs.Tagged.{AppendMet, SignalMet, signalled_at}
 use Rattle.world_locks.specs.Met.{AppendsMet, SignalsMet, state_seen}
 
 -- when memory runs out, the pass is as it was

@@ -17,17 +17,17 @@ use Rattle.policy_cell.specs.declared.cell.RuleEntry.{RuleEntry}
 use Rattle.policy_rules.specs.ActionValue.{ActionValue}
 use Rattle.world_close.proofs.laws_of_runs.Risen.{law_rise_by_look, law_rise_by_outcome}
 use Rattle.world_close.specs.laws_of_runs.Stations.{CountsAll, StationRules}
-use Rattle.world_close.specs.worlds.Frame.{Frame, Site, inode_in}
+use Rattle.world_close.specs.worlds.WorldConsts.{Site, WorldConsts, inode_in}
 use Rattle.world_close.specs.worlds.World.{IsStation, StationValue, site_of}
 use Rattle.task_steps.specs.Leaving.{Leaves}
-use Rattle.world_close.specs.worlds.declared.gathered.Gathered.{Gathered}
+use Rattle.world_close.specs.worlds.declared.hash_state.HashState.{HashState}
 use Rattle.task_steps.specs.worlds.Ready.{HasLooked, IsReady}
 use Rattle.task_steps.specs.Acting.{StationDid}
-use Rattle.world_locks.specs.Kept.{IsPassAt, IsReadyBy, NumberedStation}
+use Rattle.world_locks.specs.Tagged.{IsPassAt, IsReadyBy, NumberedStation}
 
-module _ (frame : Frame) (i : ℕ) (st : StationValue) (is : IsStation frame i st) where
+module _ (consts : WorldConsts) (i : ℕ) (st : StationValue) (is : IsStation consts i st) where
   -- the inode of the site is the one in the cell
-  pub inode_same : inode_in frame (site_of st) ≡ st.cell.inode
+  pub inode_same : inode_in consts (site_of st) ≡ st.cell.inode
   inode_same =
       ap (λ (x : Settings). record {
         path = st.cell.inode.path;
@@ -36,13 +36,13 @@ module _ (frame : Frame) (i : ℕ) (st : StationValue) (is : IsStation frame i s
       }) (sym is.settings)
 
   -- a task's pass of this number is of the inode's journal
-  pub its_pass : (n : ℕ) (q : Passed Event) → IsPassAt frame i n q
+  pub its_pass : (n : ℕ) (q : Passed Event) → IsPassAt consts i n q
       → (q.name ≡ st.cell.journal) × (q.number ≡ n + 1)
   its_pass n q at = at (site_of st) is.site
 
   -- after a look the deed is ready
-  pub its_ready : (n : ℕ) (q : Passed Event) (g : Gathered) (action : ActionValue) (slot : Slot)
-      (d : Deed) → IsPassAt frame i n q → IsReadyBy frame i n q g action slot d
+  pub its_ready : (n : ℕ) (q : Passed Event) (g : HashState) (action : ActionValue) (slot : Slot)
+      (d : Deed) → IsPassAt consts i n q → IsReadyBy consts i n q g action slot d
       → HasLooked st.cell.inode q.number q.seen st.cell.list q.mine
       → IsReady st.cell.inode q.number st.cell.list g action slot d
   its_ready n q g action slot d at ready looked =
@@ -54,8 +54,8 @@ module _ (frame : Frame) (i : ℕ) (st : StationValue) (is : IsStation frame i s
       (subst (λ (k : ℕ). HasLooked st.cell.inode k q.seen st.cell.list q.mine) number looked))))
 
   -- after a look the deed may be done
-  pub its_may : (n : ℕ) (q : Passed Event) (g : Gathered) (action : ActionValue) (slot : Slot)
-      (d : Deed) → IsPassAt frame i n q → IsReadyBy frame i n q g action slot d
+  pub its_may : (n : ℕ) (q : Passed Event) (g : HashState) (action : ActionValue) (slot : Slot)
+      (d : Deed) → IsPassAt consts i n q → IsReadyBy consts i n q g action slot d
       → HasLooked st.cell.inode q.number q.seen st.cell.list q.mine
       → MayBy st.cell q.number d
   its_may n q g action slot d at ready looked =
@@ -65,7 +65,7 @@ module _ (frame : Frame) (i : ℕ) (st : StationValue) (is : IsStation frame i s
   -- with a pass of the appended rules that has seen more it is still the inode of its number
   pub station_looked : (q : Passed RuleEntry)
       → (q.name ≡ st.rules.name) × (q.number ≡ st.rules.number) → q.mine ≡ st.rules.mine
-      → IsPrefix st.rules.seen q.seen → IsStation frame i (record st { rules = q })
+      → IsPrefix st.rules.seen q.seen → IsStation consts i (record st { rules = q })
   station_looked q same mine more = record {
     site = is.site;
     settings = is.settings;
@@ -76,7 +76,7 @@ module _ (frame : Frame) (i : ℕ) (st : StationValue) (is : IsStation frame i s
     rules_name = same.0 ∙ is.rules_name;
     rules_number = same.1 ∙ is.rules_number;
     rules_mine = mine ∙ is.rules_mine;
-    rise = law_rise_by_look (length frame.base) st.cell.list st.rules.seen q.seen more is.rise;
+    rise = law_rise_by_look (length consts.base) st.cell.list st.rules.seen q.seen more is.rise;
   }
 
   -- after a deed that leaves the pass of the rules and the file system as they were
@@ -106,16 +106,16 @@ module _ (frame : Frame) (i : ℕ) (st : StationValue) (is : IsStation frame i s
         }) leaves.same.journal
 
     -- after the deed it is still the inode of its number
-    pub station_left : CountsAll (length frame.base + length st.rules.seen) d
-        → IsStation frame i st2
+    pub station_left : CountsAll (length consts.base + length st.rules.seen) d
+        → IsStation consts i st2
     station_left counts =
-        let rise : StationRules (length frame.base) (st.cell.list ++ made who d o) st.rules.seen =
-        law_rise_by_outcome (length frame.base) st.cell.list st.rules.seen st.rules.seen who d o
+        let rise : StationRules (length consts.base) (st.cell.list ++ made who d o) st.rules.seen =
+        law_rise_by_outcome (length consts.base) st.cell.list st.rules.seen st.rules.seen who d o
         (prefix_refl st.rules.seen) is.rise counts in
         record {
           site = is.site ∙ ap (λ (x : Site). Some x) (sym site_same);
           settings = ap (λ (x : Inode). x.settings) leaves.same.inode ∙ is.settings;
-          place = subst (λ (k : ℕ). k < length frame.supers) (sym place) is.place;
+          place = subst (λ (k : ℕ). k < length consts.supers) (sym place) is.place;
           callers = leaves.same.callers ∙ is.callers;
           book = leaves.same.book ∙ is.book;
           booked = leaves.same.booked ∙ is.booked;
@@ -123,30 +123,30 @@ module _ (frame : Frame) (i : ℕ) (st : StationValue) (is : IsStation frame i s
           rules_number = ap (λ (q : Passed RuleEntry). q.number) rules ∙ is.rules_number;
           rules_mine = ap (λ (q : Passed RuleEntry). q.mine) rules ∙ is.rules_mine;
           rise = subst (λ (q : Passed RuleEntry).
-              StationRules (length frame.base) st2.cell.list q.seen) (sym rules)
-              (subst (λ (xs : List Event). StationRules (length frame.base) xs st.rules.seen)
+              StationRules (length consts.base) st2.cell.list q.seen) (sym rules)
+              (subst (λ (xs : List Event). StationRules (length consts.base) xs st.rules.seen)
               (sym leaves.journal) rise);
         }
 
   -- it is still the inode of its number after a deed on it and on the measurement list
   pub station_still : (st2 : StationValue) (book book2 : Grown Entry) (pass pass2 : Passed Event)
-      (listed listed2 : Passed Entry) (who : Who) (d : Deed) (g g2 : Gathered) (o : Option Told)
+      (listed listed2 : Passed Entry) (who : Who) (d : Deed) (g g2 : HashState) (o : Option Told)
       → StationDid st st2 book book2 pass pass2 listed listed2 who d g g2 o
-      → CountsAll (length frame.base + length st.rules.seen) d → IsStation frame i st2
+      → CountsAll (length consts.base + length st.rules.seen) d → IsStation consts i st2
   station_still st2 book book2 pass pass2 listed listed2 who d g g2 o did counts =
       station_left st2 book.list book2.list pass pass2 who d o did.leaves did.rules did.place counts
 
 -- the inode under the lock is the one of the number that its value shows
-pub station_at : (frame : Frame) (n : ℕ) (st : StationValue) (v : NumberedStation)
-    → ◌≡◌ {A = NumberedStation} (record { number = n; station = st }) v → IsStation frame n st
-    → IsStation frame v.number st
-station_at frame n st v view is =
-    subst (λ (x : NumberedStation). IsStation frame x.number st) view is
+pub station_at : (consts : WorldConsts) (n : ℕ) (st : StationValue) (v : NumberedStation)
+    → ◌≡◌ {A = NumberedStation} (record { number = n; station = st }) v → IsStation consts n st
+    → IsStation consts v.number st
+station_at consts n st v view is =
+    subst (λ (x : NumberedStation). IsStation consts x.number st) view is
 
 -- the inode is the one of its number as it is unpacked
-pub station_opened : (frame : Frame) (n : ℕ) (opened st : StationValue) (v : NumberedStation)
+pub station_opened : (consts : WorldConsts) (n : ℕ) (opened st : StationValue) (v : NumberedStation)
     → opened ≡ st → ◌≡◌ {A = NumberedStation} (record { number = n; station = st }) v
-    → IsStation frame n st → IsStation frame v.number opened
-station_opened frame n opened st v same view is =
-    subst (λ (x : StationValue). IsStation frame v.number x) (sym same)
-    (station_at frame n st v view is)
+    → IsStation consts n st → IsStation consts v.number opened
+station_opened consts n opened st v same view is =
+    subst (λ (x : StationValue). IsStation consts v.number x) (sym same)
+    (station_at consts n st v view is)

@@ -5,7 +5,7 @@ use Rattle.inode_events.specs.hashes.declared.algo.Algo.TheVariants.{Sha1}
 use Rattle.inode_meta.specs.declared.appraisal.Mode.TheVariants.{Log}
 use Rattle.inode_meta.specs.declared.measurement.Template.TheVariants.{Ima}
 use Rattle.inode_events.specs.declared.settings.Settings.{Settings}
-use Rattle.world_close.specs.worlds.Frame.{Frame, no_entry}
+use Rattle.world_close.specs.worlds.WorldConsts.{WorldConsts, no_entry}
 
 abbrev pub no_settings : Settings
 no_settings = record {
@@ -16,8 +16,8 @@ no_settings = record {
   for_files = refl;
 }
 
-abbrev pub no_frame : Frame
-no_frame = record {
+abbrev pub no_consts : WorldConsts
+no_consts = record {
   settings = no_settings;
   boot = no_entry;
   sites = [];

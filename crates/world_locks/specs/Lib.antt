@@ -1,6 +1,6 @@
 pub mod Blank
 pub mod Parts
-pub mod Kept
+pub mod Tagged
 pub mod Met
 pub mod Pages
 pub use Rattle.task_steps.specs.worlds

@@ -13,9 +13,9 @@ use Rattle.inode_events.specs.declared.told.Told.TheVariants as told
 use Rattle.policy_cell.specs.declared.cell.RuleEntry.{RuleEntry}
 use Rattle.run_model.specs.Turns.{State}
 use Rattle.task_steps.specs.declared.listed.Checks.{Checks}
-use Rattle.world_close.specs.worlds.Frame.{Frame}
+use Rattle.world_close.specs.worlds.WorldConsts.{WorldConsts}
 use Rattle.world_close.specs.worlds.Tasks.{PassesValue}
-use Rattle.world_close.specs.worlds.declared.gathered.Gathered.{Gathered}
+use Rattle.world_close.specs.worlds.declared.hash_state.HashState.{HashState}
 use Rattle.task_steps.specs.Acting.{EventIn, IsPlacedAt, IsSaid, told_in, told_of}
 use Rattle.task_steps.specs.Checking.{CheckIn}
 use Rattle.task_steps.specs.Sharing.{AppendsTo, SignalsOn}
@@ -62,20 +62,20 @@ state_met passes i journal list added = record {
 }
 
 -- a deed on the inode of this number met these lists
-pub record EventMet {E : Type 0} (frame : Frame) (i : ℕ) (who : Who) (d : Deed)
-    (passes passes2 : PassesValue) (g g2 : Gathered) (r : Result (Option Answered) E)
+pub record EventMet {E : Type 0} (consts : WorldConsts) (i : ℕ) (who : Who) (d : Deed)
+    (passes passes2 : PassesValue) (g g2 : HashState) (r : Result (Option Answered) E)
     : Type 0 where
   pub old : State
-  pub event : EventIn frame i (slice_get frame.sites i) who d old (state_seen passes2) passes
+  pub event : EventIn consts i (slice_get consts.sites i) who d old (state_seen passes2) passes
       passes2 g g2 (told_in r)
-  pub told : IfOk r (λ o. IsSaid frame i d old o)
+  pub told : IfOk r (λ o. IsSaid consts i d old o)
 
 -- a check of the inode of this number met these lists
-pub record CheckMet {E : Type 0} (frame : Frame) (i : ℕ) (who : Who) (cred : Cred)
+pub record CheckMet {E : Type 0} (consts : WorldConsts) (i : ℕ) (who : Who) (cred : Cred)
     (asked : Checks) (passes passes2 : PassesValue) (r : Result (Option Answered) E)
     : Type 0 where
   pub old : State
-  pub check : (g : Gathered) → CheckIn frame i (slice_get frame.sites i) who cred asked old
+  pub check : (g : HashState) → CheckIn consts i (slice_get consts.sites i) who cred asked old
       (state_seen passes2) passes passes2 g r
 
 -- a post or a wait met these lists

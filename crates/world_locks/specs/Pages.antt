@@ -17,7 +17,7 @@ use Rattle.inode_meta.specs.declared.step.Who.{Who}
 use Rattle.inode_events.specs.pages.Content.{piece_at}
 use Rattle.inode_cell.specs.laws_of_journals.Own.{IsBy}
 use Rattle.task_steps.specs.Leaving.{Leaves, told_by}
-use Rattle.world_close.specs.worlds.Frame.{Frame, Site, inode_in}
+use Rattle.world_close.specs.worlds.WorldConsts.{Site, WorldConsts, inode_in}
 use Rattle.world_close.specs.worlds.World.{IsStation, StationValue}
 use Rattle.task_steps.specs.worlds.Ready.{HasLooked}
 use Rattle.world_locks.specs.declared.pages.TakenPage.{TakenPage}
@@ -34,35 +34,35 @@ taken_in place (Ok x) = Ok (record { place = place; piece = x.0; page = x.1 })
 taken_in place (Err e) = Err e
 
 -- after a look by the pass the deed may be done
-abbrev pub MayByLook : Frame → ℕ → ℕ → Passed Event → Deed → Type 0
-MayByLook frame i task pass d =
-    (s : Site) (list : List Event) → slice_get frame.sites i ≡ Some s
-    → HasLooked (inode_in frame s) (task + 1) pass.seen list pass.mine
-    → May (inode_in frame s) (past list) d × IsBy (task + 1) d (past list)
+abbrev pub MayByLook : WorldConsts → ℕ → ℕ → Passed Event → Deed → Type 0
+MayByLook consts i task pass d =
+    (s : Site) (list : List Event) → slice_get consts.sites i ≡ Some s
+    → HasLooked (inode_in consts s) (task + 1) pass.seen list pass.mine
+    → May (inode_in consts s) (past list) d × IsBy (task + 1) d (past list)
 
 -- after a look by any of these passes the deed may be done
-abbrev pub MayAt : Frame → ℕ → List (Passed Event) → ℕ → Deed → Type 0
-MayAt frame i passes task d =
-    (s : Site) (q : Passed Event) (list : List Event) → slice_get frame.sites i ≡ Some s
+abbrev pub MayAt : WorldConsts → ℕ → List (Passed Event) → ℕ → Deed → Type 0
+MayAt consts i passes task d =
+    (s : Site) (q : Passed Event) (list : List Event) → slice_get consts.sites i ≡ Some s
     → slice_get passes i ≡ Some q
-    → HasLooked (inode_in frame s) (task + 1) q.seen list q.mine
-    → May (inode_in frame s) (past list) d × IsBy (task + 1) d (past list)
+    → HasLooked (inode_in consts s) (task + 1) q.seen list q.mine
+    → May (inode_in consts s) (past list) d × IsBy (task + 1) d (past list)
 
 -- the deed met an inode of this number, and didn't consult the measurement list
-pub record AloneMet (frame : Frame) (i : ℕ) (pass pass2 : Passed Event) (who : Who) (d : Deed)
-    (o : Option Told) (station station2 : StationValue) : Type 0 where
-  pub is : IsStation frame i station
+pub record AloneMet (consts : WorldConsts) (i : ℕ) (pass pass2 : Passed Event) (who : Who)
+    (d : Deed) (o : Option Told) (station station2 : StationValue) : Type 0 where
+  pub is : IsStation consts i station
   pub looked : HasLooked station.cell.inode pass.number pass.seen station.cell.list pass.mine
   pub leaves : (list : List Entry) → Leaves station.cell station2.cell list list pass pass2 who d o
   pub rules : station2.rules ≡ station.rules
   pub place : station2.place ≡ station.place
 
 -- the deed took a page of a collection
-pub record PageMet {E : Type 0} (frame : Frame) (i : ℕ) (pass pass2 : Passed Event) (who : Who)
-    (d : Deed) (r : Result TakenPage E) : Type 0 where
+pub record PageMet {E : Type 0} (consts : WorldConsts) (i : ℕ) (pass pass2 : Passed Event)
+    (who : Who) (d : Deed) (r : Result TakenPage E) : Type 0 where
   pub station : StationValue
   pub station2 : StationValue
-  pub alone : AloneMet frame i pass pass2 who d
+  pub alone : AloneMet consts i pass pass2 who d
       (told_by (λ (t : TakenPage). piece_told t.piece) r) station station2
   pub told : IfOk r (λ t. (list : List Entry)
       → Some (piece_told t.piece) ≡ outcome station.cell.inode list d (past station.cell.list))

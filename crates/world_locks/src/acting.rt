@@ -4,7 +4,7 @@ ghost use Rattle.inode_events.specs.declared.deed.Deed.TheVariants as Deed;
 ghost use Rattle.std.specs.Prelude.{◌≡◌, ◌<◌, length};
 ghost use Rattle.inode_events.specs.Checks.{no_action};
 ghost use Rattle.world_close.specs.worlds.Tasks.{ArePassesOf};
-ghost use Rattle.world_close.specs.worlds.declared.gathered.Gathered.{Gathered as AnyGathered};
+ghost use Rattle.world_close.specs.worlds.declared.hash_state.HashState.{HashState as AnyHashState};
 ghost use Rattle.task_mind.specs.Steps.{deed_in};
 ghost use Rattle.task_steps.specs.Acting.{ReadyAt};
 ghost use Rattle.task_steps.specs.Hashed.{IsAloneDeed, IsListedDeed};
@@ -19,7 +19,7 @@ use std::alloc::AllocError as OutOfMemory;
 use std::sync::Wait;
 use task_mind::Doing;
 use task_steps::{Actor, Answered, Checks, gather};
-use world_close::worlds::{Gathered, Passes};
+use world_close::worlds::{HashState, Passes};
 
 impl<N: Name> Locks<N> {
     /// Does the deed on the inode of this number, through the task's passes. `None` means that it
@@ -31,23 +31,23 @@ impl<N: Name> Locks<N> {
         passes: &mut Passes,
         actor: &Actor<'_>,
         doing: Doing<'_>,
-        gathered: &mut Gathered,
+        hash_state: &mut HashState,
     ) -> Result<Option<Answered>, OutOfMemory>
-        requires passes { ArePassesOf N.frame actor.now.who.task passes.old }
-        requires ready { ReadyAt N.frame i passes.old.inodes actor.now.who.task gathered.old
+        requires passes { ArePassesOf N.consts actor.now.who.task passes.old }
+        requires ready { ReadyAt N.consts i passes.old.inodes actor.now.who.task hash_state.old
             actor.now.action actor.now.slot (deed_in doing) }
-        ensures { EventMet N.frame i actor.now.who (deed_in doing.entry) passes.old passes.new
-            gathered.old gathered.new result }
+        ensures { EventMet N.consts i actor.now.who (deed_in doing.entry) passes.old passes.new
+            hash_state.old hash_state.new result }
     {
         if i as usize >= self.stations.len() {
             return Ok(None);
         }
         match doing {
-            Doing::Take(_) => self.apply_with_list(rt, i, passes, actor, doing, gathered),
-            Doing::Finish(_) => { self.apply_with_list(rt, i, passes, actor, doing, gathered) }
-            Doing::Chunk(_) => self.apply_page(rt, i, passes, actor, doing, gathered),
-            Doing::CloseChunk(_) => { self.apply_page(rt, i, passes, actor, doing, gathered) }
-            _ => self.apply_without_list(rt, i, passes, actor, doing, gathered),
+            Doing::Take(_) => self.apply_with_list(rt, i, passes, actor, doing, hash_state),
+            Doing::Finish(_) => { self.apply_with_list(rt, i, passes, actor, doing, hash_state) }
+            Doing::Chunk(_) => self.apply_page(rt, i, passes, actor, doing, hash_state),
+            Doing::CloseChunk(_) => { self.apply_page(rt, i, passes, actor, doing, hash_state) }
+            _ => self.apply_without_list(rt, i, passes, actor, doing, hash_state),
         }
     }
 
@@ -59,15 +59,15 @@ impl<N: Name> Locks<N> {
         passes: &mut Passes,
         actor: &Actor<'_>,
         doing: Doing<'_>,
-        gathered: &mut Gathered,
+        hash_state: &mut HashState,
     ) -> Result<Option<Answered>, OutOfMemory>
-        requires below { i < length N.frame.sites }
-        requires passes { ArePassesOf N.frame actor.now.who.task passes.old }
-        requires ready { ReadyAt N.frame i passes.old.inodes actor.now.who.task gathered.old
+        requires below { i < length N.consts.sites }
+        requires passes { ArePassesOf N.consts actor.now.who.task passes.old }
+        requires ready { ReadyAt N.consts i passes.old.inodes actor.now.who.task hash_state.old
             actor.now.action actor.now.slot (deed_in doing) }
         requires adds { IsListedDeed (deed_in doing) }
-        ensures { EventMet N.frame i actor.now.who (deed_in doing.entry) passes.old passes.new
-            gathered.old gathered.new result }
+        ensures { EventMet N.consts i actor.now.who (deed_in doing.entry) passes.old passes.new
+            hash_state.old hash_state.new result }
     {
         let mut order = Order::new();
         let mut station = self.take(rt, &mut order, i);
@@ -78,7 +78,7 @@ impl<N: Name> Locks<N> {
             &mut passes.book,
             actor,
             doing,
-            gathered,
+            hash_state,
         )
     }
 
@@ -90,19 +90,19 @@ impl<N: Name> Locks<N> {
         passes: &mut Passes,
         actor: &Actor<'_>,
         doing: Doing<'_>,
-        gathered: &mut Gathered,
+        hash_state: &mut HashState,
     ) -> Result<Option<Answered>, OutOfMemory>
-        requires below { i < length N.frame.sites }
-        requires passes { ArePassesOf N.frame actor.now.who.task passes.old }
-        requires ready { ReadyAt N.frame i passes.old.inodes actor.now.who.task gathered.old
+        requires below { i < length N.consts.sites }
+        requires passes { ArePassesOf N.consts actor.now.who.task passes.old }
+        requires ready { ReadyAt N.consts i passes.old.inodes actor.now.who.task hash_state.old
             actor.now.action actor.now.slot (deed_in doing) }
         requires alone { IsAloneDeed (deed_in doing) }
-        ensures { EventMet N.frame i actor.now.who (deed_in doing.entry) passes.old passes.new
-            gathered.old gathered.new result }
+        ensures { EventMet N.consts i actor.now.who (deed_in doing.entry) passes.old passes.new
+            hash_state.old hash_state.new result }
     {
         let mut order = Order::new();
         self.take(rt, &mut order, i)
-            .apply_alone(&mut passes.inodes[i as usize], actor, doing, gathered)
+            .apply_alone(&mut passes.inodes[i as usize], actor, doing, hash_state)
     }
 
     // Takes a page of a collection, and hashes it after the lock is released.
@@ -113,21 +113,21 @@ impl<N: Name> Locks<N> {
         passes: &mut Passes,
         actor: &Actor<'_>,
         doing: Doing<'_>,
-        gathered: &mut Gathered,
+        hash_state: &mut HashState,
     ) -> Result<Option<Answered>, OutOfMemory>
-        requires below { i < length N.frame.sites }
-        requires passes { ArePassesOf N.frame actor.now.who.task passes.old }
-        requires ready { ReadyAt N.frame i passes.old.inodes actor.now.who.task gathered.old
+        requires below { i < length N.consts.sites }
+        requires passes { ArePassesOf N.consts actor.now.who.task passes.old }
+        requires ready { ReadyAt N.consts i passes.old.inodes actor.now.who.task hash_state.old
             actor.now.action actor.now.slot (deed_in doing) }
         requires page { IsPageDeed (deed_in doing) }
-        ensures { EventMet N.frame i actor.now.who (deed_in doing.entry) passes.old passes.new
-            gathered.old gathered.new result }
+        ensures { EventMet N.consts i actor.now.who (deed_in doing.entry) passes.old passes.new
+            hash_state.old hash_state.new result }
     {
         let mut order = Order::new();
         let taken = self
             .take(rt, &mut order, i)
             .take_page(&mut passes.inodes[i as usize], actor.who, doing)?;
-        gather(gathered, taken.piece, &taken.page);
+        gather(hash_state, taken.piece, &taken.page);
         let told = piece_told(taken.piece);
         Ok(Some(Answered {
             place: taken.place,
@@ -146,11 +146,11 @@ impl<N: Name> Locks<N> {
         actor: &Actor<'_>,
         asked: Checks,
     ) -> Result<Option<Answered>, OutOfMemory>
-        requires passes { ArePassesOf N.frame actor.now.who.task passes.old }
-        requires ready { (g : AnyGathered) → ReadyAt N.frame i passes.old.inodes
+        requires passes { ArePassesOf N.consts actor.now.who.task passes.old }
+        requires ready { (g : AnyHashState) → ReadyAt N.consts i passes.old.inodes
             actor.now.who.task g actor.now.action actor.now.slot
             (Deed.Check asked.file asked.func no_action 0) }
-        ensures { CheckMet N.frame i actor.now.who actor.now.cred.now asked passes.old passes.new
+        ensures { CheckMet N.consts i actor.now.who actor.now.cred.now asked passes.old passes.new
             result }
     {
         if i as usize >= self.stations.len() {

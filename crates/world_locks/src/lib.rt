@@ -9,7 +9,6 @@
 #![tactic(auto)]
 
 mod acting;
-mod kept;
 mod locks;
 mod name;
 mod order;
@@ -17,6 +16,7 @@ mod pages;
 mod parts;
 mod sharing;
 mod station;
+mod tagged;
 
 pub use locks::Locks;
 pub use name::Name;

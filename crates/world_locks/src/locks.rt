@@ -4,13 +4,13 @@ ghost use Rattle.std.specs.Prelude.{◌≡◌, ◌<◌, IfOk, length};
 ghost use Rattle.std.specs.Sync.Mutex.{mutex_guard_value};
 ghost use Rattle.world_close.specs.worlds.World.{IsStation};
 ghost use Rattle.world_close.specs.Closed.{AreStations};
-ghost use Rattle.world_locks.specs.Parts.{KeepFrame, frame_of_parts};
+ghost use Rattle.world_locks.specs.Parts.{KeepConsts, consts_of_parts};
 
-use crate::kept::{KeptBook, KeptRules, KeptSemaphores};
 use crate::name::Name;
 use crate::order::Order;
 use crate::parts::Parts;
-use crate::station::KeptStation;
+use crate::station::TaggedStation;
+use crate::tagged::{TaggedBook, TaggedRules, TaggedSemaphores};
 use inode_events::Settings;
 use inode_meta::Mode;
 use policy_rules::Super;
@@ -22,37 +22,37 @@ use world_close::worlds::Station;
 /// the semaphores and the rules. They belong to the constants that `N` names.
 #[derive(Drop)]
 pub struct Locks<N: Name> {
-    pub(crate) stations: Vec<Mutex<KeptStation<N>>>,
-    book: Mutex<KeptBook<N>>,
-    sems: Mutex<KeptSemaphores<N>>,
-    rules: Mutex<KeptRules<N>>,
+    pub(crate) stations: Vec<Mutex<TaggedStation<N>>>,
+    book: Mutex<TaggedBook<N>>,
+    sems: Mutex<TaggedSemaphores<N>>,
+    rules: Mutex<TaggedRules<N>>,
     pub(crate) supers: Vec<Super>,
     settings: Settings,
     tasks: u32,
     pub(crate) alloc: Global,
-    ghost count: { length stations.items ≡ length N.frame.sites },
-    ghost supers_are: { supers.items ≡ N.frame.supers },
-    ghost settings_are: { settings ≡ N.frame.settings },
-    ghost tasks_are: { tasks ≡ N.frame.tasks },
+    ghost count: { length stations.items ≡ length N.consts.sites },
+    ghost supers_are: { supers.items ≡ N.consts.supers },
+    ghost settings_are: { settings ≡ N.consts.settings },
+    ghost tasks_are: { tasks ≡ N.consts.tasks },
 }
 
 // Puts the inode of this place under a lock.
-fn lock_at<N: Name>(place: usize, station: Station) -> Result<Mutex<KeptStation<N>>, OutOfMemory>
-    requires { IsStation N.frame place station }
+fn lock_at<N: Name>(place: usize, station: Station) -> Result<Mutex<TaggedStation<N>>, OutOfMemory>
+    requires { IsStation N.consts place station }
 {
     let Ok(number) = u32::try_from(place) else {
         return Err(OutOfMemory);
     };
-    Ok(Mutex::new(KeptStation::<N>::new(number, station)))
+    Ok(Mutex::new(TaggedStation::<N>::new(number, station)))
 }
 
 // Puts each inode under a lock.
 fn lock_each<N: Name>(
     alloc: Global,
     stations: Vec<Station>,
-) -> Result<Vec<Mutex<KeptStation<N>>>, OutOfMemory>
-    requires { AreStations N.frame stations.items }
-    ensures { IfOk result (λ locked. length locked.items ≡ length N.frame.sites) }
+) -> Result<Vec<Mutex<TaggedStation<N>>>, OutOfMemory>
+    requires { AreStations N.consts stations.items }
+    ensures { IfOk result (λ locked. length locked.items ≡ length N.consts.sites) }
 {
     let mut left = stations;
     let mut locked = Vec::new(alloc);
@@ -65,8 +65,8 @@ fn lock_each<N: Name>(
 }
 
 // Takes the inode of this place out of its lock.
-fn unlock_at<N: Name>(place: usize, mutex: Mutex<KeptStation<N>>) -> Result<Station, OutOfMemory>
-    ensures { IfOk result (λ station. IsStation N.frame place station) }
+fn unlock_at<N: Name>(place: usize, mutex: Mutex<TaggedStation<N>>) -> Result<Station, OutOfMemory>
+    ensures { IfOk result (λ station. IsStation N.consts place station) }
 {
     let (number, station) = mutex.into_inner().open();
     // The inode is in its place, but the type of a lock doesn't say so.
@@ -79,10 +79,10 @@ fn unlock_at<N: Name>(place: usize, mutex: Mutex<KeptStation<N>>) -> Result<Stat
 // Takes the inodes out of their locks, in order.
 fn unlock_each<N: Name>(
     alloc: Global,
-    locked: Vec<Mutex<KeptStation<N>>>,
+    locked: Vec<Mutex<TaggedStation<N>>>,
 ) -> Result<Vec<Station>, OutOfMemory>
-    requires { length locked.items ≡ length N.frame.sites }
-    ensures { IfOk result (λ stations. AreStations N.frame stations.items) }
+    requires { length locked.items ≡ length N.consts.sites }
+    ensures { IfOk result (λ stations. AreStations N.consts stations.items) }
 {
     let mut stations = Vec::new(alloc);
     for mutex in locked {
@@ -95,14 +95,14 @@ fn unlock_each<N: Name>(
 impl<N: Name> Locks<N> {
     /// Puts the lists under locks. There are at most 4,294,967,295 inodes.
     pub fn new(parts: Parts) -> Result<Locks<N>, OutOfMemory>
-        requires { KeepFrame N.frame parts }
+        requires { KeepConsts N.consts parts }
     {
         let Parts {
             stations,
             book,
             sems,
             rules,
-            idle,
+            spares,
             supers,
             settings,
             tasks,
@@ -111,9 +111,9 @@ impl<N: Name> Locks<N> {
         let stations = lock_each::<N>(alloc, stations)?;
         Ok(Locks {
             stations,
-            book: Mutex::new(KeptBook::new(book)),
-            sems: Mutex::new(KeptSemaphores::new(sems)),
-            rules: Mutex::new(KeptRules::new(rules, idle)),
+            book: Mutex::new(TaggedBook::new(book)),
+            sems: Mutex::new(TaggedSemaphores::new(sems)),
+            rules: Mutex::new(TaggedRules::new(rules, spares)),
             supers,
             settings,
             tasks,
@@ -123,8 +123,8 @@ impl<N: Name> Locks<N> {
 
     /// Takes the lists out of their locks. Their constants are the same.
     pub fn into_parts(self) -> Result<Parts, OutOfMemory>
-        ensures keep { IfOk result (λ parts. KeepFrame N.frame parts) }
-        ensures frame { IfOk result (λ parts. frame_of_parts parts ≡ N.frame) }
+        ensures keep { IfOk result (λ parts. KeepConsts N.consts parts) }
+        ensures consts { IfOk result (λ parts. consts_of_parts parts ≡ N.consts) }
     {
         let Locks {
             stations,
@@ -139,13 +139,13 @@ impl<N: Name> Locks<N> {
         let stations = unlock_each(alloc, stations)?;
         let book = book.into_inner().open();
         let sems = sems.into_inner().open();
-        let (rules, idle) = rules.into_inner().open();
+        let (rules, spares) = rules.into_inner().open();
         Ok(Parts {
             stations,
             book,
             sems,
             rules,
-            idle,
+            spares,
             supers,
             settings,
             tasks,
@@ -155,7 +155,7 @@ impl<N: Name> Locks<N> {
 
     /// The appraisal mode in the world's settings.
     pub fn mode(&self) -> Mode
-        ensures { result ≡ N.frame.settings.mode }
+        ensures { result ≡ N.consts.settings.mode }
     {
         self.settings.mode
     }
@@ -166,8 +166,8 @@ impl<N: Name> Locks<N> {
         rt: &R,
         order: &mut Order,
         inode: u32,
-    ) -> MutexGuard<'a, KeptStation<N>>
-        requires below { inode < length N.frame.sites }
+    ) -> MutexGuard<'a, TaggedStation<N>>
+        requires below { inode < length N.consts.sites }
         requires order { order.old.taken ≡ 0 }
         ensures number { (mutex_guard_value result).number ≡ inode }
         ensures order { order.new.taken ≡ 1 }
@@ -187,7 +187,7 @@ impl<N: Name> Locks<N> {
         &'a self,
         rt: &R,
         order: &mut Order,
-    ) -> MutexGuard<'a, KeptRules<N>>
+    ) -> MutexGuard<'a, TaggedRules<N>>
         requires order { order.old.taken < 2 }
         ensures order { order.new.taken ≡ 2 }
     {
@@ -201,7 +201,7 @@ impl<N: Name> Locks<N> {
         &'a self,
         rt: &R,
         order: &mut Order,
-    ) -> MutexGuard<'a, KeptBook<N>>
+    ) -> MutexGuard<'a, TaggedBook<N>>
         requires order { order.old.taken < 3 }
         ensures order { order.new.taken ≡ 3 }
     {
@@ -214,7 +214,7 @@ impl<N: Name> Locks<N> {
         &'a self,
         rt: &R,
         order: &mut Order,
-    ) -> MutexGuard<'a, KeptSemaphores<N>>
+    ) -> MutexGuard<'a, TaggedSemaphores<N>>
         requires order { order.old.taken ≡ 0 }
         ensures order { order.new.taken ≡ 3 }
     {
@@ -224,7 +224,7 @@ impl<N: Name> Locks<N> {
 
     /// Takes the lock of the inode of this number, calls `f` once, and releases the lock.
     pub fn hold<R: Wait, F: FnOnce()>(&self, rt: &R, inode: u32, f: F)
-        requires below { inode < length N.frame.sites }
+        requires below { inode < length N.consts.sites }
         requires call { F.IsAlwaysCallable f }
     {
         let mut order = Order::new();

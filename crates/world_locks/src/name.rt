@@ -4,13 +4,13 @@ use std::marker::Brand;
 /// invariant that it belongs to these constants, so a task that has taken a lock knows that the
 /// list is the one of its pass.
 pub trait Name: Send + Sync {
-    ghost use Rattle.world_close.specs.worlds.Frame.{Frame};
+    ghost use Rattle.world_close.specs.worlds.WorldConsts.{WorldConsts};
 
-    ghost frame: { Frame };
+    ghost consts: { WorldConsts };
 }
 
 impl Name for Brand {
-    ghost use Rattle.world_locks.specs.Blank.{no_frame};
+    ghost use Rattle.world_locks.specs.Blank.{no_consts};
 
-    ghost frame = { no_frame };
+    ghost consts = { no_consts };
 }

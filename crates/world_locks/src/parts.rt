@@ -19,7 +19,7 @@ pub struct Parts {
     /// The rules of the script and the appended ones.
     pub rules: PolicyCell,
     /// The spare passes of the rules, which belong to no task and no inode.
-    pub idle: Vec<Pass<RuleEntry>>,
+    pub spares: Vec<Pass<RuleEntry>>,
     /// The file systems, in order.
     pub supers: Vec<Super>,
     /// The settings that all inodes share.

@@ -24,7 +24,7 @@ impl<N: Name> Locks<N> {
         who: Who,
         deed: Deed,
     ) -> Result<Option<Answered>, OutOfMemory>
-        requires { ArePassesOf N.frame who.task passes.old }
+        requires { ArePassesOf N.consts who.task passes.old }
         ensures { SignalsMet passes.old passes.new who deed result }
     {
         let mut order = Order::new();
@@ -40,7 +40,7 @@ impl<N: Name> Locks<N> {
         who: Who,
         rule: &Rule,
     ) -> Result<Answered, OutOfMemory>
-        requires { ArePassesOf N.frame who.task passes.old }
+        requires { ArePassesOf N.consts who.task passes.old }
         ensures appends { IfOk result (λ a. AppendsMet passes.old passes.new
             (record { who = who; rule = rule.now }) a) }
         ensures err { OnErr result (passes.new ≡ passes.old) }

@@ -6,15 +6,15 @@ ghost use Rattle.grow_list.specs.Shown.{Passed as AnyPass};
 ghost use Rattle.ima_templates.specs.declared.entry.Entry.{Entry as AnyEntry};
 ghost use Rattle.inode_events.specs.Checks.{no_action};
 ghost use Rattle.world_close.specs.worlds.World.{IsStation};
-ghost use Rattle.world_close.specs.worlds.declared.gathered.Gathered.{Gathered as AnyGathered};
+ghost use Rattle.world_close.specs.worlds.declared.hash_state.HashState.{HashState as AnyHashState};
 ghost use Rattle.task_mind.specs.Steps.{deed_in};
 ghost use Rattle.task_steps.specs.Hashed.{IsAloneDeed, IsListedDeed};
-ghost use Rattle.world_locks.specs.Kept.{AskMet, DeedMet, IsPassAt, IsReadyBy};
+ghost use Rattle.world_locks.specs.Tagged.{AskMet, DeedMet, IsPassAt, IsReadyBy};
 ghost use Rattle.world_locks.specs.Pages.{IsPageDeed, MayByLook, PageMet};
 
-use crate::kept::{KeptBook, KeptRules};
 use crate::name::Name;
 use crate::pages::{TakenPage, take_page, taken_at};
+use crate::tagged::{TaggedBook, TaggedRules};
 use grow_list::Pass;
 use ima_templates::Entry;
 use inode_events::Event;
@@ -25,34 +25,34 @@ use std::alloc::AllocError as OutOfMemory;
 use std::marker::{Model, PhantomData};
 use task_mind::Doing;
 use task_steps::{Actor, Answered, Checks, apply_alone_at, apply_at, check_at};
-use world_close::worlds::{Gathered, Station};
+use world_close::worlds::{HashState, Station};
 
 /// An inode with its number, and the invariant that it belongs to the constants that `N` names.
 #[derive(Drop)]
-pub struct KeptStation<N: Name> {
+pub struct TaggedStation<N: Name> {
     number: u32,
     station: Station,
     of: PhantomData<N>,
 }
 
-impl<N: Name> Model for KeptStation<N> {
+impl<N: Name> Model for TaggedStation<N> {
     ghost use Rattle.world_close.specs.worlds.World.{IsStation};
-    ghost use Rattle.world_locks.specs.Kept.{NumberedStation};
+    ghost use Rattle.world_locks.specs.Tagged.{NumberedStation};
 
     ghost Value = { NumberedStation };
 
     ghost view = { λ s. record { number = s.number; station = s.station } };
 
-    ghost invariant = { λ s. IsStation N.frame s.number s.station };
+    ghost invariant = { λ s. IsStation N.consts s.number s.station };
 }
 
-impl<N: Name> KeptStation<N> {
+impl<N: Name> TaggedStation<N> {
     /// Wraps the inode of this number.
-    pub fn new(number: u32, station: Station) -> KeptStation<N>
-        requires { IsStation N.frame number station }
+    pub fn new(number: u32, station: Station) -> TaggedStation<N>
+        requires { IsStation N.consts number station }
         ensures { result.number ≡ number }
     {
-        KeptStation {
+        TaggedStation {
             number,
             station,
             of: PhantomData,
@@ -68,9 +68,9 @@ impl<N: Name> KeptStation<N> {
 
     /// Returns the number and the inode.
     pub fn open(self) -> (u32, Station)
-        ensures { IsStation N.frame result.0 result.1 }
+        ensures { IsStation N.consts result.0 result.1 }
     {
-        let KeptStation {
+        let TaggedStation {
             number,
             station,
             of: _,
@@ -83,20 +83,20 @@ impl<N: Name> KeptStation<N> {
     pub fn apply(
         &mut self,
         pass: &mut Pass<Event>,
-        book: &mut KeptBook<N>,
+        book: &mut TaggedBook<N>,
         listed: &mut Pass<Entry>,
         actor: &Actor<'_>,
         doing: Doing<'_>,
-        gathered: &mut Gathered,
+        hash_state: &mut HashState,
     ) -> Result<Option<Answered>, OutOfMemory>
-        requires pass { IsPassAt N.frame self.old.number actor.now.who.task pass.old }
-        requires listed { listed.old.name ≡ N.frame.book }
-        requires ready { IsReadyBy N.frame self.old.number actor.now.who.task pass.old gathered.old
-            actor.now.action actor.now.slot (deed_in doing) }
+        requires pass { IsPassAt N.consts self.old.number actor.now.who.task pass.old }
+        requires listed { listed.old.name ≡ N.consts.book }
+        requires ready { IsReadyBy N.consts self.old.number actor.now.who.task pass.old
+            hash_state.old actor.now.action actor.now.slot (deed_in doing) }
         requires adds { IsListedDeed (deed_in doing) }
         ensures number { self.new.number ≡ self.old.number }
-        ensures met { DeedMet N.frame self.old.number pass.old pass.new listed.old listed.new
-            actor.now.who (deed_in doing.entry) gathered.old gathered.new result }
+        ensures met { DeedMet N.consts self.old.number pass.old pass.new listed.old listed.new
+            actor.now.who (deed_in doing.entry) hash_state.old hash_state.new result }
     {
         apply_at(
             &mut self.station,
@@ -105,7 +105,7 @@ impl<N: Name> KeptStation<N> {
             listed,
             actor,
             doing,
-            gathered,
+            hash_state,
         )
     }
 
@@ -117,18 +117,18 @@ impl<N: Name> KeptStation<N> {
         pass: &mut Pass<Event>,
         actor: &Actor<'_>,
         doing: Doing<'_>,
-        gathered: &mut Gathered,
+        hash_state: &mut HashState,
     ) -> Result<Option<Answered>, OutOfMemory>
-        requires pass { IsPassAt N.frame self.old.number actor.now.who.task pass.old }
-        requires ready { IsReadyBy N.frame self.old.number actor.now.who.task pass.old gathered.old
-            actor.now.action actor.now.slot (deed_in doing) }
+        requires pass { IsPassAt N.consts self.old.number actor.now.who.task pass.old }
+        requires ready { IsReadyBy N.consts self.old.number actor.now.who.task pass.old
+            hash_state.old actor.now.action actor.now.slot (deed_in doing) }
         requires alone { IsAloneDeed (deed_in doing) }
         ensures number { self.new.number ≡ self.old.number }
-        ensures met { (listed : AnyPass AnyEntry) → DeedMet N.frame self.old.number pass.old
-            pass.new listed listed actor.now.who (deed_in doing.entry) gathered.old gathered.new
+        ensures met { (listed : AnyPass AnyEntry) → DeedMet N.consts self.old.number pass.old
+            pass.new listed listed actor.now.who (deed_in doing.entry) hash_state.old hash_state.new
             result }
     {
-        apply_alone_at(&mut self.station, pass, actor, doing, gathered)
+        apply_alone_at(&mut self.station, pass, actor, doing, hash_state)
     }
 
     /// Takes the next page of the collection that the deed continues.
@@ -138,11 +138,11 @@ impl<N: Name> KeptStation<N> {
         who: Who,
         doing: Doing<'_>,
     ) -> Result<TakenPage, OutOfMemory>
-        requires pass { IsPassAt N.frame self.old.number who.task pass.old }
-        requires may { MayByLook N.frame self.old.number who.task pass.old (deed_in doing) }
+        requires pass { IsPassAt N.consts self.old.number who.task pass.old }
+        requires may { MayByLook N.consts self.old.number who.task pass.old (deed_in doing) }
         requires page { IsPageDeed (deed_in doing) }
         ensures number { self.new.number ≡ self.old.number }
-        ensures met { PageMet N.frame self.old.number pass.old pass.new who (deed_in doing.entry)
+        ensures met { PageMet N.consts self.old.number pass.old pass.new who (deed_in doing.entry)
             result }
     {
         let station = &mut self.station;
@@ -154,23 +154,23 @@ impl<N: Name> KeptStation<N> {
     pub fn check(
         &mut self,
         pass: &mut Pass<Event>,
-        rules: &mut KeptRules<N>,
+        rules: &mut TaggedRules<N>,
         own: &mut Pass<RuleEntry>,
-        book: &mut KeptBook<N>,
+        book: &mut TaggedBook<N>,
         listed: &mut Pass<Entry>,
         actor: &Actor<'_>,
         asked: Checks,
         supers: &[Super],
     ) -> Result<Option<Answered>, OutOfMemory>
-        requires pass { IsPassAt N.frame self.old.number actor.now.who.task pass.old }
-        requires own { own.old.name ≡ N.frame.rules }
-        requires listed { listed.old.name ≡ N.frame.book }
-        requires supers { supers.now ≡ N.frame.supers }
-        requires ready { (g : AnyGathered) → IsReadyBy N.frame self.old.number actor.now.who.task
+        requires pass { IsPassAt N.consts self.old.number actor.now.who.task pass.old }
+        requires own { own.old.name ≡ N.consts.rules }
+        requires listed { listed.old.name ≡ N.consts.book }
+        requires supers { supers.now ≡ N.consts.supers }
+        requires ready { (g : AnyHashState) → IsReadyBy N.consts self.old.number actor.now.who.task
             pass.old g actor.now.action actor.now.slot
             (Deed.Check asked.file asked.func no_action 0) }
         ensures number { self.new.number ≡ self.old.number }
-        ensures met { AskMet N.frame self.old.number pass.old pass.new own.old own.new listed.old
+        ensures met { AskMet N.consts self.old.number pass.old pass.new own.old own.new listed.old
             listed.new actor.now.who actor.now.cred.now asked result }
     {
         let station = &mut self.station;

@@ -22,9 +22,9 @@ use Rattle.world_model.specs.laws_of_runs.Checks.{SeesMore, seen_by}
 use Rattle.run_model.specs.History.{Answer, call_at, step_at, who_at, who_in}
 use Rattle.run_model.specs.Scene.{Program}
 use Rattle.run_model.specs.Turns.{State}
-use Rattle.world_model.specs.Frame.{Frame, Site, inode_in, mode_in, scene_of}
+use Rattle.world_model.specs.WorldConsts.{Site, WorldConsts, inode_in, mode_in, scene_of}
 use Rattle.world_model.specs.Tasks.{ArePassesOf, HashesBefore, HashesFor, HasPlayed, PassesValue, Tasked}
-use Rattle.world_model.specs.declared.gathered.Gathered.{Gathered}
+use Rattle.world_model.specs.declared.hash_state.HashState.{HashState}
 use Rattle.world_model.specs.Events.{EventOn}
 use Rattle.world_model.specs.Plays.{IsStepFor, NoneIsPlayed}
 use Rattle.world_model.specs.Ready.{HasLooked, IsReady, IsStepOn}
@@ -50,11 +50,11 @@ record Looked (j : ℕ) (old : List (Passed Event)) (q : Passed Event) : Type 0 
   mine : q.mine ≡ before.mine
   placed : All (λ x. x.0 < length before.seen) before.mine → All (λ x. x.0 < length q.seen) q.mine
 
-module _ (frame : Frame) (t : Tasked) (h : List Answer) (i : ℕ) (s : Site) (d : Deed)
-    (old new : State) (passes : PassesValue) (g : Gathered) (x : HasPlayed frame t h)
-    (there : slice_get frame.sites i ≡ Some s)
-    (e : EventOn frame i s (who_at t.number t.mind.program t.mind.thought.mind) d old new
-    t.passes passes t.gathered g None) where
+module _ (consts : WorldConsts) (t : Tasked) (h : List Answer) (i : ℕ) (s : Site) (d : Deed)
+    (old new : State) (passes : PassesValue) (g : HashState) (x : HasPlayed consts t h)
+    (there : slice_get consts.sites i ≡ Some s)
+    (e : EventOn consts i s (who_at t.number t.mind.program t.mind.thought.mind) d old new
+    t.passes passes t.hash_state g None) where
   within : i < length t.passes.inodes
   within = slice_get_within t.passes.inodes i e.pass e.pass_at
 
@@ -112,14 +112,14 @@ module _ (frame : Frame) (t : Tasked) (h : List Answer) (i : ℕ) (s : Site) (d 
       subst (λ (xs : List Entry). IsPrefix t.passes.book.seen xs)
       (sym (e.book_seen ∙ ap (λ (z : State). z.list) e.state)) e.book_before
 
-  passes_left : ArePassesOf frame t.number passes
+  passes_left : ArePassesOf consts t.number passes
   passes_left = record {
     even = ap length e.inodes ∙ length-set t.passes.inodes i e.pass2 ∙ x.passes.even;
     inodes = λ j s2 q a k.
         let l : Looked j t.passes.inodes q = inodes_looked j q k in
         let o = x.passes.inodes j s2 l.before a l.at in
         (l.name ∙ o.0, l.number ∙ o.1);
-    sems = subst (λ (q : Passed Event). (q.name ≡ frame.signals) × (q.number ≡ t.number + 1))
+    sems = subst (λ (q : Passed Event). (q.name ≡ consts.signals) × (q.number ≡ t.number + 1))
         (sym e.sems) x.passes.sems;
     book = (e.book.name ∙ x.passes.book.0, e.book.number ∙ x.passes.book.1);
     rules = (e.rules.name ∙ x.passes.rules.0, e.rules.number ∙ x.passes.rules.1);
@@ -127,28 +127,28 @@ module _ (frame : Frame) (t : Tasked) (h : List Answer) (i : ℕ) (s : Site) (d 
 
   -- what was hashed before the step suits it again, since it will be tried again
   hashes_left : (o : Option Step) → step_at t.mind.program t.mind.thought.mind ≡ o
-      → IsStepFor i d o → HashesFor frame passes.inodes g o
+      → IsStepFor i d o → HashesFor consts passes.inodes g o
   hashes_left (Some (Does j y)) st f = λ s2 q a b.
       let p = t.mind.program in
       let on : IsStepOn i d (step_at p t.mind.thought.mind) =
       subst (IsStepOn i d) (sym st) f in
-      let looked : HasLooked (inode_in frame s) (t.number + 1) e.pass.seen e.journal e.pass.mine =
-      subst (λ (n : ℕ). HasLooked (inode_in frame s) (n + 1) e.pass.seen e.journal e.pass.mine)
+      let looked : HasLooked (inode_in consts s) (t.number + 1) e.pass.seen e.journal e.pass.mine =
+      subst (λ (n : ℕ). HasLooked (inode_in consts s) (n + 1) e.pass.seen e.journal e.pass.mine)
       (task_of_who t.number p t.mind.thought.mind) e.looked in
-      let ready : IsReady (inode_in frame s) (t.number + 1) e.journal t.gathered t.mind.checked
+      let ready : IsReady (inode_in consts s) (t.number + 1) e.journal t.hash_state t.mind.checked
       (slot_in (due_at p t.mind.thought.mind)) d =
-      ready_by_look frame t h i s e.pass e.journal d x there e.pass_at looked on in
+      ready_by_look consts t h i s e.pass e.journal d x there e.pass_at looked on in
       let same : s ≡ s2 =
-      same_Some s s2 (sym there ∙ ap (slice_get frame.sites) (sym f.0) ∙ a) in
+      same_Some s s2 (sym there ∙ ap (slice_get consts.sites) (sym f.0) ∙ a) in
       let pass : e.pass2 ≡ q =
       same_Some e.pass2 q (sym (ap (λ (xs : List (Passed Event)). slice_get xs i) e.inodes
       ∙ get_set t.passes.inodes i e.pass2 e.pass e.pass_at)
       ∙ ap (slice_get passes.inodes) (sym f.0) ∙ b) in
-      subst (λ (z : Site). HashesBefore (inode_in frame z) q.seen g y) same
-      (subst (λ (z : Passed Event). HashesBefore (inode_in frame s) z.seen g y) pass
-      (subst (λ (xs : List Event). HashesBefore (inode_in frame s) xs g y) (sym seen_is)
-      (subst (λ (z : Gathered). HashesBefore (inode_in frame s) e.journal z y) (sym e.hashes)
-      (subst (λ (z : Deed). HashesBefore (inode_in frame s) e.journal t.gathered z) (sym f.1)
+      subst (λ (z : Site). HashesBefore (inode_in consts z) q.seen g y) same
+      (subst (λ (z : Passed Event). HashesBefore (inode_in consts s) z.seen g y) pass
+      (subst (λ (xs : List Event). HashesBefore (inode_in consts s) xs g y) (sym seen_is)
+      (subst (λ (z : HashState). HashesBefore (inode_in consts s) e.journal z y) (sym e.hashes)
+      (subst (λ (z : Deed). HashesBefore (inode_in consts s) e.journal t.hash_state z) (sym f.1)
       ready.hashes))))
   hashes_left (Some (Checks j file func mask)) st f = tt
   hashes_left (Some Nothing) st f = absurd f
@@ -157,23 +157,23 @@ module _ (frame : Frame) (t : Tasked) (h : List Answer) (i : ℕ) (s : Site) (d 
   hashes_left None st f = absurd f
 
 pub none_is_played : NoneIsPlayed
-none_is_played frame t h i s d old new passes g x f there e =
-    let look = inodes_looked frame t h i s d old new passes g x there e in
+none_is_played consts t h i s d old new passes g x f there e =
+    let look = inodes_looked consts t h i s d old new passes g x there e in
     record {
       calls = x.calls;
       stands = x.stands;
       checked = x.checked;
-      passes = passes_left frame t h i s d old new passes g x there e;
+      passes = passes_left consts t h i s d old new passes g x there e;
       events = λ j q k. let l = look j q k in l.mine ∙ x.events j l.before l.at;
       placed = λ j q k. let l = look j q k in l.placed (x.placed j l.before l.at);
       signals = ap (λ (q : Passed Event). q.mine) e.sems ∙ x.signals;
       rules = e.rules.mine ∙ append-nil t.passes.rules.mine ∙ x.rules;
       unlisted = e.book.mine ∙ append-nil t.passes.book.mine ∙ x.unlisted;
-      checks = λ programs. law_fits_with_more (scene_of frame programs) t.mind.program
+      checks = λ programs. law_fits_with_more (scene_of consts programs) t.mind.program
           (seen_by t.passes.inodes t.passes.rules) (seen_by passes.inodes passes.rules) h
-          (sees_more frame t h i s d old new passes g x there e) (x.checks programs);
-      rises = rises_look (log (mode_in frame) t.number t.mind.program h) t.passes.book.seen
-          passes.book.seen (book_more frame t h i s d old new passes g x there e) x.rises;
-      hashed = hashes_left frame t h i s d old new passes g x there e
+          (sees_more consts t h i s d old new passes g x there e) (x.checks programs);
+      rises = rises_look (log (mode_in consts) t.number t.mind.program h) t.passes.book.seen
+          passes.book.seen (book_more consts t h i s d old new passes g x there e) x.rises;
+      hashed = hashes_left consts t h i s d old new passes g x there e
           (step_at t.mind.program t.mind.thought.mind) refl f;
     }

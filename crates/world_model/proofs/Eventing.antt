@@ -32,9 +32,9 @@ use Rattle.world_model.specs.laws_of_runs.Checks.{IsPlainStep, Longer, SeesMore,
 use Rattle.run_model.specs.History.{Answer, Thought, event, event_in, plain_answer, rule_in, signal_in, step_at, who_at}
 use Rattle.run_model.specs.Scene.{Program, decided, rules_with}
 use Rattle.run_model.specs.Turns.{State}
-use Rattle.world_model.specs.Frame.{Frame, Site, inode_in, mode_in, scene_of, station_of, super_at}
+use Rattle.world_model.specs.WorldConsts.{Site, WorldConsts, inode_in, mode_in, scene_of, station_of, super_at}
 use Rattle.world_model.specs.Tasks.{HashesFor, PassesValue, Tasked}
-use Rattle.world_model.specs.declared.gathered.Gathered.{Gathered}
+use Rattle.world_model.specs.declared.hash_state.HashState.{HashState}
 use Rattle.world_model.specs.Due.{HashesAfter, HashesAfterStep}
 use Rattle.world_model.specs.Events.{EventOn}
 use Rattle.world_model.specs.Plays.{CheckIsPlayed, EventIsPlayed, HasHeard, check_answer, task_after}
@@ -73,9 +73,9 @@ placed_on seen list mine e a b =
 
 -- ---- the passes of journals
 
-module _ (frame : Frame) (i : ℕ) (s : Site) (who : Who) (d : Deed) (old new : State)
-    (passes passes2 : PassesValue) (g g2 : Gathered) (told : Told)
-    (e : EventOn frame i s who d old new passes passes2 g g2 (Some told)) where
+module _ (consts : WorldConsts) (i : ℕ) (s : Site) (who : Who) (d : Deed) (old new : State)
+    (passes passes2 : PassesValue) (g g2 : HashState) (told : Told)
+    (e : EventOn consts i s who d old new passes passes2 g g2 (Some told)) where
   within : i < length passes.inodes
   within = slice_get_within passes.inodes i e.pass e.pass_at
 
@@ -136,33 +136,33 @@ module _ (frame : Frame) (i : ℕ) (s : Site) (who : Who) (d : Deed) (old new : 
   journal_is = get_or_from_slice_get old.journals i e.journal [] e.journal_at
 
   list_is : passes2.book.seen
-      ≡ list_after old.list (asked (inode_in frame s) d (past e.journal)) (Some told)
+      ≡ list_after old.list (asked (inode_in consts s) d (past e.journal)) (Some told)
   list_is =
       e.book_seen ∙ ap (λ (z : State). z.list) e.state
-      ∙ ap (λ (xs : List Event). list_after old.list (asked (inode_in frame s) d (past xs))
+      ∙ ap (λ (xs : List Event). list_after old.list (asked (inode_in consts s) d (past xs))
       (Some told)) journal_is
 
   -- the places of the measurement list in the task's answers increase
-  rises_on : Some told ≡ outcome (inode_in frame s) old.list d (past e.journal)
+  rises_on : Some told ≡ outcome (inode_in consts s) old.list d (past e.journal)
       → (steps : List Made) → RisesWithin steps passes.book.seen
       → RisesWithin (made_of i (length e.journal) who d told ∷ steps) passes2.book.seen
   rises_on tells steps r =
       subst (λ (xs : List Entry).
       RisesWithin (made_of i (length e.journal) who d told ∷ steps) xs) (sym list_is)
-      (rises_event steps passes.book.seen old.list (inode_in frame s) (past e.journal) i
+      (rises_event steps passes.book.seen old.list (inode_in consts s) (past e.journal) i
       (length e.journal) who d told e.book_before r (sym tells))
 
   -- what the task has hashed suits the step's outcome
-  hashes_on : slice_get frame.sites i ≡ Some s → HashesAfterStep frame passes2.inodes g2 (Does i d)
-      told
+  hashes_on : slice_get consts.sites i ≡ Some s
+      → HashesAfterStep consts passes2.inodes g2 (Does i d) told
   hashes_on there s2 q x y =
       let same : s ≡ s2 = same_Some s s2 (sym there ∙ x) in
       let pass : e.pass2 ≡ q =
       same_Some e.pass2 q (sym (ap (λ (xs : List (Passed Event)). slice_get xs i) e.inodes
       ∙ get_set passes.inodes i e.pass2 e.pass e.pass_at) ∙ y) in
-      subst (λ (z : Site). HashesAfter (inode_in frame z) q.seen g2 d told) same
-      (subst (λ (z : Passed Event). HashesAfter (inode_in frame s) z.seen g2 d told) pass
-      (subst (λ (xs : List Event). HashesAfter (inode_in frame s) xs g2 d told) (sym e.seen)
+      subst (λ (z : Site). HashesAfter (inode_in consts z) q.seen g2 d told) same
+      (subst (λ (z : Passed Event). HashesAfter (inode_in consts s) z.seen g2 d told) pass
+      (subst (λ (xs : List Event). HashesAfter (inode_in consts s) xs g2 d told) (sym e.seen)
       e.hashes))
 
   -- the passes have now seen the journal as it was before the event
@@ -174,11 +174,11 @@ module _ (frame : Frame) (i : ℕ) (s : Site) (who : Who) (d : Deed) (old new : 
       (subst (λ (xs : List Event). IsPrefix e.journal xs) (sym e.seen)
       (prefix_append e.journal (made who d (Some told)))))
 
-  within_scene : (programs : List Program) → slice_get frame.sites i ≡ Some s
-      → i < length (scene_of frame programs).stations
+  within_scene : (programs : List Program) → slice_get consts.sites i ≡ Some s
+      → i < length (scene_of consts programs).stations
   within_scene programs there =
-      let l : i < length frame.sites = slice_get_within frame.sites i s there in
-      omega (arith, length-map frame.sites (station_of frame))
+      let l : i < length consts.sites = slice_get_within consts.sites i s there in
+      omega (arith, length-map consts.sites (station_of consts))
 
 pub get_map : {A B : Type 0} (f : A → B) (xs : List A) (k : ℕ) (x : A) → slice_get xs k ≡ Some x
     → slice_get (map f xs) k ≡ Some (f x)
@@ -188,16 +188,16 @@ get_map f (y ∷ ys) (suc k) x h = get_map f ys k x h
 
 -- ---- an event with the outcome told to the task
 
-event_stepped : (frame : Frame) (t : Tasked) (i : ℕ) (s : Site) (d : Deed)
-    (told : Told) (old new : State) (passes : PassesValue) (g : Gathered) (mind : TaskValue)
+event_stepped : (consts : WorldConsts) (t : Tasked) (i : ℕ) (s : Site) (d : Deed)
+    (told : Told) (old new : State) (passes : PassesValue) (g : HashState) (mind : TaskValue)
     → step_at t.mind.program t.mind.thought.mind ≡ Some (Does i d)
-    → slice_get frame.sites i ≡ Some s
-    → (e : EventOn frame i s (who_at t.number t.mind.program t.mind.thought.mind) d old new
-    t.passes passes t.gathered g (Some told))
-    → Some told ≡ outcome (inode_in frame s) old.list d (past e.journal)
-    → HasHeard frame t (plain_answer (length e.journal) told) mind
-    → HasStepped frame t (task_after t mind passes g) (plain_answer (length e.journal) told)
-event_stepped frame t i s d told old new passes g mind st there e tells hd =
+    → slice_get consts.sites i ≡ Some s
+    → (e : EventOn consts i s (who_at t.number t.mind.program t.mind.thought.mind) d old new
+    t.passes passes t.hash_state g (Some told))
+    → Some told ≡ outcome (inode_in consts s) old.list d (past e.journal)
+    → HasHeard consts t (plain_answer (length e.journal) told) mind
+    → HasStepped consts t (task_after t mind passes g) (plain_answer (length e.journal) told)
+event_stepped consts t i s d told old new passes g mind st there e tells hd =
     let p = t.mind.program in
     let m = t.mind.thought.mind in
     let who = who_at t.number p m in
@@ -207,57 +207,58 @@ event_stepped frame t i s d told old new passes g mind st there e tells hd =
       program = hd.program;
       stands = hd.thought;
       checked = hd.checked;
-      even = even_on frame i s who d old new t.passes passes t.gathered g told e;
-      inodes = inodes_on frame i s who d old new t.passes passes t.gathered g told e (step_at p m) a
-          (λ j. ap (λ (o : Option Step). event_in j who o a) st);
+      even = even_on consts i s who d old new t.passes passes t.hash_state g told e;
+      inodes = inodes_on consts i s who d old new t.passes passes t.hash_state g told e
+          (step_at p m) a (λ j. ap (λ (o : Option Step). event_in j who o a) st);
       sems = subst (λ (o : Option Step). Adds t.passes.sems passes.sems (signal_in who o a))
           (sym st)
           (adds_none t.passes.sems passes.sems e.sems);
       rules = subst (λ (o : Option Step). Adds t.passes.rules passes.rules (rule_in who o a))
           (sym st) e.rules;
       book = e.book;
-      checks = λ programs h same fit. law_fits_by_step (scene_of frame programs) p
+      checks = λ programs h same fit. law_fits_by_step (scene_of consts programs) p
           (seen_by t.passes.inodes t.passes.rules) (seen_by passes.inodes passes.rules) h a
-          (sees_on frame i s who d old new t.passes passes t.gathered g told e) fit
-          (subst (λ (o : Option Step). IsPlainStep (scene_of frame programs)
+          (sees_on consts i s who d old new t.passes passes t.hash_state g told e) fit
+          (subst (λ (o : Option Step). IsPlainStep (scene_of consts programs)
           (seen_by passes.inodes passes.rules) o a)
           (sym (ap (step_at p) same ∙ st)) (
-            within_scene frame i s who d old new t.passes passes t.gathered g told e programs there,
+            within_scene consts i s who d old new t.passes passes t.hash_state g told e
+                programs there,
             refl,
           ));
       rises = λ steps r. subst (λ (o : Option Step). RisesWithin (logged who o a ++ steps)
           passes.book.seen) (sym st)
-          (rises_on frame i s who d old new t.passes passes t.gathered g told e tells steps r);
-      hashed = subst (λ (z : Thought). HashesFor frame passes.inodes g (step_at p z.mind))
+          (rises_on consts i s who d old new t.passes passes t.hash_state g told e tells steps r);
+      hashed = subst (λ (z : Thought). HashesFor consts passes.inodes g (step_at p z.mind))
           (sym hd.thought)
-          (hashes_heard frame passes.inodes g p (mode_in frame) t.mind.thought a (Does i d) st
-          (hashes_on frame i s who d old new t.passes passes t.gathered g told e there));
+          (hashes_heard consts passes.inodes g p (mode_in consts) t.mind.thought a (Does i d) st
+          (hashes_on consts i s who d old new t.passes passes t.hash_state g told e there));
     }
 
 pub event_is_played : EventIsPlayed
-event_is_played frame t h i s d told old new passes g mind x st there e tells hd =
-    step_is_played frame t (task_after t mind passes g) h (plain_answer (length e.journal) told) x
-    (event_stepped frame t i s d told old new passes g mind st there e tells hd)
+event_is_played consts t h i s d told old new passes g mind x st there e tells hd =
+    step_is_played consts t (task_after t mind passes g) h (plain_answer (length e.journal) told) x
+    (event_stepped consts t i s d told old new passes g mind st there e tells hd)
 
 -- ---- a check
 
-check_stepped : (frame : Frame) (t : Tasked) (i : ℕ) (s : Site) (file : ℕ)
+check_stepped : (consts : WorldConsts) (t : Tasked) (i : ℕ) (s : Site) (file : ℕ)
     (func : Func) (mask : ℕ) (action : Action) (rules : ℕ) (told : Told) (old new : State)
-    (passes : PassesValue) (g : Gathered) (mind : TaskValue)
+    (passes : PassesValue) (g : HashState) (mind : TaskValue)
     → step_at t.mind.program t.mind.thought.mind ≡ Some (Checks i file func mask)
-    → slice_get frame.sites i ≡ Some s
-    → (e : EventOn frame i s (who_at t.number t.mind.program t.mind.thought.mind)
-    (deed.Check file func action rules) old new t.passes passes t.gathered g (Some told))
-    → Some told ≡ outcome (inode_in frame s) old.list (deed.Check file func action rules)
+    → slice_get consts.sites i ≡ Some s
+    → (e : EventOn consts i s (who_at t.number t.mind.program t.mind.thought.mind)
+    (deed.Check file func action rules) old new t.passes passes t.hash_state g (Some told))
+    → Some told ≡ outcome (inode_in consts s) old.list (deed.Check file func action rules)
     (past e.journal)
     → passes.rules.seen ≡ old.added
-    → rules ≡ length (rules_with (scene_of frame []) old.added)
-    → action ≡ decided (rules_with (scene_of frame []) old.added) t.mind.program.cred
-    (super_at frame s.place) (metadata (past e.journal)) func mask
-    → HasHeard frame t (check_answer (length e.journal) told action rules) mind
-    → HasStepped frame t (task_after t mind passes g)
+    → rules ≡ length (rules_with (scene_of consts []) old.added)
+    → action ≡ decided (rules_with (scene_of consts []) old.added) t.mind.program.cred
+    (super_at consts s.place) (metadata (past e.journal)) func mask
+    → HasHeard consts t (check_answer (length e.journal) told action rules) mind
+    → HasStepped consts t (task_after t mind passes g)
     (check_answer (length e.journal) told action rules)
-check_stepped frame t i s file func mask action rules told old new passes g mind st there e tells
+check_stepped consts t i s file func mask action rules told old new passes g mind st there e tells
     added count is hd =
     let p = t.mind.program in
     let m = t.mind.thought.mind in
@@ -269,44 +270,44 @@ check_stepped frame t i s file func mask action rules told old new passes g mind
       program = hd.program;
       stands = hd.thought;
       checked = hd.checked;
-      even = even_on frame i s who d old new t.passes passes t.gathered g told e;
-      inodes = inodes_on frame i s who d old new t.passes passes t.gathered g told e (step_at p m) a
-          (λ j. ap (λ (o : Option Step). event_in j who o a) st);
+      even = even_on consts i s who d old new t.passes passes t.hash_state g told e;
+      inodes = inodes_on consts i s who d old new t.passes passes t.hash_state g told e
+          (step_at p m) a (λ j. ap (λ (o : Option Step). event_in j who o a) st);
       sems = subst (λ (o : Option Step). Adds t.passes.sems passes.sems (signal_in who o a))
           (sym st)
           (adds_none t.passes.sems passes.sems e.sems);
       rules = subst (λ (o : Option Step). Adds t.passes.rules passes.rules (rule_in who o a))
           (sym st) e.rules;
       book = e.book;
-      checks = λ programs h same fit. law_fits_by_check (scene_of frame programs) p
+      checks = λ programs h same fit. law_fits_by_check (scene_of consts programs) p
           (seen_by t.passes.inodes t.passes.rules) (seen_by passes.inodes passes.rules) h a i file
-          func mask (sees_on frame i s who d old new t.passes passes t.gathered g told e) fit
+          func mask (sees_on consts i s who d old new t.passes passes t.hash_state g told e) fit
           (ap (step_at p) same ∙ st)
           (record {
-            station = station_of frame s;
+            station = station_of consts s;
             before = e.journal;
-            at = get_map (station_of frame) frame.sites i s there;
-            journal = stands_on frame i s who d old new t.passes passes t.gathered g told e;
+            at = get_map (station_of consts) consts.sites i s there;
+            journal = stands_on consts i s who d old new t.passes passes t.hash_state g told e;
             place = refl;
             rules = count ∙ ap (λ (xs : List RuleEntry).
-                length (rules_with (scene_of frame []) xs)) (sym added);
+                length (rules_with (scene_of consts []) xs)) (sym added);
             action = is ∙ ap (λ (xs : List RuleEntry).
-                decided (rules_with (scene_of frame []) xs) p.cred (super_at frame s.place)
+                decided (rules_with (scene_of consts []) xs) p.cred (super_at consts s.place)
                 (metadata (past e.journal)) func mask) (sym added);
           });
       rises = λ steps r. subst (λ (o : Option Step). RisesWithin (logged who o a ++ steps)
           passes.book.seen) (sym st)
-          (rises_on frame i s who d old new t.passes passes t.gathered g told e tells steps r);
-      hashed = subst (λ (z : Thought). HashesFor frame passes.inodes g (step_at p z.mind))
+          (rises_on consts i s who d old new t.passes passes t.hash_state g told e tells steps r);
+      hashed = subst (λ (z : Thought). HashesFor consts passes.inodes g (step_at p z.mind))
           (sym hd.thought)
-          (hashes_heard frame passes.inodes g p (mode_in frame) t.mind.thought a
+          (hashes_heard consts passes.inodes g p (mode_in consts) t.mind.thought a
           (Checks i file func mask) st tt);
     }
 
 pub check_is_played : CheckIsPlayed
-check_is_played frame t h i s file func mask action rules told old new passes g mind x st there e
+check_is_played consts t h i s file func mask action rules told old new passes g mind x st there e
     tells added count is hd =
-    step_is_played frame t (task_after t mind passes g) h
+    step_is_played consts t (task_after t mind passes g) h
     (check_answer (length e.journal) told action rules) x
-    (check_stepped frame t i s file func mask action rules told old new passes g mind st there e
+    (check_stepped consts t i s file func mask action rules told old new passes g mind st there e
     tells added count is hd)

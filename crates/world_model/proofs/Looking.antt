@@ -21,7 +21,7 @@ use Rattle.world_model.specs.laws_of_runs.Moments.{seen_in}
 use Rattle.run_model.specs.History.{Answer, own, step_at}
 use Rattle.run_model.specs.Served.{events_of}
 use Rattle.run_model.specs.Turns.{State}
-use Rattle.world_model.specs.Frame.{Frame, inode_in, mode_in, scene_of}
+use Rattle.world_model.specs.WorldConsts.{WorldConsts, inode_in, mode_in, scene_of}
 use Rattle.world_model.specs.Tasks.{ArePassesOf, HashesBefore, HashesFor, HasPlayed, PassesValue, Tasked}
 use Rattle.world_model.specs.Looks.{HasLookedAtAll, InodeLooked, LookIsMade, LookIsPlayed}
 use Rattle.world_model.specs.Plays.{task_left}
@@ -51,10 +51,10 @@ at_seen [] k q h = absurd (cc)
 at_seen (x ∷ xs) zero q h = ap (λ (z : Passed Event). Some z.seen) (same_Some x q h)
 at_seen (x ∷ xs) (suc k) q h = at_seen xs k q h
 
-module _ (frame : Frame) (t : Tasked) (h : List Answer) (s : State) (passes : PassesValue)
-    (x : HasPlayed frame t h) (l : HasLookedAtAll frame t s passes) where
+module _ (consts : WorldConsts) (t : Tasked) (h : List Answer) (s : State) (passes : PassesValue)
+    (x : HasPlayed consts t h) (l : HasLookedAtAll consts t s passes) where
   abbrev Looked : ℕ → Passed Event → Type 0
-  Looked k q = InodeLooked frame (t.number + 1) k s.journals t.passes.inodes q
+  Looked k q = InodeLooked consts (t.number + 1) k s.journals t.passes.inodes q
 
   -- the pass of journal k after the look
   after : (k : ℕ) (q : Passed Event) → slice_get t.passes.inodes k ≡ Some q
@@ -69,8 +69,8 @@ module _ (frame : Frame) (t : Tasked) (h : List Answer) (s : State) (passes : Pa
   seen_more : (k : ℕ) (q : Passed Event) (e : Looked k q) → IsPrefix e.before.seen q.seen
   seen_more k q e =
       let lt : k < length t.passes.inodes = slice_get_within t.passes.inodes k e.before e.at in
-      let le : length t.passes.inodes ≡ length frame.sites = x.passes.even in
-      let y = get_within frame.sites k (omega arith) in
+      let le : length t.passes.inodes ≡ length consts.sites = x.passes.even in
+      let y = get_within consts.sites k (omega arith) in
       subst (λ (xs : List Event). IsPrefix e.before.seen xs) (sym e.seen)
       (e.looked y.0 y.1).before
 
@@ -92,7 +92,7 @@ module _ (frame : Frame) (t : Tasked) (h : List Answer) (s : State) (passes : Pa
         l.rules_before;
   }
 
-  passes_left : ArePassesOf frame t.number passes
+  passes_left : ArePassesOf consts t.number passes
   passes_left = record {
     even = l.even ∙ x.passes.even;
     inodes = λ k s2 q a g.
@@ -105,7 +105,7 @@ module _ (frame : Frame) (t : Tasked) (h : List Answer) (s : State) (passes : Pa
   }
 
   events_left : (k : ℕ) (q : Passed Event) → slice_get passes.inodes k ≡ Some q
-      → q.mine ≡ own (mode_in frame) t.number t.mind.program k h
+      → q.mine ≡ own (mode_in consts) t.number t.mind.program k h
   events_left k q g =
       let e : Looked k q = l.inodes k q g in e.mine ∙ x.events k e.before e.at
 
@@ -121,16 +121,16 @@ module _ (frame : Frame) (t : Tasked) (h : List Answer) (s : State) (passes : Pa
       (x.placed k e.before e.at))
 
   hashes_left : (o : Option Step) → step_at t.mind.program t.mind.thought.mind ≡ o
-      → HashesFor frame passes.inodes t.gathered o
+      → HashesFor consts passes.inodes t.hash_state o
   hashes_left (Some (Does i d)) st = λ s2 q a b.
       let p = t.mind.program in
       let e : Looked i q = l.inodes i q b in
       let on : IsStepOn i d (step_at p t.mind.thought.mind) =
       subst (IsStepOn i d) (sym st) (refl, refl) in
-      let ready : IsReady (inode_in frame s2) (t.number + 1) e.journal t.gathered t.mind.checked
+      let ready : IsReady (inode_in consts s2) (t.number + 1) e.journal t.hash_state t.mind.checked
       (slot_in (due_at p t.mind.thought.mind)) d =
-      ready_by_look frame t h i s2 e.before e.journal d x a e.at (e.looked s2 a) on in
-      subst (λ (xs : List Event). HashesBefore (inode_in frame s2) xs t.gathered d) (sym e.seen)
+      ready_by_look consts t h i s2 e.before e.journal d x a e.at (e.looked s2 a) on in
+      subst (λ (xs : List Event). HashesBefore (inode_in consts s2) xs t.hash_state d) (sym e.seen)
       ready.hashes
   hashes_left (Some (Checks j file func mask)) st = tt
   hashes_left (Some Nothing) st = tt
@@ -138,57 +138,57 @@ module _ (frame : Frame) (t : Tasked) (h : List Answer) (s : State) (passes : Pa
   hashes_left (Some (Appends rule)) st = tt
   hashes_left None st = tt
 
-  rises_left : RisesWithin (log (mode_in frame) t.number t.mind.program h) passes.book.seen
+  rises_left : RisesWithin (log (mode_in consts) t.number t.mind.program h) passes.book.seen
   rises_left =
-      rises_look (log (mode_in frame) t.number t.mind.program h) t.passes.book.seen
+      rises_look (log (mode_in consts) t.number t.mind.program h) t.passes.book.seen
       passes.book.seen
       (subst (λ (xs : List Entry). IsPrefix t.passes.book.seen xs) (sym l.book_seen) l.book_before)
       x.rises
 
 pub look_is_played : LookIsPlayed
-look_is_played frame t h s passes x l = record {
+look_is_played consts t h s passes x l = record {
   calls = x.calls;
   stands = x.stands;
   checked = x.checked;
-  passes = passes_left frame t h s passes x l;
-  events = events_left frame t h s passes x l;
-  placed = placed_left frame t h s passes x l;
+  passes = passes_left consts t h s passes x l;
+  events = events_left consts t h s passes x l;
+  placed = placed_left consts t h s passes x l;
   signals = l.sems.mine ∙ append-nil t.passes.sems.mine ∙ x.signals;
   rules = l.rules.mine ∙ append-nil t.passes.rules.mine ∙ x.rules;
   unlisted = l.book.mine ∙ append-nil t.passes.book.mine ∙ x.unlisted;
-  checks = λ programs. law_fits_with_more (scene_of frame programs) t.mind.program
+  checks = λ programs. law_fits_with_more (scene_of consts programs) t.mind.program
       (seen_by t.passes.inodes t.passes.rules) (seen_by passes.inodes passes.rules) h
-      (sees_more frame t h s passes x l) (x.checks programs);
-  rises = rises_left frame t h s passes x l;
-  hashed = hashes_left frame t h s passes x l (step_at t.mind.program t.mind.thought.mind) refl;
+      (sees_more consts t h s passes x l) (x.checks programs);
+  rises = rises_left consts t h s passes x l;
+  hashed = hashes_left consts t h s passes x l (step_at t.mind.program t.mind.thought.mind) refl;
 }
 
 -- ---- what the lists themselves have
 
-module _ (frame : Frame) (t : Tasked) (h : List Answer) (s : State) (passes : PassesValue)
-    (y : HasPlayed frame (task_left t passes t.gathered) h)
-    (l : HasLookedAtAll frame t s passes) where
+module _ (consts : WorldConsts) (t : Tasked) (h : List Answer) (s : State) (passes : PassesValue)
+    (y : HasPlayed consts (task_left t passes t.hash_state) h)
+    (l : HasLookedAtAll consts t s passes) where
   abbrev here : ℕ → Passed Event → Type 0
-  here k q = InodeLooked frame (t.number + 1) k s.journals t.passes.inodes q
+  here k q = InodeLooked consts (t.number + 1) k s.journals t.passes.inodes q
 
   journal_seen : (k : ℕ) (journal : List Event) → slice_get s.journals k ≡ Some journal
       → (q : Passed Event) × ((slice_get passes.inodes k ≡ Some q) × (q.seen ≡ journal))
   journal_seen k journal g =
       let lt : k < length s.journals = slice_get_within s.journals k journal g in
-      let le : length s.journals ≡ length frame.sites = l.journals in
-      let more : length passes.inodes ≡ length frame.sites = y.passes.even in
+      let le : length s.journals ≡ length consts.sites = l.journals in
+      let more : length passes.inodes ≡ length consts.sites = y.passes.even in
       let z = get_within passes.inodes k (omega arith) in
       let e : here k z.0 = l.inodes k z.0 z.1 in
       (z.0, (z.1, e.seen ∙ same_Some e.journal journal (sym e.journal_at ∙ g)))
 
   events_made : (k : ℕ) (journal : List Event) → slice_get s.journals k ≡ Some journal
-      → events_of t.number journal ≡ own (mode_in frame) t.number t.mind.program k h
+      → events_of t.number journal ≡ own (mode_in consts) t.number t.mind.program k h
   events_made k journal g =
       let z = journal_seen k journal g in
       let e : here k z.0 = l.inodes k z.0 z.1.0 in
       let lt : k < length s.journals = slice_get_within s.journals k journal g in
-      let le : length s.journals ≡ length frame.sites = l.journals in
-      let site = get_within frame.sites k (omega arith) in
+      let le : length s.journals ≡ length consts.sites = l.journals in
+      let site = get_within consts.sites k (omega arith) in
       ap (events_of t.number) (same_Some journal e.journal (sym g ∙ e.journal_at))
       ∙ (e.looked site.0 site.1).own ∙ sym e.mine ∙ y.events k z.0 z.1.0
 
@@ -206,19 +206,19 @@ module _ (frame : Frame) (t : Tasked) (h : List Answer) (s : State) (passes : Pa
   }
 
 pub look_is_made : LookIsMade
-look_is_made frame t s passes k l =
+look_is_made consts t s passes k l =
     let h = k.history in
-    let y : HasPlayed frame (task_left t passes t.gathered) h =
-    look_is_played frame t h s passes k.played l in
+    let y : HasPlayed consts (task_left t passes t.hash_state) h =
+    look_is_played consts t h s passes k.played l in
     record {
       history = h;
       stands = y.stands;
-      events = events_made frame t h s passes y l;
+      events = events_made consts t h s passes y l;
       signals = l.signals ∙ y.signals;
       rules = l.appended ∙ y.rules;
-      checks = λ programs. law_fits_with_more (scene_of frame programs) t.mind.program
-          (seen_by passes.inodes passes.rules) (seen_in s) h (sees_all frame t h s passes y l)
+      checks = λ programs. law_fits_with_more (scene_of consts programs) t.mind.program
+          (seen_by passes.inodes passes.rules) (seen_in s) h (sees_all consts t h s passes y l)
           (y.checks programs);
       rises = subst (λ (xs : List Entry).
-          RisesWithin (log (mode_in frame) t.number t.mind.program h) xs) l.book_seen y.rises;
+          RisesWithin (log (mode_in consts) t.number t.mind.program h) xs) l.book_seen y.rises;
     }

@@ -21,154 +21,155 @@ use Rattle.call_steps.specs.declared.due.Next.{Next}
 use Rattle.call_steps.specs.declared.due.Next.TheVariants.{On, Over}
 use Rattle.run_model.specs.History.{Answer, Thought, call_at, hear, hear_in, step_at, step_in}
 use Rattle.run_model.specs.Scene.{Program}
-use Rattle.world_model.specs.Frame.{Frame, Site, inode_in}
+use Rattle.world_model.specs.WorldConsts.{Site, WorldConsts, inode_in}
 use Rattle.world_model.specs.Tasks.{Collects, HashesFor, HasSummed, HasTakenIn}
 use Rattle.inode_events.specs.Past.{past}
-use Rattle.world_model.specs.declared.gathered.Gathered.{Gathered}
+use Rattle.world_model.specs.declared.hash_state.HashState.{HashState}
 use Rattle.world_model.specs.Due.{HashesAfter, HashesAfterStep}
 use Rattle.world_model.proofs.Rows.{Follows, HashesAfterAsk, HashesAsk, IsIdle, first_begins, row}
 
 -- ---- what is hashed, by the ask and by its step
 
-abbrev Takes : Inode → List Event → Gathered → Type 0
+abbrev Takes : Inode → List Event → HashState → Type 0
 Takes inode list g = Collects inode (past list) (HasTakenIn g)
 
-abbrev Sums : Inode → List Event → Gathered → Type 0
+abbrev Sums : Inode → List Event → HashState → Type 0
 Sums inode list g = Collects inode (past list) (HasSummed g)
 
-abbrev Hashes : Inode → List Event → Gathered → Ask → Type 0
+abbrev Hashes : Inode → List Event → HashState → Ask → Type 0
 Hashes inode list g k = HashesAsk (Takes inode list g) (Sums inode list g) k
 
 -- writes and changes of attributes hash nothing
-plain_deed : (frame : Frame) (passes : List (Passed Event)) (g : Gathered) (admin : Bool)
-    (i file : ℕ) (c : Call) → HashesFor frame passes g (Some (Does i (deed_of admin c file)))
-plain_deed frame passes g admin i file (call.Write fd from bytes) = λ s q a b. tt
-plain_deed frame passes g admin i file (call.SetAttr inode name value) = λ s q a b. tt
-plain_deed frame passes g admin i file (call.SetMeta inode change) = λ s q a b. tt
-plain_deed frame passes g admin i file c = λ s q a b. tt
+plain_deed : (consts : WorldConsts) (passes : List (Passed Event)) (g : HashState) (admin : Bool)
+    (i file : ℕ) (c : Call) → HashesFor consts passes g (Some (Does i (deed_of admin c file)))
+plain_deed consts passes g admin i file (call.Write fd from bytes) = λ s q a b. tt
+plain_deed consts passes g admin i file (call.SetAttr inode name value) = λ s q a b. tt
+plain_deed consts passes g admin i file (call.SetMeta inode change) = λ s q a b. tt
+plain_deed consts passes g admin i file c = λ s q a b. tt
 
-no_deed : (frame : Frame) (passes : List (Passed Event)) (g : Gathered) (c : Call) (b : Bool)
-    → HashesFor frame passes g (Some (plain_step b c))
-no_deed frame passes g (call.AddRule rule) true = tt
-no_deed frame passes g (call.AddRule rule) false = tt
-no_deed frame passes g (call.Post sem) b = tt
-no_deed frame passes g (call.Wait sem) b = tt
-no_deed frame passes g c b = tt
+no_deed : (consts : WorldConsts) (passes : List (Passed Event)) (g : HashState) (c : Call)
+    (b : Bool) → HashesFor consts passes g (Some (plain_step b c))
+no_deed consts passes g (call.AddRule rule) true = tt
+no_deed consts passes g (call.AddRule rule) false = tt
+no_deed consts passes g (call.Post sem) b = tt
+no_deed consts passes g (call.Wait sem) b = tt
+no_deed consts passes g c b = tt
 
-pub by_ask : (frame : Frame) (passes : List (Passed Event)) (g : Gathered) (admin : Bool) (c : Call)
-    (p : Progress) (k : Ask)
-    → ((s : Site) (q : Passed Event) → slice_get frame.sites p.inode ≡ Some s
-    → slice_get passes p.inode ≡ Some q → Hashes (inode_in frame s) q.seen g k)
-    → HashesFor frame passes g (Some (step_by admin c p k))
-by_ask frame passes g admin c p ask.Count x = λ s q a b. tt
-by_ask frame passes g admin c p (ask.Check func mask) x = tt
-by_ask frame passes g admin c p (ask.Take slot) x = λ s q a b. tt
-by_ask frame passes g admin c p ask.Chunk x = x
-by_ask frame passes g admin c p ask.Finish x = x
-by_ask frame passes g admin c p (ask.Read from len) x = λ s q a b. tt
-by_ask frame passes g admin c p ask.Write x = plain_deed frame passes g admin p.inode p.file c
-by_ask frame passes g admin c p (ask.Trunc len) x = λ s q a b. tt
-by_ask frame passes g admin c p ask.SetAttr x = plain_deed frame passes g admin p.inode p.file c
-by_ask frame passes g admin c p ask.SetMeta x = plain_deed frame passes g admin p.inode p.file c
-by_ask frame passes g admin c p ask.Close x = λ s q a b. tt
-by_ask frame passes g admin c p ask.CloseTake x = λ s q a b. tt
-by_ask frame passes g admin c p ask.CloseChunk x = x
-by_ask frame passes g admin c p ask.CloseFinish x = x
-by_ask frame passes g admin c p ask.Plain x = no_deed frame passes g c admin
+pub by_ask : (consts : WorldConsts) (passes : List (Passed Event)) (g : HashState) (admin : Bool)
+    (c : Call) (p : Progress) (k : Ask)
+    → ((s : Site) (q : Passed Event) → slice_get consts.sites p.inode ≡ Some s
+    → slice_get passes p.inode ≡ Some q → Hashes (inode_in consts s) q.seen g k)
+    → HashesFor consts passes g (Some (step_by admin c p k))
+by_ask consts passes g admin c p ask.Count x = λ s q a b. tt
+by_ask consts passes g admin c p (ask.Check func mask) x = tt
+by_ask consts passes g admin c p (ask.Take slot) x = λ s q a b. tt
+by_ask consts passes g admin c p ask.Chunk x = x
+by_ask consts passes g admin c p ask.Finish x = x
+by_ask consts passes g admin c p (ask.Read from len) x = λ s q a b. tt
+by_ask consts passes g admin c p ask.Write x = plain_deed consts passes g admin p.inode p.file c
+by_ask consts passes g admin c p (ask.Trunc len) x = λ s q a b. tt
+by_ask consts passes g admin c p ask.SetAttr x = plain_deed consts passes g admin p.inode p.file c
+by_ask consts passes g admin c p ask.SetMeta x = plain_deed consts passes g admin p.inode p.file c
+by_ask consts passes g admin c p ask.Close x = λ s q a b. tt
+by_ask consts passes g admin c p ask.CloseTake x = λ s q a b. tt
+by_ask consts passes g admin c p ask.CloseChunk x = x
+by_ask consts passes g admin c p ask.CloseFinish x = x
+by_ask consts passes g admin c p ask.Plain x = no_deed consts passes g c admin
 
-idle_ask : (frame : Frame) (s : Site) (q : Passed Event) (g : Gathered) (k : Ask) → IsIdle k
-    → Hashes (inode_in frame s) q.seen g k
-idle_ask frame s q g (ask.Take slot) x = tt
-idle_ask frame s q g ask.Chunk x = absurd x
-idle_ask frame s q g ask.Finish x = absurd x
-idle_ask frame s q g ask.CloseChunk x = absurd x
-idle_ask frame s q g ask.CloseFinish x = absurd x
-idle_ask frame s q g k x = tt
+idle_ask : (consts : WorldConsts) (s : Site) (q : Passed Event) (g : HashState) (k : Ask) → IsIdle k
+    → Hashes (inode_in consts s) q.seen g k
+idle_ask consts s q g (ask.Take slot) x = tt
+idle_ask consts s q g ask.Chunk x = absurd x
+idle_ask consts s q g ask.Finish x = absurd x
+idle_ask consts s q g ask.CloseChunk x = absurd x
+idle_ask consts s q g ask.CloseFinish x = absurd x
+idle_ask consts s q g k x = tt
 
 -- the hashing that a step leaves is the one that its ask leaves
-after_ask : (frame : Frame) (passes : List (Passed Event)) (g : Gathered) (admin : Bool) (c : Call)
-    (p : Progress) (t : Told) (k : Ask) → HashesAfterStep frame passes g (step_by admin c p k) t
-    → (s : Site) (q : Passed Event) → slice_get frame.sites p.inode ≡ Some s
+after_ask : (consts : WorldConsts) (passes : List (Passed Event)) (g : HashState) (admin : Bool)
+    (c : Call)
+    (p : Progress) (t : Told) (k : Ask) → HashesAfterStep consts passes g (step_by admin c p k) t
+    → (s : Site) (q : Passed Event) → slice_get consts.sites p.inode ≡ Some s
     → slice_get passes p.inode ≡ Some q
-    → HashesAfterAsk (Takes (inode_in frame s) q.seen g) (Sums (inode_in frame s) q.seen g) k t
-after_ask frame passes g admin c p t (ask.Take slot) x s q a b = take_after t (x s q a b) where
-  take_after : (u : Told) → HashesAfter (inode_in frame s) q.seen g (deed.Take p.file) u
-      → HashesAfterAsk (Takes (inode_in frame s) q.seen g) (Sums (inode_in frame s) q.seen g)
+    → HashesAfterAsk (Takes (inode_in consts s) q.seen g) (Sums (inode_in consts s) q.seen g) k t
+after_ask consts passes g admin c p t (ask.Take slot) x s q a b = take_after t (x s q a b) where
+  take_after : (u : Told) → HashesAfter (inode_in consts s) q.seen g (deed.Take p.file) u
+      → HashesAfterAsk (Takes (inode_in consts s) q.seen g) (Sums (inode_in consts s) q.seen g)
       (ask.Take slot) u
   take_after (told.Grant grant) y = y
   take_after u y = y
-after_ask frame passes g admin c p t ask.Chunk x s q a b = chunk_after t (x s q a b) where
-  chunk_after : (u : Told) → HashesAfter (inode_in frame s) q.seen g (deed.Chunk p.file) u
-      → HashesAfterAsk (Takes (inode_in frame s) q.seen g) (Sums (inode_in frame s) q.seen g)
+after_ask consts passes g admin c p t ask.Chunk x s q a b = chunk_after t (x s q a b) where
+  chunk_after : (u : Told) → HashesAfter (inode_in consts s) q.seen g (deed.Chunk p.file) u
+      → HashesAfterAsk (Takes (inode_in consts s) q.seen g) (Sums (inode_in consts s) q.seen g)
       ask.Chunk u
   chunk_after told.More y = y
   chunk_after u y = y
-after_ask frame passes g admin c p t ask.CloseTake x s q a b = close_after t (x s q a b) where
-  close_after : (u : Told) → HashesAfter (inode_in frame s) q.seen g (deed.CloseTake p.file) u
-      → HashesAfterAsk (Takes (inode_in frame s) q.seen g) (Sums (inode_in frame s) q.seen g)
+after_ask consts passes g admin c p t ask.CloseTake x s q a b = close_after t (x s q a b) where
+  close_after : (u : Told) → HashesAfter (inode_in consts s) q.seen g (deed.CloseTake p.file) u
+      → HashesAfterAsk (Takes (inode_in consts s) q.seen g) (Sums (inode_in consts s) q.seen g)
       ask.CloseTake u
   close_after told.Begun y = y
   close_after u y = y
-after_ask frame passes g admin c p t ask.CloseChunk x s q a b = chunk_after t (x s q a b) where
-  chunk_after : (u : Told) → HashesAfter (inode_in frame s) q.seen g (deed.CloseChunk p.file) u
-      → HashesAfterAsk (Takes (inode_in frame s) q.seen g) (Sums (inode_in frame s) q.seen g)
+after_ask consts passes g admin c p t ask.CloseChunk x s q a b = chunk_after t (x s q a b) where
+  chunk_after : (u : Told) → HashesAfter (inode_in consts s) q.seen g (deed.CloseChunk p.file) u
+      → HashesAfterAsk (Takes (inode_in consts s) q.seen g) (Sums (inode_in consts s) q.seen g)
       ask.CloseChunk u
   chunk_after told.More y = y
   chunk_after u y = y
-after_ask frame passes g admin c p t k x s q a b = tt
+after_ask consts passes g admin c p t k x s q a b = tt
 
 -- ---- the mind after a step
 
-module _ (frame : Frame) (passes : List (Passed Event)) (g : Gathered) (p : Program) where
+module _ (consts : WorldConsts) (passes : List (Passed Event)) (g : HashState) (p : Program) where
   -- a call that begins needs no hashing
   pub begins : (m : Mind) (o : Option Call)
-      → HashesFor frame passes g (step_in p o (record m { progress = None }))
+      → HashesFor consts passes g (step_in p o (record m { progress = None }))
   begins m None = tt
   begins m (Some c) =
       let b = begun p.cred.admin m.handles c in
-      by_ask frame passes g p.cred.admin c b b.due.ask
-      (λ s q x y. idle_ask frame s q g b.due.ask
+      by_ask consts passes g p.cred.admin c b b.due.ask
+      (λ s q x y. idle_ask consts s q g b.due.ask
       (first_begins c (hand_of p.cred.admin m.handles c)).0)
 
   hashes_moved : (c : Call) (m : Mind) (gg : Progress) (place : ℕ) (n : Next) (k : Ask)
       → call_at p m ≡ Some c
-      → ((s : Site) (q : Passed Event) → slice_get frame.sites gg.inode ≡ Some s
+      → ((s : Site) (q : Passed Event) → slice_get consts.sites gg.inode ≡ Some s
       → slice_get passes gg.inode ≡ Some q
-      → Follows (course_of c) k (Takes (inode_in frame s) q.seen g)
-      (Sums (inode_in frame s) q.seen g) n)
-      → HashesFor frame passes g (step_at p (moved c m gg place n).0)
+      → Follows (course_of c) k (Takes (inode_in consts s) q.seen g)
+      (Sums (inode_in consts s) q.seen g) n)
+      → HashesFor consts passes g (step_at p (moved c m gg place n).0)
   hashes_moved c m gg place (Over r) k e x =
       let after : Mind = (moved c m gg place (Over r)).0 in begins after (call_at p after)
   hashes_moved c m gg place (On d) k e x =
       let after : Mind = (moved c m gg place (On d)).0 in
-      subst (λ (o : Option Call). HashesFor frame passes g (step_in p o after)) (sym e)
-      (by_ask frame passes g p.cred.admin c (progress_of p.cred.admin c after) d.ask
+      subst (λ (o : Option Call). HashesFor consts passes g (step_in p o after)) (sym e)
+      (by_ask consts passes g p.cred.admin c (progress_of p.cred.admin c after) d.ask
       (λ s q a b. (x s q a b).hashes))
 
   -- what is hashed suits the step that comes next
   hashes_next : (mode : Mode) (c : Call) (m : Mind) (a : Answer) → call_at p m ≡ Some c
-      → HashesAfterStep frame passes g (ask_of p.cred.admin c m) a.told
-      → HashesFor frame passes g
+      → HashesAfterStep consts passes g (ask_of p.cred.admin c m) a.told
+      → HashesFor consts passes g
       (step_at p (after_of mode p.cred.admin c m a.place a.told a.action).0)
   hashes_next mode c m a e x =
       let gg = progress_of p.cred.admin c m in
       hashes_moved c m gg a.place (next mode c gg.due a.told a.action) gg.due.ask e
-      (λ s q y z. row mode (course_of c) gg.due.reply a.action (Takes (inode_in frame s) q.seen g)
-      (Sums (inode_in frame s) q.seen g) gg.due.ask a.told
-      (after_ask frame passes g p.cred.admin c gg a.told gg.due.ask x s q y z))
+      (λ s q y z. row mode (course_of c) gg.due.reply a.action (Takes (inode_in consts s) q.seen g)
+      (Sums (inode_in consts s) q.seen g) gg.due.ask a.told
+      (after_ask consts passes g p.cred.admin c gg a.told gg.due.ask x s q y z))
 
   heard_hashes : (mode : Mode) (t : Thought) (a : Answer) (step : Step) (o : Option Call)
       → call_at p t.mind ≡ o → step_in p o t.mind ≡ Some step
-      → HashesAfterStep frame passes g step a.told
-      → HashesFor frame passes g (step_at p (hear_in mode p o t a).mind)
+      → HashesAfterStep consts passes g step a.told
+      → HashesFor consts passes g (step_at p (hear_in mode p o t a).mind)
   heard_hashes mode t a step None e f x = absurd (cc)
   heard_hashes mode t a step (Some c) e f x =
       hashes_next mode c t.mind a e
-      (subst (λ (s : Step). HashesAfterStep frame passes g s a.told)
+      (subst (λ (s : Step). HashesAfterStep consts passes g s a.told)
       (sym (same_Some (ask_of p.cred.admin c t.mind) step f)) x)
 
   pub hashes_heard : (mode : Mode) (t : Thought) (a : Answer) (step : Step)
-      → step_at p t.mind ≡ Some step → HashesAfterStep frame passes g step a.told
-      → HashesFor frame passes g (step_at p (hear mode p t a).mind)
+      → step_at p t.mind ≡ Some step → HashesAfterStep consts passes g step a.told
+      → HashesFor consts passes g (step_at p (hear mode p t a).mind)
   hashes_heard mode t a step f x =
       heard_hashes mode t a step (call_at p t.mind) refl f x

@@ -16,7 +16,7 @@ use Rattle.world_model.proofs.laws_of_runs.Checking.{law_fits_at_first}
 use Rattle.world_model.specs.laws_of_runs.Checks.{seen_by}
 use Rattle.run_model.specs.History.{Answer, Thought, call_at, event_in, hear, own, own_rules, own_signals, rule_in, signal_in, step_at, thought, who_at}
 use Rattle.run_model.specs.Scene.{Program}
-use Rattle.world_model.specs.Frame.{Frame, mode_in, scene_of}
+use Rattle.world_model.specs.WorldConsts.{WorldConsts, mode_in, scene_of}
 use Rattle.world_model.specs.Tasks.{ArePassesOf, HashesFor, HasPlayed, Tasked, action_by, last_action}
 use Rattle.world_model.specs.Steps.{FreshIsTask, HasStepped, InodeStepped, StepIsPlayed}
 use Rattle.world_model.proofs.Next.{begins}
@@ -33,7 +33,7 @@ no_mine : (passes : List (Passed Event)) (i : ℕ) (q : Passed Event)
 no_mine passes i q a h = all_at (λ (p : Passed Event). p.mine ≡ []) passes i q a h
 
 pub fresh_is_task : FreshIsTask
-fresh_is_task frame t calls stands checked passes unused =
+fresh_is_task consts t calls stands checked passes unused =
     let p = t.mind.program in
     record {
       calls = calls;
@@ -47,18 +47,18 @@ fresh_is_task frame t calls stands checked passes unused =
       signals = unused.sems;
       rules = unused.rules;
       unlisted = unused.book;
-      checks = λ programs. law_fits_at_first (scene_of frame programs) p
+      checks = λ programs. law_fits_at_first (scene_of consts programs) p
           (seen_by t.passes.inodes t.passes.rules);
       rises = record { rises = tt; below = All-nil (NamesBelow (length t.passes.book.seen)) };
-      hashed = subst (λ (m : Mind). HashesFor frame t.passes.inodes t.gathered (step_at p m))
+      hashed = subst (λ (m : Mind). HashesFor consts t.passes.inodes t.hash_state (step_at p m))
           (sym (ap (λ (x : Thought). x.mind) stands))
-          (begins frame t.passes.inodes t.gathered p fresh (call_at p fresh));
+          (begins consts t.passes.inodes t.hash_state p fresh (call_at p fresh));
     }
 
 -- ---- a step
 
-module _ (frame : Frame) (t t2 : Tasked) (h : List Answer) (a : Answer) (x : HasPlayed frame t h)
-    (y : HasStepped frame t t2 a) where
+module _ (consts : WorldConsts) (t t2 : Tasked) (h : List Answer) (a : Answer)
+    (x : HasPlayed consts t h) (y : HasStepped consts t t2 a) where
   abbrev p : Program
   p = t.mind.program
 
@@ -67,12 +67,12 @@ module _ (frame : Frame) (t t2 : Tasked) (h : List Answer) (a : Answer) (x : Has
 
   -- the mind to which the history leads
   abbrev at : Mind
-  at = (thought (mode_in frame) p h).mind
+  at = (thought (mode_in consts) p h).mind
 
   is_at : t.mind.thought.mind ≡ at
   is_at = ap (λ (z : Thought). z.mind) (sym x.stands)
 
-  passes_of : ArePassesOf frame n t2.passes
+  passes_of : ArePassesOf consts n t2.passes
   passes_of = record {
     even = y.even ∙ x.passes.even;
     inodes = λ i s q g k.
@@ -86,14 +86,14 @@ module _ (frame : Frame) (t t2 : Tasked) (h : List Answer) (a : Answer) (x : Has
   }
 
   events_of_step : (i : ℕ) (q : Passed Event) → slice_get t2.passes.inodes i ≡ Some q
-      → q.mine ≡ own (mode_in frame) n p i (a ∷ h)
+      → q.mine ≡ own (mode_in consts) n p i (a ∷ h)
   events_of_step i q k =
       let e : InodeStepped (who_at n p t.mind.thought.mind) (step_at p t.mind.thought.mind) a i
       t.passes.inodes q = y.inodes i q k in
       e.mine
       ∙ ap (λ (xs : List (ℕ × Event)). xs ++ event_in i (who_at n p t.mind.thought.mind)
       (step_at p t.mind.thought.mind) a) (x.events i e.before e.at)
-      ∙ ap (λ (m : Mind). own (mode_in frame) n p i h ++ event_in i (who_at n p m)
+      ∙ ap (λ (m : Mind). own (mode_in consts) n p i h ++ event_in i (who_at n p m)
       (step_at p m) a) is_at
 
   placed_in_step : (i : ℕ) (q : Passed Event) → slice_get t2.passes.inodes i ≡ Some q
@@ -106,37 +106,37 @@ module _ (frame : Frame) (t t2 : Tasked) (h : List Answer) (a : Answer) (x : Has
   abbrev task_with : ℕ → Program → Tasked
   task_with k prog = record t2 { number = k; mind = record t2.mind { program = prog } }
 
-  stepped : HasPlayed frame (task_with n p) (a ∷ h)
+  stepped : HasPlayed consts (task_with n p) (a ∷ h)
   stepped = record {
     calls = x.calls;
-    stands = ap (λ (z : Thought). hear (mode_in frame) p z a) x.stands ∙ sym y.stands;
+    stands = ap (λ (z : Thought). hear (mode_in consts) p z a) x.stands ∙ sym y.stands;
     checked = y.checked
         ∙ ap (λ (z : ActionValue). action_by (step_at p t.mind.thought.mind) a z) x.checked
-        ∙ ap (λ (m : Mind). action_by (step_at p m) a (last_action (mode_in frame) p h)) is_at;
+        ∙ ap (λ (m : Mind). action_by (step_at p m) a (last_action (mode_in consts) p h)) is_at;
     passes = passes_of;
     events = events_of_step;
     placed = placed_in_step;
     signals = y.sems.mine
         ∙ ap (λ (xs : List (ℕ × Event)). xs ++ signal_in (who_at n p t.mind.thought.mind)
         (step_at p t.mind.thought.mind) a) x.signals
-        ∙ ap (λ (m : Mind). own_signals (mode_in frame) n p h
+        ∙ ap (λ (m : Mind). own_signals (mode_in consts) n p h
         ++ signal_in (who_at n p m) (step_at p m) a) is_at;
     rules = y.rules.mine
         ∙ ap (λ (xs : List (ℕ × RuleEntry)). xs ++ rule_in (who_at n p t.mind.thought.mind)
         (step_at p t.mind.thought.mind) a) x.rules
-        ∙ ap (λ (m : Mind). own_rules (mode_in frame) n p h
+        ∙ ap (λ (m : Mind). own_rules (mode_in consts) n p h
         ++ rule_in (who_at n p m) (step_at p m) a) is_at;
     unlisted = y.book.mine ∙ ap (λ (xs : List (ℕ × Entry)). xs ++ []) x.unlisted;
     checks = λ programs. y.checks programs h (sym is_at) (x.checks programs);
     rises = subst (λ (m : Mind). RisesWithin
-        (logged (who_at n p m) (step_at p m) a ++ log (mode_in frame) n p h) t2.passes.book.seen)
-        is_at (y.rises (log (mode_in frame) n p h) x.rises);
+        (logged (who_at n p m) (step_at p m) a ++ log (mode_in consts) n p h) t2.passes.book.seen)
+        is_at (y.rises (log (mode_in consts) n p h) x.rises);
     hashed = y.hashed;
   }
 
 pub step_is_played : StepIsPlayed
-step_is_played frame t t2 h a x y =
-    subst (λ (k : ℕ). HasPlayed frame (record t2 { number = k }) (a ∷ h)) (sym y.number)
-    (subst (λ (prog : Program). HasPlayed frame
+step_is_played consts t t2 h a x y =
+    subst (λ (k : ℕ). HasPlayed consts (record t2 { number = k }) (a ∷ h)) (sym y.number)
+    (subst (λ (prog : Program). HasPlayed consts
     (record t2 { number = t.number; mind = record t2.mind { program = prog } }) (a ∷ h))
-    (sym y.program) (stepped frame t t2 h a x y))
+    (sym y.program) (stepped consts t t2 h a x y))

@@ -15,7 +15,7 @@ use Rattle.run_model.specs.rules.declared.cell.RuleEntry.{RuleEntry}
 use Rattle.world_model.proofs.laws_of_runs.Checking.{law_fits_by_step}
 use Rattle.world_model.specs.laws_of_runs.Checks.{IsPlainStep, SeesMore, seen_by}
 use Rattle.run_model.specs.History.{Answer, Thought, event_in, step_at, who_at}
-use Rattle.world_model.specs.Frame.{Frame, mode_in, scene_of}
+use Rattle.world_model.specs.WorldConsts.{WorldConsts, mode_in, scene_of}
 use Rattle.world_model.specs.Tasks.{HashesFor, HasPlayed, PassesValue, Tasked}
 use Rattle.world_model.specs.Due.{HashesAfterStep}
 use Rattle.world_model.specs.Plays.{HasHeard, task_after, task_left}
@@ -42,9 +42,9 @@ not_logged (Some (Does i d)) who a q = absurd q
 not_logged (Some (Checks i file func mask)) who a q = absurd q
 not_logged None who a q = absurd q
 
-module _ (frame : Frame) (t : Tasked) (a : Answer) (passes : PassesValue) (mind : TaskValue)
+module _ (consts : WorldConsts) (t : Tasked) (a : Answer) (passes : PassesValue) (mind : TaskValue)
     (quiet : IsQuiet (step_at t.mind.program t.mind.thought.mind))
-    (y : QuietPasses frame t passes a) (hd : HasHeard frame t a mind) where
+    (y : QuietPasses consts t passes a) (hd : HasHeard consts t a mind) where
   abbrev who : Who
   who = who_at t.number t.mind.program t.mind.thought.mind
 
@@ -74,17 +74,17 @@ module _ (frame : Frame) (t : Tasked) (a : Answer) (passes : PassesValue) (mind 
       })
 
   heard : (step : Step) → due ≡ Some step
-      → HashesAfterStep frame passes.inodes t.gathered step a.told
-      → HashesFor frame passes.inodes t.gathered (step_at t.mind.program mind.thought.mind)
+      → HashesAfterStep consts passes.inodes t.hash_state step a.told
+      → HashesFor consts passes.inodes t.hash_state (step_at t.mind.program mind.thought.mind)
   heard step st k =
       subst (λ (z : Thought).
-      HashesFor frame passes.inodes t.gathered (step_at t.mind.program z.mind)) (sym hd.thought)
-      (hashes_heard frame passes.inodes t.gathered t.mind.program (mode_in frame) t.mind.thought a
-      step st k)
+      HashesFor consts passes.inodes t.hash_state (step_at t.mind.program z.mind)) (sym hd.thought)
+      (hashes_heard consts passes.inodes t.hash_state t.mind.program (mode_in consts)
+      t.mind.thought a step st k)
 
   -- a quiet step needs and leaves no hashing, whichever it is
   hashes_quiet : (o : Option Step) → due ≡ o → IsQuiet o
-      → HashesFor frame passes.inodes t.gathered (step_at t.mind.program mind.thought.mind)
+      → HashesFor consts passes.inodes t.hash_state (step_at t.mind.program mind.thought.mind)
   hashes_quiet (Some Nothing) st q = heard Nothing st tt
   hashes_quiet (Some (Signals d)) st q = heard (Signals d) st tt
   hashes_quiet (Some (Appends rule)) st q = heard (Appends rule) st tt
@@ -92,7 +92,7 @@ module _ (frame : Frame) (t : Tasked) (a : Answer) (passes : PassesValue) (mind 
   hashes_quiet (Some (Checks i file func mask)) st q = absurd q
   hashes_quiet None st q = absurd q
 
-  quiet_stepped : HasStepped frame t (task_after t mind passes t.gathered) a
+  quiet_stepped : HasStepped consts t (task_after t mind passes t.hash_state) a
   quiet_stepped = record {
     number = refl;
     program = hd.program;
@@ -103,10 +103,10 @@ module _ (frame : Frame) (t : Tasked) (a : Answer) (passes : PassesValue) (mind 
     sems = y.sems;
     rules = y.rules;
     book = adds_none t.passes.book passes.book y.book;
-    checks = λ programs h same fit. law_fits_by_step (scene_of frame programs) t.mind.program
+    checks = λ programs h same fit. law_fits_by_step (scene_of consts programs) t.mind.program
         (seen_by t.passes.inodes t.passes.rules) (seen_by passes.inodes passes.rules) h a
         sees_quiet fit
-        (subst (λ (m : Mind). IsPlainStep (scene_of frame programs)
+        (subst (λ (m : Mind). IsPlainStep (scene_of consts programs)
         (seen_by passes.inodes passes.rules) (step_at t.mind.program m) a) (sym same)
         (y.plain programs));
     rises = λ steps r.
@@ -117,20 +117,20 @@ module _ (frame : Frame) (t : Tasked) (a : Answer) (passes : PassesValue) (mind 
   }
 
 pub quiet_is_played : QuietIsPlayed
-quiet_is_played frame t h a passes mind x quiet y hd =
-    step_is_played frame t (task_after t mind passes t.gathered) h a x
-    (quiet_stepped frame t a passes mind quiet y hd)
+quiet_is_played consts t h a passes mind x quiet y hd =
+    step_is_played consts t (task_after t mind passes t.hash_state) h a x
+    (quiet_stepped consts t a passes mind quiet y hd)
 
 -- proof of `QuietIsLeft`
 pub quiet_is_left : QuietIsLeft
-quiet_is_left frame t h passes x l =
-    subst (λ (qs : List (Passed Event)). HasPlayed frame
-    (task_left t (record passes { inodes = qs }) t.gathered) h) (sym l.inodes)
-    (subst (λ (q : Passed Entry). HasPlayed frame
-    (task_left t (record passes { inodes = t.passes.inodes; book = q }) t.gathered) h) (sym l.book)
-    (subst (λ (q : Passed RuleEntry). HasPlayed frame
+quiet_is_left consts t h passes x l =
+    subst (λ (qs : List (Passed Event)). HasPlayed consts
+    (task_left t (record passes { inodes = qs }) t.hash_state) h) (sym l.inodes)
+    (subst (λ (q : Passed Entry). HasPlayed consts
+    (task_left t (record passes { inodes = t.passes.inodes; book = q }) t.hash_state) h)
+    (sym l.book) (subst (λ (q : Passed RuleEntry). HasPlayed consts
     (task_left t (record passes { inodes = t.passes.inodes; book = t.passes.book; rules = q })
-    t.gathered) h) (sym l.rules)
+    t.hash_state) h) (sym l.rules)
     (record {
       calls = x.calls;
       stands = x.stands;

@@ -30,9 +30,9 @@ use Rattle.run_model.specs.Scene.{Program}
 use Rattle.run_model.specs.Served.{events_of}
 use Rattle.world_model.specs.laws_of_progress.NextSteps.{MayMake}
 use Rattle.world_model.proofs.laws_of_progress.Making.{next_step_may}
-use Rattle.world_model.specs.Frame.{Frame, Site, inode_in, mode_in}
+use Rattle.world_model.specs.WorldConsts.{Site, WorldConsts, inode_in, mode_in}
 use Rattle.world_model.specs.Tasks.{Collects, HashesBefore, HashesFor, HasPlayed, HasSummed, HasTakenIn, Tasked, action_by, last_action}
-use Rattle.world_model.specs.declared.gathered.Gathered.{Gathered}
+use Rattle.world_model.specs.declared.hash_state.HashState.{HashState}
 use Rattle.world_model.specs.Due.{slot_in}
 use Rattle.world_model.specs.Ready.{AsksBy, HasLooked, IsReady, IsStepOn, ReadyByLook}
 use Rattle.world_model.proofs.Mine.{StepBy, next_is_by}
@@ -56,19 +56,19 @@ may_of inode n i p d (Some (Appends rule)) m b e = absurd e
 
 -- ---- what is hashed
 
-hashes_of : (frame : Frame) (passes : List (Passed Event)) (g : Gathered) (i : ℕ) (s : Site)
-    (q : Passed Event) (d : Deed) (o : Option Step) → slice_get frame.sites i ≡ Some s
-    → slice_get passes i ≡ Some q → HashesFor frame passes g o → IsStepOn i d o
-    → HashesBefore (inode_in frame s) q.seen g d
-hashes_of frame passes g i s q d None a b x e = absurd e
-hashes_of frame passes g i s q d (Some Nothing) a b x e = absurd e
-hashes_of frame passes g i s q d (Some (Does j y)) a b x e =
-    subst (λ (z : Deed). HashesBefore (inode_in frame s) q.seen g z) e.1
-    (x s q (ap (slice_get frame.sites) e.0 ∙ a) (ap (slice_get passes) e.0 ∙ b))
-hashes_of frame passes g i s q d (Some (Checks j file func mask)) a b x e =
-    subst (λ (z : Deed). HashesBefore (inode_in frame s) q.seen g z) e.1 tt
-hashes_of frame passes g i s q d (Some (Signals y)) a b x e = absurd e
-hashes_of frame passes g i s q d (Some (Appends rule)) a b x e = absurd e
+hashes_of : (consts : WorldConsts) (passes : List (Passed Event)) (g : HashState) (i : ℕ) (s : Site)
+    (q : Passed Event) (d : Deed) (o : Option Step) → slice_get consts.sites i ≡ Some s
+    → slice_get passes i ≡ Some q → HashesFor consts passes g o → IsStepOn i d o
+    → HashesBefore (inode_in consts s) q.seen g d
+hashes_of consts passes g i s q d None a b x e = absurd e
+hashes_of consts passes g i s q d (Some Nothing) a b x e = absurd e
+hashes_of consts passes g i s q d (Some (Does j y)) a b x e =
+    subst (λ (z : Deed). HashesBefore (inode_in consts s) q.seen g z) e.1
+    (x s q (ap (slice_get consts.sites) e.0 ∙ a) (ap (slice_get passes) e.0 ∙ b))
+hashes_of consts passes g i s q d (Some (Checks j file func mask)) a b x e =
+    subst (λ (z : Deed). HashesBefore (inode_in consts s) q.seen g z) e.1 tt
+hashes_of consts passes g i s q d (Some (Signals y)) a b x e = absurd e
+hashes_of consts passes g i s q d (Some (Appends rule)) a b x e = absurd e
 
 module _ (inode : Inode) (n : ℕ) (seen list : List Event) (mine : List (ℕ × Event))
     (l : HasLooked inode n seen list mine) where
@@ -90,7 +90,7 @@ module _ (inode : Inode) (n : ℕ) (seen list : List Event) (mine : List (ℕ ×
     has = y.has;
   }
 
-  hashes_still : (g : Gathered) (d : Deed) → May inode (past list) d → IsBy n d (past list)
+  hashes_still : (g : HashState) (d : Deed) → May inode (past list) d → IsBy n d (past list)
       → All (λ y. y.0 < length seen) mine → HashesBefore inode seen g d
       → HashesBefore inode list g d
   hashes_still g (deed.Chunk f) m b below x =
@@ -248,20 +248,20 @@ module _ (inode : Inode) (n : ℕ) (p : Program) (h : List Answer) (i : ℕ) (se
 
 -- ---- all parts of readiness together
 
-ready_at : (frame : Frame) (t : Tasked) (h : List Answer) (i : ℕ) (s : Site) (q : Passed Event)
-    (list : List Event) (d : Deed) (m : Mind) → HasPlayed frame t h
-    → slice_get frame.sites i ≡ Some s → slice_get t.passes.inodes i ≡ Some q
-    → HasLooked (inode_in frame s) (t.number + 1) q.seen list q.mine
-    → (thought (mode_in frame) t.mind.program h).mind ≡ m
-    → HashesFor frame t.passes.inodes t.gathered (step_at t.mind.program m)
+ready_at : (consts : WorldConsts) (t : Tasked) (h : List Answer) (i : ℕ) (s : Site)
+    (q : Passed Event) (list : List Event) (d : Deed) (m : Mind) → HasPlayed consts t h
+    → slice_get consts.sites i ≡ Some s → slice_get t.passes.inodes i ≡ Some q
+    → HasLooked (inode_in consts s) (t.number + 1) q.seen list q.mine
+    → (thought (mode_in consts) t.mind.program h).mind ≡ m
+    → HashesFor consts t.passes.inodes t.hash_state (step_at t.mind.program m)
     → IsStepOn i d (step_at t.mind.program m)
-    → IsReady (inode_in frame s) (t.number + 1) list t.gathered t.mind.checked
+    → IsReady (inode_in consts s) (t.number + 1) list t.hash_state t.mind.checked
     (slot_in (due_at t.mind.program m)) d
-ready_at frame t h i s q list d m x a b l same hashed e =
-    let inode = inode_in frame s in
+ready_at consts t h i s q list d m x a b l same hashed e =
+    let inode = inode_in consts s in
     let p = t.mind.program in
-    let own_is : q.mine ≡ own (mode_in frame) t.number p i h = x.events i q b in
-    let owns : events_of t.number list ≡ own (mode_in frame) t.number p i h = l.own ∙ own_is in
+    let own_is : q.mine ≡ own (mode_in consts) t.number p i h = x.events i q b in
+    let owns : events_of t.number list ≡ own (mode_in consts) t.number p i h = l.own ∙ own_is in
     let fit = λ (k : ℕ) (c : Call) (z : slice_get p.calls k ≡ Some c). (x.calls k c z).0 in
     let may : MayMake inode i (past list) (step_at p m) =
     subst (λ (y : Mind). MayMake inode i (past list) (step_at p y)) same
@@ -271,23 +271,23 @@ ready_at frame t h i s q list d m x a b l same hashed e =
     (next_is_by inode t.number p h i list fit l.legal.1 owns) in
     let both = may_of inode (t.number + 1) i (past list) d (step_at p m) may by e in
     let takes : (c : Call) → call_at p m ≡ Some c
-    → IfTake (mode_in frame) p h (progress_of p.cred.admin c m).inode
+    → IfTake (mode_in consts) p h (progress_of p.cred.admin c m).inode
     (progress_of p.cred.admin c m).file (progress_of p.cred.admin c m).due.ask =
     subst (λ (y : Mind). (c : Call) → call_at p y ≡ Some c
-    → IfTake (mode_in frame) p h (progress_of p.cred.admin c y).inode
+    → IfTake (mode_in consts) p h (progress_of p.cred.admin c y).inode
     (progress_of p.cred.admin c y).file (progress_of p.cred.admin c y).due.ask) same
-    (take_law (mode_in frame) p h) in
+    (take_law (mode_in consts) p h) in
     record {
       may = both.0;
       by = both.1;
-      hashes = hashes_still inode (t.number + 1) q.seen list q.mine l t.gathered d both.0 both.1
+      hashes = hashes_still inode (t.number + 1) q.seen list q.mine l t.hash_state d both.0 both.1
           (x.placed i q b)
-          (hashes_of frame t.passes.inodes t.gathered i s q d (step_at p m) a b hashed e);
+          (hashes_of consts t.passes.inodes t.hash_state i s q d (step_at p m) a b hashed e);
       asks = asks_call inode t.number p h i q.seen list q.mine l own_is t.mind.checked x.checked m
           d (call_at p m) both.0 both.1 e takes;
     }
 
 pub ready_by_look : ReadyByLook
-ready_by_look frame t h i s q list d x a b l e =
-    ready_at frame t h i s q list d t.mind.thought.mind x a b l
+ready_by_look consts t h i s q list d x a b l e =
+    ready_at consts t h i s q list d t.mind.thought.mind x a b l
     (ap (λ (y : Thought). y.mind) x.stands) x.hashed e

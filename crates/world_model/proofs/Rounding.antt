@@ -2,7 +2,7 @@
 use Rattle.std.proofs.Common.{◌≡◌, ℕ, suc, Bool, true, false, List, [], ◌∷◌, ◌++◌, add-one, refl, sym, ◌∙◌, ap, subst, below_more}
 use Rattle.std.specs.Prelude.{◌||◌}
 use Rattle.std.proofs.lemmas.List.{length-map}
-use Rattle.run_model.proofs.Still.{still_round}
+use Rattle.run_model.proofs.Idle.{idle_round}
 use Rattle.run_model.specs.Rounds.{all_tasks, any_moves, is_moved, moves, numbers, round_moves, rounds}
 use Rattle.run_model.specs.Scene.{Scene}
 use Rattle.run_model.specs.Turns.{Moment, turn, turns_of}
@@ -10,9 +10,9 @@ use Rattle.run_model.specs.declared.turn.Turn.{Turn}
 use Rattle.world_model.specs.Runs.{program_of}
 use Rattle.world_model.specs.Tasks.{Tasked}
 use Rattle.world_model.specs.World.{WorldValue}
-use Rattle.world_model.proofs.Turning.{scene_same, still_more, turn_is_more}
+use Rattle.world_model.proofs.Turning.{same_run_more, scene_same, turn_is_more}
 use Rattle.world_model.specs.TurnLaws.{RoundIsMore, RoundIsWhole, RoundsAreOver, TurnInRound}
-use Rattle.world_model.specs.WorldRuns.{IsInRound, IsTurn, StillRuns, moment_in, scene_in}
+use Rattle.world_model.specs.WorldRuns.{IsInRound, IsTurn, SameRun, moment_in, scene_in}
 
 -- `false` is neutral on the right of `||`
 or_false : (b : Bool) → (b || false) ≡ b
@@ -36,7 +36,7 @@ any_more scene m (k ∷ ns) n =
 
 -- the turn of task k extends a round of the tasks below k
 in_round : (world w1 w2 : WorldValue) (tasks t1 t2 : List Tasked) (k : ℕ) (moved : Bool)
-    (r : Turn) → IsInRound world w1 tasks t1 k moved → StillRuns w1 w2 t1 t2
+    (r : Turn) → IsInRound world w1 tasks t1 k moved → SameRun w1 w2 t1 t2
     → IsTurn w1 w2 t1 t2 k r → IsInRound world w2 tasks t2 (suc k) (moved || is_moved r)
 in_round world w1 w2 tasks t1 t2 k moved r h s e =
     let scene = scene_in world tasks in
@@ -77,7 +77,7 @@ round_is_more world w1 w2 tasks t1 t2 n h s e =
     let start = moment_in world tasks in
     let same : scene_in w1 t1 ≡ scene = scene_same world w1 tasks t1 h.still in
     record {
-      still = still_more world w1 w2 tasks t1 t2 h.still s;
+      still = same_run_more world w1 w2 tasks t1 t2 h.still s;
       run = e.moment
           ∙ ap (λ (x : Scene). turns_of x (moment_in w1 t1) (all_tasks x)) same
           ∙ ap (λ (m : Moment). turns_of scene m (all_tasks scene)) h.run
@@ -98,7 +98,7 @@ rounds_are_over world w1 w2 tasks t1 t2 n h s e =
     sym (e.moves ∙ ap (λ (x : Scene). round_moves x last) same) in
     let stays : moment_in w2 t2 ≡ last =
     e.moment ∙ ap (λ (x : Scene). turns_of x last (all_tasks x)) same
-    ∙ still_round scene last quiet in
+    ∙ idle_round scene last quiet in
     record {
       count = n;
       ends = stays ∙ h.run;

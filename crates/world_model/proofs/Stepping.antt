@@ -9,13 +9,13 @@ use Rattle.run_model.specs.Rounds.{is_moved, moves_at}
 use Rattle.run_model.specs.Scene.{Program, Scene}
 use Rattle.run_model.specs.Turns.{Moment, Turned, go, turned}
 use Rattle.run_model.specs.declared.turn.Turn.{Turn}
-use Rattle.world_model.specs.Frame.{Frame}
+use Rattle.world_model.specs.WorldConsts.{WorldConsts}
 use Rattle.world_model.specs.Runs.{AreTasks, IsNth, program_of, programs_of, thought_of}
 use Rattle.world_model.specs.Tasks.{IsTask, Tasked}
 use Rattle.world_model.specs.World.{WorldValue}
 use Rattle.world_model.proofs.Eventing.{get_map}
 use Rattle.world_model.specs.TurnLaws.{StepIsTurn}
-use Rattle.world_model.specs.WorldRuns.{GoesTo, IsTurn, KeepsTask, StillRuns, moment_in, scene_in}
+use Rattle.world_model.specs.WorldRuns.{GoesTo, IsTurn, KeepsTask, SameRun, moment_in, scene_in}
 
 -- writing an element with the same image leaves the map of a list as it was
 map_same : {A B : Type 0} (f : A → B) (xs : List A) (i : ℕ) (x y : A) → slice_get xs i ≡ Some x
@@ -25,7 +25,7 @@ map_same f (z ∷ xs) zero x y h e = ap (λ b. b ∷ map f xs) (e ∙ ap f (sym 
 map_same f (z ∷ xs) (suc i) x y h e = ap (λ bs. f z ∷ bs) (map_same f xs i x y h e)
 
 module _ (world world2 : WorldValue) (tasks : List Tasked) (k : ℕ) (t t2 : Tasked)
-    (all : AreTasks world.frame tasks) (there : slice_get tasks k ≡ Some t)
+    (all : AreTasks world.consts tasks) (there : slice_get tasks k ≡ Some t)
     (keeps : KeepsTask world world2 t t2) where
   abbrev tasks2 : List Tasked
   tasks2 = slice_set tasks k t2
@@ -37,9 +37,9 @@ module _ (world world2 : WorldValue) (tasks : List Tasked) (k : ℕ) (t t2 : Tas
   start = moment_in world tasks
 
   -- the tasks still belong to their world
-  still_runs : StillRuns world world2 tasks tasks2
-  still_runs = record {
-    frame = keeps.frame;
+  same_run : SameRun world world2 tasks tasks2
+  same_run = record {
+    consts = keeps.consts;
     programs = map_same program_of tasks k t t2 there keeps.program;
     each = record {
       each = λ j x h. at j x (set_parts tasks k j t2 x h (slice_get_within tasks k t there));
@@ -47,14 +47,14 @@ module _ (world world2 : WorldValue) (tasks : List Tasked) (k : ℕ) (t t2 : Tas
   } where
     at : (j : ℕ) (x : Tasked)
         → ((j ≡ k) × (x ≡ t2)) ⊎ ((k ≢ j) × (slice_get tasks j ≡ Some x))
-        → IsNth world2.frame j x
+        → IsNth world2.consts j x
     at j x (inl e) = record {
       number = ap (λ (y : Tasked). y.number) e.1 ∙ keeps.number ∙ (all.each k t there).number
           ∙ sym e.0;
-      task = subst (λ (y : Tasked). IsTask world2.frame y) (sym e.1) keeps.task;
+      task = subst (λ (y : Tasked). IsTask world2.consts y) (sym e.1) keeps.task;
     }
     at j x (inr e) =
-        subst (λ (f : Frame). IsNth f j x) (sym keeps.frame) (all.each j x e.1)
+        subst (λ (f : WorldConsts). IsNth f j x) (sym keeps.consts) (all.each j x e.1)
 
   -- the effect of the step is that of a turn of its task
   is_turn : (r : Turn) → GoesTo world world2 t t2 r → IsTurn world world2 tasks tasks2 k r
@@ -88,6 +88,6 @@ module _ (world world2 : WorldValue) (tasks : List Tasked) (k : ℕ) (t t2 : Tas
 -- proof of `StepIsTurn`
 pub step_is_turn : StepIsTurn
 step_is_turn world world2 tasks k t t2 all there keeps = (
-  still_runs world world2 tasks k t t2 all there keeps,
+  same_run world world2 tasks k t t2 all there keeps,
   λ r goes. is_turn world world2 tasks k t t2 all there keeps r goes,
 )

@@ -14,9 +14,9 @@ use Rattle.call_steps.specs.Mind.{Step}
 use Rattle.call_steps.specs.Mind.{Does}
 use Rattle.call_steps.specs.declared.ask.Ask.{Ask}
 use Rattle.call_steps.specs.declared.ask.Ask.TheVariants as ask
-use Rattle.world_model.specs.Frame.{Frame, Site, inode_in}
+use Rattle.world_model.specs.WorldConsts.{Site, WorldConsts, inode_in}
 use Rattle.world_model.specs.Tasks.{Collects, HasSummed, HasTakenIn}
-use Rattle.world_model.specs.declared.gathered.Gathered.{Gathered}
+use Rattle.world_model.specs.declared.hash_state.HashState.{HashState}
 
 -- the slot of a take that is due; `File` if another step or none is due
 abbrev pub slot_in : Option Ask → Slot
@@ -26,7 +26,7 @@ slot_in _ = slot.File
 -- ---- what is hashed
 
 -- what the task has hashed after a deed with this outcome, by the journal `list` after the deed
-abbrev pub HashesAfter : Inode → List Event → Gathered → Deed → Told → Type 0
+abbrev pub HashesAfter : Inode → List Event → HashState → Deed → Told → Type 0
 HashesAfter inode list g (deed.Take file) (told.Grant grant) = Unit {0}
 HashesAfter inode list g (deed.Take file) t = Collects inode (past list) (HasTakenIn g)
 HashesAfter inode list g (deed.Chunk file) told.More = Collects inode (past list) (HasTakenIn g)
@@ -40,13 +40,13 @@ HashesAfter inode list g (deed.CloseChunk file) t = Collects inode (past list) (
 HashesAfter inode list g _ t = Unit {0}
 
 -- what the task has hashed after any step, by its passes after the step (see `HashesAfter`)
-abbrev pub HashesAfterStep : Frame → List (Passed Event) → Gathered → Step → Told → Type 0
-HashesAfterStep frame passes g (Does i d) t =
-    (s : Site) (q : Passed Event) → slice_get frame.sites i ≡ Some s
-    → slice_get passes i ≡ Some q → HashesAfter (inode_in frame s) q.seen g d t
-HashesAfterStep frame passes g _ t = Unit {0}
+abbrev pub HashesAfterStep : WorldConsts → List (Passed Event) → HashState → Step → Told → Type 0
+HashesAfterStep consts passes g (Does i d) t =
+    (s : Site) (q : Passed Event) → slice_get consts.sites i ≡ Some s
+    → slice_get passes i ≡ Some q → HashesAfter (inode_in consts s) q.seen g d t
+HashesAfterStep consts passes g _ t = Unit {0}
 
 -- what the task has hashed after a deed, which leaves it unchanged if the deed was blocked
-abbrev pub HashesTold : Inode → List Event → Gathered → Gathered → Deed → Option Told → Type 0
+abbrev pub HashesTold : Inode → List Event → HashState → HashState → Deed → Option Told → Type 0
 HashesTold inode list old new d None = new ≡ old
 HashesTold inode list old new d (Some t) = HashesAfter inode list new d t

@@ -1,4 +1,4 @@
-pub mod Frame
+pub mod WorldConsts
 pub mod World
 pub mod Tasks
 pub mod Runs

@@ -6,7 +6,7 @@ use Rattle.inode_events.specs.declared.told.Event.{Event}
 use Rattle.run_model.specs.History.{Answer}
 use Rattle.run_model.specs.Served.{events_of, rules_of}
 use Rattle.run_model.specs.Turns.{State}
-use Rattle.world_model.specs.Frame.{Frame, Site, inode_in}
+use Rattle.world_model.specs.WorldConsts.{Site, WorldConsts, inode_in}
 use Rattle.world_model.specs.Runs.{HasMade}
 use Rattle.world_model.specs.Tasks.{HasPlayed, IsTask, PassesValue, Tasked}
 use Rattle.world_model.specs.Plays.{task_left}
@@ -14,7 +14,7 @@ use Rattle.world_model.specs.Ready.{HasLooked}
 use Rattle.world_model.specs.Steps.{Adds}
 
 -- the task's pass of journal i, brought up to date with the journal
-pub record InodeLooked (frame : Frame) (n i : ℕ) (journals : List (List Event))
+pub record InodeLooked (consts : WorldConsts) (n i : ℕ) (journals : List (List Event))
     (old : List (Passed Event)) (new : Passed Event) : Type 0 where
   pub before : Passed Event
   pub at : slice_get old i ≡ Some before
@@ -24,16 +24,16 @@ pub record InodeLooked (frame : Frame) (n i : ℕ) (journals : List (List Event)
   pub journal : List Event
   pub journal_at : slice_get journals i ≡ Some journal
   pub seen : new.seen ≡ journal
-  pub looked : (s : Site) → slice_get frame.sites i ≡ Some s
-      → HasLooked (inode_in frame s) n before.seen journal before.mine
+  pub looked : (s : Site) → slice_get consts.sites i ≡ Some s
+      → HasLooked (inode_in consts s) n before.seen journal before.mine
 
 -- the task's passes, brought up to date with all lists
-pub record HasLookedAtAll (frame : Frame) (t : Tasked) (s : State) (passes : PassesValue)
+pub record HasLookedAtAll (consts : WorldConsts) (t : Tasked) (s : State) (passes : PassesValue)
     : Type 0 where
   pub even : length passes.inodes ≡ length t.passes.inodes
-  pub journals : length s.journals ≡ length frame.sites
+  pub journals : length s.journals ≡ length consts.sites
   pub inodes : (i : ℕ) (q : Passed Event) → slice_get passes.inodes i ≡ Some q
-      → InodeLooked frame (t.number + 1) i s.journals t.passes.inodes q
+      → InodeLooked consts (t.number + 1) i s.journals t.passes.inodes q
   pub sems : Adds t.passes.sems passes.sems []
   pub signals : events_of t.number s.signals ≡ passes.sems.mine
   pub book : Adds t.passes.book passes.book []
@@ -46,12 +46,12 @@ pub record HasLookedAtAll (frame : Frame) (t : Tasked) (s : State) (passes : Pas
 
 -- a look at all lists preserves the task's history
 abbrev pub LookIsPlayed : Type 0
-LookIsPlayed = (frame : Frame) (t : Tasked) (h : List Answer) (s : State) (passes : PassesValue)
-    → HasPlayed frame t h → HasLookedAtAll frame t s passes
-    → HasPlayed frame (task_left t passes t.gathered) h
+LookIsPlayed = (consts : WorldConsts) (t : Tasked) (h : List Answer) (s : State)
+    (passes : PassesValue) → HasPlayed consts t h → HasLookedAtAll consts t s passes
+    → HasPlayed consts (task_left t passes t.hash_state) h
 
 -- after a look at all lists the entries of the task's number in each list are those of its history
 abbrev pub LookIsMade : Type 0
-LookIsMade = (frame : Frame) (t : Tasked) (s : State) (passes : PassesValue)
-    → IsTask frame t → HasLookedAtAll frame t s passes
-    → HasMade frame s (task_left t passes t.gathered)
+LookIsMade = (consts : WorldConsts) (t : Tasked) (s : State) (passes : PassesValue)
+    → IsTask consts t → HasLookedAtAll consts t s passes
+    → HasMade consts s (task_left t passes t.hash_state)

@@ -13,37 +13,38 @@ use Rattle.policy_rules.specs.declared.rule.Func.{Func}
 use Rattle.run_model.specs.History.{Answer, hear, plain_answer, step_at, who_at}
 use Rattle.run_model.specs.Scene.{decided, rules_with}
 use Rattle.run_model.specs.Turns.{State}
-use Rattle.world_model.specs.Frame.{Frame, Site, inode_in, mode_in, scene_of, super_at}
+use Rattle.world_model.specs.WorldConsts.{Site, WorldConsts, inode_in, mode_in, scene_of, super_at}
 use Rattle.world_model.specs.Tasks.{HasPlayed, PassesValue, Tasked, action_by}
-use Rattle.world_model.specs.declared.gathered.Gathered.{Gathered}
+use Rattle.world_model.specs.declared.hash_state.HashState.{HashState}
 use Rattle.world_model.specs.Events.{EventOn}
 use Rattle.world_model.specs.minds.Value.{TaskValue}
 
 -- the task unchanged but for its passes and what it has hashed
-abbrev pub task_left : Tasked → PassesValue → Gathered → Tasked
-task_left t passes g = record t { gathered = g; passes = passes }
+abbrev pub task_left : Tasked → PassesValue → HashState → Tasked
+task_left t passes g = record t { hash_state = g; passes = passes }
 
 -- the task's mind after the answer
-pub record HasHeard (frame : Frame) (t : Tasked) (a : Answer) (mind : TaskValue) : Type 0 where
+pub record HasHeard (consts : WorldConsts) (t : Tasked) (a : Answer)
+    (mind : TaskValue) : Type 0 where
   pub program : mind.program ≡ t.mind.program
-  pub thought : mind.thought ≡ hear (mode_in frame) t.mind.program t.mind.thought a
+  pub thought : mind.thought ≡ hear (mode_in consts) t.mind.program t.mind.thought a
   pub checked : mind.checked
       ≡ action_by (step_at t.mind.program t.mind.thought.mind) a t.mind.checked
 
-abbrev pub task_after : Tasked → TaskValue → PassesValue → Gathered → Tasked
-task_after t mind passes g = record t { mind = mind; gathered = g; passes = passes }
+abbrev pub task_after : Tasked → TaskValue → PassesValue → HashState → Tasked
+task_after t mind passes g = record t { mind = mind; hash_state = g; passes = passes }
 
 -- an event on an inode, with the outcome told to the task, makes the history longer
 abbrev pub EventIsPlayed : Type 0
-EventIsPlayed = (frame : Frame) (t : Tasked) (h : List Answer) (i : ℕ) (s : Site) (d : Deed)
-    (told : Told) (old new : State) (passes : PassesValue) (g : Gathered) (mind : TaskValue)
-    → HasPlayed frame t h → step_at t.mind.program t.mind.thought.mind ≡ Some (Does i d)
-    → slice_get frame.sites i ≡ Some s
-    → (e : EventOn frame i s (who_at t.number t.mind.program t.mind.thought.mind) d old new
-    t.passes passes t.gathered g (Some told))
-    → Some told ≡ outcome (inode_in frame s) old.list d (past e.journal)
-    → HasHeard frame t (plain_answer (length e.journal) told) mind
-    → HasPlayed frame (task_after t mind passes g) (plain_answer (length e.journal) told ∷ h)
+EventIsPlayed = (consts : WorldConsts) (t : Tasked) (h : List Answer) (i : ℕ) (s : Site) (d : Deed)
+    (told : Told) (old new : State) (passes : PassesValue) (g : HashState) (mind : TaskValue)
+    → HasPlayed consts t h → step_at t.mind.program t.mind.thought.mind ≡ Some (Does i d)
+    → slice_get consts.sites i ≡ Some s
+    → (e : EventOn consts i s (who_at t.number t.mind.program t.mind.thought.mind) d old new
+    t.passes passes t.hash_state g (Some told))
+    → Some told ≡ outcome (inode_in consts s) old.list d (past e.journal)
+    → HasHeard consts t (plain_answer (length e.journal) told) mind
+    → HasPlayed consts (task_after t mind passes g) (plain_answer (length e.journal) told ∷ h)
 
 -- the answer to a check
 abbrev pub check_answer : ℕ → Told → Action → ℕ → Answer
@@ -52,22 +53,22 @@ check_answer place t action rules =
 
 -- a check that is decided by all rules in force makes the history longer
 abbrev pub CheckIsPlayed : Type 0
-CheckIsPlayed = (frame : Frame) (t : Tasked) (h : List Answer) (i : ℕ) (s : Site) (file : ℕ)
+CheckIsPlayed = (consts : WorldConsts) (t : Tasked) (h : List Answer) (i : ℕ) (s : Site) (file : ℕ)
     (func : Func) (mask : ℕ) (action : Action) (rules : ℕ) (told : Told) (old new : State)
-    (passes : PassesValue) (g : Gathered) (mind : TaskValue)
-    → HasPlayed frame t h
+    (passes : PassesValue) (g : HashState) (mind : TaskValue)
+    → HasPlayed consts t h
     → step_at t.mind.program t.mind.thought.mind ≡ Some (Checks i file func mask)
-    → slice_get frame.sites i ≡ Some s
-    → (e : EventOn frame i s (who_at t.number t.mind.program t.mind.thought.mind)
-    (deed.Check file func action rules) old new t.passes passes t.gathered g (Some told))
-    → Some told ≡ outcome (inode_in frame s) old.list (deed.Check file func action rules)
+    → slice_get consts.sites i ≡ Some s
+    → (e : EventOn consts i s (who_at t.number t.mind.program t.mind.thought.mind)
+    (deed.Check file func action rules) old new t.passes passes t.hash_state g (Some told))
+    → Some told ≡ outcome (inode_in consts s) old.list (deed.Check file func action rules)
     (past e.journal)
     → passes.rules.seen ≡ old.added
-    → rules ≡ length (rules_with (scene_of frame []) old.added)
-    → action ≡ decided (rules_with (scene_of frame []) old.added) t.mind.program.cred
-    (super_at frame s.place) (metadata (past e.journal)) func mask
-    → HasHeard frame t (check_answer (length e.journal) told action rules) mind
-    → HasPlayed frame (task_after t mind passes g)
+    → rules ≡ length (rules_with (scene_of consts []) old.added)
+    → action ≡ decided (rules_with (scene_of consts []) old.added) t.mind.program.cred
+    (super_at consts s.place) (metadata (past e.journal)) func mask
+    → HasHeard consts t (check_answer (length e.journal) told action rules) mind
+    → HasPlayed consts (task_after t mind passes g)
     (check_answer (length e.journal) told action rules ∷ h)
 
 -- the step does this deed on the inode of this number; a check has an action that the rules gave
@@ -78,10 +79,10 @@ IsStepFor i d _ = ⊥
 
 -- a deed that was blocked or ran out of memory leaves the history as it was
 abbrev pub NoneIsPlayed : Type 0
-NoneIsPlayed = (frame : Frame) (t : Tasked) (h : List Answer) (i : ℕ) (s : Site) (d : Deed)
-    (old new : State) (passes : PassesValue) (g : Gathered) → HasPlayed frame t h
+NoneIsPlayed = (consts : WorldConsts) (t : Tasked) (h : List Answer) (i : ℕ) (s : Site) (d : Deed)
+    (old new : State) (passes : PassesValue) (g : HashState) → HasPlayed consts t h
     → IsStepFor i d (step_at t.mind.program t.mind.thought.mind)
-    → slice_get frame.sites i ≡ Some s
-    → EventOn frame i s (who_at t.number t.mind.program t.mind.thought.mind) d old new
-    t.passes passes t.gathered g None
-    → HasPlayed frame (task_left t passes g) h
+    → slice_get consts.sites i ≡ Some s
+    → EventOn consts i s (who_at t.number t.mind.program t.mind.thought.mind) d old new
+    t.passes passes t.hash_state g None
+    → HasPlayed consts (task_left t passes g) h

@@ -6,7 +6,7 @@ use Rattle.call_steps.specs.Mind.{Nothing, Signals, Appends}
 use Rattle.world_model.specs.laws_of_runs.Checks.{IsPlainStep, seen_by}
 use Rattle.run_model.specs.History.{Answer, rule_in, signal_in, step_at, who_at}
 use Rattle.run_model.specs.Scene.{Program}
-use Rattle.world_model.specs.Frame.{Frame, scene_of}
+use Rattle.world_model.specs.WorldConsts.{WorldConsts, scene_of}
 use Rattle.world_model.specs.Tasks.{HasPlayed, PassesValue, Tasked}
 use Rattle.world_model.specs.Plays.{HasHeard, task_after, task_left}
 use Rattle.world_model.specs.Steps.{Adds}
@@ -19,7 +19,7 @@ IsQuiet (Some (Appends rule)) = Unit {0}
 IsQuiet _ = ⊥
 
 -- the task's passes after a quiet step
-pub record QuietPasses (frame : Frame) (t : Tasked) (passes : PassesValue) (a : Answer)
+pub record QuietPasses (consts : WorldConsts) (t : Tasked) (passes : PassesValue) (a : Answer)
     : Type 0 where
   pub inodes : passes.inodes ≡ t.passes.inodes
   pub book : passes.book ≡ t.passes.book
@@ -30,15 +30,15 @@ pub record QuietPasses (frame : Frame) (t : Tasked) (passes : PassesValue) (a : 
       (rule_in (who_at t.number t.mind.program t.mind.thought.mind)
       (step_at t.mind.program t.mind.thought.mind) a)
   pub rules_seen : IsPrefix t.passes.rules.seen passes.rules.seen
-  pub plain : (programs : List Program) → IsPlainStep (scene_of frame programs)
+  pub plain : (programs : List Program) → IsPlainStep (scene_of consts programs)
       (seen_by passes.inodes passes.rules) (step_at t.mind.program t.mind.thought.mind) a
 
 abbrev pub QuietIsPlayed : Type 0
-QuietIsPlayed = (frame : Frame) (t : Tasked) (h : List Answer) (a : Answer) (passes : PassesValue)
-    (mind : TaskValue) → HasPlayed frame t h
-    → IsQuiet (step_at t.mind.program t.mind.thought.mind) → QuietPasses frame t passes a
-    → HasHeard frame t a mind
-    → HasPlayed frame (task_after t mind passes t.gathered) (a ∷ h)
+QuietIsPlayed = (consts : WorldConsts) (t : Tasked) (h : List Answer) (a : Answer)
+    (passes : PassesValue) (mind : TaskValue) → HasPlayed consts t h
+    → IsQuiet (step_at t.mind.program t.mind.thought.mind) → QuietPasses consts t passes a
+    → HasHeard consts t a mind
+    → HasPlayed consts (task_after t mind passes t.hash_state) (a ∷ h)
 
 -- the task's passes after a quiet step that was blocked or ran out of memory: they may have seen
 -- more
@@ -49,6 +49,6 @@ pub record QuietLeft (t : Tasked) (passes : PassesValue) : Type 0 where
   pub rules : passes.rules ≡ t.passes.rules
 
 abbrev pub QuietIsLeft : Type 0
-QuietIsLeft = (frame : Frame) (t : Tasked) (h : List Answer) (passes : PassesValue)
-    → HasPlayed frame t h → QuietLeft t passes
-    → HasPlayed frame (task_left t passes t.gathered) h
+QuietIsLeft = (consts : WorldConsts) (t : Tasked) (h : List Answer) (passes : PassesValue)
+    → HasPlayed consts t h → QuietLeft t passes
+    → HasPlayed consts (task_left t passes t.hash_state) h

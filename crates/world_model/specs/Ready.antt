@@ -18,9 +18,9 @@ use Rattle.call_steps.specs.Mind.{Does, Checks}
 use Rattle.world_model.specs.laws_of_journals.OwnLaws.{TellsByMine}
 use Rattle.world_model.specs.laws_of_journals.Own.{IsBy, IsOwned}
 use Rattle.run_model.specs.History.{Answer, step_at}
-use Rattle.world_model.specs.Frame.{Frame, Site, inode_in}
+use Rattle.world_model.specs.WorldConsts.{Site, WorldConsts, inode_in}
 use Rattle.world_model.specs.Tasks.{HashesBefore, HasPlayed, Tasked}
-use Rattle.world_model.specs.declared.gathered.Gathered.{Gathered}
+use Rattle.world_model.specs.declared.hash_state.HashState.{HashState}
 use Rattle.world_model.specs.Due.{slot_in}
 use Rattle.world_model.specs.minds.Value.{due_at}
 
@@ -32,7 +32,7 @@ AsksBy list checked slot (deed.Take file) =
 AsksBy list checked slot _ = Unit {0}
 
 -- the deed may be done by the caller of this number, who has hashed and checked what it needs
-pub record IsReady (inode : Inode) (number : ℕ) (list : List Event) (g : Gathered)
+pub record IsReady (inode : Inode) (number : ℕ) (list : List Event) (g : HashState)
     (checked : ActionValue) (slot : Slot) (d : Deed) : Type 0 where
   pub may : May inode (past list) d
   pub by : IsBy number d (past list)
@@ -58,10 +58,10 @@ IsStepOn i d _ = ⊥
 -- after a look the task's next step is ready
 abbrev pub ReadyByLook : Type 0
 ReadyByLook =
-    (frame : Frame) (t : Tasked) (h : List Answer) (i : ℕ) (s : Site) (q : Passed Event)
-    (list : List Event) (d : Deed) → HasPlayed frame t h
-    → slice_get frame.sites i ≡ Some s → slice_get t.passes.inodes i ≡ Some q
-    → HasLooked (inode_in frame s) (t.number + 1) q.seen list q.mine
+    (consts : WorldConsts) (t : Tasked) (h : List Answer) (i : ℕ) (s : Site) (q : Passed Event)
+    (list : List Event) (d : Deed) → HasPlayed consts t h
+    → slice_get consts.sites i ≡ Some s → slice_get t.passes.inodes i ≡ Some q
+    → HasLooked (inode_in consts s) (t.number + 1) q.seen list q.mine
     → IsStepOn i d (step_at t.mind.program t.mind.thought.mind)
-    → IsReady (inode_in frame s) (t.number + 1) list t.gathered t.mind.checked
+    → IsReady (inode_in consts s) (t.number + 1) list t.hash_state t.mind.checked
     (slot_in (due_at t.mind.program t.mind.thought.mind)) d

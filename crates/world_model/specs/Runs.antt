@@ -9,18 +9,18 @@ use Rattle.run_laws.specs.model.History.{Answer, Thought, own, own_rules, own_si
 use Rattle.run_laws.specs.model.Scene.{Program}
 use Rattle.run_laws.specs.model.Served.{events_of, rules_of}
 use Rattle.run_laws.specs.model.Turns.{Moment, State}
-use Rattle.world_model.specs.Frame.{Frame, mode_in, scene_of}
+use Rattle.world_model.specs.WorldConsts.{WorldConsts, mode_in, scene_of}
 use Rattle.world_model.specs.Tasks.{IsTask, Tasked}
 
 -- ---- all tasks
 
-pub record IsNth (frame : Frame) (k : ℕ) (t : Tasked) : Type 0 where
+pub record IsNth (consts : WorldConsts) (k : ℕ) (t : Tasked) : Type 0 where
   pub number : t.number ≡ k
-  pub task : IsTask frame t
+  pub task : IsTask consts t
 
 -- the tasks are numbered from 0 on, in order
-pub record AreTasks (frame : Frame) (tasks : List Tasked) : Type 0 where
-  pub each : (k : ℕ) (t : Tasked) → slice_get tasks k ≡ Some t → IsNth frame k t
+pub record AreTasks (consts : WorldConsts) (tasks : List Tasked) : Type 0 where
+  pub each : (k : ℕ) (t : Tasked) → slice_get tasks k ≡ Some t → IsNth consts k t
 
 abbrev pub program_of : Tasked → Program
 program_of t = t.mind.program
@@ -39,15 +39,15 @@ moment_of state tasks = record { state = state; thoughts = map thought_of tasks 
 
 -- some history of the task's steps accounts for the task's thought, and for exactly the entries of
 -- its number in each list
-pub record HasMade (frame : Frame) (s : State) (t : Tasked) : Type 0 where
+pub record HasMade (consts : WorldConsts) (s : State) (t : Tasked) : Type 0 where
   pub history : List Answer
-  pub stands : thought (mode_in frame) t.mind.program history ≡ t.mind.thought
+  pub stands : thought (mode_in consts) t.mind.program history ≡ t.mind.thought
   pub events : (i : ℕ) (journal : List Event) → slice_get s.journals i ≡ Some journal
-      → events_of t.number journal ≡ own (mode_in frame) t.number t.mind.program i history
+      → events_of t.number journal ≡ own (mode_in consts) t.number t.mind.program i history
   pub signals : events_of t.number s.signals
-      ≡ own_signals (mode_in frame) t.number t.mind.program history
+      ≡ own_signals (mode_in consts) t.number t.mind.program history
   pub rules : rules_of t.number s.added
-      ≡ own_rules (mode_in frame) t.number t.mind.program history
-  pub checks : (programs : List Program) → ChecksFit (scene_of frame programs) t.mind.program
+      ≡ own_rules (mode_in consts) t.number t.mind.program history
+  pub checks : (programs : List Program) → ChecksFit (scene_of consts programs) t.mind.program
       (seen_in s) history
-  pub rises : RisesWithin (log (mode_in frame) t.number t.mind.program history) s.list
+  pub rises : RisesWithin (log (mode_in consts) t.number t.mind.program history) s.list

@@ -10,7 +10,7 @@ use Rattle.world_model.specs.laws_of_runs.Steps.{Made, RisesWithin}
 use Rattle.world_model.specs.laws_of_runs.Checks.{ChecksFit, seen_by}
 use Rattle.run_model.specs.History.{Answer, event_in, hear, rule_in, signal_in, start, step_at, thought, who_at}
 use Rattle.run_model.specs.Scene.{Program}
-use Rattle.world_model.specs.Frame.{Frame, mode_in, scene_of}
+use Rattle.world_model.specs.WorldConsts.{WorldConsts, mode_in, scene_of}
 use Rattle.world_model.specs.Tasks.{AreCallsOf, ArePassesOf, AreUnused, HashesFor, HasPlayed, Tasked, action_by}
 
 -- the task's pass of journal i after the step
@@ -31,10 +31,10 @@ pub record Adds {E : Type 0} (old new : Passed E) (entries : List (ℕ × E)) : 
   pub mine : new.mine ≡ old.mine ++ entries
 
 -- the task after a step with this answer
-pub record HasStepped (frame : Frame) (t t2 : Tasked) (a : Answer) : Type 0 where
+pub record HasStepped (consts : WorldConsts) (t t2 : Tasked) (a : Answer) : Type 0 where
   pub number : t2.number ≡ t.number
   pub program : t2.mind.program ≡ t.mind.program
-  pub stands : t2.mind.thought ≡ hear (mode_in frame) t.mind.program t.mind.thought a
+  pub stands : t2.mind.thought ≡ hear (mode_in consts) t.mind.program t.mind.thought a
   pub checked : t2.mind.checked
       ≡ action_by (step_at t.mind.program t.mind.thought.mind) a t.mind.checked
   pub even : length t2.passes.inodes ≡ length t.passes.inodes
@@ -49,26 +49,27 @@ pub record HasStepped (frame : Frame) (t t2 : Tasked) (a : Answer) : Type 0 wher
       (step_at t.mind.program t.mind.thought.mind) a)
   pub book : Adds t.passes.book t2.passes.book []
   pub checks : (programs : List Program) (h : List Answer)
-      → (thought (mode_in frame) t.mind.program h).mind ≡ t.mind.thought.mind
-      → ChecksFit (scene_of frame programs) t.mind.program
+      → (thought (mode_in consts) t.mind.program h).mind ≡ t.mind.thought.mind
+      → ChecksFit (scene_of consts programs) t.mind.program
       (seen_by t.passes.inodes t.passes.rules) h
-      → ChecksFit (scene_of frame programs) t.mind.program
+      → ChecksFit (scene_of consts programs) t.mind.program
       (seen_by t2.passes.inodes t2.passes.rules) (a ∷ h)
   pub rises : (steps : List Made) → RisesWithin steps t.passes.book.seen
       → RisesWithin (logged (who_at t.number t.mind.program t.mind.thought.mind)
       (step_at t.mind.program t.mind.thought.mind) a ++ steps) t2.passes.book.seen
-  pub hashed : HashesFor frame t2.passes.inodes t2.gathered
+  pub hashed : HashesFor consts t2.passes.inodes t2.hash_state
       (step_at t.mind.program t2.mind.thought.mind)
 
 -- ---- the laws
 
 -- a task that has made no step is a task of every world whose passes it has
 abbrev pub FreshIsTask : Type 0
-FreshIsTask = (frame : Frame) (t : Tasked) → AreCallsOf (length frame.sites) t.mind.program.calls
-    → t.mind.thought ≡ start → t.mind.checked ≡ no_action → ArePassesOf frame t.number t.passes
-    → AreUnused t.passes → HasPlayed frame t []
+FreshIsTask = (consts : WorldConsts) (t : Tasked)
+    → AreCallsOf (length consts.sites) t.mind.program.calls
+    → t.mind.thought ≡ start → t.mind.checked ≡ no_action → ArePassesOf consts t.number t.passes
+    → AreUnused t.passes → HasPlayed consts t []
 
 -- a step and its answer make the history longer
 abbrev pub StepIsPlayed : Type 0
-StepIsPlayed = (frame : Frame) (t t2 : Tasked) (h : List Answer) (a : Answer)
-    → HasPlayed frame t h → HasStepped frame t t2 a → HasPlayed frame t2 (a ∷ h)
+StepIsPlayed = (consts : WorldConsts) (t t2 : Tasked) (h : List Answer) (a : Answer)
+    → HasPlayed consts t h → HasStepped consts t t2 a → HasPlayed consts t2 (a ∷ h)

@@ -25,9 +25,9 @@ use Rattle.run_laws.specs.model.History.{Answer, own, own_rules, own_signals, st
 use Rattle.run_laws.specs.model.Scene.{Program}
 use Rattle.progress_laws.specs.NextSteps.{IsFit}
 use Rattle.progress_laws.specs.Stations.{IsWithin}
-use Rattle.world_model.specs.Frame.{Frame, Site, inode_in, mode_in, scene_of}
-use Rattle.world_model.specs.declared.gathered.Gathered.{Gathered}
-use Rattle.world_model.specs.declared.gathered.Gathered.TheVariants as gathered
+use Rattle.world_model.specs.WorldConsts.{Site, WorldConsts, inode_in, mode_in, scene_of}
+use Rattle.world_model.specs.declared.hash_state.HashState.{HashState}
+use Rattle.world_model.specs.declared.hash_state.HashState.TheVariants as hash_state
 use Rattle.task_mind.specs.Value.{TaskValue}
 
 -- ---- passes
@@ -42,14 +42,14 @@ pub record PassesValue : Type 0 where
 
 -- The passes are those of task n: it is caller n + 1 in the journals, follows the inodes in the
 -- measurement list, and is caller n among those who append rules.
-pub record ArePassesOf (frame : Frame) (n : ℕ) (passes : PassesValue) : Type 0 where
-  pub even : length passes.inodes ≡ length frame.sites
-  pub inodes : (i : ℕ) (s : Site) (q : Passed Event) → slice_get frame.sites i ≡ Some s
+pub record ArePassesOf (consts : WorldConsts) (n : ℕ) (passes : PassesValue) : Type 0 where
+  pub even : length passes.inodes ≡ length consts.sites
+  pub inodes : (i : ℕ) (s : Site) (q : Passed Event) → slice_get consts.sites i ≡ Some s
       → slice_get passes.inodes i ≡ Some q → (q.name ≡ s.journal) × (q.number ≡ n + 1)
-  pub sems : (passes.sems.name ≡ frame.signals) × (passes.sems.number ≡ n + 1)
-  pub book : (passes.book.name ≡ frame.book)
-      × (passes.book.number ≡ 1 + length frame.sites + n)
-  pub rules : (passes.rules.name ≡ frame.rules) × (passes.rules.number ≡ n)
+  pub sems : (passes.sems.name ≡ consts.signals) × (passes.sems.number ≡ n + 1)
+  pub book : (passes.book.name ≡ consts.book)
+      × (passes.book.number ≡ 1 + length consts.sites + n)
+  pub rules : (passes.rules.name ≡ consts.rules) × (passes.rules.number ≡ n)
 
 -- no pass has an entry of its own
 pub record AreUnused (passes : PassesValue) : Type 0 where
@@ -68,19 +68,19 @@ pub record Collects (inode : Inode) (events : List Event) (P : Collection → Ty
   pub has : P collection
 
 -- exactly the bytes that the collection took are hashed
-abbrev pub HasTakenIn : Gathered → Collection → Type 0
-HasTakenIn (gathered.Running hashing) c = HasHashed hashing c.algo c.bytes
+abbrev pub HasTakenIn : HashState → Collection → Type 0
+HasTakenIn (hash_state.Running hashing) c = HasHashed hashing c.algo c.bytes
 HasTakenIn _ c = ⊥
 
 -- both digests of the collection's bytes are computed: by its own algorithm, and by SHA-1
-abbrev pub HasSummed : Gathered → Collection → Type 0
-HasSummed (gathered.Sums chosen sha1) c =
+abbrev pub HasSummed : HashState → Collection → Type 0
+HasSummed (hash_state.Done chosen sha1) c =
     (chosen ≡ digest_from c) × (sha1 ≡ digest_of Sha1 c.bytes)
 HasSummed _ c = ⊥
 
 -- if the deed continues or ends a collection, the task has hashed exactly what that collection
 -- took, according to the journal as the task last saw it
-abbrev pub HashesBefore : Inode → List Event → Gathered → Deed → Type 0
+abbrev pub HashesBefore : Inode → List Event → HashState → Deed → Type 0
 HashesBefore inode seen g (deed.Chunk file) = Collects inode (past seen) (HasTakenIn g)
 HashesBefore inode seen g (deed.CloseChunk file) = Collects inode (past seen) (HasTakenIn g)
 HashesBefore inode seen g (deed.Finish file) = Collects inode (past seen) (HasSummed g)
@@ -88,11 +88,11 @@ HashesBefore inode seen g (deed.CloseFinish file) = Collects inode (past seen) (
 HashesBefore inode seen g _ = Unit {0}
 
 -- what the task has hashed suits its next step, if that is a deed on an inode (see `HashesBefore`)
-abbrev pub HashesFor : Frame → List (Passed Event) → Gathered → Option Step → Type 0
-HashesFor frame passes g (Some (Does i d)) =
-    (s : Site) (q : Passed Event) → slice_get frame.sites i ≡ Some s
-    → slice_get passes i ≡ Some q → HashesBefore (inode_in frame s) q.seen g d
-HashesFor frame passes g _ = Unit {0}
+abbrev pub HashesFor : WorldConsts → List (Passed Event) → HashState → Option Step → Type 0
+HashesFor consts passes g (Some (Does i d)) =
+    (s : Site) (q : Passed Event) → slice_get consts.sites i ≡ Some s
+    → slice_get passes i ≡ Some q → HashesBefore (inode_in consts s) q.seen g d
+HashesFor consts passes g _ = Unit {0}
 
 -- ---- the last check of a task
 
@@ -113,7 +113,7 @@ last_action mode p (a ∷ before) =
 pub record Tasked : Type 0 where
   pub number : ℕ
   pub mind : TaskValue
-  pub gathered : Gathered
+  pub hash_state : HashState
   pub passes : PassesValue
 
 -- the calls are those of a script with this many inodes
@@ -123,30 +123,30 @@ AreCallsOf count calls =
 
 -- The task has made exactly the steps of the history: its thought results from them, and the own
 -- entries of its passes are those that the history adds to each list.
-pub record HasPlayed (frame : Frame) (t : Tasked) (h : List Answer) : Type 0 where
-  pub calls : AreCallsOf (length frame.sites) t.mind.program.calls
-  pub stands : thought (mode_in frame) t.mind.program h ≡ t.mind.thought
-  pub checked : t.mind.checked ≡ last_action (mode_in frame) t.mind.program h
-  pub passes : ArePassesOf frame t.number t.passes
+pub record HasPlayed (consts : WorldConsts) (t : Tasked) (h : List Answer) : Type 0 where
+  pub calls : AreCallsOf (length consts.sites) t.mind.program.calls
+  pub stands : thought (mode_in consts) t.mind.program h ≡ t.mind.thought
+  pub checked : t.mind.checked ≡ last_action (mode_in consts) t.mind.program h
+  pub passes : ArePassesOf consts t.number t.passes
   pub events : (i : ℕ) (q : Passed Event) → slice_get t.passes.inodes i ≡ Some q
-      → q.mine ≡ own (mode_in frame) t.number t.mind.program i h
+      → q.mine ≡ own (mode_in consts) t.number t.mind.program i h
   -- the task's events are at places that its passes have seen
   pub placed : (i : ℕ) (q : Passed Event) → slice_get t.passes.inodes i ≡ Some q
       → All (λ x. x.0 < length q.seen) q.mine
   pub signals : t.passes.sems.mine
-      ≡ own_signals (mode_in frame) t.number t.mind.program h
-  pub rules : t.passes.rules.mine ≡ own_rules (mode_in frame) t.number t.mind.program h
+      ≡ own_signals (mode_in consts) t.number t.mind.program h
+  pub rules : t.passes.rules.mine ≡ own_rules (mode_in consts) t.number t.mind.program h
   -- the task adds nothing to the measurement list itself
   pub unlisted : t.passes.book.mine ≡ []
   -- the task's checks were decided by rules that it has seen
-  pub checks : (programs : List Program) → ChecksFit (scene_of frame programs) t.mind.program
+  pub checks : (programs : List Program) → ChecksFit (scene_of consts programs) t.mind.program
       (seen_by t.passes.inodes t.passes.rules) h
   -- the places of the measurement list in the task's answers increase, within what it has seen
-  pub rises : RisesWithin (log (mode_in frame) t.number t.mind.program h) t.passes.book.seen
-  pub hashed : HashesFor frame t.passes.inodes t.gathered
+  pub rises : RisesWithin (log (mode_in consts) t.number t.mind.program h) t.passes.book.seen
+  pub hashed : HashesFor consts t.passes.inodes t.hash_state
       (step_at t.mind.program t.mind.thought.mind)
 
 -- the task has made the steps of some history
-pub record IsTask (frame : Frame) (t : Tasked) : Type 0 where
+pub record IsTask (consts : WorldConsts) (t : Tasked) : Type 0 where
   pub history : List Answer
-  pub played : HasPlayed frame t history
+  pub played : HasPlayed consts t history

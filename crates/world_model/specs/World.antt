@@ -8,11 +8,11 @@ use Rattle.run_laws.specs.rules.Policy.{PolicyValue}
 use Rattle.run_laws.specs.rules.declared.cell.RuleEntry.{RuleEntry}
 use Rattle.run_laws.specs.Stations.{StationRules}
 use Rattle.run_laws.specs.model.Turns.{State}
-use Rattle.world_model.specs.Frame.{Frame, Site}
+use Rattle.world_model.specs.WorldConsts.{Site, WorldConsts}
 
 -- a world as contracts see it: its constants and its lists
 pub record WorldValue : Type 0 where
-  pub frame : Frame
+  pub consts : WorldConsts
   pub state : State
 
 -- an inode of a world: its cell, its pass of the appended rules, and the number of its file system
@@ -34,36 +34,37 @@ journal_of s = s.cell.list
 
 -- ---- the invariants of the parts
 
--- The inode is number i of the frame. Its pass of the measurement list is caller i + 1, after the
--- list's own, and its pass of the appended rules comes after those of the tasks. Along its journal
--- the rules that its checks count never decrease, and stay within those that its pass has seen.
-pub record IsStation (frame : Frame) (i : ℕ) (s : StationValue) : Type 0 where
-  pub site : slice_get frame.sites i ≡ Some (site_of s)
-  pub settings : s.cell.inode.settings ≡ frame.settings
-  pub place : s.place < length frame.supers
-  pub callers : s.cell.callers ≡ frame.tasks + 1
-  pub book : s.cell.book ≡ frame.book
+-- The inode is number i of the constants. Its pass of the measurement list is caller i + 1, after
+-- the list's own, and its pass of the appended rules comes after those of the tasks. Along its
+-- journal the rules that its checks count never decrease, and stay within those that its pass has
+-- seen.
+pub record IsStation (consts : WorldConsts) (i : ℕ) (s : StationValue) : Type 0 where
+  pub site : slice_get consts.sites i ≡ Some (site_of s)
+  pub settings : s.cell.inode.settings ≡ consts.settings
+  pub place : s.place < length consts.supers
+  pub callers : s.cell.callers ≡ consts.tasks + 1
+  pub book : s.cell.book ≡ consts.book
   pub booked : s.cell.booked ≡ i + 1
-  pub rules_name : s.rules.name ≡ frame.rules
-  pub rules_number : s.rules.number ≡ frame.tasks + i
+  pub rules_name : s.rules.name ≡ consts.rules
+  pub rules_number : s.rules.number ≡ consts.tasks + i
   pub rules_mine : s.rules.mine ≡ []
-  pub rise : StationRules (length frame.base) s.cell.list s.rules.seen
+  pub rise : StationRules (length consts.base) s.cell.list s.rules.seen
 
 -- the measurement list, whose callers are itself, the inodes and the tasks
-pub record IsBookOf (frame : Frame) (book : Grown Entry) : Type 0 where
-  pub name : book.name ≡ frame.book
-  pub boot : slice_get book.list 0 ≡ Some frame.boot
-  pub callers : book.callers ≡ 1 + length frame.sites + frame.tasks
+pub record IsBookOf (consts : WorldConsts) (book : Grown Entry) : Type 0 where
+  pub name : book.name ≡ consts.book
+  pub boot : slice_get book.list 0 ≡ Some consts.boot
+  pub callers : book.callers ≡ 1 + length consts.sites + consts.tasks
 
 -- the journal of the semaphores, whose callers are itself and the tasks
-pub record AreSignalsOf (frame : Frame) (signals : Grown Event) : Type 0 where
-  pub name : signals.name ≡ frame.signals
-  pub callers : signals.callers ≡ frame.tasks + 1
+pub record AreSignalsOf (consts : WorldConsts) (signals : Grown Event) : Type 0 where
+  pub name : signals.name ≡ consts.signals
+  pub callers : signals.callers ≡ consts.tasks + 1
 
 -- The rules, whose callers are the tasks and the inodes, or one spare caller if there are none.
 -- Each appended rule has the number of its task.
-pub record AreRulesOf (frame : Frame) (p : PolicyValue) : Type 0 where
-  pub name : p.appended.name ≡ frame.rules
-  pub base : p.base ≡ frame.base
-  pub callers : p.appended.callers ≡ max 1 (frame.tasks + length frame.sites)
+pub record AreRulesOf (consts : WorldConsts) (p : PolicyValue) : Type 0 where
+  pub name : p.appended.name ≡ consts.rules
+  pub base : p.base ≡ consts.base
+  pub callers : p.appended.callers ≡ max 1 (consts.tasks + length consts.sites)
   pub numbers : p.appended.numbers ≡ map (λ (r : RuleEntry). r.who.task) p.appended.list

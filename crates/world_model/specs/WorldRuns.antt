@@ -4,14 +4,14 @@ use Rattle.run_model.specs.Rounds.{all_tasks, any_moves, is_moved, moves, number
 use Rattle.run_model.specs.Scene.{Program, Scene}
 use Rattle.run_model.specs.Turns.{Moment, go, turn, turns_of}
 use Rattle.run_model.specs.declared.turn.Turn.{Turn}
-use Rattle.world_model.specs.Frame.{scene_of}
+use Rattle.world_model.specs.WorldConsts.{scene_of}
 use Rattle.world_model.specs.Runs.{AreTasks, moment_of, programs_of}
 use Rattle.world_model.specs.Tasks.{IsTask, Tasked}
 use Rattle.world_model.specs.World.{WorldValue}
 
 -- the scene of these tasks in a world
 abbrev pub scene_in : WorldValue → List Tasked → Scene
-scene_in world tasks = scene_of world.frame (programs_of tasks)
+scene_in world tasks = scene_of world.consts (programs_of tasks)
 
 -- the moment of these tasks in a world
 abbrev pub moment_in : WorldValue → List Tasked → Moment
@@ -21,24 +21,24 @@ moment_in world tasks = moment_of world.state tasks
 
 -- the task is still one of the same world, with the same number and program
 pub record KeepsTask (world world2 : WorldValue) (t t2 : Tasked) : Type 0 where
-  pub frame : world2.frame ≡ world.frame
+  pub consts : world2.consts ≡ world.consts
   pub number : t2.number ≡ t.number
   pub program : t2.mind.program ≡ t.mind.program
-  pub task : IsTask world2.frame t2
+  pub task : IsTask world2.consts t2
 
 -- the task made its turn, whatever the programs of the others are
 abbrev pub GoesTo : WorldValue → WorldValue → Tasked → Tasked → Turn → Type 0
 GoesTo world world2 t t2 r = (programs : List Program)
-    → go (scene_of world.frame programs) t.number t.mind.program world.state t.mind.thought
+    → go (scene_of world.consts programs) t.number t.mind.program world.state t.mind.thought
     ≡ record { state = world2.state; thought = t2.mind.thought; turn = r }
 
 -- ---- turns of many
 
 -- the tasks still belong to the same world and have the same programs
-pub record StillRuns (world world2 : WorldValue) (tasks tasks2 : List Tasked) : Type 0 where
-  pub frame : world2.frame ≡ world.frame
+pub record SameRun (world world2 : WorldValue) (tasks tasks2 : List Tasked) : Type 0 where
+  pub consts : world2.consts ≡ world.consts
   pub programs : programs_of tasks2 ≡ programs_of tasks
-  pub each : AreTasks world2.frame tasks2
+  pub each : AreTasks world2.consts tasks2
 
 -- the tasks after a turn of task k
 pub record IsTurn (world world2 : WorldValue) (tasks tasks2 : List Tasked) (k : ℕ) (r : Turn)
@@ -49,7 +49,7 @@ pub record IsTurn (world world2 : WorldValue) (tasks tasks2 : List Tasked) (k : 
 -- the tasks after these turns, in order
 pub record HasTurned (world world2 : WorldValue) (tasks tasks2 : List Tasked) (turns : List ℕ)
     : Type 0 where
-  pub still : StillRuns world world2 tasks tasks2
+  pub still : SameRun world world2 tasks tasks2
   pub run : moment_in world2 tasks2
       ≡ turns_of (scene_in world tasks) (moment_in world tasks) turns
 
@@ -71,7 +71,7 @@ pub record IsRound (world world2 : WorldValue) (tasks tasks2 : List Tasked) (mov
 -- the tasks after n rounds, each of which moved a task
 pub record HasRounded (world world2 : WorldValue) (tasks tasks2 : List Tasked) (n : ℕ)
     : Type 0 where
-  pub still : StillRuns world world2 tasks tasks2
+  pub still : SameRun world world2 tasks tasks2
   pub run : moment_in world2 tasks2 ≡ rounds (scene_in world tasks) n (moment_in world tasks)
   pub before : (k : ℕ) → k < n
       → round_moves (scene_in world tasks) (rounds (scene_in world tasks) k

@@ -6,11 +6,11 @@
 //! The laws are stated in `specs/`, and are lemmas of `proofs/`.
 #![tactic(auto)]
 
-mod gathered;
+mod hash_state;
 mod passes;
 mod station;
 
-pub use gathered::Gathered;
+pub use hash_state::HashState;
 pub use inode_cell as inodes;
 pub use passes::Passes;
 pub use station::Station;

@@ -2,4 +2,4 @@ pub mod Sharing
 pub mod Starting
 pub mod GatherLemmas
 pub mod Fresh
-pub mod Framing
+pub mod PartLemmas

@@ -7,38 +7,38 @@ use Rattle.policy_rules.specs.RuleValue.{RuleValue}
 use Rattle.policy_rules.specs.declared.access.Super.{Super}
 use Rattle.world_close.specs.model.Scene.{Program}
 use Rattle.world_close.specs.model.Turns.{State, start_of}
-use Rattle.world_close.specs.worlds.Frame.{Frame, Site, scene_of}
+use Rattle.world_close.specs.worlds.WorldConsts.{Site, WorldConsts, scene_of}
 use Rattle.world_close.specs.worlds.Tasks.{ArePassesOf, AreUnused, PassesValue}
-use Rattle.task_steps.specs.Parts.{frame_by, state_by}
+use Rattle.task_steps.specs.Parts.{consts_by, state_by}
 use Rattle.world_start.specs.declared.lists.Start.{Start}
 
-abbrev pub frame_of_start : Start → Frame
-frame_of_start w =
-    frame_by w.settings w.stations.items w.supers.items w.book w.sems w.rules w.tasks
+abbrev pub consts_of_start : Start → WorldConsts
+consts_of_start w =
+    consts_by w.settings w.stations.items w.supers.items w.book w.sems w.rules w.tasks
 
 abbrev pub state_of_start : Start → State
 state_of_start w = state_by w.stations.items w.book w.sems w.rules
 
 -- the constants are those of a script with these settings, this first entry of the list, these
 -- files on these file systems, these rules, and this many tasks
-pub record IsFrameOf (config : Settings) (first : Entry) (inodes : List (List ℕ × Image))
+pub record AreConstsOf (config : Settings) (first : Entry) (inodes : List (List ℕ × Image))
     (systems : List Super) (numbers : List ℕ) (policy : List RuleValue) (count : ℕ)
-    (frame : Frame) : Type 0 where
-  pub settings : frame.settings ≡ config
-  pub boot : frame.boot ≡ first
-  pub files : map (λ (s : Site). (s.path, s.birth)) frame.sites ≡ inodes
-  pub supers : frame.supers ≡ systems
-  pub places : map (λ (s : Site). s.place) frame.sites ≡ numbers
-  pub base : frame.base ≡ policy
-  pub tasks : frame.tasks ≡ count
+    (consts : WorldConsts) : Type 0 where
+  pub settings : consts.settings ≡ config
+  pub boot : consts.boot ≡ first
+  pub files : map (λ (s : Site). (s.path, s.birth)) consts.sites ≡ inodes
+  pub supers : consts.supers ≡ systems
+  pub places : map (λ (s : Site). s.place) consts.sites ≡ numbers
+  pub base : consts.base ≡ policy
+  pub tasks : consts.tasks ≡ count
 
 -- the lists are those with which a run begins, whatever its programs
-abbrev pub Begins : Frame → State → Type 0
-Begins frame state =
-    (programs : List Program) → state ≡ (start_of (scene_of frame programs)).state
+abbrev pub Begins : WorldConsts → State → Type 0
+Begins consts state =
+    (programs : List Program) → state ≡ (start_of (scene_of consts programs)).state
 
 -- there are passes for each task, in order, and none has an entry of its own
-pub record AreFirstPasses (frame : Frame) (passes : List PassesValue) : Type 0 where
-  pub count : length passes ≡ frame.tasks
+pub record AreFirstPasses (consts : WorldConsts) (passes : List PassesValue) : Type 0 where
+  pub count : length passes ≡ consts.tasks
   pub each : (k : ℕ) (p : PassesValue) → slice_get passes k ≡ Some p
-      → ArePassesOf frame k p × AreUnused p
+      → ArePassesOf consts k p × AreUnused p

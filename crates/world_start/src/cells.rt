@@ -25,7 +25,7 @@ pub(crate) struct Cells {
     pub(crate) task_listers: Vec<Pass<Entry>>,
     pub(crate) task_appenders: Vec<Pass<RuleEntry>>,
     // The spare pass of the rules: one if there is neither a task nor an inode, else none
-    pub(crate) idle: Vec<Pass<RuleEntry>>,
+    pub(crate) spares: Vec<Pass<RuleEntry>>,
 }
 
 // The number of callers of the rules: the tasks and the inodes, or one spare caller if there are
@@ -70,7 +70,7 @@ struct Ruled {
     rules: PolicyCell,
     counters: Vec<Pass<RuleEntry>>,
     task_appenders: Vec<Pass<RuleEntry>>,
-    idle: Vec<Pass<RuleEntry>>,
+    spares: Vec<Pass<RuleEntry>>,
 }
 
 // Starts the rules for this many inodes and tasks.
@@ -84,18 +84,18 @@ fn start_rules(alloc: Global, rules: Policy, count: u32, tasks: u32) -> Result<R
         c.counters.items) }
     ensures task_appenders { IfOk result (λ c. AreFresh c.rules.appended.name (λ k. k) tasks
         c.task_appenders.items) }
-    ensures idle { IfOk result (λ c. AreFresh c.rules.appended.name (λ k. tasks + count + k)
-        (max 1 (tasks + count) - (tasks + count)) c.idle.items) }
+    ensures spares { IfOk result (λ c. AreFresh c.rules.appended.name (λ k. tasks + count + k)
+        (max 1 (tasks + count) - (tasks + count)) c.spares.items) }
 {
     let appenders = appenders_of(tasks, count);
     let (rules, mut task_appenders) = PolicyCell::start(alloc, rules, appenders)?;
     let mut counters = task_appenders.split_off(tasks as usize)?;
-    let idle = counters.split_off(count as usize)?;
+    let spares = counters.split_off(count as usize)?;
     Ok(Ruled {
         rules,
         counters,
         task_appenders,
-        idle,
+        spares,
     })
 }
 
@@ -126,8 +126,8 @@ pub(crate) fn start_cells(
         c.task_listers.items) }
     ensures task_appenders { IfOk result (λ c. AreFresh c.rules.appended.name (λ k. k) tasks
         c.task_appenders.items) }
-    ensures idle { IfOk result (λ c. AreFresh c.rules.appended.name (λ k. tasks + count + k)
-        (max 1 (tasks + count) - (tasks + count)) c.idle.items) }
+    ensures spares { IfOk result (λ c. AreFresh c.rules.appended.name (λ k. tasks + count + k)
+        (max 1 (tasks + count) - (tasks + count)) c.spares.items) }
 {
     let listed = start_book(alloc, boot, count, tasks)?;
     let (sems, task_signallers) = SemaphoreCell::start(alloc, tasks + 1)?;
@@ -141,6 +141,6 @@ pub(crate) fn start_cells(
         task_signallers,
         task_listers: listed.task_listers,
         task_appenders: ruled.task_appenders,
-        idle: ruled.idle,
+        spares: ruled.spares,
     })
 }

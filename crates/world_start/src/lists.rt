@@ -3,8 +3,8 @@ ghost use Rattle.grow_list.specs.Shown.{Passed};
 ghost use Rattle.ima_templates.specs.declared.entry.Entry.{Entry as AnyEntry};
 ghost use Rattle.world_close.specs.worlds.Tasks.{PassesValue};
 ghost use Rattle.world_close.specs.worlds.World.{AreRulesOf, AreSignalsOf, IsBookOf};
-ghost use Rattle.world_close.specs.Closed.{AreIdle, AreStations};
-ghost use Rattle.world_start.specs.Start.{AreFirstPasses, Begins, IsFrameOf, frame_of_start, state_of_start};
+ghost use Rattle.world_close.specs.Closed.{AreSpares, AreStations};
+ghost use Rattle.world_start.specs.Start.{AreConstsOf, AreFirstPasses, Begins, consts_of_start, state_of_start};
 ghost use Rattle.world_start.specs.Started.{AreRows, AreStarted, IsFile};
 
 use crate::cells::start_cells;
@@ -34,7 +34,7 @@ pub struct Start {
     /// The rules of the script; none has been appended.
     pub rules: PolicyCell,
     /// The spare pass of the rules: one if there is neither a task nor an inode, else none.
-    pub idle: Vec<Pass<RuleEntry>>,
+    pub spares: Vec<Pass<RuleEntry>>,
     /// The file systems, in order.
     pub supers: Vec<Super>,
     /// The settings that all inodes share.
@@ -99,15 +99,15 @@ pub fn start_lists(
     requires even { length places.items ≡ length inodes.items }
     requires places { All (λ place. place < length supers.items) places.items }
     requires callers { length inodes.items + tasks + 1 < 2 ^ 32 }
-    ensures frame { IfOk result (λ r. IsFrameOf settings boot inodes.items supers.items
-        places.items rules tasks (frame_of_start r)) }
-    ensures stations { IfOk result (λ r. AreStations (frame_of_start r) r.stations.items) }
-    ensures book { IfOk result (λ r. IsBookOf (frame_of_start r) r.book) }
-    ensures sems { IfOk result (λ r. AreSignalsOf (frame_of_start r) r.sems) }
-    ensures rules { IfOk result (λ r. AreRulesOf (frame_of_start r) r.rules) }
-    ensures idle { IfOk result (λ r. AreIdle (frame_of_start r) r.idle.items) }
-    ensures begins { IfOk result (λ r. Begins (frame_of_start r) (state_of_start r)) }
-    ensures passes { IfOk result (λ r. AreFirstPasses (frame_of_start r) r.passes.items) }
+    ensures consts { IfOk result (λ r. AreConstsOf settings boot inodes.items supers.items
+        places.items rules tasks (consts_of_start r)) }
+    ensures stations { IfOk result (λ r. AreStations (consts_of_start r) r.stations.items) }
+    ensures book { IfOk result (λ r. IsBookOf (consts_of_start r) r.book) }
+    ensures sems { IfOk result (λ r. AreSignalsOf (consts_of_start r) r.sems) }
+    ensures rules { IfOk result (λ r. AreRulesOf (consts_of_start r) r.rules) }
+    ensures spares { IfOk result (λ r. AreSpares (consts_of_start r) r.spares.items) }
+    ensures begins { IfOk result (λ r. Begins (consts_of_start r) (state_of_start r)) }
+    ensures passes { IfOk result (λ r. AreFirstPasses (consts_of_start r) r.passes.items) }
 {
     let count = inodes.len() as u32;
     let cells = start_cells(alloc, boot, rules, count, tasks)?;
@@ -127,7 +127,7 @@ pub fn start_lists(
         book: cells.book,
         sems: cells.sems,
         rules: cells.rules,
-        idle: cells.idle,
+        spares: cells.spares,
         supers,
         settings,
         tasks,

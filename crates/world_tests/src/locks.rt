@@ -1,5 +1,5 @@
 ghost use Rattle.std.specs.Prelude.{◌≡◌, ◌<◌, All, IfOk, length};
-ghost use Rattle.world_locks.specs.Parts.{KeepFrame, frame_of_parts};
+ghost use Rattle.world_locks.specs.Parts.{KeepConsts, consts_of_parts};
 ghost use Rattle.world_start.specs.Started.{IsFile};
 
 use evm_verify::Evm;
@@ -85,7 +85,7 @@ fn files(rt: &impl Abort, alloc: Global) -> Result<(Vec<(Bytes, Image)>, Vec<u32
 
 // The parts of a world with two inodes.
 fn parts(rt: &impl Abort, alloc: Global) -> Result<Parts, OutOfMemory>
-    ensures keep { IfOk result (λ p. KeepFrame (frame_of_parts p) p) }
+    ensures keep { IfOk result (λ p. KeepConsts (consts_of_parts p) p) }
     ensures two { IfOk result (λ p. length p.stations.items ≡ 2) }
 {
     let (files, places) = files(rt, alloc)?;
@@ -112,7 +112,7 @@ fn parts(rt: &impl Abort, alloc: Global) -> Result<Parts, OutOfMemory>
         book,
         sems,
         rules,
-        idle,
+        spares,
         supers,
         settings,
         tasks,
@@ -123,7 +123,7 @@ fn parts(rt: &impl Abort, alloc: Global) -> Result<Parts, OutOfMemory>
         book,
         sems,
         rules,
-        idle,
+        spares,
         supers,
         settings,
         tasks,
@@ -146,8 +146,8 @@ fn hold_both<N: Name, R: Threads + Wait + Sync>(
     rt: &R,
     parts: Parts,
 ) -> Result<(Parts, bool), OutOfMemory>
-    requires keep { KeepFrame N.frame parts }
-    requires two { length N.frame.sites ≡ 2 }
+    requires keep { KeepConsts N.consts parts }
+    requires two { length N.consts.sites ≡ 2 }
 {
     let locks = Locks::<N>::new(parts)?;
     let shared = &locks;
@@ -157,7 +157,7 @@ fn hold_both<N: Name, R: Threads + Wait + Sync>(
     join(
         rt,
         ||
-            requires { length N.frame.sites ≡ 2 }
+            requires { length N.consts.sites ≡ 2 }
         {
             shared.hold(rt, 0, || {
                 first.store(true, Ordering::SeqCst);
@@ -165,7 +165,7 @@ fn hold_both<N: Name, R: Threads + Wait + Sync>(
             })
         },
         ||
-            requires { length N.frame.sites ≡ 2 }
+            requires { length N.consts.sites ≡ 2 }
         {
             sees(&first);
             shared.hold(rt, 1, || second.store(true, Ordering::SeqCst))

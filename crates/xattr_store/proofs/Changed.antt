@@ -7,7 +7,7 @@ use Rattle.std.specs.Str.{bytes_eq}
 use Rattle.std.specs.declared.cmp.Ordering.TheVariants.{Less, Equal, Greater}
 use Rattle.std.proofs.lemmas.Slice.Eq.{bytes_eq-Decides}
 use Rattle.xattr_store.specs.Attrs.{Fits, IsAttrs, Pair, byte_order, changed, put, value, without}
-use Rattle.xattr_store.proofs.Kept.{attrs-put, attrs-without}
+use Rattle.xattr_store.proofs.OrderKept.{attrs-put, attrs-without}
 use Rattle.xattr_store.proofs.Search.{eq_as_ordered, value_before}
 
 -- a change keeps the order of the names and the bound on the values

@@ -1,3 +1,3 @@
 pub mod Search
-pub mod Kept
+pub mod OrderKept
 pub mod Changed

@@ -1,6 +1,6 @@
 -- The callers are ready before they run.
 use Rattle.std.proofs.Common.{map, refl}
-use Rattle.buffer_measure.specs.Kept.{caller_of}
+use Rattle.buffer_measure.specs.Workers.{caller_of}
 use Rattle.buffer_measure.proofs.Starting.{ready_all}
 use Rattle.buffer_measure.proofs.measuring.measure_owned.Goals as goal
 

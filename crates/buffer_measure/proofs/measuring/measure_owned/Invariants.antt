@@ -1,6 +1,6 @@
 -- The list under the lock is the one that was started, and its callers are those of the text.
 use Rattle.std.proofs.Common.{map}
-use Rattle.buffer_measure.specs.Kept.{caller_of}
+use Rattle.buffer_measure.specs.Workers.{caller_of}
 use Rattle.buffer_measure.proofs.measuring.measure_owned.Given as goal
 
 abbrev pub ghosts-run_all : goal.ghosts-run_all

@@ -1,7 +1,7 @@
 -- The callers are ready before they run, and the list is closed after them.
 use Rattle.std.proofs.Common.{◌≡◌, drop, length, List, sym, ap, ◌∙◌, subst}
 use Rattle.std.proofs.lemmas.List.{take_at}
-use Rattle.buffer_measure.specs.Kept.{AreDone, AreReady}
+use Rattle.buffer_measure.specs.Workers.{AreDone, AreReady}
 use Rattle.buffer_measure.specs.declared.workers.Worker.{Worker}
 use Rattle.buffer_measure.proofs.measuring.run_all.Goals as goal
 

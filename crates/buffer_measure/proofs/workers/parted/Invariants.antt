@@ -1,6 +1,6 @@
 -- The passes and the answers so far are those of the workers so far.
 use Rattle.std.proofs.Common.{◌≡◌, List, map, Some}
-use Rattle.buffer_measure.specs.Kept.{answers_in, pass_of}
+use Rattle.buffer_measure.specs.Workers.{answers_in, pass_of}
 use Rattle.buffer_measure.specs.declared.answer.Answer.{Answer}
 use Rattle.buffer_measure.proofs.workers.parted.Given as goal
 

@@ -2,7 +2,7 @@
 use Rattle.std.proofs.Common.{◌≡◌, ◌<◌, ◌^◌, true, List, length, sym, subst}
 use Rattle.std.specs.Prelude.{All}
 use Rattle.buffer_text.specs.Forms.{is_buffer}
-use Rattle.buffer_measure.specs.Kept.{caller_of}
+use Rattle.buffer_measure.specs.Workers.{caller_of}
 use Rattle.buffer_text.specs.Text.{Buffer}
 use Rattle.buffer_measure.proofs.Callers.{lines_few, lines_formed}
 use Rattle.buffer_measure.proofs.workers.run_caller.Goals as goal

@@ -1,6 +1,6 @@
 -- Each caller is ready before it runs, and has run afterwards.
 use Rattle.std.proofs.Common.{◌<◌, length, subst, sym, arith, rules}
-use Rattle.buffer_measure.specs.Kept.{IsDone, IsReady}
+use Rattle.buffer_measure.specs.Workers.{IsDone, IsReady}
 use Rattle.buffer_measure.proofs.workers.run_callers.Goals as goal
 
 pub for_each_mut-requires-clause-accepts : goal.for_each_mut-requires-clause-accepts

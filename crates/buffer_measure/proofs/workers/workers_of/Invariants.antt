@@ -2,7 +2,7 @@
 use Rattle.std.proofs.Common.{◌≡◌, map}
 use Rattle.report_text.specs.model.growing.Shown.{Passed}
 use Rattle.script_text.specs.steps.templates.declared.entry.Entry.{Entry}
-use Rattle.buffer_measure.specs.Kept.{caller_of, pass_of}
+use Rattle.buffer_measure.specs.Workers.{caller_of, pass_of}
 use Rattle.buffer_text.specs.Text.{CallerValue}
 use Rattle.buffer_measure.proofs.workers.workers_of.Given as goal
 

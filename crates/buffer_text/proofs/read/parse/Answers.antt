@@ -1,5 +1,5 @@
 -- The draft at the end of a text has the forms and the limits.
-use Rattle.buffer_text.proofs.Kept.{text_is}
+use Rattle.buffer_text.proofs.LinesKept.{text_is}
 use Rattle.buffer_text.proofs.read.parse.Goals as goal
 
 pub finish-requires : goal.finish-requires

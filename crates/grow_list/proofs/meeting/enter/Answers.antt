@@ -1,6 +1,6 @@
 use Rattle.std.proofs.Common.{◌≡◌, [], ◌∷◌, sym, ap, ◌∙◌, subst}
-use Rattle.grow_list.specs.declared.known.Known.{Known}
-use Rattle.grow_list.specs.declared.known.Known.TheVariants.{OfList, OfPass, ListBeside}
+use Rattle.grow_list.specs.declared.views.SeatView.{SeatView}
+use Rattle.grow_list.specs.declared.views.SeatView.TheVariants.{OfList, OfPass, ListBeside}
 use Rattle.grow_list.specs.Views.{listed, held, longer, heard, learned}
 use Rattle.grow_list.specs.Meetings.{Tallies, caught_up, grown, enlarged}
 use Rattle.grow_list.proofs.Meetings.{learned-longer, heard-longer, tallies-grown}
@@ -8,7 +8,7 @@ use Rattle.grow_list.proofs.meeting.enter.Given as given
 use Rattle.grow_list.proofs.meeting.enter.Goals as goal
 
 -- the views before the last step
-list_added : (g : given.Over) (c : goal.After-settle g) → c.add.new.list.me.0
+list_added : (g : given.Over) (c : goal.After-take_in g) → c.add.new.list.me.0
     ≡ OfList (longer (listed c.args.list.now.me.0) (held c.args.pass.now.me.0).number
     (c.args.entry.now ∷ []))
 list_added g c =
@@ -21,26 +21,26 @@ list_added g c =
     ap (λ m. m.0) c.add.ensures.me
     ∙ ap (λ v. OfList (longer (listed v) (held v).number (c.args.entry.now ∷ []))) beside
 
-pass_met : (g : given.Over) (c : goal.After-settle g) → c.come.new.pass.me.0
+pass_met : (g : given.Over) (c : goal.After-take_in g) → c.come.new.pass.me.0
     ≡ OfPass (caught_up (held c.args.pass.now.me.0) (listed c.args.list.now.me.0))
 pass_met g c = ap (λ m. m.0) c.come.ensures.pass.me ∙ ap (λ m. m.0) c.meet.ensures.pass.me
 
-pass_after : (g : given.Over) (c : goal.After-settle g) → c.settle.new.pass.me.0
+pass_after : (g : given.Over) (c : goal.After-take_in g) → c.take_in.new.pass.me.0
     ≡ OfPass (enlarged (held c.args.pass.now.me.0) (listed c.args.list.now.me.0) c.args.entry.now)
 pass_after g c =
-    ap (λ m. m.0) c.settle.ensures.pass.me
+    ap (λ m. m.0) c.take_in.ensures.pass.me
     ∙ (λ i. OfPass (learned (held (pass_met g c i)) (listed (list_added g c i))))
     ∙ ap OfPass (learned-longer (listed c.args.list.now.me.0) (held c.args.pass.now.me.0)
     c.args.entry.now c.meet.ensures.tallies)
 
-list_after : (g : given.Over) (c : goal.After-settle g) → c.settle.new.list.me.0
+list_after : (g : given.Over) (c : goal.After-take_in g) → c.take_in.new.list.me.0
     ≡ OfList (grown (listed c.args.list.now.me.0) (held c.args.pass.now.me.0).number
     c.args.entry.now)
 list_after g c =
     let l = listed c.args.list.now.me.0 in
     let p = held c.args.pass.now.me.0 in
     let e = c.args.entry.now in
-    ap (λ m. m.0) c.settle.ensures.list.me
+    ap (λ m. m.0) c.take_in.ensures.list.me
     ∙ (λ i. OfList
     (heard (listed (list_added g c i))
     (learned (held (pass_met g c i)) (listed (list_added g c i)))))
@@ -50,14 +50,14 @@ list_after g c =
 
 pub returns-clause-pass : goal.returns-clause-pass
 returns-clause-pass g c =
-    let slots : c.settle.new.pass.me.1 ≡ c.args.pass.now.me.1 =
-    ap (λ m. m.1) c.settle.ensures.pass.me ∙ ap (λ m. m.1) c.come.ensures.pass.me
+    let slots : c.take_in.new.pass.me.1 ≡ c.args.pass.now.me.1 =
+    ap (λ m. m.1) c.take_in.ensures.pass.me ∙ ap (λ m. m.1) c.come.ensures.pass.me
     ∙ ap (λ m. m.1) c.meet.ensures.pass.me in
     record { table_id = cc; id = cc; me = λ i. (pass_after g c i, slots i) }
 
 pub returns-clause-after : goal.returns-clause-after
 returns-clause-after g c =
-    subst (λ (x : Known g.row.E.Denot × Known g.row.E.Denot). Tallies (listed x.0) (held x.1))
+    subst (λ (x : SeatView g.row.E.Denot × SeatView g.row.E.Denot). Tallies (listed x.0) (held x.1))
     (λ i. (sym (list_after g c) i, sym (pass_after g c) i))
     (tallies-grown (listed c.args.list.now.me.0) (held c.args.pass.now.me.0) c.args.entry.now
     c.meet.ensures.tallies)

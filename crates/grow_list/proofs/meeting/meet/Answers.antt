@@ -1,5 +1,5 @@
 use Rattle.std.proofs.Common.{◌≡◌, ap, ◌∙◌, subst}
-use Rattle.grow_list.specs.declared.known.Known.TheVariants.{OfList, ListBeside, PassBeside}
+use Rattle.grow_list.specs.declared.views.SeatView.TheVariants.{OfList, ListBeside, PassBeside}
 use Rattle.grow_list.specs.Views.{listed, held, heard}
 use Rattle.grow_list.specs.Steps.{Agrees, Owns}
 use Rattle.grow_list.proofs.Meetings.{heard-settled, tallies}

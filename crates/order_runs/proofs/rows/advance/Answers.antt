@@ -1,7 +1,7 @@
 use Rattle.std.proofs.Common.{List, [], length, ◌+◌, ◌<◌, arith, sym, subst}
 use Rattle.std.proofs.lemmas.List.{take_all}
 use Rattle.order_outcomes.specs.scripts.Limits.{most_turns}
-use Rattle.order_runs.specs.Steps.{IsKept, IsStep}
+use Rattle.order_runs.specs.Steps.{IsStep, IsWayOf}
 use Rattle.order_runs.specs.declared.ways.Way.{Way}
 use Rattle.order_runs.proofs.Layering.{step_more, step_none}
 use Rattle.order_runs.proofs.Stopping.{overrun, told, wide}
@@ -10,7 +10,7 @@ use Rattle.order_runs.proofs.rows.advance.Goals as goal
 pub advance_one-requires-clause-kept : goal.advance_one-requires-clause-kept
 advance_one-requires-clause-kept g c =
     let way : Way = c.way-item.result in
-    subst (IsKept c.args.part.now) (sym c.way-item.is)
+    subst (IsWayOf c.args.part.now) (sym c.way-item.is)
     (c.requires.kept c.loop-way.way-index way c.loop-way-test.true)
 
 pub advance_one-requires-clause-turns : goal.advance_one-requires-clause-turns

@@ -1,4 +1,4 @@
-use Rattle.script_run.proofs.Ending.{run_is, still_all, within}
+use Rattle.script_run.proofs.Ending.{run_is, same_run_all, within}
 use Rattle.script_run.proofs.running.run.Goals as goal
 
 pub turn_all-requires-clause-turns : goal.turn_all-requires-clause-turns
@@ -8,7 +8,7 @@ turn_all-requires-clause-turns g c =
 
 pub close-requires-clause-count : goal.close-requires-clause-count
 close-requires-clause-count g c =
-    still_all c.args.script c.in_ok-world.world c.in_ok-after.after c.in_ok-world.tasks.items
+    same_run_all c.args.script c.in_ok-world.world c.in_ok-after.after c.in_ok-world.tasks.items
     c.turn_all.new.tasks.items c.in_ok-world.ending c.in_ok-world.ensures
     c.in_ok-after.ensures.still
 

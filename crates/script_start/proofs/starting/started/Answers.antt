@@ -30,5 +30,5 @@ returns c =
     search rules in
     started_is c.args.script c.keeps.ensures c.in_ok-settings.field-0 c.in_ok-settings.ensures
     c.in_ok-world.world c.in_ok-world.passes.items c.in_ok-tasks.tasks.items c.len-count.result
-    count c.in_ok-world.ensures.frame c.in_ok-world.ensures.begins c.in_ok-world.ensures.passes
+    count c.in_ok-world.ensures.consts c.in_ok-world.ensures.begins c.in_ok-world.ensures.passes
     c.in_ok-tasks.ensures

@@ -6,37 +6,37 @@ use Rattle.inode_events.specs.Past.{past}
 use Rattle.inode_events.specs.Semaphores.{left}
 use Rattle.policy_cell.specs.declared.cell.RuleEntry.{RuleEntry}
 use Rattle.policy_rules.specs.RuleValue.{RuleValue}
-use Rattle.world_model.specs.Frame.{Frame}
+use Rattle.world_model.specs.WorldConsts.{WorldConsts}
 use Rattle.world_model.specs.Tasks.{PassesValue, Tasked}
 use Rattle.world_model.specs.World.{WorldValue}
-use Rattle.world_close.specs.Closed.{AreIdle, ListsValue, WorldClosed}
+use Rattle.world_close.specs.Closed.{AreSpares, ListsValue, WorldClosed}
 use Rattle.world_close.specs.Leaves.{are_stuck, may_append}
 use Rattle.task_core.proofs.Closing.{are_rules, are_signals, are_stations, base_is, ended_by, is_book, passes_are}
 use Rattle.task_core.proofs.close.end.Goals as goal
 
--- the requires, in order: stations, book, sems, rules, idle, count, passes
+-- the requires, in order: stations, book, sems, rules, spares, count, passes
 pub close_lists-requires : goal.close_lists-requires
 close_lists-requires g c =
     let w = c.world.inside in
-    let is = ap (λ (v : WorldValue). v.frame) c.world.view_is ∙ c.requires.0 in
+    let is = ap (λ (v : WorldValue). v.consts) c.world.view_is ∙ c.requires.0 in
     let parts = c.world.invariant.parts in (
       are_stations w.settings w.stations.items w.supers.items w.book w.sems w.rules w.tasks
-          g.frame is parts,
+          g.consts is parts,
       (
-        is_book w.settings w.stations.items w.supers.items w.book w.sems w.rules w.tasks g.frame
+        is_book w.settings w.stations.items w.supers.items w.book w.sems w.rules w.tasks g.consts
             is parts,
         (
           are_signals w.settings w.stations.items w.supers.items w.book w.sems w.rules w.tasks
-              g.frame is parts,
+              g.consts is parts,
           (
             are_rules w.settings w.stations.items w.supers.items w.book w.sems w.rules w.tasks
-                g.frame is parts,
+                g.consts is parts,
             (
-              subst (λ (f : Frame). AreIdle f w.idle.items) is c.world.invariant.idle,
+              subst (λ (f : WorldConsts). AreSpares f w.spares.items) is c.world.invariant.spares,
               (
                 ap length c.in-Ok.ensures.passes
                     ∙ length-map c.args.tasks.items (λ (t : Tasked). t.passes) ∙ c.requires.1.0,
-                passes_are g.frame c.args.tasks.items c.in-Ok.passes.items
+                passes_are g.consts c.args.tasks.items c.in-Ok.passes.items
                     c.requires.1.1.0 c.in-Ok.ensures.passes,
               ),
             ),
@@ -50,14 +50,14 @@ returns g c =
     let w = c.world.inside in
     let tasks = c.args.tasks.items in
     let closed = c.in_ok-lists.ensures in
-    let is = ap (λ (v : WorldValue). v.frame) c.world.view_is ∙ c.requires.0 in
+    let is = ap (λ (v : WorldValue). v.consts) c.world.view_is ∙ c.requires.0 in
     let at = ap (λ (v : WorldValue). v.state) c.world.view_is in
     let own = ap (λ (l : ListsValue). l.rules) c.lists.view_is ∙ closed.rules in
     let force = c.rules-in_force.ensures.rules ∙ c.rules.ensures in
-    ended_by w.settings w.stations.items w.supers.items w.book w.sems w.rules w.tasks g.frame is
+    ended_by w.settings w.stations.items w.supers.items w.book w.sems w.rules w.tasks g.consts is
     c.world.invariant.parts tasks c.args.world.state _ at c.requires.1.1.0 c.requires.1.0
     c.requires.1.1.1
-    (subst (λ (l : List PassesValue). WorldClosed g.frame w.stations.items w.book.list w.sems.list
+    (subst (λ (l : List PassesValue). WorldClosed g.consts w.stations.items w.book.list w.sems.list
     w.rules.appended.list l) c.in-Ok.ensures.passes closed.closed)
     (ap (λ (l : ListsValue). l.inodes) c.lists.view_is ∙ closed.inodes)
     (ap (λ (l : ListsValue). l.list) c.lists.view_is ∙ closed.list)

@@ -4,9 +4,9 @@ use Rattle.task_core.proofs.close.look_all.Given as goal
 
 abbrev pub invariant-loop-k : goal.invariant-loop-k
 invariant-loop-k l = record {
-  frame : l.world.frame ≡ l.initial.world.frame;
+  consts : l.world.consts ≡ l.initial.world.consts;
   state : l.world.state ≡ l.initial.world.state;
   end : l.k-end ≡ length l.tasks.items;
-  looked : HaveLooked l.initial.world.frame l.initial.world.state l.k l.initial.tasks.items
+  looked : HaveLooked l.initial.world.consts l.initial.world.state l.k l.initial.tasks.items
       l.tasks.items;
 }

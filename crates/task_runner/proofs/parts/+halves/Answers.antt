@@ -12,7 +12,7 @@ pub run_halves-returns-then-count-eq1-clause-parts :
     goal.run_halves-returns-then-count-eq1-clause-parts
 run_halves-returns-then-count-eq1-clause-parts g t c =
     on_ok_weaker c.run_part.result
-    (over_alone g.N.Name.frame c.args.count c.args.size c.args.tasks.now c.run_part.new.tasks
+    (over_alone g.N.Name.consts c.args.count c.args.size c.args.tasks.now c.run_part.new.tasks
     c.if-count-eq1.true c.requires.most)
     c.run_part.ensures.over
 
@@ -26,23 +26,23 @@ run_halves-run_both-requires-clause-most g t c κs within =
 
 pub run_halves-returns-clause-gone : goal.run_halves-returns-clause-gone
 run_halves-returns-clause-gone g t c =
-    subst (λ (old : List Tasked). HaveGone g.N.Name.frame old
+    subst (λ (old : List Tasked). HaveGone g.N.Name.consts old
     (c.run_both.new.front ++ c.run_both.new.back)) (sym c.split_at_mut-front.ensures.value)
-    (gone_both g.N.Name.frame c.split_at_mut-front.result.0.now c.split_at_mut-front.result.1.now
+    (gone_both g.N.Name.consts c.split_at_mut-front.result.0.now c.split_at_mut-front.result.1.now
     c.run_both.new.front c.run_both.new.back c.run_both.ensures.front c.run_both.ensures.back)
 
 pub run_halves-returns-clause-parts : goal.run_halves-returns-clause-parts
 run_halves-returns-clause-parts g t c =
-    let frame = g.N.Name.frame in
+    let consts = g.N.Name.consts in
     let cut = c.split_at_mut-front in
     let low = c.args.count / 2 in
     let size = c.args.size in
     let new = c.run_both.new.front ++ c.run_both.new.back in
     on_ok_weaker c.run_both.result
-    (λ (both : AreOver frame low size cut.result.0.now c.run_both.new.front
-    × AreOver frame (c.args.count - low) size cut.result.1.now c.run_both.new.back).
-    subst (λ (old : List Tasked). AreOver frame c.args.count size old new)
+    (λ (both : AreOver consts low size cut.result.0.now c.run_both.new.front
+    × AreOver consts (c.args.count - low) size cut.result.1.now c.run_both.new.back).
+    subst (λ (old : List Tasked). AreOver consts c.args.count size old new)
     (sym cut.ensures.value)
-    (over_both frame low (c.args.count - low) c.args.count size cut.result.0.now
+    (over_both consts low (c.args.count - low) c.args.count size cut.result.0.now
     cut.result.1.now c.run_both.new.front c.run_both.new.back (omega arith) both.0 both.1))
     c.run_both.ensures.parts

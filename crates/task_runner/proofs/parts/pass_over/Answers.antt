@@ -8,8 +8,8 @@ use Rattle.task_runner.proofs.parts.pass_over.Goals as goal
 pub loop-k-init : goal.loop-k-init
 loop-k-init g c = record {
   end = omega arith;
-  gone = gone_none g.N.Name.frame c.args.tasks.now c.requires;
-  pass = pass_none g.N.Name.frame c.args.tasks.now;
+  gone = gone_none g.N.Name.consts c.args.tasks.now c.requires;
+  pass = pass_none g.N.Name.consts c.args.tasks.now;
 }
 
 pub step_at-requires-clause-within : goal.step_at-requires-clause-within
@@ -19,19 +19,19 @@ step_at-requires-clause-within g c =
 
 pub step_at-requires-clause-tasks : goal.step_at-requires-clause-tasks
 step_at-requires-clause-tasks g c =
-    λ κs out. gone_all g.N.Name.frame c.args.tasks.now c.loop-k.tasks c.loop-k.invariant.gone
+    λ κs out. gone_all g.N.Name.consts c.args.tasks.now c.loop-k.tasks c.loop-k.invariant.gone
 
 pub returns-in_err-step_at-clause-gone : goal.returns-in_err-step_at-clause-gone
 returns-in_err-step_at-clause-gone g c =
-    gone_more g.N.Name.frame c.args.tasks.now c.loop-k.tasks c.step_at.new.tasks
+    gone_more g.N.Name.consts c.args.tasks.now c.loop-k.tasks c.step_at.new.tasks
     c.loop-k.invariant.gone c.step_at.ensures.gone
 
 pub loop-k-preserved : goal.loop-k-preserved
 loop-k-preserved g c = record {
   end = c.loop-k.invariant.end ∙ sym c.step_at.ensures.gone.even;
-  gone = gone_more g.N.Name.frame c.args.tasks.now c.loop-k.tasks c.step_at.new.tasks
+  gone = gone_more g.N.Name.consts c.args.tasks.now c.loop-k.tasks c.step_at.new.tasks
       c.loop-k.invariant.gone c.step_at.ensures.gone;
-  pass = pass_more g.N.Name.frame c.args.tasks.now c.loop-k.tasks c.step_at.new.tasks c.loop-k.k
+  pass = pass_more g.N.Name.consts c.args.tasks.now c.loop-k.tasks c.step_at.new.tasks c.loop-k.k
       c.loop-k.moved c.has_moved-moved.result c.in_ok-step_at.field-0 c.loop-k.invariant.pass
       c.in_ok-step_at.ensures.step c.has_moved-moved.ensures;
 }
@@ -43,5 +43,5 @@ pub returns-clause-pass : goal.returns-clause-pass
 returns-clause-pass g c =
     let all : c.loop-k.k ≡ length c.args.tasks.now =
     omega (arith, c.loop-k.invariant.gone.even) in
-    subst (λ (n : ℕ). IsPass g.N.Name.frame c.args.tasks.now c.loop-k.tasks n c.loop-k.moved) all
+    subst (λ (n : ℕ). IsPass g.N.Name.consts c.args.tasks.now c.loop-k.tasks n c.loop-k.moved) all
     c.loop-k.invariant.pass

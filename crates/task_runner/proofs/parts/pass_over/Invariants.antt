@@ -7,6 +7,6 @@ use Rattle.task_runner.proofs.parts.pass_over.Given as goal
 abbrev pub invariant-loop-k : goal.invariant-loop-k
 invariant-loop-k g l = record {
   end : l.k-end ≡ length l.tasks;
-  gone : HaveGone g.N.Name.frame l.fn.tasks l.tasks;
-  pass : IsPass g.N.Name.frame l.fn.tasks l.tasks l.k l.moved;
+  gone : HaveGone g.N.Name.consts l.fn.tasks l.tasks;
+  pass : IsPass g.N.Name.consts l.fn.tasks l.tasks l.k l.moved;
 }

@@ -5,6 +5,6 @@ use Rattle.task_runner.proofs.parts.run_part.Given as goal
 
 abbrev pub invariant-loop : goal.invariant-loop
 invariant-loop g l = record {
-  gone : HaveGone g.N.Name.frame l.fn.tasks l.tasks;
-  passes : HavePassed g.N.Name.frame l.counter l.fn.tasks l.tasks;
+  gone : HaveGone g.N.Name.consts l.fn.tasks l.tasks;
+  passes : HavePassed g.N.Name.consts l.counter l.fn.tasks l.tasks;
 }

@@ -9,7 +9,7 @@ use Rattle.task_runner.proofs.parts.run_parts.Goals as goal
 
 pub returns-clause-parts : goal.returns-clause-parts
 returns-clause-parts g c =
-    let frame = g.N.Name.frame in
+    let consts = g.N.Name.consts in
     let old = c.args.tasks.now in
     let new = c.run_halves.new.tasks in
     let size = c.part_size-size.result in
@@ -21,9 +21,9 @@ returns-clause-parts g c =
     spans.1 in
     let few : count ≤ n = omega (arith, least, c.requires.threads) in
     on_ok_weaker c.run_halves.result
-    (λ (over : AreOver frame count size old new). record {
+    (λ (over : AreOver consts count size old new). record {
       size = size;
       short = c.part_size-size.ensures.short;
-      over = over_most frame count n size old new few over;
+      over = over_most consts count n size old new few over;
     })
     c.run_halves.ensures.parts

@@ -17,7 +17,7 @@ pub returns-clause-gone : goal.returns-clause-gone
 returns-clause-gone g c =
     let tasks = c.args.tasks.now in
     let d = c.index-tasks-k.result in
-    gone_step g.N.Name.frame tasks c.args.k (get_or tasks c.args.k d) c.step_shared.new.self
+    gone_step g.N.Name.consts tasks c.args.k (get_or tasks c.args.k d) c.step_shared.new.self
     c.requires.tasks (got tasks c.args.k d c.requires.within) c.step_shared.ensures.number
     c.step_shared.ensures.program c.step_shared.ensures.still
 
@@ -27,8 +27,8 @@ returns-clause-step g c =
     let d = c.index-tasks-k.result in
     let t = get_or tasks c.args.k d in
     let t2 = c.step_shared.new.self in
-    IfOk-weaker c.step_shared.result (λ (r : Turn). StepsTo g.N.Name.frame t t2 r)
-    (λ (r : Turn). StepsAt g.N.Name.frame tasks (slice_set tasks c.args.k t2) c.args.k (Some r))
+    IfOk-weaker c.step_shared.result (λ (r : Turn). StepsTo g.N.Name.consts t t2 r)
+    (λ (r : Turn). StepsAt g.N.Name.consts tasks (slice_set tasks c.args.k t2) c.args.k (Some r))
     (λ r steps. record {
       before = t;
       after = t2;

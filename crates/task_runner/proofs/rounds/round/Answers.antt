@@ -4,10 +4,10 @@ use Rattle.std.proofs.Math.Bool.{or_comm}
 use Rattle.run_model.specs.Rounds.{all_tasks, is_moved}
 use Rattle.task_core.specs.worlds.WorldRuns.{IsInRound, moment_in, scene_in}
 use Rattle.task_core.proofs.about_worlds.Rounding.{round_is_whole, turn_in_round}
-use Rattle.task_core.proofs.about_worlds.Turning.{still_more}
+use Rattle.task_core.proofs.about_worlds.Turning.{same_run_more}
 use Rattle.task_core.proofs.SharedSteps.{on_err}
 use Rattle.task_runner.specs.Stops.{StopsIn}
-use Rattle.task_runner.proofs.Running.{no_turns, still_even}
+use Rattle.task_runner.proofs.Running.{no_turns, same_run_even}
 use Rattle.task_runner.proofs.Stopped.{stops_in_round}
 use Rattle.task_runner.proofs.rounds.round.Goals as goal
 
@@ -20,13 +20,13 @@ loop-k-init g c = record {
 pub turn_at-requires : goal.turn_at-requires
 turn_at-requires g c =
     let even : length c.loop-k.tasks.items ≡ length c.args.tasks.now.items =
-    still_even c.args.world.now c.loop-k.world c.args.tasks.now.items c.loop-k.tasks.items
+    same_run_even c.args.world.now c.loop-k.world c.args.tasks.now.items c.loop-k.tasks.items
     c.loop-k.invariant.turned.still in
     record { tasks = c.loop-k.invariant.turned.still.each; within = omega arith }
 
 pub returns-in_err-turn_at-clause-still : goal.returns-in_err-turn_at-clause-still
 returns-in_err-turn_at-clause-still g c =
-    still_more c.args.world.now c.loop-k.world c.turn_at.new.world c.args.tasks.now.items
+    same_run_more c.args.world.now c.loop-k.world c.turn_at.new.world c.args.tasks.now.items
     c.loop-k.tasks.items c.turn_at.new.tasks.items c.loop-k.invariant.turned.still
     c.turn_at.ensures.still
 

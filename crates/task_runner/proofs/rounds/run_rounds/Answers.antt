@@ -2,16 +2,16 @@
 use Rattle.std.proofs.Common.{◌≡◌, Bool, true, false, refl, subst, arith, rules}
 use Rattle.task_core.specs.worlds.WorldRuns.{IsRound, moment_in, scene_in}
 use Rattle.task_core.proofs.about_worlds.Rounding.{round_is_more, rounds_are_over}
-use Rattle.task_core.proofs.about_worlds.Turning.{still_more}
+use Rattle.task_core.proofs.about_worlds.Turning.{same_run_more}
 use Rattle.task_core.proofs.SharedSteps.{on_err}
 use Rattle.task_runner.specs.Stops.{StopsInRounds}
-use Rattle.task_runner.proofs.Running.{none_moves, still_here}
+use Rattle.task_runner.proofs.Running.{none_moves, same_run_here}
 use Rattle.task_runner.proofs.Stopped.{stops_after, stops_in_next}
 use Rattle.task_runner.proofs.rounds.run_rounds.Goals as goal
 
 pub loop-init : goal.loop-init
 loop-init g c = record {
-  still = still_here c.args.world.now c.args.tasks.now.items c.requires;
+  still = same_run_here c.args.world.now c.args.tasks.now.items c.requires;
   run = refl;
   before = λ k h. absurd (omega arith);
 }
@@ -21,7 +21,7 @@ round-requires g c = c.loop.invariant.still.each
 
 pub returns-in_err-round-clause-still : goal.returns-in_err-round-clause-still
 returns-in_err-round-clause-still g c =
-    still_more c.args.world.now c.loop.world c.round.new.world c.args.tasks.now.items
+    same_run_more c.args.world.now c.loop.world c.round.new.world c.args.tasks.now.items
     c.loop.tasks.items c.round.new.tasks.items c.loop.invariant.still c.round.ensures.still
 
 pub returns-in_err-round-clause-err : goal.returns-in_err-round-clause-err
@@ -51,7 +51,7 @@ returns-then-not-branch-clause-stops g c =
 
 pub returns-then-not-branch-clause-still : goal.returns-then-not-branch-clause-still
 returns-then-not-branch-clause-still g c =
-    still_more c.args.world.now c.loop.world c.round.new.world c.args.tasks.now.items
+    same_run_more c.args.world.now c.loop.world c.round.new.world c.args.tasks.now.items
     c.loop.tasks.items c.round.new.tasks.items c.loop.invariant.still c.round.ensures.still
 
 pub loop-preserved : goal.loop-preserved

@@ -3,23 +3,23 @@ use Rattle.std.proofs.Common.{◌≡◌, ◌++◌, drop, length, refl, sym, take
 use Rattle.std.specs.Prelude.{All, List}
 use Rattle.std.proofs.lemmas.Result.{err_from_is_err_and}
 use Rattle.task_core.specs.worlds.Tasks.{IsTask, Tasked}
-use Rattle.task_runner.proofs.Going.{all_tasks, front_is, gone_named, gone_none, still_runs}
+use Rattle.task_runner.proofs.Going.{all_tasks, front_is, gone_named, gone_none, same_run}
 use Rattle.task_runner.proofs.Passing.{parts_named}
 use Rattle.task_runner.proofs.threads.run_shared.Goals as goal
 
 pub returns-in_err-live-clause-tasks : goal.returns-in_err-live-clause-tasks
 returns-in_err-live-clause-tasks g c =
     let old = c.args.tasks.now.items in
-    gone_named c.args.world.frame g.N.Name.frame old old old old c.requires.frame refl refl
+    gone_named c.args.world.consts g.N.Name.consts old old old old c.requires.consts refl refl
     c.requires.tasks
-    (gone_none g.N.Name.frame old
-    (all_tasks c.args.world.frame g.N.Name.frame old c.requires.frame c.requires.tasks))
+    (gone_none g.N.Name.consts old
+    (all_tasks c.args.world.consts g.N.Name.consts old c.requires.consts c.requires.tasks))
 
 pub run_parts-requires-clause-tasks : goal.run_parts-requires-clause-tasks
 run_parts-requires-clause-tasks g c =
-    λ κs out. subst (λ (xs : List Tasked). All (IsTask g.N.Name.frame) xs)
+    λ κs out. subst (λ (xs : List Tasked). All (IsTask g.N.Name.consts) xs)
     (sym c.as_mut_slice.ensures.value)
-    (all_tasks c.args.world.frame g.N.Name.frame c.args.tasks.now.items c.requires.frame
+    (all_tasks c.args.world.consts g.N.Name.consts c.args.tasks.now.items c.requires.consts
     c.requires.tasks)
 
 pub returns-in_err-run_parts-clause-tasks : goal.returns-in_err-run_parts-clause-tasks
@@ -30,8 +30,8 @@ returns-in_err-run_parts-clause-tasks g c =
     let is : back ≡ new =
     front_is new (drop (length new) old) c.args.tasks.now.len
     (c.run_parts.ensures.gone.even ∙ c.as_mut_slice.ensures.len) in
-    gone_named c.args.world.frame g.N.Name.frame old c.as_mut_slice.result.now new back
-    c.requires.frame c.as_mut_slice.ensures.value is c.requires.tasks c.run_parts.ensures.gone
+    gone_named c.args.world.consts g.N.Name.consts old c.as_mut_slice.result.now new back
+    c.requires.consts c.as_mut_slice.ensures.value is c.requires.tasks c.run_parts.ensures.gone
 
 pub returns-in_err-after-clause-tasks : goal.returns-in_err-after-clause-tasks
 returns-in_err-after-clause-tasks g c =
@@ -41,8 +41,8 @@ returns-in_err-after-clause-tasks g c =
     let is : back ≡ new =
     front_is new (drop (length new) old) c.args.tasks.now.len
     (c.run_parts.ensures.gone.even ∙ c.as_mut_slice.ensures.len) in
-    gone_named c.args.world.frame g.N.Name.frame old c.as_mut_slice.result.now new back
-    c.requires.frame c.as_mut_slice.ensures.value is c.requires.tasks c.run_parts.ensures.gone
+    gone_named c.args.world.consts g.N.Name.consts old c.as_mut_slice.result.now new back
+    c.requires.consts c.as_mut_slice.ensures.value is c.requires.tasks c.run_parts.ensures.gone
 
 pub returns-in_err-after-clause-parts : goal.returns-in_err-after-clause-parts
 returns-in_err-after-clause-parts g c =
@@ -58,10 +58,10 @@ returns-clause-still g c =
     let is : back ≡ new =
     front_is new (drop (length new) old) c.args.tasks.now.len
     (c.run_parts.ensures.gone.even ∙ c.as_mut_slice.ensures.len) in
-    still_runs c.args.world c.in_ok-after.after old back
-    (c.in_ok-after.ensures ∙ sym c.requires.frame)
-    (gone_named c.args.world.frame g.N.Name.frame old c.as_mut_slice.result.now new back
-    c.requires.frame c.as_mut_slice.ensures.value is c.requires.tasks c.run_parts.ensures.gone)
+    same_run c.args.world c.in_ok-after.after old back
+    (c.in_ok-after.ensures ∙ sym c.requires.consts)
+    (gone_named c.args.world.consts g.N.Name.consts old c.as_mut_slice.result.now new back
+    c.requires.consts c.as_mut_slice.ensures.value is c.requires.tasks c.run_parts.ensures.gone)
 
 pub returns-clause-parts : goal.returns-clause-parts
 returns-clause-parts g c =
@@ -71,8 +71,8 @@ returns-clause-parts g c =
     let is : back ≡ new =
     front_is new (drop (length new) old) c.args.tasks.now.len
     (c.run_parts.ensures.gone.even ∙ c.as_mut_slice.ensures.len) in
-    parts_named c.args.world.frame g.N.Name.frame c.args.n old c.as_mut_slice.result.now new back
-    c.requires.frame c.as_mut_slice.ensures.value is c.in_ok-run_parts.ensures.parts
+    parts_named c.args.world.consts g.N.Name.consts c.args.n old c.as_mut_slice.result.now new back
+    c.requires.consts c.as_mut_slice.ensures.value is c.in_ok-run_parts.ensures.parts
 
 pub returns-clause-tasks : goal.returns-clause-tasks
 returns-clause-tasks g c =
@@ -82,5 +82,5 @@ returns-clause-tasks g c =
     let is : back ≡ new =
     front_is new (drop (length new) old) c.args.tasks.now.len
     (c.run_parts.ensures.gone.even ∙ c.as_mut_slice.ensures.len) in
-    gone_named c.args.world.frame g.N.Name.frame old c.as_mut_slice.result.now new back
-    c.requires.frame c.as_mut_slice.ensures.value is c.requires.tasks c.run_parts.ensures.gone
+    gone_named c.args.world.consts g.N.Name.consts old c.as_mut_slice.result.now new back
+    c.requires.consts c.as_mut_slice.ensures.value is c.requires.tasks c.run_parts.ensures.gone

@@ -3,10 +3,10 @@ use Rattle.std.proofs.Common.{◌≡◌, ◌<◌, ◌≤◌, ℕ, List, take, le
 use Rattle.std.proofs.lemmas.List.{take_all, take_more}
 use Rattle.run_model.specs.Turns.{turns_of}
 use Rattle.task_core.specs.worlds.WorldRuns.{HasTurned, moment_in, scene_in}
-use Rattle.task_core.proofs.about_worlds.Turning.{still_more, turn_is_more}
+use Rattle.task_core.proofs.about_worlds.Turning.{same_run_more, turn_is_more}
 use Rattle.task_core.proofs.SharedSteps.{on_err}
 use Rattle.task_runner.specs.Stops.{StopsIn}
-use Rattle.task_runner.proofs.Running.{no_turns, still_even}
+use Rattle.task_runner.proofs.Running.{no_turns, same_run_even}
 use Rattle.task_runner.proofs.turns.run_schedule.Goals as goal
 
 pub loop-k-init : goal.loop-k-init
@@ -15,7 +15,7 @@ loop-k-init g c = no_turns c.args.world.now c.args.tasks.now.items c.requires.ta
 pub turn_at-requires : goal.turn_at-requires
 turn_at-requires g c =
     let even : length c.loop-k.tasks.items ≡ length c.args.tasks.now.items =
-    still_even c.args.world.now c.loop-k.world c.args.tasks.now.items c.loop-k.tasks.items
+    same_run_even c.args.world.now c.loop-k.world c.args.tasks.now.items c.loop-k.tasks.items
     c.loop-k.invariant.still in
     let small : slice_index_or c.args.turns.now c.loop-k.k-index 0
     < length c.args.tasks.now.items =
@@ -24,7 +24,7 @@ turn_at-requires g c =
 
 pub returns-in_err-turn_at-clause-still : goal.returns-in_err-turn_at-clause-still
 returns-in_err-turn_at-clause-still g c =
-    still_more c.args.world.now c.loop-k.world c.turn_at.new.world c.args.tasks.now.items
+    same_run_more c.args.world.now c.loop-k.world c.turn_at.new.world c.args.tasks.now.items
     c.loop-k.tasks.items c.turn_at.new.tasks.items c.loop-k.invariant.still c.turn_at.ensures.still
 
 pub returns-in_err-turn_at-clause-err : goal.returns-in_err-turn_at-clause-err

@@ -16,7 +16,7 @@ returns-clause-turned g c =
     let law = step_is_turn c.args.world.now c.step.new.world tasks c.args.k t c.step.new.self
     c.requires.tasks (task_there tasks c.args.k t c.requires.within c.index_mut-task.ensures.value)
     (record {
-      frame = c.step.ensures.frame;
+      consts = c.step.ensures.consts;
       number = c.step.ensures.number;
       program = c.step.ensures.program;
       task = c.step.ensures.still;
@@ -43,7 +43,7 @@ returns-clause-still g c =
     let law = step_is_turn c.args.world.now c.step.new.world tasks c.args.k t c.step.new.self
     c.requires.tasks (task_there tasks c.args.k t c.requires.within c.index_mut-task.ensures.value)
     (record {
-      frame = c.step.ensures.frame;
+      consts = c.step.ensures.consts;
       number = c.step.ensures.number;
       program = c.step.ensures.program;
       task = c.step.ensures.still;

@@ -17,8 +17,8 @@ returns-clause-did c =
     let st : StationValue = record { cell = s.cell; rules = s.rules; place = s.place } in
     let st2 : StationValue = record st { cell = c.look_and_apply_alone-told.new.cell } in
     let did : StationDidAlone st st2 c.args.pass.now c.look_and_apply_alone-told.new.pass
-    c.args.actor.now.who (deed_in c.args.doing) c.args.gathered.now c.look_and_apply_alone-told.new.gathered
-    (deeds.told_in c.look_and_apply_alone-told.result) =
+    c.args.actor.now.who (deed_in c.args.doing) c.args.hash_state.now
+    c.look_and_apply_alone-told.new.hash_state (deeds.told_in c.look_and_apply_alone-told.result) =
     record {
       looked = c.look_and_apply_alone-told.ensures.looked;
       leaves = c.look_and_apply_alone-told.ensures.leaves;
@@ -27,9 +27,10 @@ returns-clause-did c =
       hashes = c.look_and_apply_alone-told.ensures.hashes;
     } in
     subst (λ (x : StationValue). StationDidAlone x st2 c.args.pass.now c.look_and_apply_alone-told.new.pass
-    c.args.actor.now.who (deed_in c.args.doing) c.args.gathered.now c.look_and_apply_alone-told.new.gathered
-    (told_in c.told_at.result)) c.station.view_is
+    c.args.actor.now.who (deed_in c.args.doing) c.args.hash_state.now
+    c.look_and_apply_alone-told.new.hash_state (told_in c.told_at.result)) c.station.view_is
     (subst (λ (o : Option Told). StationDidAlone st st2 c.args.pass.now c.look_and_apply_alone-told.new.pass
-    c.args.actor.now.who (deed_in c.args.doing) c.args.gathered.now c.look_and_apply_alone-told.new.gathered
+    c.args.actor.now.who (deed_in c.args.doing) c.args.hash_state.now
+    c.look_and_apply_alone-told.new.hash_state
     o) (sym (ap (λ (r : Result (Option Answered) AllocError). told_in r) c.told_at.ensures
     ∙ answered_told c.len-place.result c.look_and_apply_alone-told.result)) did)

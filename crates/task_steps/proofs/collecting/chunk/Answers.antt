@@ -15,10 +15,10 @@ returns-clause-acts c =
 pub returns-clause-hashes : goal.returns-clause-hashes
 returns-clause-hashes c =
     subst (λ (x : Told). HashesAfter c.args.cell.now.inode c.chunk.new.self.list
-    c.gather.new.gathered (deed.Chunk c.args.file) x)
+    c.gather.new.hash_state (deed.Chunk c.args.file) x)
     (sym c.piece_told.ensures)
-    (piece_left c.args.cell.now.inode c.args.cell.now.list c.args.gathered.now c.gather.new.gathered
-    c.in_ok-piece.page
+    (piece_left c.args.cell.now.inode c.args.cell.now.list c.args.hash_state.now
+    c.gather.new.hash_state c.in_ok-piece.page
     c.requires.hashes c.in_ok-piece.ensures.page c.args.file c.args.who c.chunk.new.self.list
     c.in_ok-piece.piece
     (c.in_ok-piece.ensures.acts []).journal c.gather.ensures)

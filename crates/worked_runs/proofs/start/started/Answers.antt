@@ -7,7 +7,7 @@ use Rattle.ima_top.specs.policy.rules.declared.access.Super.{Super}
 use Rattle.ima_top.proofs.about_runs.about_starts.Fits.{files_fit, places_fit}
 use Rattle.ima_top.proofs.about_runs.about_starts.Beginning.{started_is}
 use Rattle.ima_top.specs.scenes.Scene.{file_of, fs_of}
-use Rattle.ima_top.specs.worlds.Frame.{Site}
+use Rattle.ima_top.specs.worlds.WorldConsts.{Site}
 use Rattle.ima_top.proofs.about_runners.Going.{all_tasks}
 use Rattle.ima_top.specs.starts.Started.{IsFile}
 use Rattle.worked_runs.proofs.start.started.Goals as goal
@@ -32,16 +32,16 @@ pub returns-clause-tasks : goal.returns-clause-tasks
 returns-clause-tasks c =
     let count : c.len-count.result ≡ length c.in_ok-settings.field-0.tasks.items =
     search rules in
-    let frame = c.in_ok-world.world.frame in
-    all_tasks frame frame c.in_ok-tasks.tasks.items refl
+    let consts = c.in_ok-world.world.consts in
+    all_tasks consts consts c.in_ok-tasks.tasks.items refl
     (started_is c.args.script c.keeps.ensures c.in_ok-settings.field-0 c.in_ok-settings.ensures
     c.in_ok-world.world c.in_ok-world.passes.items c.in_ok-tasks.tasks.items c.len-count.result
-    count c.in_ok-world.ensures.frame c.in_ok-world.ensures.begins c.in_ok-world.ensures.passes
+    count c.in_ok-world.ensures.consts c.in_ok-world.ensures.begins c.in_ok-world.ensures.passes
     c.in_ok-tasks.ensures).each
 
 pub returns-clause-inodes : goal.returns-clause-inodes
 returns-clause-inodes c =
     let many : length c.in_ok-settings.field-0.inodes.items ≡ c.len-many.result =
     search rules in
-    sym (length-map c.in_ok-world.world.frame.sites (λ (x : Site). (x.path, x.birth)))
-    ∙ ap length c.in_ok-world.ensures.frame.files ∙ many
+    sym (length-map c.in_ok-world.world.consts.sites (λ (x : Site). (x.path, x.birth)))
+    ∙ ap length c.in_ok-world.ensures.consts.files ∙ many

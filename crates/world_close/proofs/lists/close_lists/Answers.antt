@@ -13,7 +13,7 @@ use Rattle.policy_cell.specs.declared.cell.RuleEntry.{RuleEntry}
 use Rattle.world_close.proofs.Listing.{all_ruled, book_others, rules_each, sem_others}
 use Rattle.world_close.proofs.lists.close_lists.Goals as goal
 
--- the requires, in order: stations, book, sems, rules, idle, count, passes
+-- the requires, in order: stations, book, sems, rules, spares, count, passes
 pub take_back-requires : goal.take_back-requires
 take_back-requires g c = (c.requires.0, c.requires.1.1.1.1.1)
 
@@ -21,22 +21,22 @@ pub close-list-requires : goal.close-list-requires
 close-list-requires g c =
     let r = c.in_ok-back.ensures in
     subst (λ (l : List (Passed Entry)). HasOthers c.args.book l) (sym r.listers_are)
-    (book_others g.frame c.args.book c.args.stations.items r.book c.args.passes.items
+    (book_others g.consts c.args.book c.args.stations.items r.book c.args.passes.items
     c.requires.1.0 c.requires.0 r.closed c.requires.1.1.1.1.1.1 c.requires.1.1.1.1.1.0)
 
 pub close-signals-requires : goal.close-signals-requires
 close-signals-requires g c =
     subst (λ (l : List (Passed Event)). HasOthers c.args.sems l)
     (sym c.in_ok-back.ensures.signals_are)
-    (sem_others g.frame c.args.sems c.args.passes.items c.requires.1.1.0
+    (sem_others g.consts c.args.sems c.args.passes.items c.requires.1.1.0
     c.requires.1.1.1.1.1.1 c.requires.1.1.1.1.1.0)
 
 pub close-rules-requires : goal.close-rules-requires
 close-rules-requires g c =
     subst (λ (l : List (Passed RuleEntry)). HasEach c.args.rules.appended l)
     (sym c.in_ok-back.ensures.appenders_are)
-    (rules_each g.frame c.args.rules c.args.stations.items c.args.passes.items
-    c.args.idle.items c.requires.1.1.1.0 c.requires.0 c.requires.1.1.1.1.0
+    (rules_each g.consts c.args.rules c.args.stations.items c.args.passes.items
+    c.args.spares.items c.requires.1.1.1.0 c.requires.0 c.requires.1.1.1.1.0
     c.requires.1.1.1.1.1.1 c.requires.1.1.1.1.1.0)
 
 pub returns-clause-closed : goal.returns-clause-closed
@@ -59,13 +59,13 @@ returns-clause-closed g c =
       entries = c.close-list.ensures.entries;
       are_signals = c.close-signals.ensures.legal;
       signed = All-weaker (λ (e : Event). (0 < caller_of e) × (caller_of e < c.args.sems.callers))
-          (λ (e : Event). (0 < caller_of e) × (caller_of e ≤ g.frame.tasks))
+          (λ (e : Event). (0 < caller_of e) × (caller_of e ≤ g.consts.tasks))
           (λ e s. (
             s.0,
             (let callers = c.requires.1.1.0.callers in let below = s.1 in omega arith),
           )) c.args.sems.list c.close-signals.ensures.signed;
-      ruled = all_ruled g.frame c.args.rules c.args.stations.items c.args.passes.items
-          c.args.idle.items c.requires.1.1.1.0 c.requires.0 c.requires.1.1.1.1.0
+      ruled = all_ruled g.consts c.args.rules c.args.stations.items c.args.passes.items
+          c.args.spares.items c.requires.1.1.1.0 c.requires.0 c.requires.1.1.1.1.0
           c.requires.1.1.1.1.1.1 c.requires.1.1.1.1.1.0
           (subst (λ (l : List (Passed RuleEntry)). All
           (λ (q : Passed RuleEntry). HasItsOwn c.args.rules.appended q) l) r.appenders_are

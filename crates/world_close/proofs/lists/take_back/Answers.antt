@@ -16,12 +16,12 @@ close_stations-requires g c =
     let passes = c.requires.1.1 in
     let rows = c.in_ok-parted.ensures.rows in (
       subst (λ (l : List (List (Passed Event))). RowsFit (length c.args.stations.items)
-          (journal_name g.frame) l) (sym rows)
-          (rows_fit g.frame c.args.passes.items (length c.args.stations.items) stations.even
+          (journal_name g.consts) l) (sym rows)
+          (rows_fit g.consts c.args.passes.items (length c.args.stations.items) stations.even
           passes),
-      subst (λ (n : ℕ). AreNamed (journal_name g.frame) n c.args.stations.items)
+      subst (λ (n : ℕ). AreNamed (journal_name g.consts) n c.args.stations.items)
           (sym (ap length rows ∙ length-map c.args.passes.items (λ (p : PassesValue). p.inodes)))
-          (are_named g.frame c.args.stations.items (length c.args.passes.items) count stations),
+          (are_named g.consts c.args.stations.items (length c.args.passes.items) count stations),
     )
 
 pub returns : goal.returns
@@ -39,5 +39,5 @@ returns g c =
           ∙ (λ i. book i ++ c.in_ok-parted.ensures.book i);
       signals_are = c.in_ok-parted.ensures.sems;
       appenders_are = c.in_ok-appenders.ensures
-          ∙ (λ i. c.in_ok-parted.ensures.rules i ++ counters i ++ c.args.idle.items);
+          ∙ (λ i. c.in_ok-parted.ensures.rules i ++ counters i ++ c.args.spares.items);
     }

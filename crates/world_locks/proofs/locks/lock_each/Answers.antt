@@ -8,8 +8,8 @@ pub lock_at-requires-after_bounds : goal.lock_at-requires-after_bounds
 lock_at-requires-after_bounds g c κs within =
     let left = c.pop.new.self in
     let place : length left.items ≡ c.len.result = omega (arith, c.len.ensures, left.ok.0) in
-    subst (λ (n : ℕ). IsStation g.N.Name.frame n c.in-Some.station) place
-    (last_is g.N.Name.frame c.loop-station.left.items left.items c.in-Some.station
+    subst (λ (n : ℕ). IsStation g.N.Name.consts n c.in-Some.station) place
+    (last_is g.N.Name.consts c.loop-station.left.items left.items c.in-Some.station
     c.in-Some.ensures.items c.loop-station.invariant.each)
 
 pub loop-station-preserved : goal.loop-station-preserved
@@ -20,6 +20,6 @@ loop-station-preserved g c = record {
     simp length-append at (ap length c.in_ok-push.ensures.items),
     c.loop-station.invariant.all,
   );
-  each = each_before g.N.Name.frame c.loop-station.left.items c.pop.new.self.items
+  each = each_before g.N.Name.consts c.loop-station.left.items c.pop.new.self.items
       c.in-Some.station c.in-Some.ensures.items c.loop-station.invariant.each;
 }

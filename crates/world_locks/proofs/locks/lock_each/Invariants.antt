@@ -4,8 +4,8 @@ use Rattle.world_locks.proofs.locks.lock_each.Given as goal
 
 abbrev pub invariant-loop-station : goal.invariant-loop-station
 invariant-loop-station g l = record {
-  all : length l.left.items + length l.locked.items ≡ length g.N.Name.frame.sites;
-  each : AreEach g.N.Name.frame l.left.items;
+  all : length l.left.items + length l.locked.items ≡ length g.N.Name.consts.sites;
+  each : AreEach g.N.Name.consts l.left.items;
 }
 
 abbrev pub decreases-loop-station : goal.decreases-loop-station

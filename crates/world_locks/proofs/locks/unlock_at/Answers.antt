@@ -6,5 +6,5 @@ use Rattle.world_locks.proofs.locks.unlock_at.Goals as goal
 pub returns : goal.returns
 returns g c =
     let place : c.open-number.result.0 ≡ c.args.place = omega arith in
-    subst (λ (n : ℕ). IsStation g.N.Name.frame n c.open-number.result.1) place
+    subst (λ (n : ℕ). IsStation g.N.Name.consts n c.open-number.result.1) place
     c.open-number.ensures

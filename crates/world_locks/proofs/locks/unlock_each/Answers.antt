@@ -12,7 +12,7 @@ loop-mutex-preserved g c = record {
     length_push c.loop-mutex.yielded c.in-Some.mutex,
     c.loop-mutex.invariant.all,
   );
-  each = each_more g.N.Name.frame c.loop-mutex.stations.items c.push.new.self.items c.len.result
+  each = each_more g.N.Name.consts c.loop-mutex.stations.items c.push.new.self.items c.len.result
       c.in_ok-station.station c.in_ok-push.ensures.items
       (omega (arith, c.len.ensures, c.loop-mutex.stations.ok.0)) c.in_ok-station.ensures
       c.loop-mutex.invariant.each;

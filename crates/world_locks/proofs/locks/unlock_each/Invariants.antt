@@ -5,5 +5,5 @@ use Rattle.world_locks.proofs.locks.unlock_each.Given as goal
 abbrev pub invariant-loop-mutex : goal.invariant-loop-mutex
 invariant-loop-mutex g l = record {
   all : length l.stations.items ≡ length l.yielded;
-  each : AreEach g.N.Name.frame l.stations.items;
+  each : AreEach g.N.Name.consts l.stations.items;
 }

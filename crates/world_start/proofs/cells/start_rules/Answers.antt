@@ -21,23 +21,23 @@ returns-clause-counters c =
     let above = below_max (c.args.tasks + c.args.count) in
     fresh_take name (λ k. c.args.tasks + k) c.args.count
     (c.appenders_of-appenders.result - c.args.tasks) c.in_ok-counters.counters.items
-    c.split_off-2.new.self.items (omega arith) c.in_ok-idle.ensures.items
+    c.split_off-2.new.self.items (omega arith) c.in_ok-spares.ensures.items
     (fresh_drop name (λ k. k) c.args.tasks c.appenders_of-appenders.result
     (c.appenders_of-appenders.result - c.args.tasks) c.in_ok-rules.task_appenders.items
     c.in_ok-counters.counters.items (omega arith) c.in_ok-counters.ensures.tail
     (fresh_all name (λ k. k) c.appenders_of-appenders.result c.in_ok-rules.task_appenders.items
     c.in_ok-rules.ensures.count c.in_ok-rules.ensures.passes))
 
-pub returns-clause-idle : goal.returns-clause-idle
-returns-clause-idle c =
+pub returns-clause-spares : goal.returns-clause-spares
+returns-clause-spares c =
     let name = c.in_ok-rules.rules.appended.name in
     let callers = c.appenders_of-appenders.ensures in
     let above = below_max (c.args.tasks + c.args.count) in
     let after = fresh_drop name (λ k. c.args.tasks + k) c.args.count
     (c.appenders_of-appenders.result - c.args.tasks)
     (max 1 (c.args.tasks + c.args.count) - (c.args.tasks + c.args.count))
-    c.in_ok-counters.counters.items c.in_ok-idle.idle.items (omega arith)
-    c.in_ok-idle.ensures.tail
+    c.in_ok-counters.counters.items c.in_ok-spares.spares.items (omega arith)
+    c.in_ok-spares.ensures.tail
     (fresh_drop name (λ k. k) c.args.tasks c.appenders_of-appenders.result
     (c.appenders_of-appenders.result - c.args.tasks) c.in_ok-rules.task_appenders.items
     c.in_ok-counters.counters.items (omega arith) c.in_ok-counters.ensures.tail
@@ -45,4 +45,4 @@ returns-clause-idle c =
     c.in_ok-rules.ensures.count c.in_ok-rules.ensures.passes)) in
     fresh_as name (λ k. c.args.tasks + (c.args.count + k)) (λ k. c.args.tasks + c.args.count + k)
     (max 1 (c.args.tasks + c.args.count) - (c.args.tasks + c.args.count))
-    c.in_ok-idle.idle.items (λ k. omega arith) after
+    c.in_ok-spares.spares.items (λ k. omega arith) after

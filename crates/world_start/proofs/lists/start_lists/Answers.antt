@@ -5,23 +5,23 @@ use Rattle.ima_templates.specs.declared.entry.Entry.{Entry}
 use Rattle.policy_cell.specs.declared.cell.RuleEntry.{RuleEntry}
 use Rattle.policy_rules.specs.RuleValue.{RuleValue}
 use Rattle.world_close.specs.worlds.Tasks.{PassesValue}
-use Rattle.task_steps.specs.Parts.{frame_by}
-use Rattle.world_start.specs.Start.{IsFrameOf}
+use Rattle.task_steps.specs.Parts.{consts_by}
+use Rattle.world_start.specs.Start.{AreConstsOf}
 use Rattle.world_start.specs.Started.{AreFresh}
 use Rattle.world_start.proofs.Fresh.{unused}
-use Rattle.world_start.proofs.Framing.{are_idle, are_rules, are_signals, are_stations, begins, first_passes, is_book, is_frame}
+use Rattle.world_start.proofs.PartLemmas.{are_rules, are_signals, are_spares, are_stations, begins, first_passes, is_book, is_consts}
 use Rattle.world_start.proofs.lists.start_lists.Goals as goal
 
-pub returns-clause-frame : goal.returns-clause-frame
-returns-clause-frame c =
+pub returns-clause-consts : goal.returns-clause-consts
+returns-clause-consts c =
     let e = c.in_ok-cells.ensures in
     let stations = c.in_ok-stations.stations.items in
     let k = c.in_ok-cells.cells in
-    subst (λ (x : List ℕ × List RuleValue). IsFrameOf c.args.settings c.args.boot
+    subst (λ (x : List ℕ × List RuleValue). AreConstsOf c.args.settings c.args.boot
     c.args.inodes.items c.args.supers.items x.0 x.1 c.args.tasks
-    (frame_by c.args.settings stations c.args.supers.items k.book k.sems k.rules c.args.tasks))
+    (consts_by c.args.settings stations c.args.supers.items k.book k.sems k.rules c.args.tasks))
     (λ i. (c.new-seats.ensures.places i, e.base i))
-    (is_frame c.args.settings c.args.boot c.args.inodes.items c.args.supers.items c.args.tasks
+    (is_consts c.args.settings c.args.boot c.args.inodes.items c.args.supers.items c.args.tasks
     c.new-seats.result stations k.book k.sems k.rules c.in_ok-stations.ensures.stations e.book)
 
 pub returns-clause-begins : goal.returns-clause-begins
@@ -79,17 +79,17 @@ returns-clause-rules c =
     c.in_ok-stations.ensures.stations e.added e.numbers
     (subst (λ (m : ℕ). k.rules.appended.callers ≡ max 1 (c.args.tasks + m)) n e.appended)
 
-pub returns-clause-idle : goal.returns-clause-idle
-returns-clause-idle c =
+pub returns-clause-spares : goal.returns-clause-spares
+returns-clause-spares c =
     let e = c.in_ok-cells.ensures in
     let k = c.in_ok-cells.cells in
     let n : c.len-count.result ≡ length c.args.inodes.items =
     omega (arith, c.len-count.ensures, c.args.inodes.ok) in
-    are_idle c.args.settings c.args.boot c.args.inodes.items c.args.supers.items c.args.tasks
+    are_spares c.args.settings c.args.boot c.args.inodes.items c.args.supers.items c.args.tasks
     c.new-seats.result c.in_ok-stations.stations.items k.book k.sems k.rules
-    c.in_ok-stations.ensures.stations k.idle.items
+    c.in_ok-stations.ensures.stations k.spares.items
     (subst (λ (m : ℕ). AreFresh k.rules.appended.name (λ j. c.args.tasks + m + j)
-    (max 1 (c.args.tasks + m) - (c.args.tasks + m)) k.idle.items) n e.idle)
+    (max 1 (c.args.tasks + m) - (c.args.tasks + m)) k.spares.items) n e.spares)
 
 pub returns-clause-passes : goal.returns-clause-passes
 returns-clause-passes c =

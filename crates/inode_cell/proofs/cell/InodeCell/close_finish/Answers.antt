@@ -13,8 +13,8 @@ use Rattle.inode_events.specs.Says.{close_finish_told}
 use Rattle.inode_events.specs.Stage.{is_collecting, is_gone}
 use Rattle.inode_events.specs.State.{metadata}
 use Rattle.inode_events.specs.declared.told.Event.{Event}
-use Rattle.inode_state.specs.Known.{IsKnown}
-use Rattle.inode_state.specs.declared.known.Known.{Known}
+use Rattle.inode_state.specs.Facts.{AreFacts}
+use Rattle.inode_state.specs.declared.facts.Facts.{Facts}
 use Rattle.inode_state.specs.laws_of_journals.Own.{IsBy}
 use Rattle.inode_cell.proofs.Acting.{sums_from}
 use Rattle.inode_state.proofs.laws_of_journals.Stages.{stages}
@@ -53,7 +53,7 @@ step_with-requires-clause-changes c =
     c.in_ok-reserve.ensures.same c.requires.sums) in
     let st = c.state.ensures.kept in
     subst (λ (v : CellValue). IsChange v.inode (past v.list) c.args.who (deed.CloseFinish
-    c.args.file) told.LabelledDropped c.dropping-known.result (Some c.args.sums.0))
+    c.args.file) told.LabelledDropped c.dropping-facts.result (Some c.args.sums.0))
     c.self.view_is
     (record {
       may = m.may;
@@ -66,7 +66,7 @@ step_with-requires-clause-changes c =
           label_of_close k.inode p c.args.file c.args.sums (collecting k.inode p) (metadata p)
           (attributes k.inode p)
           ((stages k.inode p c.state.ensures.legal.1).0 c.args.file (ap is_collecting m.may)) sums;
-      known = subst (λ (kn : Known). IsKnown k.inode p e kn) (sym c.dropping-known.ensures)
+      facts = subst (λ (kn : Facts). AreFacts k.inode p e kn) (sym c.dropping-facts.ensures)
           (record {
             gone = c.how_at.ensures (ap is_gone m.may);
             writing = refl;

@@ -10,8 +10,8 @@ use Rattle.inode_events.specs.declared.deed.Deed.TheVariants as deed
 use Rattle.inode_events.specs.declared.deed.How.{How}
 use Rattle.inode_events.specs.declared.told.Told.TheVariants as told
 use Rattle.inode_state.specs.Collecting.{IsAsked}
-use Rattle.inode_state.specs.Known.{IsKnown}
-use Rattle.inode_state.specs.declared.known.Known.{Known}
+use Rattle.inode_state.specs.Facts.{AreFacts}
+use Rattle.inode_state.specs.declared.facts.Facts.{Facts}
 use Rattle.inode_cell.specs.Granting.{Collects}
 use Rattle.inode_cell.specs.Value.{CellValue}
 use Rattle.inode_cell.proofs.GrantLemmas.{finish_asks, finish_digest, finish_sums, finish_tells}
@@ -40,12 +40,12 @@ grant-requires-clause-grants c =
       leaves = λ g. ap (λ (o : Option Digest). fixed_by i g.labelled o (metadata p) (attributes i
           p)) (finish_digest file c.args.sums (collecting i p) open_is c.requires.sums);
       keeps = λ g. refl;
-      known = λ g. subst (λ (k : Known). IsKnown i p (record {
+      facts = λ g. subst (λ (k : Facts). AreFacts i p (record {
         who = c.args.who;
         deed = deed.Finish
             file;
         told = told.Grant g;
-      }) k) (sym c.granting-known.ensures) (record {
+      }) k) (sym c.granting-facts.ensures) (record {
         gone = refl;
         writing = c.counts_as-writing.ensures ∙ ap (λ (o : Option How). holds is_writer o) (how (ap
             is_gone c.requires.may.may));

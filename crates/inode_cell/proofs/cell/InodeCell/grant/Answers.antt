@@ -20,15 +20,15 @@ use Rattle.inode_cell.proofs.GrantLemmas.{mended_is, moved}
 use Rattle.inode_cell.proofs.Steps.{holds_on}
 use Rattle.inode_cell.proofs.cell.InodeCell.grant.Goals as goal
 
-pub enter-requires-clause-known : goal.enter-requires-clause-known
-enter-requires-clause-known c =
+pub enter-requires-clause-facts : goal.enter-requires-clause-facts
+enter-requires-clause-facts c =
     let g : IsGranting c.self-2.inside.kept.inode (past c.self-2.inside.kept.list) c.args.who
-    c.args.deed c.args.file c.args.asked.now c.args.sums.now c.args.known.now =
+    c.args.deed c.args.file c.args.asked.now c.args.sums.now c.args.facts.now =
     moved c.args.self.now c.reserve.new.self (value_of c.self-2.inside)
     c.in_ok-reserve.ensures.list c.in_ok-reserve.ensures.same c.self-2.view_is
     (λ (i : Inode) (p : List Event). IsGranting i p c.args.who c.args.deed c.args.file
-    c.args.asked.now c.args.sums.now c.args.known.now) c.requires.grants in
-    g.known (record {
+    c.args.asked.now c.args.sums.now c.args.facts.now) c.requires.grants in
+    g.facts (record {
       placed = c.placed_if_measured.result;
       verdict = c.verdict_for-verdict.result;
       admitted = c.admits-admitted.result;
@@ -61,9 +61,9 @@ invariant_of-self-2 c =
     let move = moved c.args.self.now c.reserve.new.self (value_of c.self-2.inside)
     c.in_ok-reserve.ensures.list c.in_ok-reserve.ensures.same c.self-2.view_is in
     let gr : IsGranting i0 p c.args.who c.args.deed file c.args.asked.now c.args.sums.now
-    c.args.known.now =
+    c.args.facts.now =
     move (λ (i : Inode) (q : List Event). IsGranting i q c.args.who c.args.deed file
-    c.args.asked.now c.args.sums.now c.args.known.now) c.requires.grants in
+    c.args.asked.now c.args.sums.now c.args.facts.now) c.requires.grants in
     let check : Check = last_check file p in
     let act : c.args.asked.now.action ≡ check.action = gr.check.action in
     let verdict_is : verdict ≡ verdict_for i0 check digest p =

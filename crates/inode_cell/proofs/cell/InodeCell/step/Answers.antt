@@ -8,9 +8,9 @@ use Rattle.inode_cell.proofs.cell.InodeCell.step.Goals as goal
 
 plain : (c : goal.After-enter-arg-2-1)
     → IsPlain c.self.inside.kept.inode (past c.self.inside.kept.list) c.args.who c.args.deed
-    c.args.told c.args.known.now
+    c.args.told c.args.facts.now
 plain c = subst (λ (v : CellValue). IsPlain v.inode (past v.list) c.args.who c.args.deed
-    c.args.told c.args.known.now) (sym c.self.view_is) c.requires.plain
+    c.args.told c.args.facts.now) (sym c.self.view_is) c.requires.plain
 
 pub enter-requires-clause-told : goal.enter-requires-clause-told
 enter-requires-clause-told c = placed_back c.self.inside.kept.inode (past c.self.inside.kept.list)
@@ -21,9 +21,9 @@ invariant_of-self c =
     let k = c.self.inside.kept in
     let p = past k.list in
     let h = c.self.invariant in
-    let x : IsPlain k.inode p c.args.who c.args.deed c.args.told c.args.known.now = subst (λ (v :
+    let x : IsPlain k.inode p c.args.who c.args.deed c.args.told c.args.facts.now = subst (λ (v :
     CellValue). IsPlain v.inode (past v.list) c.args.who c.args.deed c.args.told
-    c.args.known.now) (sym c.self.view_is) c.requires.plain in
+    c.args.facts.now) (sym c.self.view_is) c.requires.plain in
     rw c.enter.ensures.inode
     (holds_on k.inode k.list c.enter.new.self.list c.args.who c.args.deed c.args.told
     c.self.inside.content c.self.inside.content c.self.inside.attrs c.self.inside.attrs []

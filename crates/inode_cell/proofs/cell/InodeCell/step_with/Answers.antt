@@ -11,9 +11,9 @@ use Rattle.inode_cell.proofs.cell.InodeCell.step_with.Goals as goal
 
 change : (c : goal.After-enter-arg-2-1)
     → IsChange c.self.inside.kept.inode (past c.self.inside.kept.list) c.args.who c.args.deed
-    c.args.told c.args.known.now (option_copied c.args.digest)
+    c.args.told c.args.facts.now (option_copied c.args.digest)
 change c = subst (λ (v : CellValue). IsChange v.inode (past v.list) c.args.who c.args.deed
-    c.args.told c.args.known.now (option_copied c.args.digest)) (sym c.self.view_is)
+    c.args.told c.args.facts.now (option_copied c.args.digest)) (sym c.self.view_is)
     c.requires.changes
 
 pub enter-requires-clause-told : goal.enter-requires-clause-told
@@ -31,9 +31,9 @@ invariant_of-self-2 c =
     let h = c.self.invariant in
     let b = c.self.inside.book in
     let digest = option_copied c.args.digest in
-    let x : IsChange k.inode p c.args.who c.args.deed c.args.told c.args.known.now digest =
+    let x : IsChange k.inode p c.args.who c.args.deed c.args.told c.args.facts.now digest =
     subst (λ (v : CellValue). IsChange v.inode (past v.list) c.args.who c.args.deed c.args.told
-    c.args.known.now (option_copied c.args.digest)) (sym c.self.view_is) c.requires.changes in
+    c.args.facts.now (option_copied c.args.digest)) (sym c.self.view_is) c.requires.changes in
     let settings = c.settings.ensures in
     let meta = c.state.ensures.kept.meta in
     let attrs = h.attributes in

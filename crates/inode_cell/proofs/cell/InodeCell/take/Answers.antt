@@ -12,7 +12,7 @@ use Rattle.inode_events.specs.State.{metadata}
 use Rattle.inode_events.specs.declared.deed.Deed.TheVariants as deed
 use Rattle.inode_events.specs.declared.told.Event.{Event}
 use Rattle.inode_events.specs.declared.told.Told.TheVariants as told
-use Rattle.inode_state.specs.Known.{IsKnown}
+use Rattle.inode_state.specs.Facts.{AreFacts}
 use Rattle.inode_state.specs.laws_of_journals.Own.{IsBy}
 use Rattle.inode_cell.specs.Acts.{MayBy}
 use Rattle.inode_cell.specs.Granting.{sums_in_force}
@@ -63,13 +63,13 @@ step-requires-clause-plain c =
       told = take_begins i c.args.file (Added 0) p (collecting i p) (in_force i p) free none;
       content = refl;
       attributes = refl;
-      known = move (λ (i : Inode) (p : List Event). IsKnown i p (record {
+      facts = move (λ (i : Inode) (p : List Event). AreFacts i p (record {
         who = c.args.who;
         deed =
             deed.Take c.args.file;
         told = told.Begun;
-      }) c.taking-known.result)
-          (c.taking-known.ensures c.args.who told.Begun);
+      }) c.taking-facts.result)
+          (c.taking-facts.ensures c.args.who told.Begun);
     }
 
 pub grant-requires-clause-grants : goal.grant-requires-clause-grants
@@ -91,5 +91,5 @@ grant-requires-clause-grants c =
       leaves = λ g. ap (λ (o : Option Digest). fixed_by i g.labelled o (metadata p) (attributes i
           p)) (take_digest sums (in_force i p) some);
       keeps = λ g. refl;
-      known = λ g. c.taking-known.ensures c.args.who (told.Grant g);
+      facts = λ g. c.taking-facts.ensures c.args.who (told.Grant g);
     }

@@ -3,8 +3,8 @@ use Rattle.order_runs.proofs.play.Play.sight.Goals as goal
 
 pub returns : goal.returns
 returns g c =
-    sighted c.args.self.now c.args.turns.now c.in_ok-closing.closing c.in_ok-closing.crew.items
-    (record {
+    sighted c.args.self.now c.args.turns.now c.in_ok-closing.closing
+    c.in_ok-closing.closing_tasks.items (record {
       ended = c.in_ok-ended.ended;
       world = c.in_ok-world.world;
       tasks = c.in_ok-world.tasks;

@@ -16,10 +16,10 @@ lock_and_apply-requires-clause-passes g c =
     record {
       number = c.args.number;
       mind = c.args.mind.now;
-      gathered = c.args.gathered.now;
+      hash_state = c.args.hash_state.now;
       passes = c.args.passes.now;
     } in
-    λ κs out. passes_ready g.N.Name.frame t c.requires c.who-who.result c.who-who.ensures
+    λ κs out. passes_ready g.N.Name.consts t c.requires c.who-who.result c.who-who.ensures
 
 pub lock_and_apply-requires-clause-ready : goal.lock_and_apply-requires-clause-ready
 lock_and_apply-requires-clause-ready g c =
@@ -27,13 +27,13 @@ lock_and_apply-requires-clause-ready g c =
     record {
       number = c.args.number;
       mind = c.args.mind.now;
-      gathered = c.args.gathered.now;
+      hash_state = c.args.hash_state.now;
       passes = c.args.passes.now;
     } in
     let st = due_is (step_at t.mind.program t.mind.thought.mind) c.in-Some-Does.field-0
     (step.Does c.in-Some-Does.inode c.in-Some-Does.doing) c.in-Some-Does.field-0-is
     c.in-Some-Does.ensures in
-    λ κs out. does_ready g.N.Name.frame t c.requires c.who-who.result c.checked.result
+    λ κs out. does_ready g.N.Name.consts t c.requires c.who-who.result c.checked.result
     c.slot_due.result c.in-Some-Does.inode (deed_in c.in-Some-Does.doing) c.who-who.ensures
     c.checked.ensures
     c.slot_due.ensures st
@@ -44,10 +44,10 @@ lock_and_check-requires-clause-passes g c =
     record {
       number = c.args.number;
       mind = c.args.mind.now;
-      gathered = c.args.gathered.now;
+      hash_state = c.args.hash_state.now;
       passes = c.args.passes.now;
     } in
-    λ κs out. passes_ready g.N.Name.frame t c.requires c.who-who.result c.who-who.ensures
+    λ κs out. passes_ready g.N.Name.consts t c.requires c.who-who.result c.who-who.ensures
 
 pub lock_and_check-requires-clause-ready : goal.lock_and_check-requires-clause-ready
 lock_and_check-requires-clause-ready g c =
@@ -55,14 +55,14 @@ lock_and_check-requires-clause-ready g c =
     record {
       number = c.args.number;
       mind = c.args.mind.now;
-      gathered = c.args.gathered.now;
+      hash_state = c.args.hash_state.now;
       passes = c.args.passes.now;
     } in
     let st = due_is (step_at t.mind.program t.mind.thought.mind) c.in-Some-Checks.field-0
     (step.Checks c.in-Some-Checks.inode c.in-Some-Checks.file c.in-Some-Checks.func
     c.in-Some-Checks.mask) c.in-Some-Checks.field-0-is
     c.in-Some-Checks.ensures in
-    λ κs out. checks_ready g.N.Name.frame t c.requires c.who-who.result c.checked.result
+    λ κs out. checks_ready g.N.Name.consts t c.requires c.who-who.result c.checked.result
     c.slot_due.result c.in-Some-Checks.inode c.in-Some-Checks.file c.in-Some-Checks.func
     c.in-Some-Checks.mask c.who-who.ensures c.checked.ensures
     c.slot_due.ensures st
@@ -73,10 +73,10 @@ lock_and_signal-requires-after_bounds g c =
     record {
       number = c.args.number;
       mind = c.args.mind.now;
-      gathered = c.args.gathered.now;
+      hash_state = c.args.hash_state.now;
       passes = c.args.passes.now;
     } in
-    λ κs out. passes_ready g.N.Name.frame t c.requires c.who-who.result c.who-who.ensures
+    λ κs out. passes_ready g.N.Name.consts t c.requires c.who-who.result c.who-who.ensures
 
 pub lock_and_signal-requires-in-Some-Waits-after_bounds : goal.lock_and_signal-requires-in-Some-Waits-after_bounds
 lock_and_signal-requires-in-Some-Waits-after_bounds g c =
@@ -84,10 +84,10 @@ lock_and_signal-requires-in-Some-Waits-after_bounds g c =
     record {
       number = c.args.number;
       mind = c.args.mind.now;
-      gathered = c.args.gathered.now;
+      hash_state = c.args.hash_state.now;
       passes = c.args.passes.now;
     } in
-    λ κs out. passes_ready g.N.Name.frame t c.requires c.who-who.result c.who-who.ensures
+    λ κs out. passes_ready g.N.Name.consts t c.requires c.who-who.result c.who-who.ensures
 
 pub lock_and_append-requires-after_bounds : goal.lock_and_append-requires-after_bounds
 lock_and_append-requires-after_bounds g c =
@@ -95,10 +95,10 @@ lock_and_append-requires-after_bounds g c =
     record {
       number = c.args.number;
       mind = c.args.mind.now;
-      gathered = c.args.gathered.now;
+      hash_state = c.args.hash_state.now;
       passes = c.args.passes.now;
     } in
-    λ κs out. passes_ready g.N.Name.frame t c.requires c.who-who.result c.who-who.ensures
+    λ κs out. passes_ready g.N.Name.consts t c.requires c.who-who.result c.who-who.ensures
 
 pub returns-in-None : goal.returns-in-None
 returns-in-None g c =
@@ -106,10 +106,10 @@ returns-in-None g c =
     record {
       number = c.args.number;
       mind = c.args.mind.now;
-      gathered = c.args.gathered.now;
+      hash_state = c.args.hash_state.now;
       passes = c.args.passes.now;
     } in
-    over_met g.N.Name.frame t c.in-None.ensures
+    over_met g.N.Name.consts t c.in-None.ensures
 
 pub returns-in-Some-Nothing : goal.returns-in-Some-Nothing
 returns-in-Some-Nothing g c =
@@ -117,13 +117,13 @@ returns-in-Some-Nothing g c =
     record {
       number = c.args.number;
       mind = c.args.mind.now;
-      gathered = c.args.gathered.now;
+      hash_state = c.args.hash_state.now;
       passes = c.args.passes.now;
     } in
     let st = due_is (step_at t.mind.program t.mind.thought.mind) c.in-Some-Nothing.field-0
     step.Nothing c.in-Some-Nothing.field-0-is
     c.in-Some-Nothing.ensures in
-    nothing_met g.N.Name.frame t
+    nothing_met g.N.Name.consts t
     (record { place = 0; told = told.Nothing; action = None }) st refl refl refl
 
 pub returns-in-Some-Does : goal.returns-in-Some-Does
@@ -132,17 +132,17 @@ returns-in-Some-Does g c =
     record {
       number = c.args.number;
       mind = c.args.mind.now;
-      gathered = c.args.gathered.now;
+      hash_state = c.args.hash_state.now;
       passes = c.args.passes.now;
     } in
     let st = due_is (step_at t.mind.program t.mind.thought.mind) c.in-Some-Does.field-0
     (step.Does c.in-Some-Does.inode c.in-Some-Does.doing) c.in-Some-Does.field-0-is
     c.in-Some-Does.ensures in
-    does_met g.N.Name.frame t c.lock_and_apply.new.passes c.who-who.result c.who-who.ensures
+    does_met g.N.Name.consts t c.lock_and_apply.new.passes c.who-who.result c.who-who.ensures
     c.in-Some-Does.inode
     (deed_in c.in-Some-Does.doing)
-    c.lock_and_apply.new.gathered c.lock_and_apply.result c.reached_by.result st c.lock_and_apply.ensures
-    c.reached_by.ensures
+    c.lock_and_apply.new.hash_state c.lock_and_apply.result c.reached_by.result st
+    c.lock_and_apply.ensures c.reached_by.ensures
 
 pub returns-in-Some-Checks : goal.returns-in-Some-Checks
 returns-in-Some-Checks g c =
@@ -150,14 +150,14 @@ returns-in-Some-Checks g c =
     record {
       number = c.args.number;
       mind = c.args.mind.now;
-      gathered = c.args.gathered.now;
+      hash_state = c.args.hash_state.now;
       passes = c.args.passes.now;
     } in
     let st = due_is (step_at t.mind.program t.mind.thought.mind) c.in-Some-Checks.field-0
     (step.Checks c.in-Some-Checks.inode c.in-Some-Checks.file c.in-Some-Checks.func
     c.in-Some-Checks.mask) c.in-Some-Checks.field-0-is
     c.in-Some-Checks.ensures in
-    checks_met g.N.Name.frame t c.lock_and_check.new.passes c.who-who.result c.who-who.ensures
+    checks_met g.N.Name.consts t c.lock_and_check.new.passes c.who-who.result c.who-who.ensures
     c.in-Some-Checks.inode
     (record {
       file = c.in-Some-Checks.file;
@@ -174,13 +174,13 @@ returns-in-Some-Posts g c =
     record {
       number = c.args.number;
       mind = c.args.mind.now;
-      gathered = c.args.gathered.now;
+      hash_state = c.args.hash_state.now;
       passes = c.args.passes.now;
     } in
     let st = due_is (step_at t.mind.program t.mind.thought.mind) c.in-Some-Posts.field-0
     (step.Posts c.in-Some-Posts.sem) c.in-Some-Posts.field-0-is
     c.in-Some-Posts.ensures in
-    signals_met g.N.Name.frame t c.lock_and_signal.new.passes c.who-who.result c.who-who.ensures
+    signals_met g.N.Name.consts t c.lock_and_signal.new.passes c.who-who.result c.who-who.ensures
     (deed.Post c.in-Some-Posts.sem)
     c.lock_and_signal.result
     c.reached_by-in-Some-Posts.result st c.lock_and_signal.ensures
@@ -192,13 +192,13 @@ returns-in-Some-Waits g c =
     record {
       number = c.args.number;
       mind = c.args.mind.now;
-      gathered = c.args.gathered.now;
+      hash_state = c.args.hash_state.now;
       passes = c.args.passes.now;
     } in
     let st = due_is (step_at t.mind.program t.mind.thought.mind) c.in-Some-Waits.field-0
     (step.Waits c.in-Some-Waits.sem) c.in-Some-Waits.field-0-is
     c.in-Some-Waits.ensures in
-    signals_met g.N.Name.frame t
+    signals_met g.N.Name.consts t
     c.lock_and_signal-in-Some-Waits.new.passes c.who-who.result c.who-who.ensures
     (deed.Wait c.in-Some-Waits.sem) c.lock_and_signal-in-Some-Waits.result
     c.reached_by-in-Some-Waits.result st c.lock_and_signal-in-Some-Waits.ensures
@@ -210,13 +210,13 @@ returns-in-Ok g c =
     record {
       number = c.args.number;
       mind = c.args.mind.now;
-      gathered = c.args.gathered.now;
+      hash_state = c.args.hash_state.now;
       passes = c.args.passes.now;
     } in
     let st = due_is (step_at t.mind.program t.mind.thought.mind) c.in-Some-Appends.field-0
     (step.Appends c.in-Some-Appends.rule) c.in-Some-Appends.field-0-is
     c.in-Some-Appends.ensures in
-    appends_told g.N.Name.frame t
+    appends_told g.N.Name.consts t
     c.lock_and_append.new.passes c.who-who.result c.who-who.ensures c.in-Some-Appends.rule.now
     c.in-Ok.answered st
     c.in-Ok.ensures.appends
@@ -227,8 +227,8 @@ returns-in-Err g c =
     record {
       number = c.args.number;
       mind = c.args.mind.now;
-      gathered = c.args.gathered.now;
+      hash_state = c.args.hash_state.now;
       passes = c.args.passes.now;
     } in
-    appends_failed g.N.Name.frame t
+    appends_failed g.N.Name.consts t
     c.lock_and_append.new.passes c.who-who.result c.who-who.ensures c.in-Err.err c.in-Err.ensures.err

@@ -1,7 +1,7 @@
 -- A look at all lists of the world preserves the task and the world.
 use Rattle.std.proofs.Common.{◌∙◌, ap}
-use Rattle.task_core.proofs.Looks.{frame_looked, idle_looked, look_names, look_opens, looked_made, looked_still, parts_looked, state_looked}
-use Rattle.task_core.specs.WorldFields.{frame_in, world_of}
+use Rattle.task_core.proofs.Looks.{consts_looked, look_names, look_opens, looked_made, looked_still, parts_looked, spares_looked, state_looked}
+use Rattle.task_core.specs.WorldFields.{consts_in, world_of}
 use Rattle.world_model.specs.Tasks.{IsTask, PassesValue, Tasked}
 use Rattle.world_model.specs.World.{WorldValue}
 use Rattle.task_core.proofs.task.Task.look.Goals as goal
@@ -14,9 +14,9 @@ look_at_inodes-requires-clause-names c =
     let before : PassesValue =
     record { inodes = p.inodes.items; sems = p.sems; book = p.book; rules = p.rules } in
     let t : Tasked =
-    record { number = s.number; mind = s.mind; gathered = s.gathered; passes = before } in
-    let is : IsTask (frame_in w) t =
-    look_opens (world_of w) c.args.world.now c.args.self.now s.number s.mind s.gathered before
+    record { number = s.number; mind = s.mind; hash_state = s.hash_state; passes = before } in
+    let is : IsTask (consts_in w) t =
+    look_opens (world_of w) c.args.world.now c.args.self.now s.number s.mind s.hash_state before
     s.passes c.world.view_is c.self.view_is c.passes.view_is c.requires in
     look_names w.settings w.stations.items w.supers.items w.book w.sems w.rules w.tasks s.number
     before is.played.passes
@@ -30,12 +30,12 @@ invariant_of-world c =
           c.look-2.new.self w.sems c.look.new.self w.rules c.look-3.new.self w.tasks
           c.look_at_inodes.ensures.stations c.look-2.ensures.list c.look.ensures.list
           c.look-3.ensures.base c.look-3.ensures.list c.world.invariant.parts;
-      idle = idle_looked w.settings w.stations.items c.look_at_inodes.new.stations.items
+      spares = spares_looked w.settings w.stations.items c.look_at_inodes.new.stations.items
           w.supers.items w.book
           c.look-2.new.self w.sems c.look.new.self w.rules c.look-3.new.self w.tasks
           c.look_at_inodes.ensures.stations c.look-2.ensures.list c.look.ensures.list
-          c.look-3.ensures.base c.look-3.ensures.list w.idle.items
-          c.world.invariant.idle;
+          c.look-3.ensures.base c.look-3.ensures.list w.spares.items
+          c.world.invariant.spares;
     }
 
 pub returns-clause-made : goal.returns-clause-made
@@ -46,9 +46,9 @@ returns-clause-made c =
     let before : PassesValue =
     record { inodes = p.inodes.items; sems = p.sems; book = p.book; rules = p.rules } in
     let t : Tasked =
-    record { number = s.number; mind = s.mind; gathered = s.gathered; passes = before } in
-    let is : IsTask (frame_in w) t =
-    look_opens (world_of w) c.args.world.now c.args.self.now s.number s.mind s.gathered before
+    record { number = s.number; mind = s.mind; hash_state = s.hash_state; passes = before } in
+    let is : IsTask (consts_in w) t =
+    look_opens (world_of w) c.args.world.now c.args.self.now s.number s.mind s.hash_state before
     s.passes c.world.view_is c.self.view_is c.passes.view_is c.requires in
     let after : PassesValue =
     record {
@@ -96,9 +96,9 @@ returns-clause-still c =
     let before : PassesValue =
     record { inodes = p.inodes.items; sems = p.sems; book = p.book; rules = p.rules } in
     let t : Tasked =
-    record { number = s.number; mind = s.mind; gathered = s.gathered; passes = before } in
-    let is : IsTask (frame_in w) t =
-    look_opens (world_of w) c.args.world.now c.args.self.now s.number s.mind s.gathered before
+    record { number = s.number; mind = s.mind; hash_state = s.hash_state; passes = before } in
+    let is : IsTask (consts_in w) t =
+    look_opens (world_of w) c.args.world.now c.args.self.now s.number s.mind s.hash_state before
     s.passes c.world.view_is c.self.view_is c.passes.view_is c.requires in
     let after : PassesValue =
     record {
@@ -138,15 +138,15 @@ returns-clause-still c =
       pass = c.look-3.ensures.same_pass;
     })
 
-pub returns-clause-frame : goal.returns-clause-frame
-returns-clause-frame c =
+pub returns-clause-consts : goal.returns-clause-consts
+returns-clause-consts c =
     let w = c.world.inside in
-    frame_looked w.settings w.stations.items c.look_at_inodes.new.stations.items w.supers.items
+    consts_looked w.settings w.stations.items c.look_at_inodes.new.stations.items w.supers.items
     w.book
     c.look-2.new.self w.sems c.look.new.self w.rules c.look-3.new.self w.tasks
     c.look_at_inodes.ensures.stations c.look-2.ensures.list c.look.ensures.list
     c.look-3.ensures.base c.look-3.ensures.list
-    ∙ ap (λ (x : WorldValue). x.frame) c.world.view_is
+    ∙ ap (λ (x : WorldValue). x.consts) c.world.view_is
 
 pub returns-clause-state : goal.returns-clause-state
 returns-clause-state c =

@@ -2,7 +2,7 @@
 use Rattle.std.proofs.Common.{◌≡◌, ◌∙◌, ap, sym, subst}
 use Rattle.std.specs.Option.{option_copied}
 use Rattle.task_core.proofs.Turns.{blocked_still, left_still, moved_still, over_still, task_same}
-use Rattle.world_model.specs.Frame.{Frame, mode_in}
+use Rattle.world_model.specs.WorldConsts.{WorldConsts, mode_in}
 use Rattle.world_model.specs.Tasks.{IsTask, Tasked}
 use Rattle.world_model.specs.World.{WorldValue}
 use Rattle.task_core.proofs.task.Task.step.Goals as goal
@@ -11,16 +11,16 @@ use Rattle.task_core.proofs.task.Task.step.Goals.{in-Over, in-Blocked, in-Told+i
 pub returns-in_err-reserve-clause-still : goal.returns-in_err-reserve-clause-still
 returns-in_err-reserve-clause-still c =
     let t = c.self.inside in
-    task_same c.args.world.now.frame t.number t.mind c.reserve.new.self t.gathered t.passes
+    task_same c.args.world.now.consts t.number t.mind c.reserve.new.self t.hash_state t.passes
     c.reserve.ensures.same
-    (subst (λ (x : Tasked). IsTask c.args.world.now.frame x) (sym c.self.view_is) c.requires)
+    (subst (λ (x : Tasked). IsTask c.args.world.now.consts x) (sym c.self.view_is) c.requires)
 
 pub reach-requires : goal.reach-requires
 reach-requires c =
     let t = c.self.inside in
-    task_same c.args.world.now.frame t.number t.mind c.reserve.new.self t.gathered t.passes
+    task_same c.args.world.now.consts t.number t.mind c.reserve.new.self t.hash_state t.passes
     c.reserve.ensures.same
-    (subst (λ (x : Tasked). IsTask c.args.world.now.frame x) (sym c.self.view_is) c.requires)
+    (subst (λ (x : Tasked). IsTask c.args.world.now.consts x) (sym c.self.view_is) c.requires)
 
 pub returns-in_err-reach-clause-still : goal.returns-in_err-reach-clause-still
 returns-in_err-reach-clause-still c =
@@ -29,15 +29,15 @@ returns-in_err-reach-clause-still c =
     record {
       number = s.number;
       mind = c.reserve.new.self;
-      gathered = s.gathered;
+      hash_state = s.hash_state;
       passes = s.passes;
     } in
-    let is : IsTask c.args.world.now.frame t =
-    task_same c.args.world.now.frame s.number s.mind c.reserve.new.self s.gathered s.passes
+    let is : IsTask c.args.world.now.consts t =
+    task_same c.args.world.now.consts s.number s.mind c.reserve.new.self s.hash_state s.passes
     c.reserve.ensures.same
-    (subst (λ (x : Tasked). IsTask c.args.world.now.frame x) (sym c.self.view_is) c.requires) in
-    left_still c.args.world.now.frame c.reach.new.self.frame t c.args.world.now.state
-    c.reach.new.self.state c.reach.new.passes c.reach.new.gathered c.reach.ensures.frame is
+    (subst (λ (x : Tasked). IsTask c.args.world.now.consts x) (sym c.self.view_is) c.requires) in
+    left_still c.args.world.now.consts c.reach.new.self.consts t c.args.world.now.state
+    c.reach.new.self.state c.reach.new.passes c.reach.new.hash_state c.reach.ensures.consts is
     c.in_err-reach.ensures.reaches.plays
 
 pub returns-clause-still : goal.returns-clause-still
@@ -47,38 +47,38 @@ returns-clause-still c =
     record {
       number = s.number;
       mind = c.reserve.new.self;
-      gathered = s.gathered;
+      hash_state = s.hash_state;
       passes = s.passes;
     } in
-    let is : IsTask c.args.world.now.frame t =
-    task_same c.args.world.now.frame s.number s.mind c.reserve.new.self s.gathered s.passes
+    let is : IsTask c.args.world.now.consts t =
+    task_same c.args.world.now.consts s.number s.mind c.reserve.new.self s.hash_state s.passes
     c.reserve.ensures.same
-    (subst (λ (x : Tasked). IsTask c.args.world.now.frame x) (sym c.self.view_is) c.requires) in
-    let mode : c.world.inside.settings.mode ≡ mode_in c.args.world.now.frame =
-    ap (λ (x : WorldValue). x.frame.settings.mode) c.world.view_is
-    ∙ ap (λ (x : Frame). x.settings.mode) c.reach.ensures.frame in
+    (subst (λ (x : Tasked). IsTask c.args.world.now.consts x) (sym c.self.view_is) c.requires) in
+    let mode : c.world.inside.settings.mode ≡ mode_in c.args.world.now.consts =
+    ap (λ (x : WorldValue). x.consts.settings.mode) c.world.view_is
+    ∙ ap (λ (x : WorldConsts). x.settings.mode) c.reach.ensures.consts in
     elim c.match-branch-3.branch [
       | in-Over w ↦
-          over_still c.args.world.now.frame c.reach.new.self.frame t c.args.world.now.state
-          c.reach.new.self.state c.reach.new.passes c.reach.new.gathered c.reach.ensures.frame is
+          over_still c.args.world.now.consts c.reach.new.self.consts t c.args.world.now.state
+          c.reach.new.self.state c.reach.new.passes c.reach.new.hash_state c.reach.ensures.consts is
           c.reach.result c.in_ok-reach.field-0 c.match-branch-3.self
           c.in_ok-reach.was w.in-Over.is c.reach.ensures.reaches w.self-is
       | in-Blocked w ↦
-          blocked_still c.args.world.now.frame c.reach.new.self.frame t c.args.world.now.state
-          c.reach.new.self.state c.reach.new.passes c.reach.new.gathered c.reach.ensures.frame is
+          blocked_still c.args.world.now.consts c.reach.new.self.consts t c.args.world.now.state
+          c.reach.new.self.state c.reach.new.passes c.reach.new.hash_state c.reach.ensures.consts is
           c.reach.result c.in_ok-reach.field-0 c.match-branch-3.self
           c.in_ok-reach.was w.in-Blocked.is c.reach.ensures.reaches w.self-is
       | in-Told+in-Image-1 w ↦
-          moved_still c.args.world.now.frame c.reach.new.self.frame t c.args.world.now.state
-          c.reach.new.self.state c.reach.new.passes c.reach.new.gathered c.reach.ensures.frame is
+          moved_still c.args.world.now.consts c.reach.new.self.consts t c.args.world.now.state
+          c.reach.new.self.state c.reach.new.passes c.reach.new.hash_state c.reach.ensures.consts is
           c.reach.result c.in_ok-reach.field-0 c.match-branch-3.self w.in-Told.answered
           c.world.inside.settings.mode (option_copied w.as_ref.result) w.hear.new.self
           c.in_ok-reach.was w.in-Told.is c.reach.ensures.reaches w.self-is mode
           w.as_ref.ensures.value w.hear.ensures.program w.hear.ensures.thought
           w.hear.ensures.checked
       | in-Told+in-Held-1 w ↦
-          moved_still c.args.world.now.frame c.reach.new.self.frame t c.args.world.now.state
-          c.reach.new.self.state c.reach.new.passes c.reach.new.gathered c.reach.ensures.frame is
+          moved_still c.args.world.now.consts c.reach.new.self.consts t c.args.world.now.state
+          c.reach.new.self.state c.reach.new.passes c.reach.new.hash_state c.reach.ensures.consts is
           c.reach.result c.in_ok-reach.field-0 c.match-branch-3.self w.in-Told.answered
           c.world.inside.settings.mode (option_copied w.as_ref.result) w.hear.new.self
           c.in_ok-reach.was w.in-Told.is c.reach.ensures.reaches w.self-is mode

@@ -16,9 +16,9 @@ use Rattle.task_core.proofs.task.Task.step_shared.Goals.{in-Image-1, in-Held-1}
 pub returns-in_err-reserve-clause-still : goal.returns-in_err-reserve-clause-still
 returns-in_err-reserve-clause-still g c =
     let t = c.self.inside in
-    task_same g.N.Name.frame t.number t.mind c.reserve.new.self t.gathered t.passes
+    task_same g.N.Name.consts t.number t.mind c.reserve.new.self t.hash_state t.passes
     c.reserve.ensures.same
-    (subst (λ (x : Tasked). IsTask g.N.Name.frame x) (sym c.self.view_is) c.requires)
+    (subst (λ (x : Tasked). IsTask g.N.Name.consts x) (sym c.self.view_is) c.requires)
 
 pub returns-in_err-reserve-clause-err : goal.returns-in_err-reserve-clause-err
 returns-in_err-reserve-clause-err g c =
@@ -33,9 +33,9 @@ pub reach-requires-after_bounds : goal.reach-requires-after_bounds
 reach-requires-after_bounds g c =
     λ κs out.
     let t = c.self.inside in
-    task_same g.N.Name.frame t.number t.mind c.reserve.new.self t.gathered t.passes
+    task_same g.N.Name.consts t.number t.mind c.reserve.new.self t.hash_state t.passes
     c.reserve.ensures.same
-    (subst (λ (x : Tasked). IsTask g.N.Name.frame x) (sym c.self.view_is) c.requires)
+    (subst (λ (x : Tasked). IsTask g.N.Name.consts x) (sym c.self.view_is) c.requires)
 
 pub returns-in_err-reach-clause-still : goal.returns-in_err-reach-clause-still
 returns-in_err-reach-clause-still g c =
@@ -44,15 +44,15 @@ returns-in_err-reach-clause-still g c =
     record {
       number = s.number;
       mind = c.reserve.new.self;
-      gathered = s.gathered;
+      hash_state = s.hash_state;
       passes = s.passes;
     } in
-    let is : IsTask g.N.Name.frame t =
-    task_same g.N.Name.frame s.number s.mind c.reserve.new.self s.gathered s.passes
+    let is : IsTask g.N.Name.consts t =
+    task_same g.N.Name.consts s.number s.mind c.reserve.new.self s.hash_state s.passes
     c.reserve.ensures.same
-    (subst (λ (x : Tasked). IsTask g.N.Name.frame x) (sym c.self.view_is) c.requires) in
-    left_still g.N.Name.frame g.N.Name.frame t c.in_err-reach.ensures.old
-    (state_seen c.reach.new.passes) c.reach.new.passes c.reach.new.gathered refl is
+    (subst (λ (x : Tasked). IsTask g.N.Name.consts x) (sym c.self.view_is) c.requires) in
+    left_still g.N.Name.consts g.N.Name.consts t c.in_err-reach.ensures.old
+    (state_seen c.reach.new.passes) c.reach.new.passes c.reach.new.hash_state refl is
     c.in_err-reach.ensures.reaches.plays
 
 pub returns-in_err-reach-clause-err : goal.returns-in_err-reach-clause-err
@@ -71,16 +71,16 @@ returns-in-Over-clause-still g c =
     record {
       number = s.number;
       mind = c.reserve.new.self;
-      gathered = s.gathered;
+      hash_state = s.hash_state;
       passes = s.passes;
     } in
-    let is : IsTask g.N.Name.frame t =
-    task_same g.N.Name.frame s.number s.mind c.reserve.new.self s.gathered s.passes
+    let is : IsTask g.N.Name.consts t =
+    task_same g.N.Name.consts s.number s.mind c.reserve.new.self s.hash_state s.passes
     c.reserve.ensures.same
-    (subst (λ (x : Tasked). IsTask g.N.Name.frame x) (sym c.self.view_is) c.requires) in
-    over_still g.N.Name.frame g.N.Name.frame t c.reach.ensures.old
-    (state_seen c.reach.new.passes) c.reach.new.passes c.reach.new.gathered refl is
-    c.reach.result c.in_ok-reach.field-0 (task_left t c.reach.new.passes c.reach.new.gathered)
+    (subst (λ (x : Tasked). IsTask g.N.Name.consts x) (sym c.self.view_is) c.requires) in
+    over_still g.N.Name.consts g.N.Name.consts t c.reach.ensures.old
+    (state_seen c.reach.new.passes) c.reach.new.passes c.reach.new.hash_state refl is
+    c.reach.result c.in_ok-reach.field-0 (task_left t c.reach.new.passes c.reach.new.hash_state)
     c.in_ok-reach.was c.in-Over.is c.reach.ensures.reaches refl
 
 pub returns-in-Over-clause-go : goal.returns-in-Over-clause-go
@@ -90,7 +90,7 @@ returns-in-Over-clause-go g c =
     record {
       number = s.number;
       mind = c.reserve.new.self;
-      gathered = s.gathered;
+      hash_state = s.hash_state;
       passes = s.passes;
     } in
     let room : HasRoom c.args.self.now t =
@@ -102,9 +102,9 @@ returns-in-Over-clause-go g c =
           ∙ ap (λ (x : Tasked). x.mind.thought) c.self.view_is;
       passes = ap (λ (x : Tasked). x.passes) c.self.view_is;
     } in
-    let t2 : Tasked = task_left t c.reach.new.passes c.reach.new.gathered in
-    steps_with g.N.Name.frame c.args.self.now t t2 room turns.Done
-    (over_steps g.N.Name.frame t t2 c.reach.new.passes c.reach.new.gathered c.reach.result
+    let t2 : Tasked = task_left t c.reach.new.passes c.reach.new.hash_state in
+    steps_with g.N.Name.consts c.args.self.now t t2 room turns.Done
+    (over_steps g.N.Name.consts t t2 c.reach.new.passes c.reach.new.hash_state c.reach.result
     c.in_ok-reach.field-0 c.in_ok-reach.was c.in-Over.is c.reach.ensures refl)
 
 pub returns-in-Over-clause-idle : goal.returns-in-Over-clause-idle
@@ -114,7 +114,7 @@ returns-in-Over-clause-idle g c =
     record {
       number = s.number;
       mind = c.reserve.new.self;
-      gathered = s.gathered;
+      hash_state = s.hash_state;
       passes = s.passes;
     } in
     let room : HasRoom c.args.self.now t =
@@ -126,9 +126,9 @@ returns-in-Over-clause-idle g c =
           ∙ ap (λ (x : Tasked). x.mind.thought) c.self.view_is;
       passes = ap (λ (x : Tasked). x.passes) c.self.view_is;
     } in
-    let t2 : Tasked = task_left t c.reach.new.passes c.reach.new.gathered in
-    λ still. idle_adds g.N.Name.frame c.args.self.now t t2 room c.reach.new.passes
-    c.reach.new.gathered c.reach.result reached.Over
+    let t2 : Tasked = task_left t c.reach.new.passes c.reach.new.hash_state in
+    λ still. idle_adds g.N.Name.consts c.args.self.now t t2 room c.reach.new.passes
+    c.reach.new.hash_state c.reach.result reached.Over
     (c.in_ok-reach.was ∙ ap (λ (z : Reached). Ok z) c.in-Over.is) c.reach.ensures tt refl
 
 pub returns-in-Blocked-clause-still : goal.returns-in-Blocked-clause-still
@@ -138,16 +138,16 @@ returns-in-Blocked-clause-still g c =
     record {
       number = s.number;
       mind = c.reserve.new.self;
-      gathered = s.gathered;
+      hash_state = s.hash_state;
       passes = s.passes;
     } in
-    let is : IsTask g.N.Name.frame t =
-    task_same g.N.Name.frame s.number s.mind c.reserve.new.self s.gathered s.passes
+    let is : IsTask g.N.Name.consts t =
+    task_same g.N.Name.consts s.number s.mind c.reserve.new.self s.hash_state s.passes
     c.reserve.ensures.same
-    (subst (λ (x : Tasked). IsTask g.N.Name.frame x) (sym c.self.view_is) c.requires) in
-    blocked_still g.N.Name.frame g.N.Name.frame t c.reach.ensures.old
-    (state_seen c.reach.new.passes) c.reach.new.passes c.reach.new.gathered refl is
-    c.reach.result c.in_ok-reach.field-0 (task_left t c.reach.new.passes c.reach.new.gathered)
+    (subst (λ (x : Tasked). IsTask g.N.Name.consts x) (sym c.self.view_is) c.requires) in
+    blocked_still g.N.Name.consts g.N.Name.consts t c.reach.ensures.old
+    (state_seen c.reach.new.passes) c.reach.new.passes c.reach.new.hash_state refl is
+    c.reach.result c.in_ok-reach.field-0 (task_left t c.reach.new.passes c.reach.new.hash_state)
     c.in_ok-reach.was c.in-Blocked.is c.reach.ensures.reaches refl
 
 pub returns-in-Blocked-clause-go : goal.returns-in-Blocked-clause-go
@@ -157,7 +157,7 @@ returns-in-Blocked-clause-go g c =
     record {
       number = s.number;
       mind = c.reserve.new.self;
-      gathered = s.gathered;
+      hash_state = s.hash_state;
       passes = s.passes;
     } in
     let room : HasRoom c.args.self.now t =
@@ -169,9 +169,9 @@ returns-in-Blocked-clause-go g c =
           ∙ ap (λ (x : Tasked). x.mind.thought) c.self.view_is;
       passes = ap (λ (x : Tasked). x.passes) c.self.view_is;
     } in
-    let t2 : Tasked = task_left t c.reach.new.passes c.reach.new.gathered in
-    steps_with g.N.Name.frame c.args.self.now t t2 room turns.Blocked
-    (blocked_steps g.N.Name.frame t t2 c.reach.new.passes c.reach.new.gathered c.reach.result
+    let t2 : Tasked = task_left t c.reach.new.passes c.reach.new.hash_state in
+    steps_with g.N.Name.consts c.args.self.now t t2 room turns.Blocked
+    (blocked_steps g.N.Name.consts t t2 c.reach.new.passes c.reach.new.hash_state c.reach.result
     c.in_ok-reach.field-0 c.in_ok-reach.was c.in-Blocked.is c.reach.ensures refl)
 
 pub returns-in-Blocked-clause-blocked : goal.returns-in-Blocked-clause-blocked
@@ -181,7 +181,7 @@ returns-in-Blocked-clause-blocked g c =
     record {
       number = s.number;
       mind = c.reserve.new.self;
-      gathered = s.gathered;
+      hash_state = s.hash_state;
       passes = s.passes;
     } in
     let room : HasRoom c.args.self.now t =
@@ -193,8 +193,8 @@ returns-in-Blocked-clause-blocked g c =
           ∙ ap (λ (x : Tasked). x.mind.thought) c.self.view_is;
       passes = ap (λ (x : Tasked). x.passes) c.self.view_is;
     } in
-    λ b. blocked_with g.N.Name.frame c.args.self.now t
-    (task_left t c.reach.new.passes c.reach.new.gathered) room c.reach.new.passes
+    λ b. blocked_with g.N.Name.consts c.args.self.now t
+    (task_left t c.reach.new.passes c.reach.new.hash_state) room c.reach.new.passes
     (c.reach.ensures.blocked
     (c.in_ok-reach.was ∙ ap (λ (z : Reached). Ok z) c.in-Blocked.is))
 
@@ -205,7 +205,7 @@ returns-in-Blocked-clause-idle g c =
     record {
       number = s.number;
       mind = c.reserve.new.self;
-      gathered = s.gathered;
+      hash_state = s.hash_state;
       passes = s.passes;
     } in
     let room : HasRoom c.args.self.now t =
@@ -217,9 +217,9 @@ returns-in-Blocked-clause-idle g c =
           ∙ ap (λ (x : Tasked). x.mind.thought) c.self.view_is;
       passes = ap (λ (x : Tasked). x.passes) c.self.view_is;
     } in
-    let t2 : Tasked = task_left t c.reach.new.passes c.reach.new.gathered in
-    λ still. idle_adds g.N.Name.frame c.args.self.now t t2 room c.reach.new.passes
-    c.reach.new.gathered c.reach.result reached.Blocked
+    let t2 : Tasked = task_left t c.reach.new.passes c.reach.new.hash_state in
+    λ still. idle_adds g.N.Name.consts c.args.self.now t t2 room c.reach.new.passes
+    c.reach.new.hash_state c.reach.result reached.Blocked
     (c.in_ok-reach.was ∙ ap (λ (z : Reached). Ok z) c.in-Blocked.is) c.reach.ensures tt refl
 
 pub returns-in-Told-clause-still : goal.returns-in-Told-clause-still
@@ -229,18 +229,18 @@ returns-in-Told-clause-still g c =
     record {
       number = s.number;
       mind = c.reserve.new.self;
-      gathered = s.gathered;
+      hash_state = s.hash_state;
       passes = s.passes;
     } in
-    let is : IsTask g.N.Name.frame t =
-    task_same g.N.Name.frame s.number s.mind c.reserve.new.self s.gathered s.passes
+    let is : IsTask g.N.Name.consts t =
+    task_same g.N.Name.consts s.number s.mind c.reserve.new.self s.hash_state s.passes
     c.reserve.ensures.same
-    (subst (λ (x : Tasked). IsTask g.N.Name.frame x) (sym c.self.view_is) c.requires) in
+    (subst (λ (x : Tasked). IsTask g.N.Name.consts x) (sym c.self.view_is) c.requires) in
     let same : c.match-answered.self
-    ≡ task_after t c.hear.new.self c.reach.new.passes c.reach.new.gathered =
+    ≡ task_after t c.hear.new.self c.reach.new.passes c.reach.new.hash_state =
     elim c.match-answered.branch [ in-Image-1 w ↦ w.self-is | in-Held-1 w ↦ w.self-is ] in
-    moved_still g.N.Name.frame g.N.Name.frame t c.reach.ensures.old
-    (state_seen c.reach.new.passes) c.reach.new.passes c.reach.new.gathered refl is
+    moved_still g.N.Name.consts g.N.Name.consts t c.reach.ensures.old
+    (state_seen c.reach.new.passes) c.reach.new.passes c.reach.new.hash_state refl is
     c.reach.result c.in_ok-reach.field-0 c.match-answered.self c.in-Told.answered c.mode.result
     (option_copied c.as_ref.result) c.hear.new.self
     c.in_ok-reach.was c.in-Told.is c.reach.ensures.reaches same c.mode.ensures
@@ -253,7 +253,7 @@ returns-in-Told-clause-go g c =
     record {
       number = s.number;
       mind = c.reserve.new.self;
-      gathered = s.gathered;
+      hash_state = s.hash_state;
       passes = s.passes;
     } in
     let room : HasRoom c.args.self.now t =
@@ -266,11 +266,11 @@ returns-in-Told-clause-go g c =
       passes = ap (λ (x : Tasked). x.passes) c.self.view_is;
     } in
     let same : c.match-answered.self
-    ≡ task_after t c.hear.new.self c.reach.new.passes c.reach.new.gathered =
+    ≡ task_after t c.hear.new.self c.reach.new.passes c.reach.new.hash_state =
     elim c.match-answered.branch [ in-Image-1 w ↦ w.self-is | in-Held-1 w ↦ w.self-is ] in
-    steps_with g.N.Name.frame c.args.self.now t c.match-answered.self room turns.Moved
-    (moved_steps g.N.Name.frame t c.match-answered.self c.reach.new.passes
-    c.reach.new.gathered c.reach.result c.in_ok-reach.field-0 c.in-Told.answered c.mode.result
+    steps_with g.N.Name.consts c.args.self.now t c.match-answered.self room turns.Moved
+    (moved_steps g.N.Name.consts t c.match-answered.self c.reach.new.passes
+    c.reach.new.hash_state c.reach.result c.in_ok-reach.field-0 c.in-Told.answered c.mode.result
     (option_copied c.as_ref.result)
     c.hear.new.self c.in_ok-reach.was c.in-Told.is c.reach.ensures same c.mode.ensures
     c.as_ref.ensures.value c.hear.ensures.thought)

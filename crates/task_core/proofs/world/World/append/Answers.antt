@@ -8,9 +8,9 @@ pub invariant_of-self : goal.invariant_of-self
 invariant_of-self c =
     let w = c.self.inside in
     let x = with_same_rules w.settings w.stations.items w.supers.items w.book w.sems w.rules w.tasks
-    w.idle.items c.self.invariant.parts c.self.invariant.idle c.append.new.self
+    w.spares.items c.self.invariant.parts c.self.invariant.spares c.append.new.self
     c.append.ensures.kept.0 c.in_err-append.ensures.err.0 in
-    record { parts = x.0; idle = x.1 }
+    record { parts = x.0; spares = x.1 }
 
 pub invariant_of-self-2 : goal.invariant_of-self-2
 invariant_of-self-2 c =
@@ -18,7 +18,7 @@ invariant_of-self-2 c =
     let number : c.passes.inside.rules.number ≡ c.args.who.task =
     ap (λ (q : PassesValue). q.rules.number) c.passes.view_is ∙ c.requires.rules.1 in
     let x = with_rule w.settings w.stations.items w.supers.items w.book w.sems w.rules w.tasks
-    w.idle.items c.self.invariant.parts c.self.invariant.idle c.append.new.self
+    w.spares.items c.self.invariant.parts c.self.invariant.spares c.append.new.self
     (record { who = c.args.who; rule = c.args.rule.now }) c.passes.inside.rules.number
     c.append.ensures.kept c.in_ok-append.ensures.list c.in_ok-append.ensures.numbers number in
-    record { parts = x.0; idle = x.1 }
+    record { parts = x.0; spares = x.1 }

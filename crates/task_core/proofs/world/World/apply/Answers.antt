@@ -1,6 +1,6 @@
 -- A deed on the inode of the number, which is there.
 use Rattle.std.proofs.Common.{◌<◌, length, refl, arith}
-use Rattle.task_core.proofs.Opens.{done_event, done_idle, done_parts, done_said, done_view, open_book, open_found, open_ready}
+use Rattle.task_core.proofs.Opens.{done_event, done_parts, done_said, done_spares, done_view, open_book, open_found, open_ready}
 use Rattle.task_mind.specs.Steps.{deed_in}
 use Rattle.world_locks.proofs.about_acts.Calls.{does_count}
 use Rattle.world_locks.specs.acts.Acting.{told_in}
@@ -49,7 +49,7 @@ apply_at-requires-clause-ready c =
     c.args.passes.now c.passes.view_is c.args.actor.now.who.task c.requires.passes c.args.i
     c.index_mut.result.now c.index_mut-2.result.now within c.index_mut.ensures.value
     c.index_mut-2.ensures.value
-    c.args.gathered.now c.args.actor.now.action c.args.actor.now.slot (deed_in c.args.doing)
+    c.args.hash_state.now c.args.actor.now.action c.args.actor.now.slot (deed_in c.args.doing)
     c.requires.ready
 
 pub invariant_of-self : goal.invariant_of-self
@@ -64,21 +64,23 @@ invariant_of-self c =
           c.index_mut.result.now c.index_mut-2.result.now within c.index_mut.ensures.value
           c.index_mut-2.ensures.value
           c.apply_at.new.station c.apply_at.new.book c.apply_at.new.pass c.apply_at.new.listed
-          c.args.actor.now.who (deed_in c.args.doing) c.args.gathered.now c.apply_at.new.gathered
+          c.args.actor.now.who (deed_in c.args.doing) c.args.hash_state.now
+          c.apply_at.new.hash_state
           (told_in c.apply_at.result) (does_count _ c.args.doing) refl c.apply_at.ensures.did;
-      idle = done_idle w.settings w.stations.items w.supers.items w.book w.sems w.rules w.tasks
+      spares = done_spares w.settings w.stations.items w.supers.items w.book w.sems w.rules w.tasks
           c.self.invariant.parts c.args.self.now c.self.view_is q.inodes.items q.sems q.book q.rules
           c.args.passes.now c.passes.view_is c.args.actor.now.who.task c.requires.passes c.args.i
           c.index_mut.result.now c.index_mut-2.result.now within c.index_mut.ensures.value
           c.index_mut-2.ensures.value
           c.apply_at.new.station c.apply_at.new.book c.apply_at.new.pass c.apply_at.new.listed
-          c.args.actor.now.who (deed_in c.args.doing) c.args.gathered.now c.apply_at.new.gathered
+          c.args.actor.now.who (deed_in c.args.doing) c.args.hash_state.now
+          c.apply_at.new.hash_state
           (told_in c.apply_at.result) (does_count _ c.args.doing) refl c.apply_at.ensures.did
-          w.idle.items c.self.invariant.idle;
+          w.spares.items c.self.invariant.spares;
     }
 
-pub returns-clause-frame : goal.returns-clause-frame
-returns-clause-frame c =
+pub returns-clause-consts : goal.returns-clause-consts
+returns-clause-consts c =
     let w = c.self.inside in
     let q = c.passes.inside in
     let within : c.args.i < length w.stations.items = omega (arith, c.len.ensures) in
@@ -88,7 +90,7 @@ returns-clause-frame c =
     c.index_mut.result.now c.index_mut-2.result.now within c.index_mut.ensures.value
     c.index_mut-2.ensures.value
     c.apply_at.new.station c.apply_at.new.book c.apply_at.new.pass c.apply_at.new.listed
-    c.args.actor.now.who (deed_in c.args.doing) c.args.gathered.now c.apply_at.new.gathered
+    c.args.actor.now.who (deed_in c.args.doing) c.args.hash_state.now c.apply_at.new.hash_state
     (told_in c.apply_at.result) (does_count _ c.args.doing) refl c.apply_at.ensures.did
 
 pub returns-clause-event : goal.returns-clause-event
@@ -102,7 +104,7 @@ returns-clause-event c =
     c.index_mut.result.now c.index_mut-2.result.now within c.index_mut.ensures.value
     c.index_mut-2.ensures.value
     c.apply_at.new.station c.apply_at.new.book c.apply_at.new.pass c.apply_at.new.listed
-    c.args.actor.now.who (deed_in c.args.doing) c.args.gathered.now c.apply_at.new.gathered
+    c.args.actor.now.who (deed_in c.args.doing) c.args.hash_state.now c.apply_at.new.hash_state
     (told_in c.apply_at.result) (does_count _ c.args.doing) refl c.apply_at.ensures.did
 
 pub returns-clause-told : goal.returns-clause-told

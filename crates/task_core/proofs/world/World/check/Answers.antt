@@ -3,7 +3,7 @@ use Rattle.std.proofs.Common.{◌<◌, length, refl, arith}
 use Rattle.inode_events.specs.Checks.{no_action}
 use Rattle.inode_events.specs.declared.deed.Deed.TheVariants as deed
 use Rattle.task_core.proofs.Checks.{RulesLooked}
-use Rattle.task_core.proofs.Inspects.{inspect_book, inspect_found, inspect_may, inspect_place, inspect_rules, inspected_check, inspected_frame, inspected_idle, inspected_parts}
+use Rattle.task_core.proofs.Inspects.{inspect_book, inspect_found, inspect_may, inspect_place, inspect_rules, inspected_check, inspected_consts, inspected_parts, inspected_spares}
 use Rattle.task_core.proofs.world.World.check.Goals as goal
 
 pub look-requires : goal.look-requires
@@ -123,7 +123,8 @@ invariant_of-self c =
           c.args.actor.now.who refl c.args.actor.now.cred.now c.args.asked c.index-place.result.now
           c.rules.result.now c.check_at.result c.rules.ensures c.index-place.ensures
           c.check_at.ensures.did c.check_at.ensures.told;
-      idle = inspected_idle w.settings w.stations.items w.supers.items w.book w.sems w.rules w.tasks
+      spares = inspected_spares w.settings w.stations.items w.supers.items w.book w.sems
+          w.rules w.tasks
           c.self.invariant.parts c.args.i s.cell s.rules s.place c.index_mut-station.result.now
           c.station.view_is within c.index_mut-station.ensures.value
           c.args.self.now c.self.view_is p.inodes.items p.sems p.book p.rules c.args.passes.now
@@ -134,11 +135,11 @@ invariant_of-self c =
           c.args.actor.now.who refl c.args.actor.now.cred.now c.args.asked c.index-place.result.now
           c.rules.result.now c.check_at.result c.rules.ensures c.index-place.ensures
           c.check_at.ensures.did c.check_at.ensures.told
-          w.idle.items c.self.invariant.idle;
+          w.spares.items c.self.invariant.spares;
     }
 
-pub returns-clause-frame : goal.returns-clause-frame
-returns-clause-frame c =
+pub returns-clause-consts : goal.returns-clause-consts
+returns-clause-consts c =
     let w = c.self.inside in
     let s = c.station.inside in
     let within : c.args.i < length w.stations.items = omega (arith, c.len.ensures) in
@@ -167,7 +168,7 @@ returns-clause-frame c =
         pass = c.look-2.ensures.same_pass;
       };
     } in
-    inspected_frame w.settings w.stations.items w.supers.items w.book w.sems w.rules w.tasks
+    inspected_consts w.settings w.stations.items w.supers.items w.book w.sems w.rules w.tasks
     c.self.invariant.parts c.args.i s.cell s.rules s.place c.index_mut-station.result.now
     c.station.view_is within c.index_mut-station.ensures.value
     c.args.self.now c.self.view_is p.inodes.items p.sems p.book p.rules c.args.passes.now

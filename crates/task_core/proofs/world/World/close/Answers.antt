@@ -3,7 +3,7 @@ use Rattle.std.proofs.Common.{◌<◌, ◌∙◌, ℕ, length, refl, subst, sym,
 use Rattle.std.specs.Prelude.{List}
 use Rattle.std.proofs.lemmas.List.{length-map}
 use Rattle.run_model.specs.Turns.{State}
-use Rattle.world_model.specs.Frame.{Frame}
+use Rattle.world_model.specs.WorldConsts.{WorldConsts}
 use Rattle.world_model.specs.Runs.{AreTasks, program_of}
 use Rattle.task_mind.specs.Value.{TaskValue}
 use Rattle.world_model.specs.WorldRuns.{moment_in, scene_in}
@@ -13,7 +13,7 @@ use Rattle.world_close.proofs.Ending.{ended_same}
 use Rattle.world_close.specs.Settled.{mind_of}
 use Rattle.task_core.proofs.world.World.close.Goals as goal
 
--- the requires, in order: frame, count, tasks, made
+-- the requires, in order: consts, count, tasks, made
 pub end-requires : goal.end-requires
 end-requires c =
     let e = c.look_all.ensures in (
@@ -23,11 +23,11 @@ end-requires c =
             ∙ ap (λ (l : List TaskValue). length l) e.same
             ∙ length-map c.args.tasks.items mind_of
             ∙ c.requires.count
-            ∙ ap (λ (f : Frame). f.tasks) (sym e.frame),
+            ∙ ap (λ (f : WorldConsts). f.tasks) (sym e.consts),
         (
-          subst (λ (f : Frame). AreTasks f c.look_all.new.tasks.items) (sym e.frame) e.tasks,
-          subst (λ (x : Frame × State). HaveMade x.0 x.1 c.look_all.new.tasks.items)
-              (λ i. (sym e.frame i, sym e.state i)) e.made,
+          subst (λ (f : WorldConsts). AreTasks f c.look_all.new.tasks.items) (sym e.consts) e.tasks,
+          subst (λ (x : WorldConsts × State). HaveMade x.0 x.1 c.look_all.new.tasks.items)
+              (λ i. (sym e.consts i, sym e.state i)) e.made,
         ),
       ),
     )
@@ -35,23 +35,23 @@ end-requires c =
 pub returns-clause-ended : goal.returns-clause-ended
 returns-clause-ended c =
     let e = c.look_all.ensures in
-    (ended_same c.args.self.frame c.look_all.new.world.frame c.args.self.state
+    (ended_same c.args.self.consts c.look_all.new.world.consts c.args.self.state
     c.look_all.new.world.state c.args.tasks.items c.look_all.new.tasks.items c.in_ok-ended.ended
-    e.frame e.state e.same c.in_ok-ended.ensures).ended
+    e.consts e.state e.same c.in_ok-ended.ensures).ended
 
 pub returns-clause-finished : goal.returns-clause-finished
 returns-clause-finished c =
     let e = c.look_all.ensures in
-    (ended_same c.args.self.frame c.look_all.new.world.frame c.args.self.state
+    (ended_same c.args.self.consts c.look_all.new.world.consts c.args.self.state
     c.look_all.new.world.state c.args.tasks.items c.look_all.new.tasks.items c.in_ok-ended.ended
-    e.frame e.state e.same c.in_ok-ended.ensures).finished
+    e.consts e.state e.same c.in_ok-ended.ensures).finished
 
 pub returns-clause-ends : goal.returns-clause-ends
 returns-clause-ends c =
     let e = c.look_all.ensures in
-    let f = (ended_same c.args.self.frame c.look_all.new.world.frame c.args.self.state
+    let f = (ended_same c.args.self.consts c.look_all.new.world.consts c.args.self.state
     c.look_all.new.world.state c.args.tasks.items c.look_all.new.tasks.items c.in_ok-ended.ended
-    e.frame e.state e.same c.in_ok-ended.ensures).finished in
+    e.consts e.state e.same c.in_ok-ended.ensures).finished in
     λ still. finished_ends (scene_in c.args.self c.args.tasks.items)
     (moment_in c.args.self c.args.tasks.items) f
     (λ n below. still n
@@ -60,8 +60,8 @@ returns-clause-ends c =
 pub returns-clause-shown : goal.returns-clause-shown
 returns-clause-shown c =
     let e = c.look_all.ensures in
-    let f = (ended_same c.args.self.frame c.look_all.new.world.frame c.args.self.state
+    let f = (ended_same c.args.self.consts c.look_all.new.world.consts c.args.self.state
     c.look_all.new.world.state c.args.tasks.items c.look_all.new.tasks.items c.in_ok-ended.ended
-    e.frame e.state e.same c.in_ok-ended.ensures).finished in
+    e.consts e.state e.same c.in_ok-ended.ensures).finished in
     λ ending through. finished_shown (scene_in c.args.self c.args.tasks.items)
     (moment_in c.args.self c.args.tasks.items) ending f through

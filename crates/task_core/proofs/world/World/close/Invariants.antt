@@ -1,4 +1,4 @@
 use Rattle.task_core.proofs.world.World.close.Given as goal
 
 abbrev pub ghost-end : goal.ghost-end
-ghost-end a = a.world.frame
+ghost-end a = a.world.consts

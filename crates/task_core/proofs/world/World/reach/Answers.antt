@@ -16,13 +16,13 @@ apply-requires-clause-ready c =
     record {
       number = c.args.number;
       mind = c.args.mind.now;
-      gathered = c.args.gathered.now;
+      hash_state = c.args.hash_state.now;
       passes = c.args.passes.now;
     } in
     let st = due_is (step_at t.mind.program t.mind.thought.mind) c.in-Some-Does.field-0
     (step.Does c.in-Some-Does.inode c.in-Some-Does.doing) c.in-Some-Does.field-0-is
     c.in-Some-Does.ensures in
-    does_ready c.args.self.now.frame t c.requires c.who-who.result c.checked.result
+    does_ready c.args.self.now.consts t c.requires c.who-who.result c.checked.result
     c.slot_due.result c.in-Some-Does.inode (deed_in c.in-Some-Does.doing) c.who-who.ensures
     c.checked.ensures
     c.slot_due.ensures st
@@ -33,13 +33,13 @@ check-requires-clause-ready c =
     record {
       number = c.args.number;
       mind = c.args.mind.now;
-      gathered = c.args.gathered.now;
+      hash_state = c.args.hash_state.now;
       passes = c.args.passes.now;
     } in
     let st = due_is (step_at t.mind.program t.mind.thought.mind) c.in-Some-Checks.field-0
     (step.Checks c.in-Some-Checks.inode c.in-Some-Checks.file c.in-Some-Checks.func
     c.in-Some-Checks.mask) c.in-Some-Checks.field-0-is c.in-Some-Checks.ensures in
-    checks_ready c.args.self.now.frame t c.requires c.who-who.result c.checked.result
+    checks_ready c.args.self.now.consts t c.requires c.who-who.result c.checked.result
     c.slot_due.result c.in-Some-Checks.inode c.in-Some-Checks.file c.in-Some-Checks.func
     c.in-Some-Checks.mask c.who-who.ensures c.checked.ensures
     c.slot_due.ensures st
@@ -50,12 +50,12 @@ returns-in-Some-Nothing-clause-reaches c =
     record {
       number = c.args.number;
       mind = c.args.mind.now;
-      gathered = c.args.gathered.now;
+      hash_state = c.args.hash_state.now;
       passes = c.args.passes.now;
     } in
     let st = due_is (step_at t.mind.program t.mind.thought.mind) c.in-Some-Nothing.field-0
     step.Nothing c.in-Some-Nothing.field-0-is c.in-Some-Nothing.ensures in
-    nothing_tells c.args.self.now.frame t c.args.self.now.state
+    nothing_tells c.args.self.now.consts t c.args.self.now.state
     (record { place = 0; told = told.Nothing; action = None }) st refl refl refl
 
 pub returns-in-Some-Does-clause-reaches : goal.returns-in-Some-Does-clause-reaches
@@ -64,17 +64,17 @@ returns-in-Some-Does-clause-reaches c =
     record {
       number = c.args.number;
       mind = c.args.mind.now;
-      gathered = c.args.gathered.now;
+      hash_state = c.args.hash_state.now;
       passes = c.args.passes.now;
     } in
     let st = due_is (step_at t.mind.program t.mind.thought.mind) c.in-Some-Does.field-0
     (step.Does c.in-Some-Does.inode c.in-Some-Does.doing) c.in-Some-Does.field-0-is
     c.in-Some-Does.ensures in
-    does_turn c.args.self.now.frame t c.args.self.now.state c.apply.new.self.state
+    does_turn c.args.self.now.consts t c.args.self.now.state c.apply.new.self.state
     c.apply.new.passes c.who-who.result c.who-who.ensures c.in-Some-Does.inode
     (deed_in c.in-Some-Does.doing)
-    c.apply.new.gathered c.apply.result c.reached_by.result st c.apply.ensures.event c.apply.ensures.told
-    c.reached_by.ensures
+    c.apply.new.hash_state c.apply.result c.reached_by.result st c.apply.ensures.event
+    c.apply.ensures.told c.reached_by.ensures
 
 pub returns-in-Some-Checks-clause-reaches : goal.returns-in-Some-Checks-clause-reaches
 returns-in-Some-Checks-clause-reaches c =
@@ -82,13 +82,13 @@ returns-in-Some-Checks-clause-reaches c =
     record {
       number = c.args.number;
       mind = c.args.mind.now;
-      gathered = c.args.gathered.now;
+      hash_state = c.args.hash_state.now;
       passes = c.args.passes.now;
     } in
     let st = due_is (step_at t.mind.program t.mind.thought.mind) c.in-Some-Checks.field-0
     (step.Checks c.in-Some-Checks.inode c.in-Some-Checks.file c.in-Some-Checks.func
     c.in-Some-Checks.mask) c.in-Some-Checks.field-0-is c.in-Some-Checks.ensures in
-    check_turn c.args.self.now.frame t c.args.self.now.state c.check.new.self.state
+    check_turn c.args.self.now.consts t c.args.self.now.state c.check.new.self.state
     c.check.new.passes c.who-who.result c.who-who.ensures c.in-Some-Checks.inode
     (record {
       file = c.in-Some-Checks.file;
@@ -105,12 +105,12 @@ returns-in-Some-Posts-clause-reaches c =
     record {
       number = c.args.number;
       mind = c.args.mind.now;
-      gathered = c.args.gathered.now;
+      hash_state = c.args.hash_state.now;
       passes = c.args.passes.now;
     } in
     let st = due_is (step_at t.mind.program t.mind.thought.mind) c.in-Some-Posts.field-0
     (step.Posts c.in-Some-Posts.sem) c.in-Some-Posts.field-0-is c.in-Some-Posts.ensures in
-    signals_turn c.args.self.now.frame t c.args.self.now.state c.signal.new.self.state
+    signals_turn c.args.self.now.consts t c.args.self.now.state c.signal.new.self.state
     c.signal.new.passes c.who-who.result c.who-who.ensures (deed.Post c.in-Some-Posts.sem)
     c.signal.result
     c.reached_by-in-Some-Posts.result st c.signal.ensures.signals c.signal.ensures.told
@@ -122,12 +122,12 @@ returns-in-Some-Waits-clause-reaches c =
     record {
       number = c.args.number;
       mind = c.args.mind.now;
-      gathered = c.args.gathered.now;
+      hash_state = c.args.hash_state.now;
       passes = c.args.passes.now;
     } in
     let st = due_is (step_at t.mind.program t.mind.thought.mind) c.in-Some-Waits.field-0
     (step.Waits c.in-Some-Waits.sem) c.in-Some-Waits.field-0-is c.in-Some-Waits.ensures in
-    signals_turn c.args.self.now.frame t c.args.self.now.state
+    signals_turn c.args.self.now.consts t c.args.self.now.state
     c.signal-in-Some-Waits.new.self.state
     c.signal-in-Some-Waits.new.passes c.who-who.result c.who-who.ensures
     (deed.Wait c.in-Some-Waits.sem) c.signal-in-Some-Waits.result
@@ -140,12 +140,12 @@ returns-in-Ok-clause-reaches c =
     record {
       number = c.args.number;
       mind = c.args.mind.now;
-      gathered = c.args.gathered.now;
+      hash_state = c.args.hash_state.now;
       passes = c.args.passes.now;
     } in
     let st = due_is (step_at t.mind.program t.mind.thought.mind) c.in-Some-Appends.field-0
     (step.Appends c.in-Some-Appends.rule) c.in-Some-Appends.field-0-is c.in-Some-Appends.ensures in
-    appends_turn c.args.self.now.frame t c.args.self.now.state c.append.new.self.state
+    appends_turn c.args.self.now.consts t c.args.self.now.state c.append.new.self.state
     c.append.new.passes c.who-who.result c.who-who.ensures c.in-Some-Appends.rule.now
     c.in-Ok.answered st
     c.in-Ok.ensures.appends c.in-Ok.ensures.told
@@ -156,8 +156,8 @@ returns-in-Err-clause-reaches c =
     record {
       number = c.args.number;
       mind = c.args.mind.now;
-      gathered = c.args.gathered.now;
+      hash_state = c.args.hash_state.now;
       passes = c.args.passes.now;
     } in
-    appends_fail c.args.self.now.frame t c.args.self.now.state c.append.new.self.state
+    appends_fail c.args.self.now.consts t c.args.self.now.state c.append.new.self.state
     c.append.new.passes c.who-who.result c.who-who.ensures c.in-Err.ensures.err

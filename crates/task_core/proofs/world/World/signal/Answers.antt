@@ -7,15 +7,15 @@ pub invariant_of-self : goal.invariant_of-self
 invariant_of-self c =
     let w = c.self.inside in
     let x = with_sems w.settings w.stations.items w.supers.items w.book w.sems w.rules w.tasks
-    w.idle.items c.self.invariant.parts c.self.invariant.idle c.reserve.new.self
+    w.spares.items c.self.invariant.parts c.self.invariant.spares c.reserve.new.self
     c.reserve.ensures.list.name c.reserve.ensures.list.callers in
-    record { parts = x.0; idle = x.1 }
+    record { parts = x.0; spares = x.1 }
 
 pub invariant_of-self-2 : goal.invariant_of-self-2
 invariant_of-self-2 c =
     let w = c.self.inside in
     let x = with_sems w.settings w.stations.items w.supers.items w.book w.sems w.rules w.tasks
-    w.idle.items c.self.invariant.parts c.self.invariant.idle c.signal.new.self
+    w.spares.items c.self.invariant.parts c.self.invariant.spares c.signal.new.self
     (c.signal.ensures.kept.0 ∙ c.reserve.ensures.list.name)
     (c.signal.ensures.kept.1 ∙ c.reserve.ensures.list.callers) in
-    record { parts = x.0; idle = x.1 }
+    record { parts = x.0; spares = x.1 }

@@ -1,4 +1,4 @@
--- The parts belong to the frame.
+-- The parts belong to the constants.
 use Rattle.task_core.proofs.world.World.start.Goals as goal
 
 pub invariant_of-world : goal.invariant_of-world
@@ -11,5 +11,5 @@ invariant_of-world c =
         sems = e.sems;
         rules = e.rules;
       };
-      idle = e.idle;
+      spares = e.spares;
     }

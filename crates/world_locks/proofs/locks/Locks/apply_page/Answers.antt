@@ -6,7 +6,7 @@ use Rattle.task_mind.specs.Steps.{deed_in}
 use Rattle.world_locks.proofs.Opening.{deed_opened, look_of, may_of, pass_of, ready_of}
 use Rattle.world_locks.proofs.Paging.{page_failed, page_met}
 use Rattle.world_locks.proofs.Stations.{its_ready}
-use Rattle.world_locks.specs.Kept.{NumberedStation}
+use Rattle.world_locks.specs.Tagged.{NumberedStation}
 use Rattle.world_locks.proofs.locks.Locks.apply_page.Goals as goal
 
 pub take_page-requires-clause-pass : goal.take_page-requires-clause-pass
@@ -15,7 +15,7 @@ take_page-requires-clause-pass g c κs within =
     let taken : c.deref_mut.result.now.number ≡ c.args.i =
     ap (λ (s : NumberedStation). s.number) c.deref_mut.ensures.value ∙ c.take.ensures.number in
     pass_of p.inodes.items p.sems p.book p.rules c.args.passes.now c.passes.view_is
-    c.args.actor.now.who g.N.Name.frame c.requires.passes c.args.i
+    c.args.actor.now.who g.N.Name.consts c.requires.passes c.args.i
     c.deref_mut.result.now.number taken c.requires.below c.index_mut.result.now
     c.index_mut.ensures.value
 
@@ -25,11 +25,11 @@ take_page-requires-clause-may g c κs within =
     let taken : c.deref_mut.result.now.number ≡ c.args.i =
     ap (λ (s : NumberedStation). s.number) c.deref_mut.ensures.value ∙ c.take.ensures.number in
     look_of p.inodes.items p.sems p.book p.rules c.args.passes.now c.passes.view_is
-    c.args.actor.now.who g.N.Name.frame c.requires.passes c.args.i
+    c.args.actor.now.who g.N.Name.consts c.requires.passes c.args.i
     c.deref_mut.result.now.number taken c.requires.below c.index_mut.result.now
     c.index_mut.ensures.value (deed_in c.args.doing)
-    (may_of g.N.Name.frame c.args.i c.args.passes.now.inodes c.args.actor.now.who.task
-    c.args.gathered.now c.args.actor.now.action c.args.actor.now.slot (deed_in c.args.doing)
+    (may_of g.N.Name.consts c.args.i c.args.passes.now.inodes c.args.actor.now.who.task
+    c.args.hash_state.now c.args.actor.now.action c.args.actor.now.slot (deed_in c.args.doing)
     c.requires.ready)
 
 pub returns-in_err-taken : goal.returns-in_err-taken
@@ -39,12 +39,12 @@ returns-in_err-taken g c =
     let taken : c.deref_mut.result.now.number ≡ c.args.i =
     ap (λ (s : NumberedStation). s.number) c.deref_mut.ensures.value ∙ c.take.ensures.number in
     rw (e.1) (deed_opened p.inodes.items p.sems p.book p.rules c.args.passes.now c.passes.view_is
-    c.args.actor.now.who g.N.Name.frame c.requires.passes c.args.i
+    c.args.actor.now.who g.N.Name.consts c.requires.passes c.args.i
     c.deref_mut.result.now.number taken c.requires.below c.index_mut.result.now
     c.index_mut.ensures.value
-    c.take_page.new.pass p.book (deed_in c.args.doing) c.args.gathered.now c.args.gathered.now
-    (Err e.0) (page_failed g.N.Name.frame c.deref_mut.result.now.number c.index_mut.result.now
-    c.take_page.new.pass p.book c.args.actor.now.who (deed_in c.args.doing) c.args.gathered.now _
+    c.take_page.new.pass p.book (deed_in c.args.doing) c.args.hash_state.now c.args.hash_state.now
+    (Err e.0) (page_failed g.N.Name.consts c.deref_mut.result.now.number c.index_mut.result.now
+    c.take_page.new.pass p.book c.args.actor.now.who (deed_in c.args.doing) c.args.hash_state.now _
     e.0 c.in_err-taken.ensures.met))
 
 pub returns : goal.returns
@@ -54,30 +54,30 @@ returns g c =
     ap (λ (s : NumberedStation). s.number) c.deref_mut.ensures.value ∙ c.take.ensures.number in
     let m = c.in_ok-taken.ensures.met in
     let its = pass_of p.inodes.items p.sems p.book p.rules c.args.passes.now c.passes.view_is
-    c.args.actor.now.who g.N.Name.frame c.requires.passes c.args.i
+    c.args.actor.now.who g.N.Name.consts c.requires.passes c.args.i
     c.deref_mut.result.now.number taken c.requires.below c.index_mut.result.now
     c.index_mut.ensures.value in
     let by = ready_of p.inodes.items p.sems p.book p.rules c.args.passes.now c.passes.view_is
-    c.args.actor.now.who g.N.Name.frame c.requires.passes c.args.i
+    c.args.actor.now.who g.N.Name.consts c.requires.passes c.args.i
     c.deref_mut.result.now.number taken c.requires.below c.index_mut.result.now
-    c.index_mut.ensures.value c.args.gathered.now
+    c.index_mut.ensures.value c.args.hash_state.now
     c.args.actor.now.action c.args.actor.now.slot (deed_in c.args.doing) c.requires.ready in
-    let ready = its_ready g.N.Name.frame c.deref_mut.result.now.number m.station m.alone.is
-    c.args.actor.now.who.task c.index_mut.result.now c.args.gathered.now c.args.actor.now.action
+    let ready = its_ready g.N.Name.consts c.deref_mut.result.now.number m.station m.alone.is
+    c.args.actor.now.who.task c.index_mut.result.now c.args.hash_state.now c.args.actor.now.action
     c.args.actor.now.slot (deed_in c.args.doing) its by m.alone.looked in
     deed_opened p.inodes.items p.sems p.book p.rules c.args.passes.now c.passes.view_is
-    c.args.actor.now.who g.N.Name.frame c.requires.passes c.args.i
+    c.args.actor.now.who g.N.Name.consts c.requires.passes c.args.i
     c.deref_mut.result.now.number taken c.requires.below c.index_mut.result.now
     c.index_mut.ensures.value
-    c.take_page.new.pass p.book (deed_in c.args.doing) c.args.gathered.now
-    c.gather.new.gathered
+    c.take_page.new.pass p.book (deed_in c.args.doing) c.args.hash_state.now
+    c.gather.new.hash_state
     (Ok (Some (record {
       place = c.in_ok-taken.taken.place;
       told = c.piece_told-told.result;
       action =
           None;
     })))
-    (page_met g.N.Name.frame c.deref_mut.result.now.number c.index_mut.result.now
-    c.take_page.new.pass p.book c.args.actor.now.who (deed_in c.args.doing) c.args.gathered.now
-    c.gather.new.gathered c.in_ok-taken.taken c.requires.page m ready.hashes c.gather.ensures
+    (page_met g.N.Name.consts c.deref_mut.result.now.number c.index_mut.result.now
+    c.take_page.new.pass p.book c.args.actor.now.who (deed_in c.args.doing) c.args.hash_state.now
+    c.gather.new.hash_state c.in_ok-taken.taken c.requires.page m ready.hashes c.gather.ensures
     c.piece_told-told.result c.piece_told-told.ensures)

@@ -3,7 +3,7 @@
 use Rattle.std.proofs.Common.{◌≡◌, ◌∙◌, ap}
 use Rattle.task_mind.specs.Steps.{deed_in}
 use Rattle.world_locks.proofs.Opening.{deed_opened, pass_of, ready_of}
-use Rattle.world_locks.specs.Kept.{NumberedStation}
+use Rattle.world_locks.specs.Tagged.{NumberedStation}
 use Rattle.world_locks.proofs.locks.Locks.apply_without_list.Goals as goal
 
 pub apply_alone-requires-clause-pass : goal.apply_alone-requires-clause-pass
@@ -12,7 +12,7 @@ apply_alone-requires-clause-pass g c κs within =
     let taken : c.deref_mut.result.now.number ≡ c.args.i =
     ap (λ (s : NumberedStation). s.number) c.deref_mut.ensures.value ∙ c.take.ensures.number in
     pass_of p.inodes.items p.sems p.book p.rules c.args.passes.now c.passes.view_is
-    c.args.actor.now.who g.N.Name.frame c.requires.passes c.args.i
+    c.args.actor.now.who g.N.Name.consts c.requires.passes c.args.i
     c.deref_mut.result.now.number taken c.requires.below c.index_mut.result.now
     c.index_mut.ensures.value
 
@@ -22,10 +22,10 @@ apply_alone-requires-clause-ready g c κs within =
     let taken : c.deref_mut.result.now.number ≡ c.args.i =
     ap (λ (s : NumberedStation). s.number) c.deref_mut.ensures.value ∙ c.take.ensures.number in
     ready_of p.inodes.items p.sems p.book p.rules c.args.passes.now c.passes.view_is
-    c.args.actor.now.who g.N.Name.frame c.requires.passes c.args.i
+    c.args.actor.now.who g.N.Name.consts c.requires.passes c.args.i
     c.deref_mut.result.now.number taken c.requires.below c.index_mut.result.now
     c.index_mut.ensures.value
-    c.args.gathered.now c.args.actor.now.action c.args.actor.now.slot (deed_in c.args.doing)
+    c.args.hash_state.now c.args.actor.now.action c.args.actor.now.slot (deed_in c.args.doing)
     c.requires.ready
 
 pub returns : goal.returns
@@ -34,8 +34,8 @@ returns g c =
     let taken : c.deref_mut.result.now.number ≡ c.args.i =
     ap (λ (s : NumberedStation). s.number) c.deref_mut.ensures.value ∙ c.take.ensures.number in
     deed_opened p.inodes.items p.sems p.book p.rules c.args.passes.now c.passes.view_is
-    c.args.actor.now.who g.N.Name.frame c.requires.passes c.args.i
+    c.args.actor.now.who g.N.Name.consts c.requires.passes c.args.i
     c.deref_mut.result.now.number taken c.requires.below c.index_mut.result.now
     c.index_mut.ensures.value
-    c.apply_alone.new.pass p.book (deed_in c.args.doing) c.args.gathered.now
-    c.apply_alone.new.gathered c.apply_alone.result (c.apply_alone.ensures.met p.book)
+    c.apply_alone.new.pass p.book (deed_in c.args.doing) c.args.hash_state.now
+    c.apply_alone.new.hash_state c.apply_alone.result (c.apply_alone.ensures.met p.book)

@@ -1,17 +1,17 @@
 -- The lists that are taken out of their locks have the same constants.
-use Rattle.world_locks.proofs.Locking.{frame_kept}
+use Rattle.world_locks.proofs.Locking.{consts_kept}
 use Rattle.world_locks.proofs.locks.Locks.into_parts.Goals as goal
 
-pub returns-clause-frame : goal.returns-clause-frame
-returns-clause-frame g c =
+pub returns-clause-consts : goal.returns-clause-consts
+returns-clause-consts g c =
     let own = c.args.self in
-    frame_kept g.N.Name.frame
+    consts_kept g.N.Name.consts
     (record {
       stations = c.in_ok-stations.stations;
       book = c.open-book.result;
       sems = c.open-sems.result;
       rules = c.open-rules.result.0;
-      idle = c.open-rules.result.1;
+      spares = c.open-rules.result.1;
       supers = own.supers;
       settings = own.settings;
       tasks = own.tasks;
@@ -22,7 +22,7 @@ returns-clause-frame g c =
       book = c.open-book.ensures.kept;
       sems = c.open-sems.ensures.kept;
       rules = c.open-rules.ensures.kept.rules;
-      idle = c.open-rules.ensures.kept.idle;
+      spares = c.open-rules.ensures.kept.spares;
       supers = own.supers_are;
       settings = own.settings_are;
       tasks = own.tasks_are;

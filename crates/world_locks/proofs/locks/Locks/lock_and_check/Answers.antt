@@ -4,15 +4,15 @@ use Rattle.inode_events.specs.Checks.{no_action}
 use Rattle.inode_events.specs.declared.deed.Deed.TheVariants as deed
 use Rattle.world_locks.proofs.Meeting.{unasked_met}
 use Rattle.world_locks.proofs.Opening.{ask_opened, pass_of, ready_of}
-use Rattle.world_locks.specs.Kept.{NumberedStation}
+use Rattle.world_locks.specs.Tagged.{NumberedStation}
 use Rattle.world_locks.proofs.locks.Locks.lock_and_check.Goals as goal
 
 pub returns-then-i-len : goal.returns-then-i-len
 returns-then-i-len g c =
     let own = c.args.self.now in
-    let none : length g.N.Name.frame.sites ≤ c.args.i =
+    let none : length g.N.Name.consts.sites ≤ c.args.i =
     omega (arith, c.len.ensures, own.stations.ok.0, own.count) in
-    unasked_met g.N.Name.frame c.args.i c.args.passes.now c.args.actor.now.who
+    unasked_met g.N.Name.consts c.args.i c.args.passes.now c.args.actor.now.who
     c.args.actor.now.cred.now c.args.asked none
 
 pub check-requires-clause-pass : goal.check-requires-clause-pass
@@ -21,10 +21,10 @@ check-requires-clause-pass g c κs within =
     let p = c.passes.inside in
     let taken : c.deref_mut.result.now.number ≡ c.args.i =
     ap (λ (s : NumberedStation). s.number) c.deref_mut.ensures.value ∙ c.take-inode.ensures.number in
-    let below : c.args.i < length g.N.Name.frame.sites =
+    let below : c.args.i < length g.N.Name.consts.sites =
     omega (arith, c.len.ensures, own.stations.ok.0, own.count) in
     pass_of p.inodes.items p.sems p.book p.rules c.args.passes.now c.passes.view_is
-    c.args.actor.now.who g.N.Name.frame c.requires.passes c.args.i
+    c.args.actor.now.who g.N.Name.consts c.requires.passes c.args.i
     c.deref_mut.result.now.number taken below c.index_mut.result.now c.index_mut.ensures.value
 
 pub check-requires-clause-ready : goal.check-requires-clause-ready
@@ -33,10 +33,10 @@ check-requires-clause-ready g c κs within =
     let p = c.passes.inside in
     let taken : c.deref_mut.result.now.number ≡ c.args.i =
     ap (λ (s : NumberedStation). s.number) c.deref_mut.ensures.value ∙ c.take-inode.ensures.number in
-    let below : c.args.i < length g.N.Name.frame.sites =
+    let below : c.args.i < length g.N.Name.consts.sites =
     omega (arith, c.len.ensures, own.stations.ok.0, own.count) in
     λ h. ready_of p.inodes.items p.sems p.book p.rules c.args.passes.now c.passes.view_is
-    c.args.actor.now.who g.N.Name.frame c.requires.passes c.args.i
+    c.args.actor.now.who g.N.Name.consts c.requires.passes c.args.i
     c.deref_mut.result.now.number taken below c.index_mut.result.now c.index_mut.ensures.value
     h c.args.actor.now.action c.args.actor.now.slot
     (deed.Check c.args.asked.file c.args.asked.func no_action 0) (c.requires.ready h)
@@ -47,10 +47,10 @@ returns g c =
     let p = c.passes.inside in
     let taken : c.deref_mut.result.now.number ≡ c.args.i =
     ap (λ (s : NumberedStation). s.number) c.deref_mut.ensures.value ∙ c.take-inode.ensures.number in
-    let below : c.args.i < length g.N.Name.frame.sites =
+    let below : c.args.i < length g.N.Name.consts.sites =
     omega (arith, c.len.ensures, own.stations.ok.0, own.count) in
     ask_opened p.inodes.items p.sems p.book p.rules c.args.passes.now c.passes.view_is
-    c.args.actor.now.who g.N.Name.frame c.requires.passes c.args.i
+    c.args.actor.now.who g.N.Name.consts c.requires.passes c.args.i
     c.deref_mut.result.now.number taken below c.index_mut.result.now c.index_mut.ensures.value
     c.check.new.pass c.check.new.listed c.check.new.own c.args.actor.now.cred.now c.args.asked
     c.check.result c.check.ensures.met

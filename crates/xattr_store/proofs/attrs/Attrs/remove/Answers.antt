@@ -2,7 +2,7 @@ use Rattle.std.proofs.Common.{◌≡◌, ◌<◌, ◌∙◌, length, get_or, ref
 use Rattle.std.specs.Prelude.{Some}
 use Rattle.xattr_store.specs.Attrs.{value}
 use Rattle.xattr_store.specs.Places.{IsFoundAt, IsGapAt}
-use Rattle.xattr_store.proofs.Kept.{attrs-without}
+use Rattle.xattr_store.proofs.OrderKept.{attrs-without}
 use Rattle.xattr_store.proofs.Search.{found_below, value_found, value_gap, without_found}
 use Rattle.xattr_store.proofs.attrs.Attrs.remove.Goals as goal
 

@@ -1,4 +1,4 @@
-use Rattle.xattr_store.proofs.Kept.{attrs-put}
+use Rattle.xattr_store.proofs.OrderKept.{attrs-put}
 use Rattle.xattr_store.proofs.attrs.Attrs.set.Goals as goal
 
 pub invariant_of-self-2 : goal.invariant_of-self-2

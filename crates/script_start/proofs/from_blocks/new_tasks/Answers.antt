@@ -1,0 +1,17 @@
+use Rattle.std.proofs.Common.{◌≡◌, ◌∷◌, ℕ, length, subst, rules}
+use Rattle.script_start.specs.NewTasks.{IsNew}
+use Rattle.script_start.proofs.NewTaskLemmas.{one_more_made}
+use Rattle.script_start.proofs.from_blocks.new_tasks.Goals as goal
+
+pub loop-block-preserved : goal.loop-block-preserved
+loop-block-preserved c =
+    let rest : c.loop-block.block-iterator.rest.items
+    ≡ c.in-Some.block ∷ c.next.new.self.rest.items = search rules in
+    let number : c.len-number.result ≡ length c.loop-block.tasks.items = search rules in
+    one_more_made c.args.blocks.items c.loop-block.block-iterator.rest.items
+    c.next.new.self.rest.items c.args.passes.items c.loop-block.left.items
+    c.pop_front.new.self.items c.loop-block.tasks.items c.push.new.self.items
+    c.in-Some.block c.in-Some-pop_front.own c.in_ok-task_of.field-0 c.loop-block.invariant rest
+    c.in-Some-pop_front.ensures.items c.in_ok-push.ensures.items
+    (subst (λ (n : ℕ). IsNew n c.in-Some.block c.in-Some-pop_front.own c.in_ok-task_of.field-0)
+    number c.in_ok-task_of.ensures)

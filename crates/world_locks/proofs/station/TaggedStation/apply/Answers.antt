@@ -1,0 +1,66 @@
+-- A deed on the inode under its lock.
+use Rattle.task_mind.specs.Steps.{deed_in}
+use Rattle.task_steps.proofs.Calls.{does_count}
+use Rattle.task_steps.specs.Acting.{told_in}
+use Rattle.world_locks.proofs.Lists.{book_still}
+use Rattle.world_locks.proofs.Stations.{its_pass, its_ready, station_at, station_still}
+use Rattle.world_locks.proofs.station.TaggedStation.apply.Goals as goal
+
+pub apply_at-requires-clause-name : goal.apply_at-requires-clause-name
+apply_at-requires-clause-name g c =
+    let w = c.self.inside in
+    let v = c.args.self.now in
+    let is = station_at g.N.Name.consts w.number w.station v c.self.view_is c.self.invariant in
+    (its_pass g.N.Name.consts v.number w.station is c.args.actor.now.who.task c.args.pass.now
+    c.requires.pass).0
+
+pub apply_at-requires-clause-number : goal.apply_at-requires-clause-number
+apply_at-requires-clause-number g c =
+    let w = c.self.inside in
+    let v = c.args.self.now in
+    let is = station_at g.N.Name.consts w.number w.station v c.self.view_is c.self.invariant in
+    (its_pass g.N.Name.consts v.number w.station is c.args.actor.now.who.task c.args.pass.now
+    c.requires.pass).1
+
+pub apply_at-requires-clause-ready : goal.apply_at-requires-clause-ready
+apply_at-requires-clause-ready g c =
+    let w = c.self.inside in
+    let v = c.args.self.now in
+    let is = station_at g.N.Name.consts w.number w.station v c.self.view_is c.self.invariant in
+    its_ready g.N.Name.consts v.number w.station is c.args.actor.now.who.task c.args.pass.now
+    c.args.hash_state.now c.args.actor.now.action c.args.actor.now.slot (deed_in c.args.doing)
+    c.requires.pass c.requires.ready
+
+pub invariant_of-self : goal.invariant_of-self
+invariant_of-self g c =
+    let w = c.self.inside in
+    station_still g.N.Name.consts w.number w.station c.self.invariant c.apply_at.new.station
+    c.book.inside.book c.apply_at.new.book
+    c.args.pass.now c.apply_at.new.pass c.args.listed.now c.apply_at.new.listed c.args.actor.now.who
+    (deed_in c.args.doing) c.args.hash_state.now c.apply_at.new.hash_state
+    (told_in c.apply_at.result) c.apply_at.ensures.did
+    (does_count _ c.args.doing)
+
+pub invariant_of-book : goal.invariant_of-book
+invariant_of-book g c =
+    book_still g.N.Name.consts c.self.inside.station c.apply_at.new.station c.book.inside.book
+    c.apply_at.new.book
+    c.args.pass.now c.apply_at.new.pass c.args.listed.now c.apply_at.new.listed c.args.actor.now.who
+    (deed_in c.args.doing) c.args.hash_state.now c.apply_at.new.hash_state
+    (told_in c.apply_at.result) c.apply_at.ensures.did c.book.invariant
+
+pub returns-clause-met : goal.returns-clause-met
+returns-clause-met g c =
+    let w = c.self.inside in
+    let v = c.args.self.now in
+    let is = station_at g.N.Name.consts w.number w.station v c.self.view_is c.self.invariant in
+    record {
+      station = w.station;
+      station2 = c.apply_at.new.station;
+      book = c.book.inside.book;
+      book2 = c.apply_at.new.book;
+      is = is;
+      did = c.apply_at.ensures.did;
+      told = c.apply_at.ensures.told;
+      place = c.apply_at.ensures.place;
+    }

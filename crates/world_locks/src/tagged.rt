@@ -1,0 +1,199 @@
+//! The measurement list, the semaphores and the rules, each with the invariant that it belongs to
+//! the constants that `N` names.
+
+ghost use Rattle.std.specs.Prelude.{◌≡◌, ◌+◌, IfOk, OnErr};
+ghost use Rattle.world_close.specs.worlds.World.{AreSignalsOf, IsBookOf};
+ghost use Rattle.world_locks.specs.Tagged.{AppendMet, RulesKeep, SignalMet, signalled_at};
+
+use crate::name::Name;
+use grow_list::Pass;
+use inode_events::{Deed, Event, Told};
+use inode_meta::Who;
+use measure_book::Book;
+use policy_cell::{PolicyCell, RuleEntry};
+use policy_rules::Rule;
+use std::alloc::{AllocError as OutOfMemory, Global};
+use std::marker::{Model, PhantomData};
+use task_steps::Answered;
+use world_close::semaphores::SemaphoreCell;
+
+/// The measurement list, with the invariant that it belongs to the constants that `N` names.
+#[derive(Drop)]
+pub struct TaggedBook<N: Name> {
+    pub(crate) book: Book,
+    pub(crate) of: PhantomData<N>,
+}
+
+impl<N: Name> Model for TaggedBook<N> {
+    ghost use Rattle.grow_list.specs.Shown.{Grown};
+    ghost use Rattle.ima_templates.specs.declared.entry.Entry.{Entry};
+    ghost use Rattle.world_close.specs.worlds.World.{IsBookOf};
+
+    ghost Value = { Grown Entry };
+
+    ghost view = { λ b. b.book };
+
+    ghost invariant = { λ b. IsBookOf N.consts b.book };
+}
+
+impl<N: Name> TaggedBook<N> {
+    /// Wraps the measurement list of these constants.
+    pub fn new(book: Book) -> TaggedBook<N>
+        requires { IsBookOf N.consts book }
+        ensures { result ≡ book }
+    {
+        TaggedBook {
+            book,
+            of: PhantomData,
+        }
+    }
+
+    /// Returns the measurement list.
+    pub fn open(self) -> Book
+        ensures kept { IsBookOf N.consts result }
+        ensures value { result ≡ self }
+    {
+        let TaggedBook { book, of: _ } = self;
+        book
+    }
+}
+
+/// The semaphores, with the invariant that they belong to the constants that `N` names.
+#[derive(Drop)]
+pub struct TaggedSemaphores<N: Name> {
+    sems: SemaphoreCell,
+    of: PhantomData<N>,
+}
+
+impl<N: Name> Model for TaggedSemaphores<N> {
+    ghost use Rattle.grow_list.specs.Shown.{Grown};
+    ghost use Rattle.inode_events.specs.declared.told.Event.{Event};
+    ghost use Rattle.world_close.specs.worlds.World.{AreSignalsOf};
+
+    ghost Value = { Grown Event };
+
+    ghost view = { λ s. s.sems };
+
+    ghost invariant = { λ s. AreSignalsOf N.consts s.sems };
+}
+
+impl<N: Name> TaggedSemaphores<N> {
+    /// Wraps the semaphores of these constants.
+    pub fn new(sems: SemaphoreCell) -> TaggedSemaphores<N>
+        requires { AreSignalsOf N.consts sems }
+        ensures { result ≡ sems }
+    {
+        TaggedSemaphores {
+            sems,
+            of: PhantomData,
+        }
+    }
+
+    /// Returns the semaphores.
+    pub fn open(self) -> SemaphoreCell
+        ensures kept { AreSignalsOf N.consts result }
+        ensures value { result ≡ self }
+    {
+        let TaggedSemaphores { sems, of: _ } = self;
+        sems
+    }
+
+    /// Posts to a semaphore or waits for one. `None` means that it is blocked.
+    pub fn signal(
+        &mut self,
+        pass: &mut Pass<Event>,
+        who: Who,
+        deed: Deed,
+    ) -> Result<Option<Answered>, OutOfMemory>
+        requires name { pass.old.name ≡ N.consts.signals }
+        requires number { pass.old.number ≡ who.task + 1 }
+        ensures { SignalMet pass.old pass.new who deed result }
+    {
+        self.sems.reserve()?;
+        Ok(signalled(self.sems.signal(pass, who, deed)))
+    }
+}
+
+// The answer to a post or a wait whose event is at this place. `None` means that it is blocked.
+fn signalled(place: Option<u64>) -> Option<Answered>
+    ensures { result ≡ signalled_at place }
+{
+    match place {
+        Some(place) => Some(Answered {
+            place,
+            told: Told::Done,
+            action: None,
+        }),
+        None => None,
+    }
+}
+
+/// The rules and their spare passes, with the invariant that they belong to the constants that `N`
+/// names.
+#[derive(Drop)]
+pub struct TaggedRules<N: Name> {
+    pub(crate) rules: PolicyCell,
+    spares: Vec<Pass<RuleEntry>>,
+    of: PhantomData<N>,
+}
+
+impl<N: Name> Model for TaggedRules<N> {
+    ghost use Rattle.policy_cell.specs.Policy.{PolicyValue};
+    ghost use Rattle.world_locks.specs.Tagged.{RulesKeep};
+
+    ghost Value = { PolicyValue };
+
+    ghost view = { λ r. r.rules };
+
+    ghost invariant = { λ r. RulesKeep N.consts r.rules r.spares.items };
+}
+
+impl<N: Name> TaggedRules<N> {
+    /// Wraps the rules of these constants, and their spare passes.
+    pub fn new(rules: PolicyCell, spares: Vec<Pass<RuleEntry>>) -> TaggedRules<N>
+        requires { RulesKeep N.consts rules spares.items }
+        ensures { result ≡ rules }
+    {
+        TaggedRules {
+            rules,
+            spares,
+            of: PhantomData,
+        }
+    }
+
+    /// Returns the rules and their spare passes.
+    pub fn open(self) -> (PolicyCell, Vec<Pass<RuleEntry>>)
+        ensures kept { RulesKeep N.consts result.0 result.1.items }
+        ensures value { result.0 ≡ self }
+    {
+        let TaggedRules {
+            rules,
+            spares,
+            of: _,
+        } = self;
+        (rules, spares)
+    }
+
+    /// Appends a copy of the rule to those in force.
+    pub fn append(
+        &mut self,
+        alloc: Global,
+        pass: &mut Pass<RuleEntry>,
+        who: Who,
+        rule: &Rule,
+    ) -> Result<Answered, OutOfMemory>
+        requires name { pass.old.name ≡ N.consts.rules }
+        requires number { pass.old.number ≡ who.task }
+        ensures met { IfOk result (λ a. AppendMet pass.old pass.new
+            (record { who = who; rule = rule.now }) a) }
+        ensures err { OnErr result (pass.new ≡ pass.old) }
+    {
+        let place = self.rules.appended();
+        self.rules.append(alloc, pass, who, rule)?;
+        Ok(Answered {
+            place,
+            told: Told::Done,
+            action: None,
+        })
+    }
+}
