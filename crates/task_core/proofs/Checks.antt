@@ -35,7 +35,7 @@ use Rattle.world_locks.proofs.about_acts.Looks.{at_index}
 use Rattle.world_locks.proofs.about_acts.Lists.{consts_same, event_on, map_same, world_same}
 use Rattle.world_locks.specs.acts.Acting.{StationDid, told_in}
 use Rattle.world_locks.specs.acts.Checking.{CheckIn, IsChecked, check_by}
-use Rattle.world_locks.specs.acts.Parts.{AreParts, consts_by, state_by}
+use Rattle.world_model.specs.Parts.{AreParts, consts_by, state_by}
 use Rattle.world_locks.specs.acts.declared.answers.Answered.{Answered}
 
 -- of two elements written at the same place the second is found there

@@ -22,7 +22,7 @@ use Rattle.world_close.specs.Closed.{AreStations, WorldClosed, ended_station}
 use Rattle.world_close.specs.Finished.{HaveMade}
 use Rattle.world_close.proofs.Gets.{get_map}
 use Rattle.world_locks.proofs.about_acts.Looked.{force_count}
-use Rattle.world_locks.specs.acts.Parts.{AreParts, consts_by, state_by}
+use Rattle.world_model.specs.Parts.{AreParts, consts_by, state_by}
 use Rattle.world_close.proofs.Ending.{closed_ended}
 use Rattle.world_close.specs.Leaves.{are_stuck, left_by, may_append, task_left}
 use Rattle.world_close.specs.Settled.{HasEnded}

@@ -32,7 +32,7 @@ use Rattle.world_locks.proofs.about_acts.Calls.{found_place, found_rules}
 use Rattle.world_locks.proofs.about_acts.Looks.{at_index}
 use Rattle.world_locks.specs.acts.Acting.{ReadyAt, StationDid, told_in}
 use Rattle.world_locks.specs.acts.Checking.{CheckIn, IsChecked, check_by}
-use Rattle.world_locks.specs.acts.Parts.{AreParts, consts_by, state_by}
+use Rattle.world_model.specs.Parts.{AreParts, consts_by, state_by}
 use Rattle.world_locks.specs.acts.declared.answers.Answered.{Answered}
 
 module _ (settings : Settings) (stations : List StationValue) (supers : List Super)

@@ -30,7 +30,7 @@ use Rattle.task_mind.specs.Value.{TaskValue}
 use Rattle.world_close.specs.Closed.{AreSpares}
 use Rattle.world_locks.proofs.about_acts.Keeping.{journals_kept, sites_kept, stations_kept}
 use Rattle.world_locks.specs.acts.Looking.{AreSameStations, HaveLooked, LookedAt}
-use Rattle.world_locks.specs.acts.Parts.{AreParts, consts_by, state_by}
+use Rattle.world_model.specs.Parts.{AreParts, consts_by, state_by}
 
 module _ (settings : Settings) (stations stations2 : List StationValue) (supers : List Super)
     (book book2 : Grown Entry) (sems sems2 : Grown Event) (rules rules2 : PolicyValue) (tasks : ℕ)

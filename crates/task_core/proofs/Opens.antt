@@ -30,7 +30,7 @@ use Rattle.world_locks.proofs.about_acts.Calls.{found_may, found_pass, found_rea
 use Rattle.world_locks.proofs.about_acts.Looks.{at_index}
 use Rattle.world_locks.proofs.about_acts.Lists.{consts_same, event_in, world_same}
 use Rattle.world_locks.specs.acts.Acting.{EventIn, IsPlacedAt, IsSaid, ReadyAt, StationDid, told_of}
-use Rattle.world_locks.specs.acts.Parts.{AreParts, consts_by, state_by}
+use Rattle.world_model.specs.Parts.{AreParts, consts_by, state_by}
 use Rattle.world_locks.specs.acts.declared.answers.Answered.{Answered}
 
 module _ (settings : Settings) (stations : List StationValue) (supers : List Super)

@@ -12,7 +12,7 @@ use Rattle.policy_rules.specs.declared.access.Super.{Super}
 use Rattle.world_model.specs.WorldConsts.{WorldConsts}
 use Rattle.world_model.specs.World.{AreRulesOf, AreSignalsOf, StationValue}
 use Rattle.world_close.specs.Closed.{AreSpares}
-use Rattle.world_locks.specs.acts.Parts.{AreParts, consts_by}
+use Rattle.world_model.specs.Parts.{AreParts, consts_by}
 
 module _ (settings : Settings) (stations : List StationValue) (supers : List Super)
     (book : Grown Entry) (sems sems2 : Grown Event) (rules rules2 : PolicyValue) (tasks : ℕ)

@@ -46,22 +46,22 @@ cell_at consts state stations i each are =
 
 module _ (w : Inside) (v : WorldValue) (i : ℕ) (kept : IsWorld w) (is : world_of w ≡ v) where
   -- what is found at a number is the inode of that number
-  inode_by : (o : Option StationValue) → slice_get w.stations.items i ≡ o
+  inode_by : (o : Option StationValue) → slice_get w.parts.stations.items i ≡ o
       → IsCellAt v.consts v.state i (option_map cell_of o)
   inode_by o at =
       subst (λ (x : WorldValue). IsCellAt x.consts x.state i (option_map cell_of o)) is
       (subst (λ (p : Option StationValue). IsCellAt (consts_in w) (world_of w).state i
       (option_map cell_of p)) at
-      (cell_at (consts_in w) (world_of w).state w.stations.items i kept.parts.stations refl))
+      (cell_at (consts_in w) (world_of w).state w.parts.stations.items i kept.parts.stations refl))
 
   pub inode_there : (items : List StationValue) (s now : StationValue)
-      → items ≡ w.stations.items → i < length items → now ≡ get_or items i now → s ≡ now
+      → items ≡ w.parts.stations.items → i < length items → now ≡ get_or items i now → s ≡ now
       → IsCellAt v.consts v.state i (Some s.cell)
   inode_there items s now are below found same =
       inode_by (Some s) (ap (λ xs. slice_get xs i) (sym are)
       ∙ slice_get_read items (length items) i now refl below found ∙ ap Some (sym same))
 
-  pub no_inode : (items : List StationValue) → items ≡ w.stations.items → length items ≤ i
+  pub no_inode : (items : List StationValue) → items ≡ w.parts.stations.items → length items ≤ i
       → IsCellAt v.consts v.state i None
   no_inode items are past =
       inode_by None (ap (λ xs. slice_get xs i) (sym are) ∙ slice_get_past items i past)

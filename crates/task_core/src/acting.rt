@@ -36,13 +36,13 @@ impl World {
         ensures told { IfOk result (λ o. IsSaid self.old.consts i (deed_in doing.entry)
             self.old.state o) }
     {
-        if i as usize >= self.stations.len() {
+        if i as usize >= self.parts.stations.len() {
             return Ok(None);
         }
         apply_at(
-            &mut self.stations[i as usize],
+            &mut self.parts.stations[i as usize],
             &mut passes.inodes[i as usize],
-            &mut self.book,
+            &mut self.parts.book,
             &mut passes.book,
             actor,
             doing,
@@ -68,21 +68,21 @@ impl World {
             (slice_get self.old.consts.sites i) actor.now.who actor.now.cred.now asked
             self.old.state self.new.state passes.old passes.new g result }
     {
-        if i as usize >= self.stations.len() {
+        if i as usize >= self.parts.stations.len() {
             return Ok(None);
         }
-        let station = &mut self.stations[i as usize];
-        self.rules.look(&mut station.rules);
-        self.rules.look(&mut passes.rules);
-        let place = &self.supers[station.place as usize];
+        let station = &mut self.parts.stations[i as usize];
+        self.parts.rules.look(&mut station.rules);
+        self.parts.rules.look(&mut passes.rules);
+        let place = &self.parts.supers[station.place as usize];
         check_at(
             station,
             &mut passes.inodes[i as usize],
-            &mut self.book,
+            &mut self.parts.book,
             &mut passes.book,
             actor,
             asked,
-            self.rules.rules(),
+            self.parts.rules.rules(),
             place,
         )
     }

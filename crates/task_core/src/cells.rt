@@ -16,7 +16,7 @@ impl World {
     pub fn inode(&self, i: usize) -> Option<&InodeCell>
         ensures { IsCellAt self.now.consts self.now.state i (option_copied result) }
     {
-        match self.stations.get(i) {
+        match self.parts.stations.get(i) {
             Some(station) => Some(&station.cell),
             None => None,
         }
@@ -26,7 +26,7 @@ impl World {
     pub fn left(&self, sem: u8) -> u64
         ensures { result ≡ left sem (past self.now.state.signals) }
     {
-        self.sems.left(sem)
+        self.parts.sems.left(sem)
     }
 }
 

@@ -110,25 +110,16 @@ fn end(world: World, tasks: Vec<Task>) -> Result<Ended, OutOfMemory>
     ensures { IfOk result (λ e. HasEnded (scene_of consts (programs_of tasks.items))
         (moment_of world.state tasks.items) e) }
 {
-    let stuck = are_stuck(tasks.as_slice(), &world.sems);
+    let stuck = are_stuck(tasks.as_slice(), &world.parts.sems);
     let grows = may_grow(tasks.as_slice());
-    let Ok((passes, ended)) = part(world.alloc, tasks) else {
+    let Ok((passes, ended)) = part(world.parts.alloc, tasks) else {
         drop(world);
         return Err(OutOfMemory);
     };
-    let World {
-        stations,
-        book,
-        sems,
-        rules,
-        spares,
-        supers: _,
-        settings,
-        tasks: _,
-        alloc,
-    } = world;
-    let in_force = rules.rules().rules().len();
-    let lists = close_lists(alloc, stations, book, sems, rules, spares, passes)?;
+    let template = world.parts.settings.template;
+    let in_force = world.parts.rules.rules().rules().len();
+    let World { parts } = world;
+    let lists = close_lists(parts, passes)?;
     let Lists {
         inodes,
         list,
@@ -142,7 +133,7 @@ fn end(world: World, tasks: Vec<Task>) -> Result<Ended, OutOfMemory>
         banks,
         tasks: ended,
         stuck,
-        template: settings.template,
+        template,
         rules: appended,
         base,
         grows,

@@ -5,7 +5,7 @@ ghost use Rattle.std.specs.Prelude.{◌≡◌, ◌<◌, IfOk, length};
 use crate::world::World;
 use std::alloc::AllocError as OutOfMemory;
 use std::sync::Wait;
-use world_locks::{Locks, Name, Parts};
+use world_locks::{Locks, Name};
 
 /// A world that threads share: a lock for each inode, and one lock each for the measurement list,
 /// the semaphores and the rules. Its constants are those that `N` names.
@@ -19,28 +19,8 @@ impl World {
     pub fn share<N: Name>(self) -> Result<Live<N>, OutOfMemory>
         requires { self.consts ≡ N.consts }
     {
-        let World {
-            stations,
-            book,
-            sems,
-            rules,
-            spares,
-            supers,
-            settings,
-            tasks,
-            alloc,
-        } = self;
-        let locks = Locks::new(Parts {
-            stations,
-            book,
-            sems,
-            rules,
-            spares,
-            supers,
-            settings,
-            tasks,
-            alloc,
-        })?;
+        let World { parts } = self;
+        let locks = Locks::new(parts)?;
         Ok(Live { locks })
     }
 }
@@ -52,28 +32,7 @@ impl<N: Name> Live<N> {
     {
         let Live { locks } = self;
         let parts = locks.into_parts()?;
-        let Parts {
-            stations,
-            book,
-            sems,
-            rules,
-            spares,
-            supers,
-            settings,
-            tasks,
-            alloc,
-        } = parts;
-        let world = World {
-            stations,
-            book,
-            sems,
-            rules,
-            spares,
-            supers,
-            settings,
-            tasks,
-            alloc,
-        };
+        let world = World { parts };
         Ok(world)
     }
 

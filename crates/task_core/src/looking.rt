@@ -20,9 +20,9 @@ impl Task {
         ensures same { (self.new.number ≡ self.old.number) × (self.new.mind ≡ self.old.mind) }
     {
         let passes = &mut self.passes;
-        look_at_inodes(&mut world.stations, &mut passes.inodes);
-        world.sems.look(&mut passes.sems);
-        world.book.look(&mut passes.book);
-        world.rules.look(&mut passes.rules);
+        look_at_inodes(&mut world.parts.stations, &mut passes.inodes);
+        world.parts.sems.look(&mut passes.sems);
+        world.parts.book.look(&mut passes.book);
+        world.parts.rules.look(&mut passes.rules);
     }
 }

@@ -32,8 +32,8 @@ impl World {
             ≡ semaphore_says (past self.old.state.signals) deed)
             × IsPlacedAt (length self.old.state.signals) o) }
     {
-        self.sems.reserve()?;
-        match self.sems.signal(&mut passes.sems, who, deed) {
+        self.parts.sems.reserve()?;
+        match self.parts.sems.signal(&mut passes.sems, who, deed) {
             Some(place) => Ok(Some(Answered {
                 place,
                 told: Told::Done,
@@ -59,8 +59,10 @@ impl World {
         ensures err { OnErr result ((self.new.state ≡ self.old.state)
             × (passes.new ≡ passes.old)) }
     {
-        let place = self.rules.appended();
-        self.rules.append(self.alloc, &mut passes.rules, who, rule)?;
+        let place = self.parts.rules.appended();
+        self.parts
+            .rules
+            .append(self.parts.alloc, &mut passes.rules, who, rule)?;
         Ok(Answered {
             place,
             told: Told::Done,

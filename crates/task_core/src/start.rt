@@ -37,28 +37,8 @@ impl World {
         ensures passes { IfOk result (λ r. AreFirstPasses r.0.consts r.1.items) }
     {
         let start = start_lists(alloc, settings, boot, inodes, supers, places, rules, tasks)?;
-        let Start {
-            stations,
-            book,
-            sems,
-            rules,
-            spares,
-            supers,
-            settings,
-            tasks,
-            passes,
-        } = start;
-        let world = World {
-            stations,
-            book,
-            sems,
-            rules,
-            spares,
-            supers,
-            settings,
-            tasks,
-            alloc,
-        };
+        let Start { parts, passes } = start;
+        let world = World { parts };
         Ok((world, passes))
     }
 }

@@ -115,7 +115,7 @@ impl Task {
             Reached::Blocked => Ok(Turn::Blocked),
             Reached::Told(answered) => {
                 self.mind.hear(
-                    world.settings.mode,
+                    world.parts.settings.mode,
                     &answered.told,
                     answered.place,
                     answered.action.as_ref(),

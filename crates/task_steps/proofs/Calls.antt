@@ -27,7 +27,7 @@ use Rattle.task_steps.specs.minds.Steps.{deed_in}
 use Rattle.task_steps.specs.minds.declared.step.Doing.{Doing}
 use Rattle.task_steps.specs.minds.declared.step.Doing.TheVariants as doing
 use Rattle.task_steps.specs.Acting.{IsPlacedAt, IsSaid, ReadyAt, told_of}
-use Rattle.task_steps.specs.Parts.{AreParts, consts_by, state_by}
+use Rattle.world_model.specs.Parts.{AreParts, consts_by, state_by}
 use Rattle.task_steps.specs.declared.answers.Answered.{Answered}
 
 -- no deed other than a check counts rules

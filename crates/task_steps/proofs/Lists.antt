@@ -24,7 +24,7 @@ use Rattle.task_steps.proofs.laws_of_runs.Risen.{law_rise_by_outcome}
 use Rattle.task_steps.specs.laws_of_runs.Stations.{CountsAll, StationRules}
 use Rattle.run_model.specs.Turns.{State, state_on}
 use Rattle.task_steps.specs.Acting.{EventIn, StationDid}
-use Rattle.task_steps.specs.Parts.{AreParts, consts_by, state_by}
+use Rattle.world_model.specs.Parts.{AreParts, consts_by, state_by}
 use Rattle.task_steps.specs.worlds.WorldConsts.{Site, WorldConsts, boot_in, inode_in}
 use Rattle.task_steps.specs.worlds.Tasks.{PassesValue}
 use Rattle.task_steps.specs.worlds.World.{IsStation, StationValue, journal_of, site_of}

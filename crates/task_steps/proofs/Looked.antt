@@ -15,7 +15,7 @@ use Rattle.policy_rules.specs.declared.access.Super.{Super}
 use Rattle.task_steps.proofs.laws_of_runs.Owned.{set_parts}
 use Rattle.task_steps.proofs.laws_of_runs.Risen.{law_rise_by_look}
 use Rattle.task_steps.proofs.Lists.{map_same}
-use Rattle.task_steps.specs.Parts.{AreParts, consts_by}
+use Rattle.world_model.specs.Parts.{AreParts, consts_by}
 use Rattle.task_steps.specs.worlds.WorldConsts.{Site, WorldConsts}
 use Rattle.task_steps.specs.worlds.World.{AreRulesOf, IsStation, StationValue, site_of}
 

@@ -1,6 +1,5 @@
 pub mod Hashed
 pub mod Leaving
-pub mod Parts
 pub mod Acting
 pub mod Checking
 pub mod Looking

@@ -1,5 +1,6 @@
 pub mod Rows
 pub mod Closed
+pub mod Parts
 pub mod Finished
 pub mod Leaves
 pub mod Settled

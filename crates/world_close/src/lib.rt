@@ -5,11 +5,13 @@
 #![tactic(auto)]
 
 mod lists;
+mod parts;
 mod resting;
 mod rows;
 mod stations;
 
 pub use lists::{Lists, close_lists};
+pub use parts::Parts;
 pub use resting::rests;
 pub use semaphore_cell as semaphores;
 pub use world_model as worlds;

@@ -5,15 +5,14 @@ ghost use Rattle.world_model.specs.Tasks.{ArePassesOf, PassesValue};
 ghost use Rattle.world_model.specs.World.{AreRulesOf, AreSignalsOf, IsBookOf};
 ghost use Rattle.world_close.specs.Closed.{AreReturned, AreSpares, AreStations, WorldClosed, ended_station};
 
+use crate::parts::Parts;
 use crate::rows::Row;
 use crate::stations::{Closed, close_stations};
 use grow_list::Pass;
 use ima_templates::Entry;
 use inode_events::{EndedInode, Event};
-use measure_book::Book;
 use measure_book::registers::Banks;
-use policy_cell::{PolicyCell, RuleEntry};
-use semaphore_cell::SemaphoreCell;
+use policy_cell::RuleEntry;
 use std::alloc::{AllocError as OutOfMemory, Global};
 use std::marker::Model;
 use world_model::{Passes, Station};
@@ -159,31 +158,34 @@ fn take_back(
 }
 
 /// Closes all lists of a world, to which the tasks' passes are returned.
-pub fn close_lists(
-    alloc: Global,
-    stations: Vec<Station>,
-    book: Book,
-    sems: SemaphoreCell,
-    rules: PolicyCell,
-    spares: Vec<Pass<RuleEntry>>,
-    passes: Vec<Passes>,
-) -> Result<Lists, OutOfMemory>
+pub fn close_lists(parts: Parts, passes: Vec<Passes>) -> Result<Lists, OutOfMemory>
     ghost consts: { WorldConsts }
-    requires stations { AreStations consts stations.items }
-    requires book { IsBookOf consts book }
-    requires sems { AreSignalsOf consts sems }
-    requires rules { AreRulesOf consts rules }
-    requires spares { AreSpares consts spares.items }
+    requires stations { AreStations consts parts.stations.items }
+    requires book { IsBookOf consts parts.book }
+    requires sems { AreSignalsOf consts parts.sems }
+    requires rules { AreRulesOf consts parts.rules }
+    requires spares { AreSpares consts parts.spares.items }
     requires count { length passes.items ≡ consts.tasks }
     requires passes { (n : ℕ) (p : PassesValue) → slice_get passes.items n ≡ Some p
         → ArePassesOf consts n p }
-    ensures inodes { IfOk result (λ r. r.inodes ≡ map ended_station stations.items) }
-    ensures list { IfOk result (λ r. r.list ≡ book.list) }
-    ensures banks { IfOk result (λ r. r.banks ≡ banks_of book.list) }
-    ensures rules { IfOk result (λ r. r.rules ≡ rules.appended.list) }
-    ensures closed { IfOk result (λ r. WorldClosed consts stations.items book.list sems.list
-        rules.appended.list passes.items) }
+    ensures inodes { IfOk result (λ r. r.inodes ≡ map ended_station parts.stations.items) }
+    ensures list { IfOk result (λ r. r.list ≡ parts.book.list) }
+    ensures banks { IfOk result (λ r. r.banks ≡ banks_of parts.book.list) }
+    ensures rules { IfOk result (λ r. r.rules ≡ parts.rules.appended.list) }
+    ensures closed { IfOk result (λ r. WorldClosed consts parts.stations.items parts.book.list
+        parts.sems.list parts.rules.appended.list passes.items) }
 {
+    let Parts {
+        stations,
+        book,
+        sems,
+        rules,
+        spares,
+        supers: _,
+        settings: _,
+        tasks: _,
+        alloc,
+    } = parts;
     let back = take_back(alloc, stations, spares, passes)?;
     let Returned {
         inodes,

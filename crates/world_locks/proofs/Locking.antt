@@ -8,8 +8,9 @@ use Rattle.world_close.specs.worlds.WorldConsts.{Site, WorldConsts, boot_in}
 use Rattle.world_close.specs.worlds.World.{IsStation, StationValue, site_of}
 use Rattle.world_close.proofs.Gets.{get_last, get_left, get_map, get_parts}
 use Rattle.world_close.specs.Closed.{AreStations}
-use Rattle.world_locks.specs.Parts.{AreEach, KeepConsts, consts_of_parts}
-use Rattle.world_locks.specs.declared.parts.Parts.{Parts}
+use Rattle.world_close.specs.Parts.{KeepConsts, consts_of_parts}
+use Rattle.world_close.specs.declared.parts.Parts.{Parts}
+use Rattle.world_locks.specs.Each.{AreEach}
 
 -- the inodes before the last one are each the one of their number
 pub each_before : (consts : WorldConsts) (all left : List StationValue) (s : StationValue)

@@ -1,5 +1,5 @@
 pub mod Blank
-pub mod Parts
+pub mod Each
 pub mod Tagged
 pub mod Met
 pub mod Pages

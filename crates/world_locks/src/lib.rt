@@ -13,13 +13,11 @@ mod locks;
 mod name;
 mod order;
 mod pages;
-mod parts;
 mod sharing;
 mod station;
 mod tagged;
 
 pub use locks::Locks;
 pub use name::Name;
-pub use parts::Parts;
 pub use std::alloc::AllocError as OutOfMemory;
 pub use task_steps as acts;

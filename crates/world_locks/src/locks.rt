@@ -4,11 +4,10 @@ ghost use Rattle.std.specs.Prelude.{◌≡◌, ◌<◌, IfOk, length};
 ghost use Rattle.std.specs.Sync.Mutex.{mutex_guard_value};
 ghost use Rattle.world_close.specs.worlds.World.{IsStation};
 ghost use Rattle.world_close.specs.Closed.{AreStations};
-ghost use Rattle.world_locks.specs.Parts.{KeepConsts, consts_of_parts};
+ghost use Rattle.world_close.specs.Parts.{KeepConsts, consts_of_parts};
 
 use crate::name::Name;
 use crate::order::Order;
-use crate::parts::Parts;
 use crate::station::TaggedStation;
 use crate::tagged::{TaggedBook, TaggedRules, TaggedSemaphores};
 use inode_events::Settings;
@@ -16,6 +15,7 @@ use inode_meta::Mode;
 use policy_rules::Super;
 use std::alloc::{AllocError as OutOfMemory, Global};
 use std::sync::{Mutex, MutexGuard, Wait};
+use world_close::Parts;
 use world_close::worlds::Station;
 
 /// The lists of a world, with a lock for each inode, and one lock each for the measurement list,

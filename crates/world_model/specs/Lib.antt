@@ -1,5 +1,6 @@
 pub mod WorldConsts
 pub mod World
+pub mod Parts
 pub mod Tasks
 pub mod Runs
 pub mod Due

@@ -24,7 +24,7 @@ use Rattle.world_close.specs.Closed.{AreSpares, AreStations}
 use Rattle.world_close.proofs.Gets.{all_by_get, get_map, map_get}
 use Rattle.world_close.proofs.Listing.{all_at}
 use Rattle.world_start.proofs.Fresh.{below_max}
-use Rattle.task_steps.specs.Parts.{consts_by, state_by}
+use Rattle.world_close.specs.worlds.Parts.{consts_by, state_by}
 use Rattle.world_start.specs.Start.{AreConstsOf, AreFirstPasses, Begins}
 use Rattle.world_start.specs.Started.{AreFresh, AreRows, AreStarted, IsStarted, SeatsValue, counter_of, file_of, lister_of, named_by, pass_of, place_of, row_of}
 

@@ -9,15 +9,6 @@ use Rattle.world_close.specs.model.Scene.{Program}
 use Rattle.world_close.specs.model.Turns.{State, start_of}
 use Rattle.world_close.specs.worlds.WorldConsts.{Site, WorldConsts, scene_of}
 use Rattle.world_close.specs.worlds.Tasks.{ArePassesOf, AreUnused, PassesValue}
-use Rattle.task_steps.specs.Parts.{consts_by, state_by}
-use Rattle.world_start.specs.declared.lists.Start.{Start}
-
-abbrev pub consts_of_start : Start → WorldConsts
-consts_of_start w =
-    consts_by w.settings w.stations.items w.supers.items w.book w.sems w.rules w.tasks
-
-abbrev pub state_of_start : Start → State
-state_of_start w = state_by w.stations.items w.book w.sems w.rules
 
 -- the constants are those of a script with these settings, this first entry of the list, these
 -- files on these file systems, these rules, and this many tasks

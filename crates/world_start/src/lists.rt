@@ -4,7 +4,8 @@ ghost use Rattle.ima_templates.specs.declared.entry.Entry.{Entry as AnyEntry};
 ghost use Rattle.world_close.specs.worlds.Tasks.{PassesValue};
 ghost use Rattle.world_close.specs.worlds.World.{AreRulesOf, AreSignalsOf, IsBookOf};
 ghost use Rattle.world_close.specs.Closed.{AreSpares, AreStations};
-ghost use Rattle.world_start.specs.Start.{AreConstsOf, AreFirstPasses, Begins, consts_of_start, state_of_start};
+ghost use Rattle.world_close.specs.Parts.{consts_of_parts, state_of_parts};
+ghost use Rattle.world_start.specs.Start.{AreConstsOf, AreFirstPasses, Begins};
 ghost use Rattle.world_start.specs.Started.{AreRows, AreStarted, IsFile};
 
 use crate::cells::start_cells;
@@ -14,33 +15,20 @@ use crate::stations::start_stations;
 use grow_list::Pass;
 use ima_templates::Entry;
 use inode_events::{Event, Image, Settings};
-use measure_book::Book;
-use policy_cell::{PolicyCell, RuleEntry};
+use policy_cell::RuleEntry;
 use policy_rules::{Policy, Super};
 use std::alloc::{AllocError as OutOfMemory, Global};
-use world_close::semaphores::SemaphoreCell;
+use world_close::Parts;
 use world_close::worlds::{Passes, Station};
 use xattr_store::Bytes;
 
-/// What a world starts with: its lists, and the passes of its tasks, in order.
+/// What a world starts with: its parts, and the passes of its tasks, in order.
 #[derive(Drop)]
 pub struct Start {
-    /// The inodes, in order.
-    pub stations: Vec<Station>,
-    /// The measurement list, whose only entry is the first one (`boot`).
-    pub book: Book,
-    /// The semaphores, with an empty journal.
-    pub sems: SemaphoreCell,
-    /// The rules of the script; none has been appended.
-    pub rules: PolicyCell,
-    /// The spare pass of the rules: one if there is neither a task nor an inode, else none.
-    pub spares: Vec<Pass<RuleEntry>>,
-    /// The file systems, in order.
-    pub supers: Vec<Super>,
-    /// The settings that all inodes share.
-    pub settings: Settings,
-    /// The number of tasks.
-    pub tasks: u32,
+    /// The lists and the constants: the measurement list has the first entry (`boot`) alone, no
+    /// semaphore has a post, and no rule has been appended. There is one spare pass of the rules if
+    /// there is neither a task nor an inode, else none.
+    pub parts: Parts,
     /// The passes of each task, in the order of the tasks.
     pub passes: Vec<Passes>,
 }
@@ -100,14 +88,15 @@ pub fn start_lists(
     requires places { All (λ place. place < length supers.items) places.items }
     requires callers { length inodes.items + tasks + 1 < 2 ^ 32 }
     ensures consts { IfOk result (λ r. AreConstsOf settings boot inodes.items supers.items
-        places.items rules tasks (consts_of_start r)) }
-    ensures stations { IfOk result (λ r. AreStations (consts_of_start r) r.stations.items) }
-    ensures book { IfOk result (λ r. IsBookOf (consts_of_start r) r.book) }
-    ensures sems { IfOk result (λ r. AreSignalsOf (consts_of_start r) r.sems) }
-    ensures rules { IfOk result (λ r. AreRulesOf (consts_of_start r) r.rules) }
-    ensures spares { IfOk result (λ r. AreSpares (consts_of_start r) r.spares.items) }
-    ensures begins { IfOk result (λ r. Begins (consts_of_start r) (state_of_start r)) }
-    ensures passes { IfOk result (λ r. AreFirstPasses (consts_of_start r) r.passes.items) }
+        places.items rules tasks (consts_of_parts r.parts)) }
+    ensures stations { IfOk result (λ r. AreStations (consts_of_parts r.parts)
+        r.parts.stations.items) }
+    ensures book { IfOk result (λ r. IsBookOf (consts_of_parts r.parts) r.parts.book) }
+    ensures sems { IfOk result (λ r. AreSignalsOf (consts_of_parts r.parts) r.parts.sems) }
+    ensures rules { IfOk result (λ r. AreRulesOf (consts_of_parts r.parts) r.parts.rules) }
+    ensures spares { IfOk result (λ r. AreSpares (consts_of_parts r.parts) r.parts.spares.items) }
+    ensures begins { IfOk result (λ r. Begins (consts_of_parts r.parts) (state_of_parts r.parts)) }
+    ensures passes { IfOk result (λ r. AreFirstPasses (consts_of_parts r.parts) r.passes.items) }
 {
     let count = inodes.len() as u32;
     let cells = start_cells(alloc, boot, rules, count, tasks)?;
@@ -122,7 +111,7 @@ pub fn start_lists(
         cells.task_listers,
         cells.task_appenders,
     )?;
-    Ok(Start {
+    let parts = Parts {
         stations,
         book: cells.book,
         sems: cells.sems,
@@ -131,6 +120,7 @@ pub fn start_lists(
         supers,
         settings,
         tasks,
-        passes,
-    })
+        alloc,
+    };
+    Ok(Start { parts, passes })
 }

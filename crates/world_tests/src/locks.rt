@@ -1,5 +1,5 @@
 ghost use Rattle.std.specs.Prelude.{◌≡◌, ◌<◌, All, IfOk, length};
-ghost use Rattle.world_locks.specs.Parts.{KeepConsts, consts_of_parts};
+ghost use Rattle.world_close.specs.Parts.{KeepConsts, consts_of_parts};
 ghost use Rattle.world_start.specs.Started.{IsFile};
 
 use evm_verify::Evm;
@@ -16,7 +16,8 @@ use std::sync::Wait;
 use std::sync::atomic::{AtomicBool, Ordering};
 use std::test::Fail;
 use std::thread::{Threads, join};
-use world_locks::{Locks, Name, Parts};
+use world_close::Parts;
+use world_locks::{Locks, Name};
 use world_start::{Start, start_lists};
 use xattr_store::{Attrs, Bytes};
 
@@ -107,28 +108,8 @@ fn parts(rt: &impl Abort, alloc: Global) -> Result<Parts, OutOfMemory>
         rules,
         2,
     )?;
-    let Start {
-        stations,
-        book,
-        sems,
-        rules,
-        spares,
-        supers,
-        settings,
-        tasks,
-        passes: _,
-    } = start;
-    Ok(Parts {
-        stations,
-        book,
-        sems,
-        rules,
-        spares,
-        supers,
-        settings,
-        tasks,
-        alloc,
-    })
+    let Start { parts, passes: _ } = start;
+    Ok(parts)
 }
 
 // Whether the flag is seen set within 100,000,000 looks.

@@ -17,7 +17,7 @@ use Rattle.task_core.proofs.close.end.Goals as goal
 -- the requires, in order: stations, book, sems, rules, spares, count, passes
 pub close_lists-requires : goal.close_lists-requires
 close_lists-requires g c =
-    let w = c.world.inside in
+    let w = c.world.inside.parts in
     let is = ap (λ (v : WorldValue). v.consts) c.world.view_is ∙ c.requires.0 in
     let parts = c.world.invariant.parts in (
       are_stations w.settings w.stations.items w.supers.items w.book w.sems w.rules w.tasks
@@ -47,7 +47,7 @@ close_lists-requires g c =
 
 pub returns : goal.returns
 returns g c =
-    let w = c.world.inside in
+    let w = c.world.inside.parts in
     let tasks = c.args.tasks.items in
     let closed = c.in_ok-lists.ensures in
     let is = ap (λ (v : WorldValue). v.consts) c.world.view_is ∙ c.requires.0 in

@@ -20,23 +20,23 @@ take_back-requires g c = (c.requires.0, c.requires.1.1.1.1.1)
 pub close-list-requires : goal.close-list-requires
 close-list-requires g c =
     let r = c.in_ok-back.ensures in
-    subst (λ (l : List (Passed Entry)). HasOthers c.args.book l) (sym r.listers_are)
-    (book_others g.consts c.args.book c.args.stations.items r.book c.args.passes.items
+    subst (λ (l : List (Passed Entry)). HasOthers c.args.parts.book l) (sym r.listers_are)
+    (book_others g.consts c.args.parts.book c.args.parts.stations.items r.book c.args.passes.items
     c.requires.1.0 c.requires.0 r.closed c.requires.1.1.1.1.1.1 c.requires.1.1.1.1.1.0)
 
 pub close-signals-requires : goal.close-signals-requires
 close-signals-requires g c =
-    subst (λ (l : List (Passed Event)). HasOthers c.args.sems l)
+    subst (λ (l : List (Passed Event)). HasOthers c.args.parts.sems l)
     (sym c.in_ok-back.ensures.signals_are)
-    (sem_others g.consts c.args.sems c.args.passes.items c.requires.1.1.0
+    (sem_others g.consts c.args.parts.sems c.args.passes.items c.requires.1.1.0
     c.requires.1.1.1.1.1.1 c.requires.1.1.1.1.1.0)
 
 pub close-rules-requires : goal.close-rules-requires
 close-rules-requires g c =
-    subst (λ (l : List (Passed RuleEntry)). HasEach c.args.rules.appended l)
+    subst (λ (l : List (Passed RuleEntry)). HasEach c.args.parts.rules.appended l)
     (sym c.in_ok-back.ensures.appenders_are)
-    (rules_each g.consts c.args.rules c.args.stations.items c.args.passes.items
-    c.args.spares.items c.requires.1.1.1.0 c.requires.0 c.requires.1.1.1.1.0
+    (rules_each g.consts c.args.parts.rules c.args.parts.stations.items c.args.passes.items
+    c.args.parts.spares.items c.requires.1.1.1.0 c.requires.0 c.requires.1.1.1.1.0
     c.requires.1.1.1.1.1.1 c.requires.1.1.1.1.1.0)
 
 pub returns-clause-closed : goal.returns-clause-closed
@@ -48,7 +48,7 @@ returns-clause-closed g c =
       book = record {
         first = c.requires.1.0.boot;
         seen = subst (λ (l : List (Passed Entry)). All
-            (λ (p : Passed Entry). IsPrefix p.seen c.args.book.list) l) r.listers_are
+            (λ (p : Passed Entry). IsPrefix p.seen c.args.parts.book.list) l) r.listers_are
             c.close-list.ensures.seen;
         places = λ k below.
             subst (λ (l : List (Passed Entry)). count_by
@@ -58,17 +58,17 @@ returns-clause-closed g c =
       };
       entries = c.close-list.ensures.entries;
       are_signals = c.close-signals.ensures.legal;
-      signed = All-weaker (λ (e : Event). (0 < caller_of e) × (caller_of e < c.args.sems.callers))
+      signed = All-weaker (λ (e : Event). (0 < caller_of e) × (caller_of e < c.args.parts.sems.callers))
           (λ (e : Event). (0 < caller_of e) × (caller_of e ≤ g.consts.tasks))
           (λ e s. (
             s.0,
             (let callers = c.requires.1.1.0.callers in let below = s.1 in omega arith),
-          )) c.args.sems.list c.close-signals.ensures.signed;
-      ruled = all_ruled g.consts c.args.rules c.args.stations.items c.args.passes.items
-          c.args.spares.items c.requires.1.1.1.0 c.requires.0 c.requires.1.1.1.1.0
+          )) c.args.parts.sems.list c.close-signals.ensures.signed;
+      ruled = all_ruled g.consts c.args.parts.rules c.args.parts.stations.items c.args.passes.items
+          c.args.parts.spares.items c.requires.1.1.1.0 c.requires.0 c.requires.1.1.1.1.0
           c.requires.1.1.1.1.1.1 c.requires.1.1.1.1.1.0
           (subst (λ (l : List (Passed RuleEntry)). All
-          (λ (q : Passed RuleEntry). HasItsOwn c.args.rules.appended q) l) r.appenders_are
+          (λ (q : Passed RuleEntry). HasItsOwn c.args.parts.rules.appended q) l) r.appenders_are
           c.close-rules.ensures.own)
           (λ k below. subst (λ (l : List (Passed RuleEntry)). count_by
           (λ (q : Passed RuleEntry). has_place k q.mine) l ≡ 1) r.appenders_are

@@ -1,5 +1,5 @@
 use Rattle.std.proofs.Common.{◌≡◌, ◌+◌, length, vec_len}
-use Rattle.world_locks.specs.Parts.{AreEach}
+use Rattle.world_locks.specs.Each.{AreEach}
 use Rattle.world_locks.proofs.locks.lock_each.Given as goal
 
 abbrev pub invariant-loop-station : goal.invariant-loop-station

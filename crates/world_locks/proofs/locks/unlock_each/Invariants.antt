@@ -1,5 +1,5 @@
 use Rattle.std.proofs.Common.{◌≡◌, length}
-use Rattle.world_locks.specs.Parts.{AreEach}
+use Rattle.world_locks.specs.Each.{AreEach}
 use Rattle.world_locks.proofs.locks.unlock_each.Given as goal
 
 abbrev pub invariant-loop-mutex : goal.invariant-loop-mutex

@@ -5,7 +5,7 @@ use Rattle.ima_templates.specs.declared.entry.Entry.{Entry}
 use Rattle.policy_cell.specs.declared.cell.RuleEntry.{RuleEntry}
 use Rattle.policy_rules.specs.RuleValue.{RuleValue}
 use Rattle.world_close.specs.worlds.Tasks.{PassesValue}
-use Rattle.task_steps.specs.Parts.{consts_by}
+use Rattle.world_close.specs.worlds.Parts.{consts_by}
 use Rattle.world_start.specs.Start.{AreConstsOf}
 use Rattle.world_start.specs.Started.{AreFresh}
 use Rattle.world_start.proofs.Fresh.{unused}

@@ -2,7 +2,7 @@
 use Rattle.std.proofs.Common.{sym, subst}
 use Rattle.world_model.specs.WorldConsts.{WorldConsts}
 use Rattle.world_close.specs.Closed.{AreSpares}
-use Rattle.world_locks.specs.acts.Parts.{AreParts}
+use Rattle.world_model.specs.Parts.{AreParts}
 use Rattle.task_core.proofs.live.Live.back.Goals as goal
 
 pub invariant_of-world : goal.invariant_of-world

@@ -8,22 +8,22 @@ use Rattle.task_core.proofs.task.Task.look.Goals as goal
 
 pub look_at_inodes-requires-clause-names : goal.look_at_inodes-requires-clause-names
 look_at_inodes-requires-clause-names c =
-    let w = c.world.inside in
+    let w = c.world.inside.parts in
     let s = c.self.inside in
     let p = c.passes.inside in
     let before : PassesValue =
     record { inodes = p.inodes.items; sems = p.sems; book = p.book; rules = p.rules } in
     let t : Tasked =
     record { number = s.number; mind = s.mind; hash_state = s.hash_state; passes = before } in
-    let is : IsTask (consts_in w) t =
-    look_opens (world_of w) c.args.world.now c.args.self.now s.number s.mind s.hash_state before
-    s.passes c.world.view_is c.self.view_is c.passes.view_is c.requires in
+    let is : IsTask (consts_in c.world.inside) t =
+    look_opens (world_of c.world.inside) c.args.world.now c.args.self.now s.number s.mind
+    s.hash_state before s.passes c.world.view_is c.self.view_is c.passes.view_is c.requires in
     look_names w.settings w.stations.items w.supers.items w.book w.sems w.rules w.tasks s.number
     before is.played.passes
 
 pub invariant_of-world : goal.invariant_of-world
 invariant_of-world c =
-    let w = c.world.inside in
+    let w = c.world.inside.parts in
     record {
       parts = parts_looked w.settings w.stations.items c.look_at_inodes.new.stations.items
           w.supers.items w.book
@@ -40,16 +40,16 @@ invariant_of-world c =
 
 pub returns-clause-made : goal.returns-clause-made
 returns-clause-made c =
-    let w = c.world.inside in
+    let w = c.world.inside.parts in
     let s = c.self.inside in
     let p = c.passes.inside in
     let before : PassesValue =
     record { inodes = p.inodes.items; sems = p.sems; book = p.book; rules = p.rules } in
     let t : Tasked =
     record { number = s.number; mind = s.mind; hash_state = s.hash_state; passes = before } in
-    let is : IsTask (consts_in w) t =
-    look_opens (world_of w) c.args.world.now c.args.self.now s.number s.mind s.hash_state before
-    s.passes c.world.view_is c.self.view_is c.passes.view_is c.requires in
+    let is : IsTask (consts_in c.world.inside) t =
+    look_opens (world_of c.world.inside) c.args.world.now c.args.self.now s.number s.mind
+    s.hash_state before s.passes c.world.view_is c.self.view_is c.passes.view_is c.requires in
     let after : PassesValue =
     record {
       inodes = c.look_at_inodes.new.passes.items;
@@ -90,16 +90,16 @@ returns-clause-made c =
 
 pub returns-clause-still : goal.returns-clause-still
 returns-clause-still c =
-    let w = c.world.inside in
+    let w = c.world.inside.parts in
     let s = c.self.inside in
     let p = c.passes.inside in
     let before : PassesValue =
     record { inodes = p.inodes.items; sems = p.sems; book = p.book; rules = p.rules } in
     let t : Tasked =
     record { number = s.number; mind = s.mind; hash_state = s.hash_state; passes = before } in
-    let is : IsTask (consts_in w) t =
-    look_opens (world_of w) c.args.world.now c.args.self.now s.number s.mind s.hash_state before
-    s.passes c.world.view_is c.self.view_is c.passes.view_is c.requires in
+    let is : IsTask (consts_in c.world.inside) t =
+    look_opens (world_of c.world.inside) c.args.world.now c.args.self.now s.number s.mind
+    s.hash_state before s.passes c.world.view_is c.self.view_is c.passes.view_is c.requires in
     let after : PassesValue =
     record {
       inodes = c.look_at_inodes.new.passes.items;
@@ -140,7 +140,7 @@ returns-clause-still c =
 
 pub returns-clause-consts : goal.returns-clause-consts
 returns-clause-consts c =
-    let w = c.world.inside in
+    let w = c.world.inside.parts in
     consts_looked w.settings w.stations.items c.look_at_inodes.new.stations.items w.supers.items
     w.book
     c.look-2.new.self w.sems c.look.new.self w.rules c.look-3.new.self w.tasks
@@ -150,7 +150,7 @@ returns-clause-consts c =
 
 pub returns-clause-state : goal.returns-clause-state
 returns-clause-state c =
-    let w = c.world.inside in
+    let w = c.world.inside.parts in
     state_looked w.settings w.stations.items c.look_at_inodes.new.stations.items w.supers.items
     w.book
     c.look-2.new.self w.sems c.look.new.self w.rules c.look-3.new.self w.tasks

@@ -54,7 +54,7 @@ returns-clause-still c =
     task_same c.args.world.now.consts s.number s.mind c.reserve.new.self s.hash_state s.passes
     c.reserve.ensures.same
     (subst (λ (x : Tasked). IsTask c.args.world.now.consts x) (sym c.self.view_is) c.requires) in
-    let mode : c.world.inside.settings.mode ≡ mode_in c.args.world.now.consts =
+    let mode : c.world.inside.parts.settings.mode ≡ mode_in c.args.world.now.consts =
     ap (λ (x : WorldValue). x.consts.settings.mode) c.world.view_is
     ∙ ap (λ (x : WorldConsts). x.settings.mode) c.reach.ensures.consts in
     elim c.match-branch-3.branch [
@@ -72,7 +72,7 @@ returns-clause-still c =
           moved_still c.args.world.now.consts c.reach.new.self.consts t c.args.world.now.state
           c.reach.new.self.state c.reach.new.passes c.reach.new.hash_state c.reach.ensures.consts is
           c.reach.result c.in_ok-reach.field-0 c.match-branch-3.self w.in-Told.answered
-          c.world.inside.settings.mode (option_copied w.as_ref.result) w.hear.new.self
+          c.world.inside.parts.settings.mode (option_copied w.as_ref.result) w.hear.new.self
           c.in_ok-reach.was w.in-Told.is c.reach.ensures.reaches w.self-is mode
           w.as_ref.ensures.value w.hear.ensures.program w.hear.ensures.thought
           w.hear.ensures.checked
@@ -80,7 +80,7 @@ returns-clause-still c =
           moved_still c.args.world.now.consts c.reach.new.self.consts t c.args.world.now.state
           c.reach.new.self.state c.reach.new.passes c.reach.new.hash_state c.reach.ensures.consts is
           c.reach.result c.in_ok-reach.field-0 c.match-branch-3.self w.in-Told.answered
-          c.world.inside.settings.mode (option_copied w.as_ref.result) w.hear.new.self
+          c.world.inside.parts.settings.mode (option_copied w.as_ref.result) w.hear.new.self
           c.in_ok-reach.was w.in-Told.is c.reach.ensures.reaches w.self-is mode
           w.as_ref.ensures.value w.hear.ensures.program w.hear.ensures.thought
           w.hear.ensures.checked

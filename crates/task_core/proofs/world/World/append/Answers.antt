@@ -6,7 +6,7 @@ use Rattle.task_core.proofs.world.World.append.Goals as goal
 
 pub invariant_of-self : goal.invariant_of-self
 invariant_of-self c =
-    let w = c.self.inside in
+    let w = c.self.inside.parts in
     let x = with_same_rules w.settings w.stations.items w.supers.items w.book w.sems w.rules w.tasks
     w.spares.items c.self.invariant.parts c.self.invariant.spares c.append.new.self
     c.append.ensures.kept.0 c.in_err-append.ensures.err.0 in
@@ -14,7 +14,7 @@ invariant_of-self c =
 
 pub invariant_of-self-2 : goal.invariant_of-self-2
 invariant_of-self-2 c =
-    let w = c.self.inside in
+    let w = c.self.inside.parts in
     let number : c.passes.inside.rules.number ≡ c.args.who.task =
     ap (λ (q : PassesValue). q.rules.number) c.passes.view_is ∙ c.requires.rules.1 in
     let x = with_rule w.settings w.stations.items w.supers.items w.book w.sems w.rules w.tasks

@@ -8,7 +8,7 @@ use Rattle.task_core.proofs.world.World.apply.Goals as goal
 
 pub apply_at-requires-clause-name : goal.apply_at-requires-clause-name
 apply_at-requires-clause-name c =
-    let w = c.self.inside in
+    let w = c.self.inside.parts in
     let q = c.passes.inside in
     let within : c.args.i < length w.stations.items = omega (arith, c.len.ensures) in
     (open_found w.settings w.stations.items w.supers.items w.book w.sems w.rules w.tasks
@@ -19,7 +19,7 @@ apply_at-requires-clause-name c =
 
 pub apply_at-requires-clause-number : goal.apply_at-requires-clause-number
 apply_at-requires-clause-number c =
-    let w = c.self.inside in
+    let w = c.self.inside.parts in
     let q = c.passes.inside in
     let within : c.args.i < length w.stations.items = omega (arith, c.len.ensures) in
     (open_found w.settings w.stations.items w.supers.items w.book w.sems w.rules w.tasks
@@ -30,7 +30,7 @@ apply_at-requires-clause-number c =
 
 pub apply_at-requires-clause-book_name : goal.apply_at-requires-clause-book_name
 apply_at-requires-clause-book_name c =
-    let w = c.self.inside in
+    let w = c.self.inside.parts in
     let q = c.passes.inside in
     let within : c.args.i < length w.stations.items = omega (arith, c.len.ensures) in
     open_book w.settings w.stations.items w.supers.items w.book w.sems w.rules w.tasks
@@ -41,7 +41,7 @@ apply_at-requires-clause-book_name c =
 
 pub apply_at-requires-clause-ready : goal.apply_at-requires-clause-ready
 apply_at-requires-clause-ready c =
-    let w = c.self.inside in
+    let w = c.self.inside.parts in
     let q = c.passes.inside in
     let within : c.args.i < length w.stations.items = omega (arith, c.len.ensures) in
     open_ready w.settings w.stations.items w.supers.items w.book w.sems w.rules w.tasks
@@ -54,7 +54,7 @@ apply_at-requires-clause-ready c =
 
 pub invariant_of-self : goal.invariant_of-self
 invariant_of-self c =
-    let w = c.self.inside in
+    let w = c.self.inside.parts in
     let q = c.passes.inside in
     let within : c.args.i < length w.stations.items = omega (arith, c.len.ensures) in
     record {
@@ -81,7 +81,7 @@ invariant_of-self c =
 
 pub returns-clause-consts : goal.returns-clause-consts
 returns-clause-consts c =
-    let w = c.self.inside in
+    let w = c.self.inside.parts in
     let q = c.passes.inside in
     let within : c.args.i < length w.stations.items = omega (arith, c.len.ensures) in
     done_view w.settings w.stations.items w.supers.items w.book w.sems w.rules w.tasks
@@ -95,7 +95,7 @@ returns-clause-consts c =
 
 pub returns-clause-event : goal.returns-clause-event
 returns-clause-event c =
-    let w = c.self.inside in
+    let w = c.self.inside.parts in
     let q = c.passes.inside in
     let within : c.args.i < length w.stations.items = omega (arith, c.len.ensures) in
     done_event w.settings w.stations.items w.supers.items w.book w.sems w.rules w.tasks
@@ -109,7 +109,7 @@ returns-clause-event c =
 
 pub returns-clause-told : goal.returns-clause-told
 returns-clause-told c =
-    let w = c.self.inside in
+    let w = c.self.inside.parts in
     let q = c.passes.inside in
     let within : c.args.i < length w.stations.items = omega (arith, c.len.ensures) in
     done_said w.settings w.stations.items w.supers.items w.book w.sems w.rules w.tasks

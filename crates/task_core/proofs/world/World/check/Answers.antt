@@ -8,7 +8,7 @@ use Rattle.task_core.proofs.world.World.check.Goals as goal
 
 pub look-requires : goal.look-requires
 look-requires c =
-    let w = c.self.inside in
+    let w = c.self.inside.parts in
     let s = c.station.inside in
     let within : c.args.i < length w.stations.items = omega (arith, c.len.ensures) in
     inspect_rules w.settings w.stations.items w.supers.items w.book w.sems w.rules w.tasks
@@ -17,7 +17,7 @@ look-requires c =
 
 pub index-place-requires : goal.index-place-requires
 index-place-requires c =
-    let w = c.self.inside in
+    let w = c.self.inside.parts in
     let s = c.station.inside in
     let within : c.args.i < length w.stations.items = omega (arith, c.len.ensures) in
     let h : s.place < length w.supers.items =
@@ -28,7 +28,7 @@ index-place-requires c =
 
 pub check_at-requires-clause-name : goal.check_at-requires-clause-name
 check_at-requires-clause-name c =
-    let w = c.self.inside in
+    let w = c.self.inside.parts in
     let s = c.station.inside in
     let within : c.args.i < length w.stations.items = omega (arith, c.len.ensures) in
     let p = c.passes.inside in
@@ -41,7 +41,7 @@ check_at-requires-clause-name c =
 
 pub check_at-requires-clause-number : goal.check_at-requires-clause-number
 check_at-requires-clause-number c =
-    let w = c.self.inside in
+    let w = c.self.inside.parts in
     let s = c.station.inside in
     let within : c.args.i < length w.stations.items = omega (arith, c.len.ensures) in
     let p = c.passes.inside in
@@ -54,7 +54,7 @@ check_at-requires-clause-number c =
 
 pub check_at-requires-clause-book_name : goal.check_at-requires-clause-book_name
 check_at-requires-clause-book_name c =
-    let w = c.self.inside in
+    let w = c.self.inside.parts in
     let s = c.station.inside in
     let within : c.args.i < length w.stations.items = omega (arith, c.len.ensures) in
     let p = c.passes.inside in
@@ -67,7 +67,7 @@ check_at-requires-clause-book_name c =
 
 pub check_at-requires-clause-ready : goal.check_at-requires-clause-ready
 check_at-requires-clause-ready c =
-    let w = c.self.inside in
+    let w = c.self.inside.parts in
     let s = c.station.inside in
     let within : c.args.i < length w.stations.items = omega (arith, c.len.ensures) in
     let p = c.passes.inside in
@@ -82,7 +82,7 @@ check_at-requires-clause-ready c =
 
 pub invariant_of-self : goal.invariant_of-self
 invariant_of-self c =
-    let w = c.self.inside in
+    let w = c.self.inside.parts in
     let s = c.station.inside in
     let within : c.args.i < length w.stations.items = omega (arith, c.len.ensures) in
     let p = c.passes.inside in
@@ -140,7 +140,7 @@ invariant_of-self c =
 
 pub returns-clause-consts : goal.returns-clause-consts
 returns-clause-consts c =
-    let w = c.self.inside in
+    let w = c.self.inside.parts in
     let s = c.station.inside in
     let within : c.args.i < length w.stations.items = omega (arith, c.len.ensures) in
     let p = c.passes.inside in
@@ -182,7 +182,7 @@ returns-clause-consts c =
 
 pub returns-clause-check : goal.returns-clause-check
 returns-clause-check c =
-    let w = c.self.inside in
+    let w = c.self.inside.parts in
     let s = c.station.inside in
     let within : c.args.i < length w.stations.items = omega (arith, c.len.ensures) in
     let p = c.passes.inside in

@@ -9,7 +9,7 @@ use Rattle.task_core.proofs.world.World.share.Goals as goal
 pub new-requires-after_bounds : goal.new-requires-after_bounds
 new-requires-after_bounds g c =
     λ κs out.
-    let w = c.self.inside in
+    let w = c.self.inside.parts in
     let consts = g.N.Name.consts in
     let is = ap (λ (v : WorldValue). v.consts) c.self.view_is ∙ c.requires in
     let parts = c.self.invariant.parts in

@@ -3,11 +3,12 @@ use inode_events::Settings;
 use measure_book::Book;
 use policy_cell::{PolicyCell, RuleEntry};
 use policy_rules::Super;
+use semaphore_cell::SemaphoreCell;
 use std::alloc::Global;
-use world_close::semaphores::SemaphoreCell;
-use world_close::worlds::Station;
+use world_model::Station;
 
-/// The lists of a world, taken apart.
+/// What the tasks of a world share: its lists and its constants. It is handed from the start of a
+/// world through its steps, on one thread or under locks, to its close.
 #[derive(Drop)]
 pub struct Parts {
     /// The inodes, in order.

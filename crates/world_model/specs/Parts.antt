@@ -1,14 +1,14 @@
 -- The lists of a world together: its constants, and the invariants between the lists and these.
 use Rattle.std.specs.Prelude.{◌≡◌, ℕ, List, map, Some, slice_get}
 use Rattle.grow_list.specs.Shown.{Grown}
-use Rattle.ima_templates.specs.declared.entry.Entry.{Entry}
+use Rattle.run_laws.specs.templates.declared.entry.Entry.{Entry}
 use Rattle.inode_events.specs.declared.settings.Settings.{Settings}
 use Rattle.inode_events.specs.declared.told.Event.{Event}
 use Rattle.policy_cell.specs.Policy.{PolicyValue}
 use Rattle.policy_rules.specs.declared.access.Super.{Super}
 use Rattle.run_model.specs.Turns.{State}
-use Rattle.task_steps.specs.worlds.WorldConsts.{WorldConsts, boot_in}
-use Rattle.task_steps.specs.worlds.World.{AreRulesOf, AreSignalsOf, IsBookOf, IsStation, StationValue, journal_of, site_of}
+use Rattle.world_model.specs.WorldConsts.{WorldConsts, boot_in}
+use Rattle.world_model.specs.World.{AreRulesOf, AreSignalsOf, IsBookOf, IsStation, StationValue, journal_of, site_of}
 
 -- the constants of a world with these parts
 abbrev pub consts_by : Settings → List StationValue → List Super → Grown Entry → Grown Event
