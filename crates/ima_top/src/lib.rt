@@ -15,17 +15,6 @@ mod status;
 mod summary;
 mod top;
 
-pub use audit_trail as trails;
-pub use buffer_measure as buffers;
 pub use command_line::Command;
-pub use ima_io as outer;
-pub use kernel_read as kernel_reads;
-pub use list_carry as carrying;
-pub use load_gen as generator;
-pub use report_text as reports;
-pub use script_run as runs;
-pub use script_run::runners::tasks;
-pub use script_run::scenes;
-pub use script_text as scripts;
 pub use status::{DONE, OUT_OF_MEMORY, READ_FAULT, REFUSED, STUCK, TOO_LONG, USAGE, WRITE_FAULT};
 pub use top::{MOST_INPUT, serve};

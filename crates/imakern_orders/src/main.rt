@@ -1,7 +1,7 @@
 //! The program: [`order_top::serve`] on the process's own words and streams.
 #![tactic(auto)]
 
-use order_top::outer::{FreeGate, StdSink, StdSource};
+use ima_io::{FreeGate, StdSink, StdSource};
 use order_top::serve;
 use std::io::ErrorKind;
 use std::process::ExitCode;

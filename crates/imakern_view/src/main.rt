@@ -1,10 +1,10 @@
 //! The program: [`view_top::serve_view`] on the process's own words and streams.
 #![tactic(auto)]
 
+use ima_io::{StdSink, StdSource};
 use std::io::ErrorKind;
 use std::process::ExitCode;
 use std::{env, io};
-use view_top::outer::{StdSink, StdSource};
 use view_top::{OUT_OF_MEMORY, serve_view};
 
 fn main(rt: HostRuntime) -> ExitCode {

@@ -13,9 +13,6 @@ mod text;
 mod top;
 mod words;
 
-pub use ima_io as outer;
 pub use order_runs as runs;
-pub use status::{
-    DONE, OUT_OF_MEMORY, READ_FAULT, REFUSED, TOO_LONG, TOO_MANY, USAGE, WRITE_FAULT,
-};
+pub use status::{DONE, OUT_OF_MEMORY, READ_FAULT, REFUSED, TOO_LONG, TOO_MANY, USAGE, WRITE_FAULT};
 pub use top::{MOST_INPUT, serve};

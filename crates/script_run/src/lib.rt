@@ -8,6 +8,4 @@ mod running;
 
 pub use laws::shown_runs_are_sound;
 pub use running::run;
-pub use script_scene as scenes;
 pub use script_start::{new_tasks, started};
-pub use task_runner as runners;

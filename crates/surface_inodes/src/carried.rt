@@ -4,82 +4,82 @@ ghost use Rattle.std.specs.Prelude.{◌-◌, ◌<◌, ◌≤◌, ◌^◌, length
 ghost use Rattle.ima_top.specs.carrying.Form.{IsCarried};
 
 use crate::lists::EntryPass;
-use hash_algos as hashes;
-use ima_top::carrying;
-use ima_top::scripts::LineCause;
-use inode_events::templates;
-use measure_book as books;
-use pcr_bank as registers;
+use script_text::LineCause;
 use std::alloc::Global;
-use xattr_store as xattrs;
 
 // ---- list_carry
 
-pub fn types(fault: carrying::CarryFault, err: carrying::CarryErr) {
+pub fn types(fault: list_carry::CarryFault, err: list_carry::CarryErr) {
     let _line: u32 = fault.line;
     match fault.cause {
-        carrying::CarryLine::Line(cause) => {
+        list_carry::CarryLine::Line(cause) => {
             let _cause: LineCause = cause;
         }
-        carrying::CarryLine::Carried(cause) => {
-            let _cause: carrying::CarryCause = cause;
+        list_carry::CarryLine::Carried(cause) => {
+            let _cause: list_carry::CarryCause = cause;
         }
     }
     match err {
-        carrying::CarryErr::Refused(
-            carrying::CarryCause::Header
-            | carrying::CarryCause::Short
-            | carrying::CarryCause::Trailing
-            | carrying::CarryCause::Record
-            | carrying::CarryCause::Twice,
+        list_carry::CarryErr::Refused(
+            list_carry::CarryCause::Header
+            | list_carry::CarryCause::Short
+            | list_carry::CarryCause::Trailing
+            | list_carry::CarryCause::Record
+            | list_carry::CarryCause::Twice,
         )
-        | carrying::CarryErr::OutOfMemory => {}
+        | list_carry::CarryErr::OutOfMemory => {}
     }
 }
 
-pub fn carry_cause_word(cause: carrying::CarryCause) -> &'static str {
-    carrying::CarryCause::word(cause)
+pub fn carry_cause_word(cause: list_carry::CarryCause) -> &'static str {
+    list_carry::CarryCause::word(cause)
 }
 
-pub fn carry_parse(alloc: Global, b: &[u8]) -> Result<carrying::CarryText, carrying::CarryTextErr>
+pub fn carry_parse(
+    alloc: Global,
+    b: &[u8],
+) -> Result<list_carry::CarryText, list_carry::CarryTextErr>
     requires { length b.now < 2 ^ 32 - 1 }
 {
-    carrying::parse(alloc, b)
+    list_carry::parse(alloc, b)
 }
 
 // "The fields of a carry text are handed out by a call": contracts see its digest as 32 bytes.
 pub fn carry_text_into_parts(
-    text: carrying::CarryText,
+    text: list_carry::CarryText,
 ) -> (
-    Option<carrying::Carried>,
-    hashes::Digest,
-    Vec<(xattrs::Bytes, xattrs::Bytes)>,
+    Option<list_carry::Carried>,
+    hash_algos::Digest,
+    Vec<(xattr_store::Bytes, xattr_store::Bytes)>,
 ) {
-    carrying::CarryText::into_parts(text)
+    list_carry::CarryText::into_parts(text)
 }
 
-pub fn carry_load(alloc: Global, b: &[u8]) -> Result<carrying::Carried, carrying::CarryErr> {
-    carrying::load(alloc, b)
+pub fn carry_load(alloc: Global, b: &[u8]) -> Result<list_carry::Carried, list_carry::CarryErr> {
+    list_carry::load(alloc, b)
 }
 
-pub fn carry_save(list: &[templates::Entry], out: &mut Vec<u8>) -> Result<(), carrying::OutOfMemory>
+pub fn carry_save(
+    list: &[ima_templates::Entry],
+    out: &mut Vec<u8>,
+) -> Result<(), list_carry::OutOfMemory>
     requires { IsCarried list.now }
 {
-    carrying::save(list, out)
+    list_carry::save(list, out)
 }
 
 pub fn carry_resume(
-    list: carrying::Carried,
-) -> Result<(books::Book, EntryPass), carrying::OutOfMemory> {
-    carrying::resume(list)
+    list: list_carry::Carried,
+) -> Result<(measure_book::Book, EntryPass), list_carry::OutOfMemory> {
+    list_carry::resume(list)
 }
 
 pub fn carry_on(
     alloc: Global,
-    carried: Option<carrying::Carried>,
-    entries: Vec<templates::Entry>,
-) -> Result<(Vec<templates::Entry>, registers::Banks), carrying::OutOfMemory>
+    carried: Option<list_carry::Carried>,
+    entries: Vec<ima_templates::Entry>,
+) -> Result<(Vec<ima_templates::Entry>, pcr_bank::Banks), list_carry::OutOfMemory>
     requires { 1 ≤ length entries.items }
 {
-    carrying::carry_on(alloc, carried, entries)
+    list_carry::carry_on(alloc, carried, entries)
 }

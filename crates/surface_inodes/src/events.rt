@@ -3,131 +3,121 @@
 ghost use Rattle.std.specs.Prelude.{IsTrue};
 ghost use Rattle.ima_top.specs.policy.rules.RuleValue.{is_named_template};
 
-use evm_verify as evm;
-use hash_algos as hashes;
-use inode_cell as inodes;
-use inode_events as events;
-use inode_events::{labels, templates};
-use inode_meta as meta;
-use inode_pages as pages;
-use policy_text as policy;
-use xattr_store as xattrs;
-
 // ---- inode_events
 
-pub fn parts(how: events::How, change: events::Change) {
+pub fn parts(how: inode_events::How, change: inode_events::Change) {
     match how {
-        events::How::Read { create: _ }
-        | events::How::Write { read: _, create: _ }
-        | events::How::Exec => {}
+        inode_events::How::Read { create: _ }
+        | inode_events::How::Write { read: _, create: _ }
+        | inode_events::How::Exec => {}
     }
     match change {
-        events::Change::Mode(_) | events::Change::Owner { uid: _, gid: _ } => {}
+        inode_events::Change::Mode(_) | inode_events::Change::Owner { uid: _, gid: _ } => {}
     }
 }
 
 // "The content that a script gives a file is kept in pages as soon as it is read"
 pub fn records(
-    e: &events::Event,
-    grant: &events::Grant,
-    image: &events::Image,
-    ended: &inodes::EndedInode,
+    e: &inode_events::Event,
+    grant: &inode_events::Grant,
+    image: &inode_events::Image,
+    ended: &inode_cell::EndedInode,
 ) {
-    let _who: meta::Who = e.who;
-    let _deed: &events::Deed = &e.deed;
-    let _told: &events::Told = &e.told;
-    let _placed: Option<templates::Placed> = grant.placed;
-    let _verdict: Option<labels::Verdict> = grant.verdict;
+    let _who: inode_meta::Who = e.who;
+    let _deed: &inode_events::Deed = &e.deed;
+    let _told: &inode_events::Told = &e.told;
+    let _placed: Option<ima_templates::Placed> = grant.placed;
+    let _verdict: Option<label_values::Verdict> = grant.verdict;
     let _grant: (bool, bool) = (grant.admitted, grant.labelled);
-    let _image: (bool, meta::Meta, bool) = (image.present, image.meta, image.versions);
-    let _content: &pages::Content = &image.content;
-    let _labels: &xattrs::Attrs = &image.attrs;
-    let _path: &xattrs::Bytes = &ended.path;
-    let _journal: &Vec<events::Event> = &ended.journal;
-    let _force: &Option<hashes::Digest> = &ended.force;
-    let _attrs: &xattrs::Attrs = &ended.attrs;
+    let _image: (bool, inode_meta::Meta, bool) = (image.present, image.meta, image.versions);
+    let _content: &inode_pages::Content = &image.content;
+    let _labels: &xattr_store::Attrs = &image.attrs;
+    let _path: &xattr_store::Bytes = &ended.path;
+    let _journal: &Vec<inode_events::Event> = &ended.journal;
+    let _force: &Option<hash_algos::Digest> = &ended.force;
+    let _attrs: &xattr_store::Attrs = &ended.attrs;
     let _counts: [u64; 3] = [ended.writers, ended.readers, ended.execs];
 }
 
 // Names, values and bytes are boxed: "Large and rare parts of an event or a call are in memory of
 // their own".
-pub fn deed(deed: &events::Deed) {
+pub fn deed(deed: &inode_events::Deed) {
     match deed {
-        events::Deed::Birth
-        | events::Deed::Count { how: _ }
-        | events::Deed::Check {
+        inode_events::Deed::Birth
+        | inode_events::Deed::Count { how: _ }
+        | inode_events::Deed::Check {
             file: _,
             func: _,
             action: _,
             rules: _,
         }
-        | events::Deed::Take { file: _ }
-        | events::Deed::Chunk { file: _ }
-        | events::Deed::Finish { file: _ }
-        | events::Deed::Read {
+        | inode_events::Deed::Take { file: _ }
+        | inode_events::Deed::Chunk { file: _ }
+        | inode_events::Deed::Finish { file: _ }
+        | inode_events::Deed::Read {
             file: _,
             from: _,
             len: _,
         }
-        | events::Deed::Write {
+        | inode_events::Deed::Write {
             file: _,
             from: _,
             bytes: _,
         }
-        | events::Deed::Trunc { file: _, len: _ }
-        | events::Deed::SetAttr {
+        | inode_events::Deed::Trunc { file: _, len: _ }
+        | inode_events::Deed::SetAttr {
             name: _,
             value: _,
             admin: _,
         }
-        | events::Deed::SetMeta { change: _ }
-        | events::Deed::Close { file: _ }
-        | events::Deed::CloseTake { file: _ }
-        | events::Deed::CloseChunk { file: _ }
-        | events::Deed::CloseFinish { file: _ }
-        | events::Deed::Post(_)
-        | events::Deed::Wait(_) => {}
+        | inode_events::Deed::SetMeta { change: _ }
+        | inode_events::Deed::Close { file: _ }
+        | inode_events::Deed::CloseTake { file: _ }
+        | inode_events::Deed::CloseChunk { file: _ }
+        | inode_events::Deed::CloseFinish { file: _ }
+        | inode_events::Deed::Post(_)
+        | inode_events::Deed::Wait(_) => {}
     }
 }
 
 // The image is boxed: "Large and rare parts of an event or a call are in memory of their own".
-pub fn told(told: &events::Told) {
+pub fn told(told: &inode_events::Told) {
     match told {
-        events::Told::Image(_)
-        | events::Told::Held
-        | events::Told::NotFound
-        | events::Told::TextBusy
-        | events::Told::Quiet
-        | events::Told::OpenWriters(_)
-        | events::Told::ToMToU(_)
-        | events::Told::Begun
-        | events::Told::Grant(_)
-        | events::Told::More
-        | events::Told::Last
-        | events::Told::Read { n: _, digest: _ }
-        | events::Told::Done
-        | events::Told::TooBig
-        | events::Told::EvmName
-        | events::Told::NotAdmin
-        | events::Told::TooLong
-        | events::Told::Invalid
-        | events::Told::NoData
-        | events::Told::Status(_)
-        | events::Told::Dropped
-        | events::Told::LabelledDropped
-        | events::Told::Nothing => {}
+        inode_events::Told::Image(_)
+        | inode_events::Told::Held
+        | inode_events::Told::NotFound
+        | inode_events::Told::TextBusy
+        | inode_events::Told::Quiet
+        | inode_events::Told::OpenWriters(_)
+        | inode_events::Told::ToMToU(_)
+        | inode_events::Told::Begun
+        | inode_events::Told::Grant(_)
+        | inode_events::Told::More
+        | inode_events::Told::Last
+        | inode_events::Told::Read { n: _, digest: _ }
+        | inode_events::Told::Done
+        | inode_events::Told::TooBig
+        | inode_events::Told::EvmName
+        | inode_events::Told::NotAdmin
+        | inode_events::Told::TooLong
+        | inode_events::Told::Invalid
+        | inode_events::Told::NoData
+        | inode_events::Told::Status(_)
+        | inode_events::Told::Dropped
+        | inode_events::Told::LabelledDropped
+        | inode_events::Told::Nothing => {}
     }
 }
 
 pub fn settings(
-    hash: hashes::Algo,
-    template: meta::Template,
-    mode: meta::Mode,
-    evm: evm::Evm,
-) -> events::Settings
+    hash: hash_algos::Algo,
+    template: inode_meta::Template,
+    mode: inode_meta::Mode,
+    evm: evm_verify::Evm,
+) -> inode_events::Settings
     requires { IsTrue (is_named_template template) }
 {
-    events::Settings {
+    inode_events::Settings {
         hash,
         template,
         mode,
@@ -135,57 +125,65 @@ pub fn settings(
     }
 }
 
-pub fn settings_copy(settings: &events::Settings) -> Result<events::Settings, events::OutOfMemory> {
-    events::Settings::copy(settings)
+pub fn settings_copy(
+    settings: &inode_events::Settings,
+) -> Result<inode_events::Settings, inode_events::OutOfMemory> {
+    inode_events::Settings::copy(settings)
 }
 
 // ---- inode_cell
 
 // "The outcome of a read, and its reply, has room for SHA-256 and no longer digest, and counts
 // bytes in 32 bits"
-pub fn answers(checked: &inodes::Checked, got: &inodes::Got) {
-    let _checked: (policy::Action, inodes::Found) = (checked.action, checked.found);
+pub fn answers(checked: &inode_cell::Checked, got: &inode_cell::Got) {
+    let _checked: (policy_text::Action, inode_cell::Found) = (checked.action, checked.found);
     let _n: u32 = got.n;
-    let _digest: &hashes::Sha256Digest = &got.digest;
+    let _digest: &hash_algos::Sha256Digest = &got.digest;
     match checked.found {
-        inodes::Found::Quiet | inodes::Found::OpenWriters(_) | inodes::Found::ToMToU(_) => {}
+        inode_cell::Found::Quiet
+        | inode_cell::Found::OpenWriters(_)
+        | inode_cell::Found::ToMToU(_) => {}
     }
 }
 
 pub fn file_answers(
-    counted: inodes::Counted,
-    taken: inodes::Taken,
-    piece: inodes::Piece,
-    closed: inodes::CloseTaken,
+    counted: inode_cell::Counted,
+    taken: inode_cell::Taken,
+    piece: inode_cell::Piece,
+    closed: inode_cell::CloseTaken,
 ) {
     match counted {
-        inodes::Counted::Held(_) | inodes::Counted::NotFound | inodes::Counted::TextBusy => {}
+        inode_cell::Counted::Held(_)
+        | inode_cell::Counted::NotFound
+        | inode_cell::Counted::TextBusy => {}
     }
     match taken {
-        inodes::Taken::Begun(_) | inodes::Taken::Answer(_) | inodes::Taken::Blocked => {}
+        inode_cell::Taken::Begun(_) | inode_cell::Taken::Answer(_) | inode_cell::Taken::Blocked =>
+            {}
     }
     match piece {
-        inodes::Piece::More | inodes::Piece::Last => {}
+        inode_cell::Piece::More | inode_cell::Piece::Last => {}
     }
     match closed {
-        inodes::CloseTaken::Begun(_) | inodes::CloseTaken::Dropped | inodes::CloseTaken::Blocked =>
-            {}
+        inode_cell::CloseTaken::Begun(_)
+        | inode_cell::CloseTaken::Dropped
+        | inode_cell::CloseTaken::Blocked => {}
     }
 }
 
-pub fn change_answers(wrote: inodes::Wrote, set: inodes::Set) {
+pub fn change_answers(wrote: inode_cell::Wrote, set: inode_cell::Set) {
     match wrote {
-        inodes::Wrote::Done | inodes::Wrote::TooBig => {}
+        inode_cell::Wrote::Done | inode_cell::Wrote::TooBig => {}
     }
     match set {
-        inodes::Set::Status(_)
-        | inodes::Set::Done
-        | inodes::Set::Blocked
-        | inodes::Set::NotFound
-        | inodes::Set::EvmName
-        | inodes::Set::NotAdmin
-        | inodes::Set::TooLong
-        | inodes::Set::Invalid
-        | inodes::Set::NoData => {}
+        inode_cell::Set::Status(_)
+        | inode_cell::Set::Done
+        | inode_cell::Set::Blocked
+        | inode_cell::Set::NotFound
+        | inode_cell::Set::EvmName
+        | inode_cell::Set::NotAdmin
+        | inode_cell::Set::TooLong
+        | inode_cell::Set::Invalid
+        | inode_cell::Set::NoData => {}
     }
 }

@@ -15,39 +15,28 @@ ghost use Rattle.ima_top.specs.worlds.inodes.Ending.{HasPasses};
 ghost use Rattle.ima_top.specs.worlds.inodes.Sums.{HasSums};
 ghost use Rattle.ima_top.specs.worlds.laws_of_journals.Own.{counter};
 
-use grow_list as growing;
-use hash_algos as hashes;
-use inode_cell as inodes;
-use inode_events as events;
-use inode_events::templates;
-use inode_hashing as hashing;
-use inode_meta as meta;
-use inode_pages as pages;
-use measure_book as books;
-use policy_text as policy;
-use rule_match as matching;
 use std::alloc::Global;
 
-pub type EventPass = growing::Pass<events::Event>;
+pub type EventPass = grow_list::Pass<inode_events::Event>;
 
-pub type EntryPass = growing::Pass<templates::Entry>;
+pub type EntryPass = grow_list::Pass<ima_templates::Entry>;
 
 // ---- inode_hashing
 
-pub fn hashing_begin(a: hashes::Algo) -> hashing::Hashing {
-    hashing::Hashing::begin(a)
+pub fn hashing_begin(a: hash_algos::Algo) -> inode_hashing::Hashing {
+    inode_hashing::Hashing::begin(a)
 }
 
-pub fn hashing_next(hashing: &mut hashing::Hashing, b: &[u8]) {
-    hashing::Hashing::next(hashing, b)
+pub fn hashing_next(hashing: &mut inode_hashing::Hashing, b: &[u8]) {
+    inode_hashing::Hashing::next(hashing, b)
 }
 
-pub fn hashing_next_page(hashing: &mut hashing::Hashing, p: &pages::Page) {
-    hashing::Hashing::next_page(hashing, p)
+pub fn hashing_next_page(hashing: &mut inode_hashing::Hashing, p: &inode_pages::Page) {
+    inode_hashing::Hashing::next_page(hashing, p)
 }
 
-pub fn hashing_finish(hashing: hashing::Hashing) -> (hashes::Digest, hashes::Digest) {
-    hashing::Hashing::finish(hashing)
+pub fn hashing_finish(hashing: inode_hashing::Hashing) -> (hash_algos::Digest, hash_algos::Digest) {
+    inode_hashing::Hashing::finish(hashing)
 }
 
 // ---- inode_cell
@@ -55,67 +44,67 @@ pub fn hashing_finish(hashing: hashing::Hashing) -> (hashes::Digest, hashes::Dig
 pub fn start(
     alloc: Global,
     path: &[u8],
-    image: events::Image,
-    settings: events::Settings,
+    image: inode_events::Image,
+    settings: inode_events::Settings,
     tasks: u32,
     book: EntryPass,
-) -> Result<(inodes::InodeCell, Vec<EventPass>), inodes::OutOfMemory>
+) -> Result<(inode_cell::InodeCell, Vec<EventPass>), inode_cell::OutOfMemory>
     requires path { IsMeasuredPath Ima path.now }
     requires content { length image.content ≤ most_bytes }
     requires tasks { tasks < 2 ^ 32 - 1 }
     requires book { book.mine ≡ [] }
 {
-    inodes::InodeCell::start(alloc, path, image, settings, tasks, book)
+    inode_cell::InodeCell::start(alloc, path, image, settings, tasks, book)
 }
 
-pub fn look(cell: &mut inodes::InodeCell, pass: &mut EventPass)
+pub fn look(cell: &mut inode_cell::InodeCell, pass: &mut EventPass)
     requires { pass.old.name ≡ cell.old.journal }
 {
-    inodes::InodeCell::look(cell, pass)
+    inode_cell::InodeCell::look(cell, pass)
 }
 
 pub fn count(
-    cell: &mut inodes::InodeCell,
+    cell: &mut inode_cell::InodeCell,
     pass: &mut EventPass,
-    who: meta::Who,
-    how: events::How,
-) -> Result<inodes::Counted, inodes::OutOfMemory>
+    who: inode_meta::Who,
+    how: inode_events::How,
+) -> Result<inode_cell::Counted, inode_cell::OutOfMemory>
     requires name { pass.old.name ≡ cell.old.journal }
     requires number { pass.old.number ≡ who.task + 1 }
 {
-    inodes::InodeCell::count(cell, pass, who, how)
+    inode_cell::InodeCell::count(cell, pass, who, how)
 }
 
 pub fn check(
-    cell: &mut inodes::InodeCell,
+    cell: &mut inode_cell::InodeCell,
     pass: &mut EventPass,
-    who: meta::Who,
+    who: inode_meta::Who,
     file: u64,
-    rules: &matching::Index,
-    cred: &meta::Cred,
-    place: &policy::Super,
-    func: policy::Func,
+    rules: &rule_match::Index,
+    cred: &inode_meta::Cred,
+    place: &policy_text::Super,
+    func: policy_text::Func,
     mask: u8,
-    book: &mut books::Book,
-) -> Result<inodes::Checked, inodes::OutOfMemory>
+    book: &mut measure_book::Book,
+) -> Result<inode_cell::Checked, inode_cell::OutOfMemory>
     requires name { pass.old.name ≡ cell.old.journal }
     requires number { pass.old.number ≡ who.task + 1 }
     requires book { cell.old.book ≡ book.old.name }
     requires counted { counter file (past cell.old.list) ≡ Some pass.old.number }
     requires due { may_check (stage cell.old.inode file (past cell.old.list)) ≡ true }
 {
-    inodes::InodeCell::check(cell, pass, who, file, rules, cred, place, func, mask, book)
+    inode_cell::InodeCell::check(cell, pass, who, file, rules, cred, place, func, mask, book)
 }
 
 pub fn take(
-    cell: &mut inodes::InodeCell,
+    cell: &mut inode_cell::InodeCell,
     pass: &mut EventPass,
-    who: meta::Who,
+    who: inode_meta::Who,
     file: u64,
-    slot: meta::Slot,
-    action: &policy::Action,
-    book: &mut books::Book,
-) -> Result<inodes::Taken, inodes::OutOfMemory>
+    slot: inode_meta::Slot,
+    action: &policy_text::Action,
+    book: &mut measure_book::Book,
+) -> Result<inode_cell::Taken, inode_cell::OutOfMemory>
     requires name { pass.old.name ≡ cell.old.journal }
     requires number { pass.old.number ≡ who.task + 1 }
     requires book { cell.old.book ≡ book.old.name }
@@ -124,31 +113,31 @@ pub fn take(
     requires slot { slot ≡ slot_of (last_check file (past cell.old.list)).func }
     requires action { action.now ≡ (last_check file (past cell.old.list)).action }
 {
-    inodes::InodeCell::take(cell, pass, who, file, slot, action, book)
+    inode_cell::InodeCell::take(cell, pass, who, file, slot, action, book)
 }
 
 pub fn chunk(
-    cell: &mut inodes::InodeCell,
+    cell: &mut inode_cell::InodeCell,
     pass: &mut EventPass,
-    who: meta::Who,
+    who: inode_meta::Who,
     file: u64,
-) -> Result<(inodes::Piece, pages::Page), inodes::OutOfMemory>
+) -> Result<(inode_cell::Piece, inode_pages::Page), inode_cell::OutOfMemory>
     requires name { pass.old.name ≡ cell.old.journal }
     requires number { pass.old.number ≡ who.task + 1 }
     requires counted { counter file (past cell.old.list) ≡ Some pass.old.number }
     requires collecting { stage cell.old.inode file (past cell.old.list) ≡ Collecting }
 {
-    inodes::InodeCell::chunk(cell, pass, who, file)
+    inode_cell::InodeCell::chunk(cell, pass, who, file)
 }
 
 pub fn finish(
-    cell: &mut inodes::InodeCell,
+    cell: &mut inode_cell::InodeCell,
     pass: &mut EventPass,
-    who: meta::Who,
+    who: inode_meta::Who,
     file: u64,
-    sums: (hashes::Digest, hashes::Digest),
-    book: &mut books::Book,
-) -> Result<events::Grant, inodes::OutOfMemory>
+    sums: (hash_algos::Digest, hash_algos::Digest),
+    book: &mut measure_book::Book,
+) -> Result<inode_events::Grant, inode_cell::OutOfMemory>
     requires name { pass.old.name ≡ cell.old.journal }
     requires number { pass.old.number ≡ who.task + 1 }
     requires book { cell.old.book ≡ book.old.name }
@@ -156,34 +145,34 @@ pub fn finish(
     requires collected { stage cell.old.inode file (past cell.old.list) ≡ Collected }
     requires sums { HasSums cell.old.inode (past cell.old.list) sums }
 {
-    inodes::InodeCell::finish(cell, pass, who, file, sums, book)
+    inode_cell::InodeCell::finish(cell, pass, who, file, sums, book)
 }
 
 pub fn read(
-    cell: &mut inodes::InodeCell,
+    cell: &mut inode_cell::InodeCell,
     pass: &mut EventPass,
-    who: meta::Who,
+    who: inode_meta::Who,
     file: u64,
     from: u64,
     len: u64,
-) -> Result<inodes::Got, inodes::OutOfMemory>
+) -> Result<inode_cell::Got, inode_cell::OutOfMemory>
     requires name { pass.old.name ≡ cell.old.journal }
     requires number { pass.old.number ≡ who.task + 1 }
     requires counted { counter file (past cell.old.list) ≡ Some pass.old.number }
     requires settled { stage cell.old.inode file (past cell.old.list) ≡ Settled }
     requires how { holds can_read (held file (past cell.old.list)) ≡ true }
 {
-    inodes::InodeCell::read(cell, pass, who, file, from, len)
+    inode_cell::InodeCell::read(cell, pass, who, file, from, len)
 }
 
 pub fn write(
-    cell: &mut inodes::InodeCell,
+    cell: &mut inode_cell::InodeCell,
     pass: &mut EventPass,
-    who: meta::Who,
+    who: inode_meta::Who,
     file: u64,
     from: u64,
     b: &[u8],
-) -> Result<inodes::Wrote, inodes::OutOfMemory>
+) -> Result<inode_cell::Wrote, inode_cell::OutOfMemory>
     requires name { pass.old.name ≡ cell.old.journal }
     requires number { pass.old.number ≡ who.task + 1 }
     requires counted { counter file (past cell.old.list) ≡ Some pass.old.number }
@@ -191,113 +180,116 @@ pub fn write(
     requires how { holds is_writer (held file (past cell.old.list)) ≡ true }
     requires bytes { 0 < length b.now }
 {
-    inodes::InodeCell::write(cell, pass, who, file, from, b)
+    inode_cell::InodeCell::write(cell, pass, who, file, from, b)
 }
 
 pub fn trunc(
-    cell: &mut inodes::InodeCell,
+    cell: &mut inode_cell::InodeCell,
     pass: &mut EventPass,
-    who: meta::Who,
+    who: inode_meta::Who,
     file: u64,
     len: u64,
-) -> Result<inodes::Wrote, inodes::OutOfMemory>
+) -> Result<inode_cell::Wrote, inode_cell::OutOfMemory>
     requires name { pass.old.name ≡ cell.old.journal }
     requires number { pass.old.number ≡ who.task + 1 }
     requires counted { counter file (past cell.old.list) ≡ Some pass.old.number }
     requires settled { stage cell.old.inode file (past cell.old.list) ≡ Settled }
     requires how { holds is_writer (held file (past cell.old.list)) ≡ true }
 {
-    inodes::InodeCell::trunc(cell, pass, who, file, len)
+    inode_cell::InodeCell::trunc(cell, pass, who, file, len)
 }
 
 pub fn set_attr(
-    cell: &mut inodes::InodeCell,
+    cell: &mut inode_cell::InodeCell,
     pass: &mut EventPass,
-    who: meta::Who,
-    cred: &meta::Cred,
+    who: inode_meta::Who,
+    cred: &inode_meta::Cred,
     name: &[u8],
     value: Option<&[u8]>,
-) -> Result<inodes::Set, inodes::OutOfMemory>
+) -> Result<inode_cell::Set, inode_cell::OutOfMemory>
     requires name { pass.old.name ≡ cell.old.journal }
     requires number { pass.old.number ≡ who.task + 1 }
 {
-    inodes::InodeCell::set_attr(cell, pass, who, cred, name, value)
+    inode_cell::InodeCell::set_attr(cell, pass, who, cred, name, value)
 }
 
 pub fn set_meta(
-    cell: &mut inodes::InodeCell,
+    cell: &mut inode_cell::InodeCell,
     pass: &mut EventPass,
-    who: meta::Who,
-    change: events::Change,
-) -> Result<inodes::Set, inodes::OutOfMemory>
+    who: inode_meta::Who,
+    change: inode_events::Change,
+) -> Result<inode_cell::Set, inode_cell::OutOfMemory>
     requires name { pass.old.name ≡ cell.old.journal }
     requires number { pass.old.number ≡ who.task + 1 }
 {
-    inodes::InodeCell::set_meta(cell, pass, who, change)
+    inode_cell::InodeCell::set_meta(cell, pass, who, change)
 }
 
 pub fn close_read(
-    cell: &mut inodes::InodeCell,
+    cell: &mut inode_cell::InodeCell,
     pass: &mut EventPass,
-    who: meta::Who,
+    who: inode_meta::Who,
     file: u64,
-) -> Result<(), inodes::OutOfMemory>
+) -> Result<(), inode_cell::OutOfMemory>
     requires name { pass.old.name ≡ cell.old.journal }
     requires number { pass.old.number ≡ who.task + 1 }
     requires counted { counter file (past cell.old.list) ≡ Some pass.old.number }
     requires settled { stage cell.old.inode file (past cell.old.list) ≡ Settled }
     requires how { holds is_writer (held file (past cell.old.list)) ≡ false }
 {
-    inodes::InodeCell::close_read(cell, pass, who, file)
+    inode_cell::InodeCell::close_read(cell, pass, who, file)
 }
 
 pub fn close_take(
-    cell: &mut inodes::InodeCell,
+    cell: &mut inode_cell::InodeCell,
     pass: &mut EventPass,
-    who: meta::Who,
+    who: inode_meta::Who,
     file: u64,
-) -> Result<inodes::CloseTaken, inodes::OutOfMemory>
+) -> Result<inode_cell::CloseTaken, inode_cell::OutOfMemory>
     requires name { pass.old.name ≡ cell.old.journal }
     requires number { pass.old.number ≡ who.task + 1 }
     requires counted { counter file (past cell.old.list) ≡ Some pass.old.number }
     requires settled { stage cell.old.inode file (past cell.old.list) ≡ Settled }
     requires how { holds is_writer (held file (past cell.old.list)) ≡ true }
 {
-    inodes::InodeCell::close_take(cell, pass, who, file)
+    inode_cell::InodeCell::close_take(cell, pass, who, file)
 }
 
 pub fn close_chunk(
-    cell: &mut inodes::InodeCell,
+    cell: &mut inode_cell::InodeCell,
     pass: &mut EventPass,
-    who: meta::Who,
+    who: inode_meta::Who,
     file: u64,
-) -> Result<(inodes::Piece, pages::Page), inodes::OutOfMemory>
+) -> Result<(inode_cell::Piece, inode_pages::Page), inode_cell::OutOfMemory>
     requires name { pass.old.name ≡ cell.old.journal }
     requires number { pass.old.number ≡ who.task + 1 }
     requires counted { counter file (past cell.old.list) ≡ Some pass.old.number }
     requires collecting { stage cell.old.inode file (past cell.old.list) ≡ CloseCollecting }
 {
-    inodes::InodeCell::close_chunk(cell, pass, who, file)
+    inode_cell::InodeCell::close_chunk(cell, pass, who, file)
 }
 
 pub fn close_finish(
-    cell: &mut inodes::InodeCell,
+    cell: &mut inode_cell::InodeCell,
     pass: &mut EventPass,
-    who: meta::Who,
+    who: inode_meta::Who,
     file: u64,
-    sums: (hashes::Digest, hashes::Digest),
-) -> Result<bool, inodes::OutOfMemory>
+    sums: (hash_algos::Digest, hash_algos::Digest),
+) -> Result<bool, inode_cell::OutOfMemory>
     requires name { pass.old.name ≡ cell.old.journal }
     requires number { pass.old.number ≡ who.task + 1 }
     requires counted { counter file (past cell.old.list) ≡ Some pass.old.number }
     requires collected { stage cell.old.inode file (past cell.old.list) ≡ CloseCollected }
     requires sums { HasSums cell.old.inode (past cell.old.list) sums }
 {
-    inodes::InodeCell::close_finish(cell, pass, who, file, sums)
+    inode_cell::InodeCell::close_finish(cell, pass, who, file, sums)
 }
 
-pub fn close(cell: inodes::InodeCell, passes: Vec<EventPass>) -> (inodes::EndedInode, EntryPass)
+pub fn close(
+    cell: inode_cell::InodeCell,
+    passes: Vec<EventPass>,
+) -> (inode_cell::EndedInode, EntryPass)
     requires { HasPasses cell passes.items }
 {
-    inodes::InodeCell::close(cell, passes)
+    inode_cell::InodeCell::close(cell, passes)
 }

@@ -5,11 +5,9 @@ ghost use Rattle.order_top.specs.runs.Plays.{IsSchedule};
 ghost use Rattle.order_top.specs.runs.outcomes.scripts.Limits.{most_turns};
 
 use inode_events::{EndedInode, Told, labels, templates};
+use order_top::runs;
 use order_top::runs::outcomes::counts;
 use order_top::runs::{outcomes, sights};
-use order_top::{outer, runs};
-use report_text as reports;
-use script_text as scripts;
 use std::alloc::{AllocError as OutOfMemory, Global};
 
 // ---- order_counts
@@ -87,7 +85,7 @@ pub fn listed_of(
     outcomes::listed_of(alloc, list, inodes, task, call)
 }
 
-pub fn made_of(ended: &reports::model::Ended) -> outcomes::Made {
+pub fn made_of(ended: &run_model::Ended) -> outcomes::Made {
     outcomes::made_of(ended)
 }
 
@@ -98,7 +96,7 @@ pub fn is_same(a: outcomes::Made, b: outcomes::Made) -> bool {
 
 pub fn outcome_of(
     alloc: Global,
-    ended: &reports::model::Ended,
+    ended: &run_model::Ended,
 ) -> Result<templates::xattrs::Bytes, OutOfMemory> {
     outcomes::outcome_of(alloc, ended)
 }
@@ -115,7 +113,10 @@ pub fn are_alike(alloc: Global, a: &sights::Sight, b: &sights::Sight) -> Result<
 
 // ---- order_runs
 
-pub fn read(alloc: Global, text: templates::xattrs::Bytes) -> Result<runs::Play, scripts::ScriptErr>
+pub fn read(
+    alloc: Global,
+    text: templates::xattrs::Bytes,
+) -> Result<runs::Play, script_text::ScriptErr>
     requires { length text < 2 ^ 32 - 1 }
 {
     runs::Play::read(alloc, text)
@@ -125,7 +126,7 @@ pub fn tasks(play: &runs::Play) -> u32 {
     play.tasks()
 }
 
-pub fn sight<G: outer::Gate>(
+pub fn sight<G: ima_io::Gate>(
     alloc: Global,
     play: &runs::Play,
     turns: &counts::Order,
@@ -136,7 +137,7 @@ pub fn sight<G: outer::Gate>(
     play.sight(alloc, turns, gate)
 }
 
-pub fn rows_of<G: outer::Gate>(
+pub fn rows_of<G: ima_io::Gate>(
     alloc: Global,
     part: &runs::Part,
     most: usize,
@@ -160,7 +161,7 @@ pub fn rows(row: &runs::Row, stopped: runs::Stopped) {
 
 // ---- order_top
 
-pub fn serve<S: outer::Source, K: outer::Sink, N: outer::Sink, G: outer::Gate>(
+pub fn serve<S: ima_io::Source, K: ima_io::Sink, N: ima_io::Sink, G: ima_io::Gate>(
     alloc: Global,
     words: &[String],
     script: &mut S,

@@ -2,70 +2,68 @@
 
 ghost use Rattle.std.specs.Prelude.{◌-◌, ◌<◌, ◌^◌, length};
 
-use hash_algos as hashes;
-use ima_templates as templates;
-use ima_top::{buffers, outer, scripts};
-use inode_meta as meta;
-use pcr_bank as registers;
-use policy_text as policy;
 use std::alloc::Global;
 use std::sync::Wait;
 use std::thread::Threads;
-use xattr_store as xattrs;
 
-pub fn text_fields(text: &buffers::BufferText, caller: &buffers::BufferCaller) {
-    let _hash: hashes::Algo = text.hash;
-    let _rules: &policy::Policy = &text.rules;
-    let _callers: &Vec<buffers::BufferCaller> = &text.callers;
+pub fn text_fields(text: &buffer_measure::BufferText, caller: &buffer_measure::BufferCaller) {
+    let _hash: hash_algos::Algo = text.hash;
+    let _rules: &policy_text::Policy = &text.rules;
+    let _callers: &Vec<buffer_measure::BufferCaller> = &text.callers;
     let _threads: u32 = text.threads;
-    let _cred: &meta::Cred = &caller.cred;
+    let _cred: &inode_meta::Cred = &caller.cred;
     // "A text of buffers keeps the word of a value that is far shorter than its bytes"
-    let _lines: &Vec<(xattrs::Bytes, buffers::BufferBytes)> = &caller.lines;
+    let _lines: &Vec<(xattr_store::Bytes, buffer_measure::BufferBytes)> = &caller.lines;
 }
 
-pub fn run_fields(run: &buffers::BufferRun, answer: buffers::Answer) {
-    let _list: &Vec<templates::Entry> = &run.list;
-    let _banks: &registers::Banks = &run.banks;
-    let _answers: &Vec<buffers::Answers> = &run.answers;
+pub fn run_fields(run: &buffer_measure::BufferRun, answer: buffer_measure::Answer) {
+    let _list: &Vec<ima_templates::Entry> = &run.list;
+    let _banks: &pcr_bank::Banks = &run.banks;
+    let _answers: &Vec<buffer_measure::Answers> = &run.answers;
     match answer {
-        buffers::Answer::Skipped | buffers::Answer::Added(_) | buffers::Answer::Already(_) => {}
+        buffer_measure::Answer::Skipped
+        | buffer_measure::Answer::Added(_)
+        | buffer_measure::Answer::Already(_) => {}
     }
 }
 
 // "The answers to a caller's buffers are a small type over a vector"
-pub fn answers(answers: Vec<buffers::Answer>) -> Vec<buffers::Answer> {
-    buffers::Answers::from_vec(answers).into_vec()
+pub fn answers(answers: Vec<buffer_measure::Answer>) -> Vec<buffer_measure::Answer> {
+    buffer_measure::Answers::from_vec(answers).into_vec()
 }
 
-pub fn parse(alloc: Global, b: &[u8]) -> Result<buffers::BufferText, scripts::ScriptErr>
+pub fn parse(alloc: Global, b: &[u8]) -> Result<buffer_measure::BufferText, script_text::ScriptErr>
     requires { length b.now < 2 ^ 32 - 1 }
 {
-    buffers::parse(alloc, b)
+    buffer_measure::parse(alloc, b)
 }
 
-pub fn wanted(p: &policy::Policy, cred: &meta::Cred) -> Option<u8> {
-    buffers::wanted(p, cred)
+pub fn wanted(p: &policy_text::Policy, cred: &inode_meta::Cred) -> Option<u8> {
+    buffer_measure::wanted(p, cred)
 }
 
 // "Only calls that take a lock or start threads take the runtime, before the allocator"
-pub fn measure_all<G: outer::Gate + Sync, R: Threads + Wait + Sync>(
+pub fn measure_all<G: ima_io::Gate + Sync, R: Threads + Wait + Sync>(
     rt: &R,
     alloc: Global,
-    t: &buffers::BufferText,
+    t: &buffer_measure::BufferText,
     gate: &G,
-) -> Result<buffers::BufferRun, buffers::OutOfMemory> {
-    buffers::measure_all(rt, alloc, t, gate)
+) -> Result<buffer_measure::BufferRun, buffer_measure::OutOfMemory> {
+    buffer_measure::measure_all(rt, alloc, t, gate)
 }
 
-pub fn measure_owned<G: outer::Gate + Sync, R: Threads + Wait + Sync>(
+pub fn measure_owned<G: ima_io::Gate + Sync, R: Threads + Wait + Sync>(
     rt: &R,
     alloc: Global,
-    t: buffers::BufferText,
+    t: buffer_measure::BufferText,
     gate: &G,
-) -> Result<buffers::BufferRun, buffers::OutOfMemory> {
-    buffers::measure_owned(rt, alloc, t, gate)
+) -> Result<buffer_measure::BufferRun, buffer_measure::OutOfMemory> {
+    buffer_measure::measure_owned(rt, alloc, t, gate)
 }
 
-pub fn print(alloc: Global, r: &buffers::BufferRun) -> Result<Vec<u8>, buffers::OutOfMemory> {
-    buffers::print(alloc, r)
+pub fn print(
+    alloc: Global,
+    r: &buffer_measure::BufferRun,
+) -> Result<Vec<u8>, buffer_measure::OutOfMemory> {
+    buffer_measure::print(alloc, r)
 }

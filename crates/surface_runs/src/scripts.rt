@@ -2,124 +2,122 @@
 
 ghost use Rattle.std.specs.Prelude.{◌-◌, ◌<◌, ◌^◌, length};
 
-use call_steps as steps;
-use hash_algos as hashes;
-use ima_top::generator::prints;
-use ima_top::{generator, outer, reports, scripts, tasks};
-use inode_events as events;
-use inode_meta as meta;
-use policy_text as policy;
 use std::alloc::Global;
 use std::sync::Wait;
 use std::thread::Threads;
-use xattr_store as xattrs;
 
 // ---- script_text
 
-pub fn script_fields(script: &scripts::Script) {
-    let _hash: (hashes::Algo, meta::Template) = (script.hash, script.template);
-    let _mode: meta::Mode = script.mode;
-    let _boot: &hashes::Digest = &script.boot;
-    let _key: &Option<xattrs::Bytes> = &script.key;
-    let _added: &Vec<xattrs::Bytes> = &script.added;
+pub fn script_fields(script: &script_text::Script) {
+    let _hash: (hash_algos::Algo, inode_meta::Template) = (script.hash, script.template);
+    let _mode: inode_meta::Mode = script.mode;
+    let _boot: &hash_algos::Digest = &script.boot;
+    let _key: &Option<xattr_store::Bytes> = &script.key;
+    let _added: &Vec<xattr_store::Bytes> = &script.added;
     let _evm: (bool, u8) = (script.locked, script.format);
-    let _supers: &Vec<policy::Super> = &script.supers;
-    let _files: &Vec<scripts::FileBlock> = &script.files;
-    let _rules: &policy::Policy = &script.rules;
-    let _tasks: &Vec<scripts::TaskBlock> = &script.tasks;
-    let _ending: &scripts::Ending = &script.ending;
+    let _supers: &Vec<policy_text::Super> = &script.supers;
+    let _files: &Vec<script_text::FileBlock> = &script.files;
+    let _rules: &policy_text::Policy = &script.rules;
+    let _tasks: &Vec<script_text::TaskBlock> = &script.tasks;
+    let _ending: &script_text::Ending = &script.ending;
 }
 
-pub fn blocks(file: &scripts::FileBlock, list: &scripts::ListText, ending: &scripts::Ending) {
-    let _path: &xattrs::Bytes = &file.path;
+pub fn blocks(
+    file: &script_text::FileBlock,
+    list: &script_text::ListText,
+    ending: &script_text::Ending,
+) {
+    let _path: &xattr_store::Bytes = &file.path;
     let _fs: u32 = file.fs;
-    let _image: &events::Image = &file.image;
-    let _list: &Vec<(xattrs::Bytes, xattrs::Bytes)> = &list.files;
+    let _image: &inode_events::Image = &file.image;
+    let _list: &Vec<(xattr_store::Bytes, xattr_store::Bytes)> = &list.files;
     match ending {
-        scripts::Ending::Schedule(_) | scripts::Ending::Rounds | scripts::Ending::Threads(_) => {}
+        script_text::Ending::Schedule(_)
+        | script_text::Ending::Rounds
+        | script_text::Ending::Threads(_) => {}
     }
 }
 
-pub fn errors(e: scripts::ScriptErr, fault: scripts::Fault) {
-    let _fault: (u32, scripts::LineCause) = (fault.line, fault.cause);
+pub fn errors(e: script_text::ScriptErr, fault: script_text::Fault) {
+    let _fault: (u32, script_text::LineCause) = (fault.line, fault.cause);
     match e {
-        scripts::ScriptErr::Refused(_) | scripts::ScriptErr::OutOfMemory => {}
+        script_text::ScriptErr::Refused(_) | script_text::ScriptErr::OutOfMemory => {}
     }
     match fault.cause {
-        scripts::LineCause::BadRule(_)
-        | scripts::LineCause::BadWord
-        | scripts::LineCause::OutOfPlace
-        | scripts::LineCause::BadField
-        | scripts::LineCause::Unknown
-        | scripts::LineCause::Twice
-        | scripts::LineCause::TooMany
-        | scripts::LineCause::TooLarge
-        | scripts::LineCause::NoEnd
-        | scripts::LineCause::Locked => {}
+        script_text::LineCause::BadRule(_)
+        | script_text::LineCause::BadWord
+        | script_text::LineCause::OutOfPlace
+        | script_text::LineCause::BadField
+        | script_text::LineCause::Unknown
+        | script_text::LineCause::Twice
+        | script_text::LineCause::TooMany
+        | script_text::LineCause::TooLarge
+        | script_text::LineCause::NoEnd
+        | script_text::LineCause::Locked => {}
     }
 }
 
-pub fn parse(alloc: Global, b: &[u8]) -> Result<scripts::Script, scripts::ScriptErr>
+pub fn parse(alloc: Global, b: &[u8]) -> Result<script_text::Script, script_text::ScriptErr>
     requires { length b.now < 2 ^ 32 - 1 }
 {
-    scripts::parse(alloc, b)
+    script_text::parse(alloc, b)
 }
 
-pub fn parse_list(alloc: Global, b: &[u8]) -> Result<scripts::ListText, scripts::ScriptErr>
+pub fn parse_list(alloc: Global, b: &[u8]) -> Result<script_text::ListText, script_text::ScriptErr>
     requires { length b.now < 2 ^ 32 - 1 }
 {
-    scripts::parse_list(alloc, b)
+    script_text::parse_list(alloc, b)
 }
 
 // "The turns of a schedule and the calls of a task are small types over a vector"
-pub fn task_block(cred: meta::Cred, calls: Vec<steps::Call>) -> scripts::TaskBlock {
-    let calls = scripts::Calls::from_vec(calls);
-    scripts::TaskBlock { cred, calls }
+pub fn task_block(cred: inode_meta::Cred, calls: Vec<call_steps::Call>) -> script_text::TaskBlock {
+    let calls = script_text::Calls::from_vec(calls);
+    script_text::TaskBlock { cred, calls }
 }
 
 // "The turns of a schedule and the calls of a task are small types over a vector"
-pub fn schedule(turns: Vec<u32>) -> scripts::Ending {
-    scripts::Ending::Schedule(steps::Turns::from_vec(turns))
+pub fn schedule(turns: Vec<u32>) -> script_text::Ending {
+    script_text::Ending::Schedule(call_steps::Turns::from_vec(turns))
 }
 
 // ---- script_print
 
 // "The canonical text of a script is printed by a crate of its own, `script_print`, above the
 // reader"
-pub fn print(alloc: Global, s: &scripts::Script) -> Result<Vec<u8>, prints::OutOfMemory> {
-    prints::print(alloc, s)
+pub fn print(alloc: Global, s: &script_text::Script) -> Result<Vec<u8>, script_print::OutOfMemory> {
+    script_print::print(alloc, s)
 }
 
 // ---- report_text
 
-pub fn report(alloc: Global, e: &tasks::Ended) -> Result<Vec<u8>, reports::OutOfMemory> {
-    reports::report(alloc, e)
+pub fn report(alloc: Global, e: &task_core::Ended) -> Result<Vec<u8>, report_text::OutOfMemory> {
+    report_text::report(alloc, e)
 }
 
 pub fn summary(
     alloc: Global,
     number: u32,
     script: usize,
-    e: &tasks::Ended,
-) -> Result<Vec<u8>, reports::OutOfMemory> {
-    reports::summary(alloc, number, script, e)
+    e: &task_core::Ended,
+) -> Result<Vec<u8>, report_text::OutOfMemory> {
+    report_text::summary(alloc, number, script, e)
 }
 
 // ---- load_gen
 
 // "`load_gen::script` and `summarize` of `ima_top` take every number"
-pub fn generated(alloc: Global, number: u32) -> Result<Vec<u8>, generator::OutOfMemory> {
-    generator::script(alloc, number)
+pub fn generated(alloc: Global, number: u32) -> Result<Vec<u8>, load_gen::OutOfMemory> {
+    load_gen::script(alloc, number)
 }
 
 // ---- ima_top
 
 // "Only calls that take a lock or start threads take the runtime, before the allocator"
 pub fn serve<
-    S: outer::Source,
-    K: outer::Sink,
-    N: outer::Sink,
-    G: outer::Gate + Sync,
+    S: ima_io::Source,
+    K: ima_io::Sink,
+    N: ima_io::Sink,
+    G: ima_io::Gate + Sync,
     R: Threads + Wait + Sync,
 >(
     rt: &R,

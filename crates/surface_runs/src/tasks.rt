@@ -7,78 +7,68 @@ ghost use Rattle.ima_top.specs.worlds.Runs.{AreTasks};
 ghost use Rattle.ima_top.specs.worlds.Tasks.{IsTask};
 ghost use Rattle.ima_top.specs.starts.Started.{IsFile};
 
-use call_steps as steps;
-use grow_list as growing;
-use ima_templates as templates;
-use ima_top::runs::runners;
-use ima_top::{outer, tasks};
-use inode_cell as inodes;
-use inode_events as events;
-use inode_meta as meta;
-use pcr_bank as registers;
-use policy_cell as rules;
-use policy_text as policy;
 use std::alloc::Global;
 use std::sync::Wait;
 use std::thread::Threads;
-use xattr_store as xattrs;
 
 // ---- task_core
 
 pub fn records(
-    passes: &tasks::Passes,
-    ended: &tasks::Ended,
-    task: &tasks::EndedTask,
-    turn: tasks::Turn,
+    passes: &task_core::Passes,
+    ended: &task_core::Ended,
+    task: &task_core::EndedTask,
+    turn: task_core::Turn,
 ) {
-    let _inodes: &Vec<growing::Pass<events::Event>> = &passes.inodes;
-    let _sems: &growing::Pass<events::Event> = &passes.sems;
-    let _book: &growing::Pass<templates::Entry> = &passes.book;
-    let _rules: &growing::Pass<rules::RuleEntry> = &passes.rules;
-    let _ended: &Vec<inodes::EndedInode> = &ended.inodes;
-    let _list: &Vec<templates::Entry> = &ended.list;
-    let _banks: &registers::Banks = &ended.banks;
-    let _tasks: &Vec<tasks::EndedTask> = &ended.tasks;
-    let _run: (bool, meta::Template) = (ended.stuck, ended.template);
+    let _inodes: &Vec<grow_list::Pass<inode_events::Event>> = &passes.inodes;
+    let _sems: &grow_list::Pass<inode_events::Event> = &passes.sems;
+    let _book: &grow_list::Pass<ima_templates::Entry> = &passes.book;
+    let _rules: &grow_list::Pass<policy_cell::RuleEntry> = &passes.rules;
+    let _ended: &Vec<inode_cell::EndedInode> = &ended.inodes;
+    let _list: &Vec<ima_templates::Entry> = &ended.list;
+    let _banks: &pcr_bank::Banks = &ended.banks;
+    let _tasks: &Vec<task_core::EndedTask> = &ended.tasks;
+    let _run: (bool, inode_meta::Template) = (ended.stuck, ended.template);
     let _done: bool = task.done;
-    let _replies: &Vec<steps::Reply> = &task.replies;
+    let _replies: &Vec<call_steps::Reply> = &task.replies;
     match turn {
-        tasks::Turn::Moved | tasks::Turn::Blocked | tasks::Turn::Done => {}
+        task_core::Turn::Moved | task_core::Turn::Blocked | task_core::Turn::Done => {}
     }
 }
 
 pub fn world_start(
     alloc: Global,
-    settings: events::Settings,
-    boot: templates::Entry,
-    inodes: Vec<(xattrs::Bytes, events::Image)>,
-    supers: Vec<policy::Super>,
+    settings: inode_events::Settings,
+    boot: ima_templates::Entry,
+    inodes: Vec<(xattr_store::Bytes, inode_events::Image)>,
+    supers: Vec<policy_text::Super>,
     places: Vec<u32>,
-    rules: policy::Policy,
+    rules: policy_text::Policy,
     tasks: u32,
-) -> Result<(tasks::World, Vec<tasks::Passes>), tasks::OutOfMemory>
+) -> Result<(task_core::World, Vec<task_core::Passes>), task_core::OutOfMemory>
     requires files { All IsFile inodes.items }
     requires even { length places.items ≡ length inodes.items }
     requires places { All (λ place. place < length supers.items) places.items }
     requires callers { length inodes.items + tasks < 2 ^ 32 - 1 }
 {
-    tasks::World::start(alloc, settings, boot, inodes, supers, places, rules, tasks)
+    task_core::World::start(alloc, settings, boot, inodes, supers, places, rules, tasks)
 }
 
-pub fn world_share<N: tasks::Name>(
-    world: tasks::World,
-) -> Result<tasks::Live<N>, tasks::OutOfMemory>
+pub fn world_share<N: task_core::Name>(
+    world: task_core::World,
+) -> Result<task_core::Live<N>, task_core::OutOfMemory>
     requires { world.consts ≡ N.consts }
 {
-    tasks::World::share::<N>(world)
+    task_core::World::share::<N>(world)
 }
 
-pub fn live_back<N: tasks::Name>(live: tasks::Live<N>) -> Result<tasks::World, tasks::OutOfMemory> {
-    tasks::Live::back(live)
+pub fn live_back<N: task_core::Name>(
+    live: task_core::Live<N>,
+) -> Result<task_core::World, task_core::OutOfMemory> {
+    task_core::Live::back(live)
 }
 
-pub fn live_hold<N: tasks::Name, R: Wait, F: FnOnce()>(
-    live: &tasks::Live<N>,
+pub fn live_hold<N: task_core::Name, R: Wait, F: FnOnce()>(
+    live: &task_core::Live<N>,
     rt: &R,
     inode: u32,
     f: F,
@@ -86,92 +76,92 @@ pub fn live_hold<N: tasks::Name, R: Wait, F: FnOnce()>(
     requires inode { inode < length N.consts.sites }
     requires call { F.IsAlwaysCallable f }
 {
-    tasks::Live::hold(live, rt, inode, f)
+    task_core::Live::hold(live, rt, inode, f)
 }
 
 pub fn task_new(
     alloc: Global,
     number: u32,
-    cred: meta::Cred,
-    program: Vec<steps::Call>,
-    passes: tasks::Passes,
-) -> Result<tasks::Task, tasks::OutOfMemory> {
-    tasks::Task::new(alloc, number, cred, program, passes)
+    cred: inode_meta::Cred,
+    program: Vec<call_steps::Call>,
+    passes: task_core::Passes,
+) -> Result<task_core::Task, task_core::OutOfMemory> {
+    task_core::Task::new(alloc, number, cred, program, passes)
 }
 
-pub fn task_who(task: &tasks::Task) -> Option<meta::Who> {
-    tasks::Task::who(task)
+pub fn task_who(task: &task_core::Task) -> Option<inode_meta::Who> {
+    task_core::Task::who(task)
 }
 
-pub fn task_look(task: &mut tasks::Task, world: &mut tasks::World)
+pub fn task_look(task: &mut task_core::Task, world: &mut task_core::World)
     requires { IsTask world.old.consts task.old }
 {
-    tasks::Task::look(task, world)
+    task_core::Task::look(task, world)
 }
 
 pub fn task_step(
-    task: &mut tasks::Task,
-    world: &mut tasks::World,
-) -> Result<tasks::Turn, tasks::OutOfMemory>
+    task: &mut task_core::Task,
+    world: &mut task_core::World,
+) -> Result<task_core::Turn, task_core::OutOfMemory>
     requires { IsTask world.old.consts task.old }
 {
-    tasks::Task::step(task, world)
+    task_core::Task::step(task, world)
 }
 
-pub fn task_step_shared<N: tasks::Name, R: Wait>(
-    task: &mut tasks::Task,
+pub fn task_step_shared<N: task_core::Name, R: Wait>(
+    task: &mut task_core::Task,
     rt: &R,
-    world: &tasks::Live<N>,
-) -> Result<tasks::Turn, tasks::OutOfMemory>
+    world: &task_core::Live<N>,
+) -> Result<task_core::Turn, task_core::OutOfMemory>
     requires { IsTask N.consts task.old }
 {
-    tasks::Task::step_shared(task, rt, world)
+    task_core::Task::step_shared(task, rt, world)
 }
 
 pub fn world_close(
-    world: tasks::World,
-    tasks: Vec<tasks::Task>,
-) -> Result<tasks::Ended, tasks::OutOfMemory>
+    world: task_core::World,
+    tasks: Vec<task_core::Task>,
+) -> Result<task_core::Ended, task_core::OutOfMemory>
     requires count { length tasks.items ≡ world.consts.tasks }
     requires tasks { AreTasks world.consts tasks.items }
 {
-    tasks::World::close(world, tasks)
+    task_core::World::close(world, tasks)
 }
 
 // ---- task_runner
 
-pub fn run_schedule<G: outer::Gate>(
-    world: &mut tasks::World,
-    tasks: &mut Vec<tasks::Task>,
+pub fn run_schedule<G: ima_io::Gate>(
+    world: &mut task_core::World,
+    tasks: &mut Vec<task_core::Task>,
     turns: &[u32],
     gate: &G,
-) -> Result<(), runners::OutOfMemory>
+) -> Result<(), task_runner::OutOfMemory>
     requires tasks { AreTasks world.old.consts tasks.old.items }
     requires turns { All (λ k. k < length tasks.old.items) turns.now }
 {
-    runners::run_schedule(world, tasks, turns, gate)
+    task_runner::run_schedule(world, tasks, turns, gate)
 }
 
-pub fn run_rounds<G: outer::Gate>(
-    world: &mut tasks::World,
-    tasks: &mut Vec<tasks::Task>,
+pub fn run_rounds<G: ima_io::Gate>(
+    world: &mut task_core::World,
+    tasks: &mut Vec<task_core::Task>,
     gate: &G,
-) -> Result<(), runners::OutOfMemory>
+) -> Result<(), task_runner::OutOfMemory>
     requires { AreTasks world.old.consts tasks.old.items }
 {
-    runners::run_rounds(world, tasks, gate)
+    task_runner::run_rounds(world, tasks, gate)
 }
 
-pub fn run_threads<N: tasks::Name, G: outer::Gate + Sync, R: Threads + Wait + Sync>(
+pub fn run_threads<N: task_core::Name, G: ima_io::Gate + Sync, R: Threads + Wait + Sync>(
     rt: &R,
-    world: tasks::World,
-    tasks: &mut Vec<tasks::Task>,
+    world: task_core::World,
+    tasks: &mut Vec<task_core::Task>,
     n: u32,
     gate: &G,
-) -> Result<tasks::World, runners::OutOfMemory>
+) -> Result<task_core::World, task_runner::OutOfMemory>
     requires threads { 1 ≤ n }
     requires consts { world.consts ≡ N.consts }
     requires tasks { AreTasks world.consts tasks.old.items }
 {
-    runners::run_threads::<N, G, R>(rt, world, tasks, n, gate)
+    task_runner::run_threads::<N, G, R>(rt, world, tasks, n, gate)
 }

@@ -4,248 +4,262 @@
 
 ghost use Rattle.std.specs.Prelude.{◌≤◌, length};
 
-use hash_algos as hashes;
-use hmac_core as hmacs;
-use inode_meta as meta;
-use inode_pages as pages;
 use std::alloc::Global;
-use xattr_store as xattrs;
 
 // ---- xattr_store
 
-pub fn errors(set: xattrs::SetErr, page: pages::PageErr) {
+pub fn errors(set: xattr_store::SetErr, page: inode_pages::PageErr) {
     match set {
-        xattrs::SetErr::TooLong | xattrs::SetErr::OutOfMemory => {}
+        xattr_store::SetErr::TooLong | xattr_store::SetErr::OutOfMemory => {}
     }
     match page {
-        pages::PageErr::TooBig | pages::PageErr::OutOfMemory => {}
+        inode_pages::PageErr::TooBig | inode_pages::PageErr::OutOfMemory => {}
     }
 }
 
-pub fn bytes_from_slice(alloc: Global, b: &[u8]) -> Result<xattrs::Bytes, xattrs::OutOfMemory> {
-    xattrs::Bytes::from_slice(alloc, b)
+pub fn bytes_from_slice(
+    alloc: Global,
+    b: &[u8],
+) -> Result<xattr_store::Bytes, xattr_store::OutOfMemory> {
+    xattr_store::Bytes::from_slice(alloc, b)
 }
 
-pub fn bytes_as_slice(bytes: &xattrs::Bytes) -> &[u8] {
-    xattrs::Bytes::as_slice(bytes)
+pub fn bytes_as_slice(bytes: &xattr_store::Bytes) -> &[u8] {
+    xattr_store::Bytes::as_slice(bytes)
 }
 
 // "`Attrs::new`, `Content::new` and `Policy::new` take the allocator although they take no memory"
-pub fn attrs_new(alloc: Global) -> xattrs::Attrs {
-    xattrs::Attrs::new(alloc)
+pub fn attrs_new(alloc: Global) -> xattr_store::Attrs {
+    xattr_store::Attrs::new(alloc)
 }
 
-pub fn attrs_get<'a>(attrs: &'a xattrs::Attrs, name: &[u8]) -> Option<&'a [u8]> {
-    xattrs::Attrs::get(attrs, name)
+pub fn attrs_get<'a>(attrs: &'a xattr_store::Attrs, name: &[u8]) -> Option<&'a [u8]> {
+    xattr_store::Attrs::get(attrs, name)
 }
 
 pub fn attrs_set(
-    attrs: &mut xattrs::Attrs,
+    attrs: &mut xattr_store::Attrs,
     name: &[u8],
     value: &[u8],
-) -> Result<(), xattrs::SetErr> {
-    xattrs::Attrs::set(attrs, name, value)
+) -> Result<(), xattr_store::SetErr> {
+    xattr_store::Attrs::set(attrs, name, value)
 }
 
-pub fn attrs_remove(attrs: &mut xattrs::Attrs, name: &[u8]) -> Result<(), xattrs::NoData> {
-    xattrs::Attrs::remove(attrs, name)
+pub fn attrs_remove(
+    attrs: &mut xattr_store::Attrs,
+    name: &[u8],
+) -> Result<(), xattr_store::NoData> {
+    xattr_store::Attrs::remove(attrs, name)
 }
 
-pub fn attrs_copy(attrs: &xattrs::Attrs) -> Result<xattrs::Attrs, xattrs::OutOfMemory> {
-    xattrs::Attrs::copy(attrs)
+pub fn attrs_copy(
+    attrs: &xattr_store::Attrs,
+) -> Result<xattr_store::Attrs, xattr_store::OutOfMemory> {
+    xattr_store::Attrs::copy(attrs)
 }
 
-pub fn attrs_at(attrs: &xattrs::Attrs, k: usize) -> Option<(&[u8], &[u8])> {
-    xattrs::Attrs::at(attrs, k)
+pub fn attrs_at(attrs: &xattr_store::Attrs, k: usize) -> Option<(&[u8], &[u8])> {
+    xattr_store::Attrs::at(attrs, k)
 }
 
 // ---- inode_meta
 
-pub fn records(meta: &meta::Meta, cred: &meta::Cred, who: &meta::Who) {
+pub fn records(meta: &inode_meta::Meta, cred: &inode_meta::Cred, who: &inode_meta::Who) {
     let _meta: (u64, u32, u32, u32) = (meta.ino, meta.generation, meta.uid, meta.gid);
     let _mode: (u16, u128) = (meta.mode, meta.place);
     let _cred: (u32, u32, u32, u32, bool) = (cred.uid, cred.euid, cred.gid, cred.egid, cred.admin);
     let _who: (u32, u32, u32) = (who.task, who.call, who.step);
 }
 
-pub fn states(status: meta::EvmStatus, need: meta::Need, mode: meta::Mode, slot: meta::Slot) {
+pub fn states(
+    status: inode_meta::EvmStatus,
+    need: inode_meta::Need,
+    mode: inode_meta::Mode,
+    slot: inode_meta::Slot,
+) {
     match status {
-        meta::EvmStatus::Pass
-        | meta::EvmStatus::NoXattrs
-        | meta::EvmStatus::NoLabel
-        | meta::EvmStatus::Fail
-        | meta::EvmStatus::Old
-        | meta::EvmStatus::Unknown => {}
+        inode_meta::EvmStatus::Pass
+        | inode_meta::EvmStatus::NoXattrs
+        | inode_meta::EvmStatus::NoLabel
+        | inode_meta::EvmStatus::Fail
+        | inode_meta::EvmStatus::Old
+        | inode_meta::EvmStatus::Unknown => {}
     }
     match need {
-        meta::Need::Any | meta::Need::Signature => {}
+        inode_meta::Need::Any | inode_meta::Need::Signature => {}
     }
     match mode {
-        meta::Mode::Enforce | meta::Mode::Log | meta::Mode::Fix | meta::Mode::Off => {}
+        inode_meta::Mode::Enforce
+        | inode_meta::Mode::Log
+        | inode_meta::Mode::Fix
+        | inode_meta::Mode::Off => {}
     }
     match slot {
-        meta::Slot::File | meta::Slot::Mmap | meta::Slot::Bprm => {}
+        inode_meta::Slot::File | inode_meta::Slot::Mmap | inode_meta::Slot::Bprm => {}
     }
 }
 
-pub fn measures(template: meta::Template, bank: meta::Bank, algo: hashes::Algo) {
+pub fn measures(template: inode_meta::Template, bank: inode_meta::Bank, algo: hash_algos::Algo) {
     match template {
-        meta::Template::Ima
-        | meta::Template::ImaNg
-        | meta::Template::ImaSig
-        | meta::Template::ImaBuf => {}
+        inode_meta::Template::Ima
+        | inode_meta::Template::ImaNg
+        | inode_meta::Template::ImaSig
+        | inode_meta::Template::ImaBuf => {}
     }
     match bank {
-        meta::Bank::Sha1 | meta::Bank::Sha256 => {}
+        inode_meta::Bank::Sha1 | inode_meta::Bank::Sha256 => {}
     }
     match algo {
-        hashes::Algo::Md5
-        | hashes::Algo::Sha1
-        | hashes::Algo::Sha256
-        | hashes::Algo::Sha384
-        | hashes::Algo::Sha512
-        | hashes::Algo::Sha224 => {}
+        hash_algos::Algo::Md5
+        | hash_algos::Algo::Sha1
+        | hash_algos::Algo::Sha256
+        | hash_algos::Algo::Sha384
+        | hash_algos::Algo::Sha512
+        | hash_algos::Algo::Sha224 => {}
     }
 }
 
-pub fn evm_status_word(status: meta::EvmStatus) -> &'static str {
-    meta::EvmStatus::word(status)
+pub fn evm_status_word(status: inode_meta::EvmStatus) -> &'static str {
+    inode_meta::EvmStatus::word(status)
 }
 
-pub fn mode_word(mode: meta::Mode) -> &'static str {
-    meta::Mode::word(mode)
+pub fn mode_word(mode: inode_meta::Mode) -> &'static str {
+    inode_meta::Mode::word(mode)
 }
 
-pub fn template_word(template: meta::Template) -> &'static str {
-    meta::Template::word(template)
+pub fn template_word(template: inode_meta::Template) -> &'static str {
+    inode_meta::Template::word(template)
 }
 
-pub fn bank_word(bank: meta::Bank) -> &'static str {
-    meta::Bank::word(bank)
+pub fn bank_word(bank: inode_meta::Bank) -> &'static str {
+    inode_meta::Bank::word(bank)
 }
 
 // ---- hash_algos
 
-pub fn algo_id(algo: hashes::Algo) -> u8 {
-    hashes::Algo::id(algo)
+pub fn algo_id(algo: hash_algos::Algo) -> u8 {
+    hash_algos::Algo::id(algo)
 }
 
-pub fn algo_name(algo: hashes::Algo) -> &'static str {
-    hashes::Algo::name(algo)
+pub fn algo_name(algo: hash_algos::Algo) -> &'static str {
+    hash_algos::Algo::name(algo)
 }
 
-pub fn algo_size(algo: hashes::Algo) -> usize {
-    hashes::Algo::size(algo)
+pub fn algo_size(algo: hash_algos::Algo) -> usize {
+    hash_algos::Algo::size(algo)
 }
 
-pub fn algo_by_name(name: &[u8]) -> Option<hashes::Algo> {
-    hashes::by_name(name)
+pub fn algo_by_name(name: &[u8]) -> Option<hash_algos::Algo> {
+    hash_algos::by_name(name)
 }
 
-pub fn algo_by_id(id: u8) -> Option<hashes::Algo> {
-    hashes::by_id(id)
+pub fn algo_by_id(id: u8) -> Option<hash_algos::Algo> {
+    hash_algos::by_id(id)
 }
 
-pub fn algo_set_new() -> hashes::AlgoSet {
-    hashes::AlgoSet::new()
+pub fn algo_set_new() -> hash_algos::AlgoSet {
+    hash_algos::AlgoSet::new()
 }
 
-pub fn algo_set_add(algos: &mut hashes::AlgoSet, a: hashes::Algo) {
-    hashes::AlgoSet::add(algos, a)
+pub fn algo_set_add(algos: &mut hash_algos::AlgoSet, a: hash_algos::Algo) {
+    hash_algos::AlgoSet::add(algos, a)
 }
 
-pub fn algo_set_has(algos: &hashes::AlgoSet, a: hashes::Algo) -> bool {
-    hashes::AlgoSet::has(algos, a)
+pub fn algo_set_has(algos: &hash_algos::AlgoSet, a: hash_algos::Algo) -> bool {
+    hash_algos::AlgoSet::has(algos, a)
 }
 
-pub fn digest_from_slice(a: hashes::Algo, b: &[u8]) -> Option<hashes::Digest> {
-    hashes::Digest::from_slice(a, b)
+pub fn digest_from_slice(a: hash_algos::Algo, b: &[u8]) -> Option<hash_algos::Digest> {
+    hash_algos::Digest::from_slice(a, b)
 }
 
-pub fn digest_algo(digest: &hashes::Digest) -> hashes::Algo {
-    hashes::Digest::algo(digest)
+pub fn digest_algo(digest: &hash_algos::Digest) -> hash_algos::Algo {
+    hash_algos::Digest::algo(digest)
 }
 
-pub fn digest_as_slice(digest: &hashes::Digest) -> &[u8] {
-    hashes::Digest::as_slice(digest)
+pub fn digest_as_slice(digest: &hash_algos::Digest) -> &[u8] {
+    hash_algos::Digest::as_slice(digest)
 }
 
-pub fn running_new(a: hashes::Algo) -> hashes::Running {
-    hashes::Running::new(a)
+pub fn running_new(a: hash_algos::Algo) -> hash_algos::Running {
+    hash_algos::Running::new(a)
 }
 
-pub fn running_feed(running: &mut hashes::Running, b: &[u8]) {
-    hashes::Running::feed(running, b)
+pub fn running_feed(running: &mut hash_algos::Running, b: &[u8]) {
+    hash_algos::Running::feed(running, b)
 }
 
-pub fn running_finish(running: hashes::Running) -> hashes::Digest {
-    hashes::Running::finish(running)
+pub fn running_finish(running: hash_algos::Running) -> hash_algos::Digest {
+    hash_algos::Running::finish(running)
 }
 
 // ---- hmac_core
 
-pub fn hmac_new(key: &[u8]) -> hmacs::HmacSha1 {
-    hmacs::HmacSha1::new(key)
+pub fn hmac_new(key: &[u8]) -> hmac_core::HmacSha1 {
+    hmac_core::HmacSha1::new(key)
 }
 
-pub fn hmac_feed(hmac: &mut hmacs::HmacSha1, b: &[u8]) {
-    hmacs::HmacSha1::feed(hmac, b)
+pub fn hmac_feed(hmac: &mut hmac_core::HmacSha1, b: &[u8]) {
+    hmac_core::HmacSha1::feed(hmac, b)
 }
 
-pub fn hmac_finish(hmac: hmacs::HmacSha1) -> [u8; 20] {
-    hmacs::HmacSha1::finish(hmac)
+pub fn hmac_finish(hmac: hmac_core::HmacSha1) -> [u8; 20] {
+    hmac_core::HmacSha1::finish(hmac)
 }
 
 // ---- inode_pages
 
 // "`Attrs::new`, `Content::new` and `Policy::new` take the allocator although they take no memory"
-pub fn content_new(alloc: Global) -> pages::Content {
-    pages::Content::new(alloc)
+pub fn content_new(alloc: Global) -> inode_pages::Content {
+    inode_pages::Content::new(alloc)
 }
 
-pub fn content_from_slice(alloc: Global, b: &[u8]) -> Result<pages::Content, pages::PageErr> {
-    pages::Content::from_slice(alloc, b)
+pub fn content_from_slice(
+    alloc: Global,
+    b: &[u8],
+) -> Result<inode_pages::Content, inode_pages::PageErr> {
+    inode_pages::Content::from_slice(alloc, b)
 }
 
-pub fn content_len(content: &pages::Content) -> u64 {
-    pages::Content::len(content)
+pub fn content_len(content: &inode_pages::Content) -> u64 {
+    inode_pages::Content::len(content)
 }
 
-pub fn content_read(content: &pages::Content, from: u64, buf: &mut [u8]) -> usize {
-    pages::Content::read(content, from, buf)
+pub fn content_read(content: &inode_pages::Content, from: u64, buf: &mut [u8]) -> usize {
+    inode_pages::Content::read(content, from, buf)
 }
 
 pub fn content_write(
-    content: &mut pages::Content,
+    content: &mut inode_pages::Content,
     alloc: Global,
     from: u64,
     b: &[u8],
-) -> Result<(), pages::PageErr>
+) -> Result<(), inode_pages::PageErr>
     requires { 1 ≤ length b.now }
 {
-    pages::Content::write(content, alloc, from, b)
+    inode_pages::Content::write(content, alloc, from, b)
 }
 
 pub fn content_resize(
-    content: &mut pages::Content,
+    content: &mut inode_pages::Content,
     alloc: Global,
     len: u64,
-) -> Result<(), pages::PageErr> {
-    pages::Content::resize(content, alloc, len)
+) -> Result<(), inode_pages::PageErr> {
+    inode_pages::Content::resize(content, alloc, len)
 }
 
-pub fn content_chunk(content: &pages::Content, k: u32) -> &[u8] {
-    pages::Content::chunk(content, k)
+pub fn content_chunk(content: &inode_pages::Content, k: u32) -> &[u8] {
+    inode_pages::Content::chunk(content, k)
 }
 
 pub fn content_page(
-    content: &pages::Content,
+    content: &inode_pages::Content,
     alloc: Global,
     k: u32,
-) -> Result<pages::Page, pages::OutOfMemory> {
-    pages::Content::page(content, alloc, k)
+) -> Result<inode_pages::Page, inode_pages::OutOfMemory> {
+    inode_pages::Content::page(content, alloc, k)
 }
 
-pub fn page_as_slice(page: &pages::Page) -> &[u8] {
-    pages::Page::as_slice(page)
+pub fn page_as_slice(page: &inode_pages::Page) -> &[u8] {
+    inode_pages::Page::as_slice(page)
 }

@@ -1,51 +1,49 @@
 // Labels, EVM and verdicts.
 
-use evm_verify as evm;
-use hash_algos as hashes;
-use ima_appraise as appraisals;
-use inode_meta as meta;
-use label_values as labels;
 use std::alloc::Global;
-use xattr_store as xattrs;
 
 // ---- label_values
 
-pub fn types(cause: labels::Cause, label: labels::Label, verdict: labels::Verdict) {
+pub fn types(
+    cause: label_values::Cause,
+    label: label_values::Label,
+    verdict: label_values::Verdict,
+) {
     match cause {
-        labels::Cause::DeniedHashAlgorithm
-        | labels::Cause::SignatureRequired
-        | labels::Cause::MissingHash
-        | labels::Cause::MissingHmac
-        | labels::Cause::InvalidHmac
-        | labels::Cause::UnsupportedSignature
-        | labels::Cause::UnknownData
-        | labels::Cause::InvalidHash => {}
+        label_values::Cause::DeniedHashAlgorithm
+        | label_values::Cause::SignatureRequired
+        | label_values::Cause::MissingHash
+        | label_values::Cause::MissingHmac
+        | label_values::Cause::InvalidHmac
+        | label_values::Cause::UnsupportedSignature
+        | label_values::Cause::UnknownData
+        | label_values::Cause::InvalidHash => {}
     }
     match label {
-        labels::Label::Missing
-        | labels::Label::Sum { algo: _, from: _ }
-        | labels::Label::Signature
-        | labels::Label::Unknown => {}
+        label_values::Label::Missing
+        | label_values::Label::Sum { algo: _, from: _ }
+        | label_values::Label::Signature
+        | label_values::Label::Unknown => {}
     }
     match verdict {
-        labels::Verdict::Pass | labels::Verdict::Deny(_) => {}
+        label_values::Verdict::Pass | label_values::Verdict::Deny(_) => {}
     }
 }
 
-pub fn cause_word(cause: labels::Cause) -> &'static str {
-    labels::Cause::word(cause)
+pub fn cause_word(cause: label_values::Cause) -> &'static str {
+    label_values::Cause::word(cause)
 }
 
-pub fn read_label(value: Option<&[u8]>, default: hashes::Algo) -> labels::Label {
-    labels::read_label(value, default)
+pub fn read_label(value: Option<&[u8]>, default: hash_algos::Algo) -> label_values::Label {
+    label_values::read_label(value, default)
 }
 
-pub fn collect_algo(value: Option<&[u8]>, default: hashes::Algo) -> hashes::Algo {
-    labels::collect_algo(value, default)
+pub fn collect_algo(value: Option<&[u8]>, default: hash_algos::Algo) -> hash_algos::Algo {
+    label_values::collect_algo(value, default)
 }
 
-pub fn write_label(d: &hashes::Digest, out: &mut [u8; 66]) -> usize {
-    labels::write_label(d, out)
+pub fn write_label(d: &hash_algos::Digest, out: &mut [u8; 66]) -> usize {
+    label_values::write_label(d, out)
 }
 
 // ---- evm_verify
@@ -54,62 +52,66 @@ pub fn write_label(d: &hashes::Digest, out: &mut [u8; 66]) -> usize {
 pub fn evm_new(
     alloc: Global,
     key: Option<&[u8]>,
-    added: &[xattrs::Bytes],
+    added: &[xattr_store::Bytes],
     format: u8,
-) -> Result<evm::Evm, evm::OutOfMemory> {
-    evm::Evm::new(alloc, key, added, format)
+) -> Result<evm_verify::Evm, evm_verify::OutOfMemory> {
+    evm_verify::Evm::new(alloc, key, added, format)
 }
 
-pub fn evm_copy(evm: &evm::Evm) -> Result<evm::Evm, evm::OutOfMemory> {
-    evm::Evm::copy(evm)
+pub fn evm_copy(evm: &evm_verify::Evm) -> Result<evm_verify::Evm, evm_verify::OutOfMemory> {
+    evm_verify::Evm::copy(evm)
 }
 
-pub fn evm_status(evm: &evm::Evm, attrs: &xattrs::Attrs, meta: &meta::Meta) -> meta::EvmStatus {
-    evm::Evm::status(evm, attrs, meta)
+pub fn evm_status(
+    evm: &evm_verify::Evm,
+    attrs: &xattr_store::Attrs,
+    meta: &inode_meta::Meta,
+) -> inode_meta::EvmStatus {
+    evm_verify::Evm::status(evm, attrs, meta)
 }
 
 pub fn evm_renew(
-    evm: &evm::Evm,
-    attrs: &mut xattrs::Attrs,
-    meta: &meta::Meta,
-) -> Result<(), evm::OutOfMemory> {
-    evm::Evm::renew(evm, attrs, meta)
+    evm: &evm_verify::Evm,
+    attrs: &mut xattr_store::Attrs,
+    meta: &inode_meta::Meta,
+) -> Result<(), evm_verify::OutOfMemory> {
+    evm_verify::Evm::renew(evm, attrs, meta)
 }
 
 pub fn evm_may_change(
-    evm: &evm::Evm,
+    evm: &evm_verify::Evm,
     name: &[u8],
-    attrs: &xattrs::Attrs,
-    meta: &meta::Meta,
+    attrs: &xattr_store::Attrs,
+    meta: &inode_meta::Meta,
     new: bool,
-) -> Result<(), meta::EvmStatus> {
-    evm::Evm::may_change(evm, name, attrs, meta, new)
+) -> Result<(), inode_meta::EvmStatus> {
+    evm_verify::Evm::may_change(evm, name, attrs, meta, new)
 }
 
 pub fn evm_may_set_meta(
-    evm: &evm::Evm,
-    attrs: &xattrs::Attrs,
-    meta: &meta::Meta,
-) -> Result<(), meta::EvmStatus> {
-    evm::Evm::may_set_meta(evm, attrs, meta)
+    evm: &evm_verify::Evm,
+    attrs: &xattr_store::Attrs,
+    meta: &inode_meta::Meta,
+) -> Result<(), inode_meta::EvmStatus> {
+    evm_verify::Evm::may_set_meta(evm, attrs, meta)
 }
 
-pub fn evm_protects(evm: &evm::Evm, name: &[u8]) -> bool {
-    evm::Evm::protects(evm, name)
+pub fn evm_protects(evm: &evm_verify::Evm, name: &[u8]) -> bool {
+    evm_verify::Evm::protects(evm, name)
 }
 
 // ---- ima_appraise
 
 // "`verdict` takes a digest of any algorithm, and `Evm::new` any names and format"
 pub fn verdict_of(
-    need: meta::Need,
-    algos: Option<hashes::AlgoSet>,
+    need: inode_meta::Need,
+    algos: Option<hash_algos::AlgoSet>,
     label: Option<&[u8]>,
-    status: meta::EvmStatus,
-    file: &hashes::Digest,
-    default: hashes::Algo,
+    status: inode_meta::EvmStatus,
+    file: &hash_algos::Digest,
+    default: hash_algos::Algo,
     size: u64,
     new: bool,
-) -> labels::Verdict {
-    appraisals::verdict(need, algos, label, status, file, default, size, new)
+) -> label_values::Verdict {
+    ima_appraise::verdict(need, algos, label, status, file, default, size, new)
 }

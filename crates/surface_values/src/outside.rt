@@ -2,35 +2,34 @@
 
 ghost use Rattle.std.specs.Prelude.{◌≤◌};
 
-use ima_top::outer;
 use std::alloc::Global;
 use std::io::{Read, Write};
 
 // ---- ima_io
 
-pub fn source_read<S: outer::Source>(
+pub fn source_read<S: ima_io::Source>(
     source: &mut S,
     buf: &mut [u8],
-) -> Result<usize, outer::Failed> {
-    outer::Source::read(source, buf)
+) -> Result<usize, ima_io::Failed> {
+    ima_io::Source::read(source, buf)
 }
 
-pub fn sink_write<K: outer::Sink>(sink: &mut K, piece: &[u8]) -> Result<usize, outer::Failed> {
-    outer::Sink::write(sink, piece)
+pub fn sink_write<K: ima_io::Sink>(sink: &mut K, piece: &[u8]) -> Result<usize, ima_io::Failed> {
+    ima_io::Sink::write(sink, piece)
 }
 
-pub fn gate_pass<G: outer::Gate>(gate: &G, task: u32, call: u32, step: u32) {
-    outer::Gate::pass(gate, outer::Who { task, call, step })
+pub fn gate_pass<G: ima_io::Gate>(gate: &G, task: u32, call: u32, step: u32) {
+    ima_io::Gate::pass(gate, ima_io::Who { task, call, step })
 }
 
-pub fn free_gate() -> outer::FreeGate {
-    outer::FreeGate
+pub fn free_gate() -> ima_io::FreeGate {
+    ima_io::FreeGate
 }
 
-pub fn mem_source_new(bytes: Vec<u8>, piece: usize, fails: Vec<u64>) -> outer::MemSource
+pub fn mem_source_new(bytes: Vec<u8>, piece: usize, fails: Vec<u64>) -> ima_io::MemSource
     requires { 1 ≤ piece }
 {
-    outer::MemSource::new(bytes, piece, fails)
+    ima_io::MemSource::new(bytes, piece, fails)
 }
 
 pub fn mem_sink_new(
@@ -38,38 +37,38 @@ pub fn mem_sink_new(
     room: usize,
     piece: usize,
     fails: Vec<u64>,
-) -> Result<outer::MemSink, outer::OutOfMemory>
+) -> Result<ima_io::MemSink, ima_io::OutOfMemory>
     requires { 1 ≤ piece }
 {
-    outer::MemSink::new(alloc, room, piece, fails)
+    ima_io::MemSink::new(alloc, room, piece, fails)
 }
 
-pub fn mem_sink_taken(sink: &outer::MemSink) -> &[u8] {
-    outer::MemSink::taken(sink)
+pub fn mem_sink_taken(sink: &ima_io::MemSink) -> &[u8] {
+    ima_io::MemSink::taken(sink)
 }
 
-pub fn std_source_new<R: Read>(reader: R) -> outer::StdSource<R> {
-    outer::StdSource::new(reader)
+pub fn std_source_new<R: Read>(reader: R) -> ima_io::StdSource<R> {
+    ima_io::StdSource::new(reader)
 }
 
-pub fn std_sink_new<W: Write>(writer: W) -> outer::StdSink<W> {
-    outer::StdSink::new(writer)
+pub fn std_sink_new<W: Write>(writer: W) -> ima_io::StdSink<W> {
+    ima_io::StdSink::new(writer)
 }
 
-pub fn read_all<S: outer::Source>(
+pub fn read_all<S: ima_io::Source>(
     alloc: Global,
     source: &mut S,
     limit: usize,
-) -> Result<Vec<u8>, outer::ReadErr> {
-    outer::read_all(alloc, source, limit)
+) -> Result<Vec<u8>, ima_io::ReadErr> {
+    ima_io::read_all(alloc, source, limit)
 }
 
-pub fn read_err(e: outer::ReadErr) {
+pub fn read_err(e: ima_io::ReadErr) {
     match e {
-        outer::ReadErr::Fault | outer::ReadErr::TooLong | outer::ReadErr::OutOfMemory => {}
+        ima_io::ReadErr::Fault | ima_io::ReadErr::TooLong | ima_io::ReadErr::OutOfMemory => {}
     }
 }
 
-pub fn write_all<K: outer::Sink>(sink: &mut K, piece: &[u8]) -> Result<(), outer::Failed> {
-    outer::write_all(sink, piece)
+pub fn write_all<K: ima_io::Sink>(sink: &mut K, piece: &[u8]) -> Result<(), ima_io::Failed> {
+    ima_io::write_all(sink, piece)
 }

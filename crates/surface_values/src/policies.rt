@@ -4,219 +4,223 @@ ghost use Rattle.std.specs.Prelude.{◌≡◌, ◌-◌, ◌<◌, ◌≤◌, ◌^
 ghost use Rattle.ima_top.specs.worlds.model.growing.Shown.{HasEach};
 ghost use Rattle.ima_top.specs.policy.rules.Limits.{most_rules};
 
-use grow_list as growing;
-use hash_algos as hashes;
-use inode_meta as meta;
-use policy_cell as rules;
-use policy_cell::matching;
-use policy_text as policy;
 use std::alloc::Global;
-use xattr_store as xattrs;
 
-pub type RulePass = growing::Pass<rules::RuleEntry>;
+pub type RulePass = grow_list::Pass<policy_cell::RuleEntry>;
 
 // ---- policy_text
 
-pub fn rule_fields(rule: &policy::Rule) {
-    let _act: (policy::Act, Option<policy::Func>) = (rule.act, rule.func);
-    let _mask: Option<policy::MaskTest> = rule.mask;
+pub fn rule_fields(rule: &policy_text::Rule) {
+    let _act: (policy_text::Act, Option<policy_text::Func>) = (rule.act, rule.func);
+    let _mask: Option<policy_text::MaskTest> = rule.mask;
     let _place: (Option<u64>, Option<u128>) = (rule.fsmagic, rule.fsuuid);
-    let _name: &Option<xattrs::Bytes> = &rule.fsname;
-    let _users: [Option<policy::IdTest>; 3] = [rule.uid, rule.euid, rule.fowner];
-    let _groups: [Option<policy::IdTest>; 3] = [rule.gid, rule.egid, rule.fgroup];
-    let _need: (meta::Need, bool) = (rule.need, rule.blacklist);
-    let _algos: (Option<hashes::AlgoSet>, bool) = (rule.algos, rule.directio);
-    let _entry: (Option<u8>, Option<meta::Template>) = (rule.pcr, rule.template);
+    let _name: &Option<xattr_store::Bytes> = &rule.fsname;
+    let _users: [Option<policy_text::IdTest>; 3] = [rule.uid, rule.euid, rule.fowner];
+    let _groups: [Option<policy_text::IdTest>; 3] = [rule.gid, rule.egid, rule.fgroup];
+    let _need: (inode_meta::Need, bool) = (rule.need, rule.blacklist);
+    let _algos: (Option<hash_algos::AlgoSet>, bool) = (rule.algos, rule.directio);
+    let _entry: (Option<u8>, Option<inode_meta::Template>) = (rule.pcr, rule.template);
 }
 
 pub fn rule_parts(
-    act: policy::Act,
-    func: policy::Func,
-    mask: policy::MaskTest,
-    id: policy::IdTest,
+    act: policy_text::Act,
+    func: policy_text::Func,
+    mask: policy_text::MaskTest,
+    id: policy_text::IdTest,
 ) {
     match act {
-        policy::Act::Measure
-        | policy::Act::DontMeasure
-        | policy::Act::Appraise
-        | policy::Act::DontAppraise
-        | policy::Act::Audit
-        | policy::Act::DontAudit
-        | policy::Act::Hash
-        | policy::Act::DontHash => {}
+        policy_text::Act::Measure
+        | policy_text::Act::DontMeasure
+        | policy_text::Act::Appraise
+        | policy_text::Act::DontAppraise
+        | policy_text::Act::Audit
+        | policy_text::Act::DontAudit
+        | policy_text::Act::Hash
+        | policy_text::Act::DontHash => {}
     }
     match func {
-        policy::Func::BprmCheck
-        | policy::Func::MmapCheck
-        | policy::Func::FileCheck
-        | policy::Func::CredsCheck
-        | policy::Func::ModuleCheck
-        | policy::Func::FirmwareCheck
-        | policy::Func::KexecKernelCheck
-        | policy::Func::KexecInitramfsCheck
-        | policy::Func::KexecCmdline
-        | policy::Func::KeyCheck
-        | policy::Func::CriticalData
-        | policy::Func::SetxattrCheck
-        | policy::Func::PolicyCheck
-        | policy::Func::MmapCheckReqprot => {}
+        policy_text::Func::BprmCheck
+        | policy_text::Func::MmapCheck
+        | policy_text::Func::FileCheck
+        | policy_text::Func::CredsCheck
+        | policy_text::Func::ModuleCheck
+        | policy_text::Func::FirmwareCheck
+        | policy_text::Func::KexecKernelCheck
+        | policy_text::Func::KexecInitramfsCheck
+        | policy_text::Func::KexecCmdline
+        | policy_text::Func::KeyCheck
+        | policy_text::Func::CriticalData
+        | policy_text::Func::SetxattrCheck
+        | policy_text::Func::PolicyCheck
+        | policy_text::Func::MmapCheckReqprot => {}
     }
     let _mask: (bool, u8) = (mask.exact, mask.bits);
     match id {
-        policy::IdTest::Is(_) | policy::IdTest::Above(_) | policy::IdTest::Below(_) => {}
+        policy_text::IdTest::Is(_)
+        | policy_text::IdTest::Above(_)
+        | policy_text::IdTest::Below(_) => {}
     }
 }
 
 pub fn records(
-    place: &policy::Super,
-    access: &policy::Access<'_>,
-    action: &policy::Action,
-    entry: &rules::RuleEntry,
+    place: &policy_text::Super,
+    access: &policy_text::Access<'_>,
+    action: &policy_text::Action,
+    entry: &policy_cell::RuleEntry,
 ) {
     let _place: (u64, u128, bool) = (place.magic, place.uuid, place.versions);
-    let _name: &xattrs::Bytes = &place.name;
-    let _access: (policy::Func, u8) = (access.func, access.mask);
+    let _name: &xattr_store::Bytes = &place.name;
+    let _access: (policy_text::Func, u8) = (access.func, access.mask);
     let _owner: (u32, u32) = (access.owner, access.group);
-    let _cred: &meta::Cred = access.cred;
-    let _super: &policy::Super = access.place;
-    let _measure: (bool, u8, Option<meta::Template>) = (
+    let _cred: &inode_meta::Cred = access.cred;
+    let _super: &policy_text::Super = access.place;
+    let _measure: (bool, u8, Option<inode_meta::Template>) = (
         action.measure,
         action.pcr,
         action.template,
     );
-    let _appraise: (bool, meta::Need, Option<hashes::AlgoSet>) = (
+    let _appraise: (bool, inode_meta::Need, Option<hash_algos::AlgoSet>) = (
         action.appraise,
         action.need,
         action.algos,
     );
     let _others: (bool, bool) = (action.audit, action.hash);
-    let _who: meta::Who = entry.who;
-    let _rule: &policy::Rule = &entry.rule;
+    let _who: inode_meta::Who = entry.who;
+    let _rule: &policy_text::Rule = &entry.rule;
 }
 
-pub fn errors(e: policy::PolicyErr, fault: policy::Fault) {
-    let _fault: (u32, policy::RuleCause) = (fault.line, fault.cause);
+pub fn errors(e: policy_text::PolicyErr, fault: policy_text::Fault) {
+    let _fault: (u32, policy_text::RuleCause) = (fault.line, fault.cause);
     match e {
-        policy::PolicyErr::Refused(_) | policy::PolicyErr::OutOfMemory => {}
+        policy_text::PolicyErr::Refused(_) | policy_text::PolicyErr::OutOfMemory => {}
     }
     match fault.cause {
-        policy::RuleCause::BadAction
-        | policy::RuleCause::BadKey
-        | policy::RuleCause::Twice
-        | policy::RuleCause::BadValue
-        | policy::RuleCause::NotForAction
-        | policy::RuleCause::Unsupported
-        | policy::RuleCause::TooMany => {}
+        policy_text::RuleCause::BadAction
+        | policy_text::RuleCause::BadKey
+        | policy_text::RuleCause::Twice
+        | policy_text::RuleCause::BadValue
+        | policy_text::RuleCause::NotForAction
+        | policy_text::RuleCause::Unsupported
+        | policy_text::RuleCause::TooMany => {}
     }
 }
 
-pub fn parse(alloc: Global, b: &[u8]) -> Result<policy::Policy, policy::PolicyErr>
+pub fn parse(alloc: Global, b: &[u8]) -> Result<policy_text::Policy, policy_text::PolicyErr>
     requires { length b.now < 2 ^ 32 - 1 }
 {
-    policy::parse(alloc, b)
+    policy_text::parse(alloc, b)
 }
 
-pub fn print(alloc: Global, p: &policy::Policy) -> Result<Vec<u8>, policy::OutOfMemory> {
-    policy::print(alloc, p)
+pub fn print(alloc: Global, p: &policy_text::Policy) -> Result<Vec<u8>, policy_text::OutOfMemory> {
+    policy_text::print(alloc, p)
 }
 
 // "A later call takes the allocator only if no vector at hand has it"
-pub fn rule_copy(rule: &policy::Rule, alloc: Global) -> Result<policy::Rule, policy::OutOfMemory> {
-    policy::Rule::copy(rule, alloc)
+pub fn rule_copy(
+    rule: &policy_text::Rule,
+    alloc: Global,
+) -> Result<policy_text::Rule, policy_text::OutOfMemory> {
+    policy_text::Rule::copy(rule, alloc)
 }
 
 // "In a line that is read alone (`parse_rule`) a newline is a byte like any other"
-pub fn parse_rule(alloc: Global, line: &[u8]) -> Result<policy::Rule, policy::PolicyErr> {
-    policy::parse_rule(alloc, line)
+pub fn parse_rule(alloc: Global, line: &[u8]) -> Result<policy_text::Rule, policy_text::PolicyErr> {
+    policy_text::parse_rule(alloc, line)
 }
 
 pub fn print_rule(
     alloc: Global,
-    r: &policy::Rule,
+    r: &policy_text::Rule,
     out: &mut Vec<u8>,
-) -> Result<(), policy::OutOfMemory> {
-    policy::print_rule(alloc, r, out)
+) -> Result<(), policy_text::OutOfMemory> {
+    policy_text::print_rule(alloc, r, out)
 }
 
 // "`Attrs::new`, `Content::new` and `Policy::new` take the allocator although they take no memory"
-pub fn policy_new(alloc: Global) -> policy::Policy {
-    policy::Policy::new(alloc)
+pub fn policy_new(alloc: Global) -> policy_text::Policy {
+    policy_text::Policy::new(alloc)
 }
 
-pub fn policy_rules(p: &policy::Policy) -> &[policy::Rule] {
-    policy::Policy::rules(p)
+pub fn policy_rules(p: &policy_text::Policy) -> &[policy_text::Rule] {
+    policy_text::Policy::rules(p)
 }
 
-pub fn policy_push(p: &mut policy::Policy, r: policy::Rule) -> Result<(), policy::OutOfMemory>
+pub fn policy_push(
+    p: &mut policy_text::Policy,
+    r: policy_text::Rule,
+) -> Result<(), policy_text::OutOfMemory>
     requires { length p.old < most_rules }
 {
-    policy::Policy::push(p, r)
+    policy_text::Policy::push(p, r)
 }
 
 // ---- rule_match
 
-pub fn decide(p: &policy::Policy, a: &policy::Access<'_>) -> policy::Action {
-    matching::decide(p, a)
+pub fn decide(p: &policy_text::Policy, a: &policy_text::Access<'_>) -> policy_text::Action {
+    rule_match::decide(p, a)
 }
 
 pub fn index_start(
     alloc: Global,
-    p: policy::Policy,
-) -> Result<matching::Index, matching::OutOfMemory> {
-    matching::Index::start(alloc, p)
+    p: policy_text::Policy,
+) -> Result<rule_match::Index, rule_match::OutOfMemory> {
+    rule_match::Index::start(alloc, p)
 }
 
-pub fn index_rules(index: &matching::Index) -> &[policy::Rule] {
-    matching::Index::rules(index)
+pub fn index_rules(index: &rule_match::Index) -> &[policy_text::Rule] {
+    rule_match::Index::rules(index)
 }
 
-pub fn index_decide(index: &matching::Index, a: &policy::Access<'_>) -> policy::Action {
-    matching::Index::decide(index, a)
+pub fn index_decide(index: &rule_match::Index, a: &policy_text::Access<'_>) -> policy_text::Action {
+    rule_match::Index::decide(index, a)
 }
 
 pub fn index_append(
-    index: &mut matching::Index,
-    r: &policy::Rule,
-) -> Result<(), matching::OutOfMemory> {
-    matching::Index::append(index, r)
+    index: &mut rule_match::Index,
+    r: &policy_text::Rule,
+) -> Result<(), rule_match::OutOfMemory> {
+    rule_match::Index::append(index, r)
 }
 
 // ---- policy_cell
 
 pub fn rules_start(
     alloc: Global,
-    rules: policy::Policy,
+    rules: policy_text::Policy,
     callers: u32,
-) -> Result<(rules::PolicyCell, Vec<RulePass>), rules::OutOfMemory>
+) -> Result<(policy_cell::PolicyCell, Vec<RulePass>), policy_cell::OutOfMemory>
     requires { 1 ≤ callers }
 {
-    rules::PolicyCell::start(alloc, rules, callers)
+    policy_cell::PolicyCell::start(alloc, rules, callers)
 }
 
 pub fn rules_append(
-    cell: &mut rules::PolicyCell,
+    cell: &mut policy_cell::PolicyCell,
     alloc: Global,
     pass: &mut RulePass,
-    who: meta::Who,
-    rule: &policy::Rule,
-) -> Result<u64, rules::OutOfMemory>
+    who: inode_meta::Who,
+    rule: &policy_text::Rule,
+) -> Result<u64, policy_cell::OutOfMemory>
     requires { pass.old.name ≡ cell.old.appended.name }
 {
-    rules::PolicyCell::append(cell, alloc, pass, who, rule)
+    policy_cell::PolicyCell::append(cell, alloc, pass, who, rule)
 }
 
-pub fn rules_look(cell: &mut rules::PolicyCell, pass: &mut RulePass)
+pub fn rules_look(cell: &mut policy_cell::PolicyCell, pass: &mut RulePass)
     requires { pass.old.name ≡ cell.old.appended.name }
 {
-    rules::PolicyCell::look(cell, pass)
+    policy_cell::PolicyCell::look(cell, pass)
 }
 
-pub fn rules_in_force(cell: &rules::PolicyCell) -> &matching::Index {
-    rules::PolicyCell::rules(cell)
+pub fn rules_in_force(cell: &policy_cell::PolicyCell) -> &rule_match::Index {
+    policy_cell::PolicyCell::rules(cell)
 }
 
-pub fn rules_close(cell: rules::PolicyCell, passes: Vec<RulePass>) -> Vec<rules::RuleEntry>
+pub fn rules_close(
+    cell: policy_cell::PolicyCell,
+    passes: Vec<RulePass>,
+) -> Vec<policy_cell::RuleEntry>
     requires { HasEach cell.appended passes.items }
 {
-    rules::PolicyCell::close(cell, passes)
+    policy_cell::PolicyCell::close(cell, passes)
 }

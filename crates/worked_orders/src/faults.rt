@@ -1,7 +1,7 @@
 // Streams that fail, inputs that are too long, and words of many turns.
 
 use crate::outcome::{Outcome, answer, none, served};
-use order_top::outer::{MemSink, MemSource};
+use ima_io::{MemSink, MemSource};
 use order_top::{DONE, MOST_INPUT, READ_FAULT, TOO_LONG, USAGE, WRITE_FAULT};
 use std::alloc::{AllocError as OutOfMemory, Global};
 

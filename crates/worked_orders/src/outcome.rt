@@ -1,5 +1,5 @@
 // Calls `serve` with words and an input in memory.
-use order_top::outer::{FreeGate, MemSink, MemSource};
+use ima_io::{FreeGate, MemSink, MemSource};
 use order_top::serve;
 use std::alloc::{AllocError as OutOfMemory, Global};
 

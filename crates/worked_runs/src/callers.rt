@@ -1,8 +1,8 @@
 // Many callers on many threads, all of which measure the same buffers.
 use crate::spread::spread;
-use ima_top::buffers::{Answer, Answers, BufferRun, measure_all, parse};
-use ima_top::outer::FreeGate;
-use ima_top::scripts::ScriptErr;
+use buffer_measure::{Answer, Answers, BufferRun, measure_all, parse};
+use ima_io::FreeGate;
+use script_text::ScriptErr;
 use std::alloc::{AllocError as OutOfMemory, Global};
 use std::sync::Wait;
 use std::thread::Threads;

@@ -3,7 +3,7 @@ ghost use Rattle.std.specs.Prelude.{◌<◌};
 
 use crate::cases::Case;
 use crate::outcome::{Outcome, answer, none, served};
-use ima_top::outer::{MemSink, MemSource};
+use ima_io::{MemSink, MemSource};
 use ima_top::{DONE, MOST_INPUT, READ_FAULT, REFUSED, TOO_LONG, USAGE, WRITE_FAULT};
 use std::alloc::{AllocError as OutOfMemory, Global};
 use std::sync::Wait;

@@ -1,10 +1,10 @@
 // Gates: one that sees which steps pass it, and one at which two tasks, or two callers, wait for
 // each other.
 use crate::outcome::answer_after;
+use buffer_measure::{measure_all, parse};
+use ima_io::{Gate, Who};
 use ima_top::DONE;
-use ima_top::buffers::{measure_all, parse};
-use ima_top::outer::{Gate, Who};
-use ima_top::scripts::ScriptErr;
+use script_text::ScriptErr;
 use std::alloc::{AllocError as OutOfMemory, Global};
 use std::hint;
 use std::sync::Wait;

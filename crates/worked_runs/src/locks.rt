@@ -5,14 +5,14 @@ ghost use Rattle.ima_top.specs.worlds.Tasks.{IsTask};
 
 use crate::gates::sees;
 use crate::start::started;
-use ima_top::scripts::{ScriptErr, parse};
-use ima_top::tasks::{Live, Name, Task, Turn, World};
+use script_text::{ScriptErr, parse};
 use std::alloc::{AllocError as OutOfMemory, Global};
 use std::marker::Brand;
 use std::sync::Wait;
 use std::sync::atomic::{AtomicBool, Ordering};
 use std::thread;
 use std::thread::{Threads, join};
+use task_core::{Live, Name, Task, Turn, World};
 
 // Two tasks, each of which opens the file of its own number.
 const OPENS: &str = "imakern 1\n\

@@ -3,7 +3,7 @@
 // gate for a step of another: if a lock were held there that the other needs, the wait would be in
 // vain.
 use crate::gates::{MOST_LOOKS, Step};
-use ima_top::outer::{Gate, Who};
+use ima_io::{Gate, Who};
 use std::alloc::{AllocError as OutOfMemory, Global};
 use std::hint;
 use std::sync::atomic::{AtomicBool, AtomicUsize, Ordering};

@@ -1,5 +1,5 @@
 // Calls `serve` with words and an input in memory.
-use ima_top::outer::{FreeGate, Gate, MemSink, MemSource};
+use ima_io::{FreeGate, Gate, MemSink, MemSource};
 use ima_top::serve;
 use std::alloc::{AllocError as OutOfMemory, Global};
 use std::sync::Wait;

@@ -2,11 +2,11 @@
 ghost use Rattle.std.specs.Prelude.{◌≡◌, All, IfOk, length};
 ghost use Rattle.ima_top.specs.worlds.Tasks.{IsTask};
 
-use ima_top::runs::new_tasks;
-use ima_top::scenes::{ScriptParts, parts_of};
-use ima_top::scripts::Script;
-use ima_top::tasks::{Task, World};
+use script_run::new_tasks;
+use script_scene::{ScriptParts, parts_of};
+use script_text::Script;
 use std::alloc::{AllocError as OutOfMemory, Global};
+use task_core::{Task, World};
 
 /// The world and the tasks of the script before their first turn, and the number of inodes.
 pub fn started(alloc: Global, script: Script) -> Result<(World, Vec<Task>, usize), OutOfMemory>

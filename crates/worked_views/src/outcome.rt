@@ -1,7 +1,7 @@
 // Calls `serve_view` with words and an input in memory.
 
+use ima_io::{MemSink, MemSource};
 use std::alloc::{AllocError as OutOfMemory, Global};
-use view_top::outer::{MemSink, MemSource};
 use view_top::serve_view;
 
 /// What a call did: its exit status, its output and its note.
