@@ -1,6 +1,6 @@
 -- The laws of journals, each for every legal journal. The part of a legal journal before an event
 -- is legal too, so a law holds at each place in a journal.
-use Rattle.std.specs.Prelude.{◌≡◌, ℕ, ◌+◌, ◌≤◌, true, false, All, List, ◌∷◌, ◌++◌, Some}
+use Rattle.std.specs.Prelude.{◌≡◌, ℕ, ◌+◌, ◌≤◌, true, All, List, ◌∷◌, Some}
 use Rattle.hash_algos.specs.Digest.{digest_of}
 use Rattle.hash_algos.specs.declared.algo.Algo.TheVariants.{Sha1}
 use Rattle.inode_meta.specs.declared.appraisal.Mode.TheVariants.{Enforce}
@@ -12,16 +12,15 @@ use Rattle.inode_events.specs.Admission.{fits, granted_file, granted_unmodified}
 use Rattle.inode_events.specs.Checks.{last_check}
 use Rattle.inode_events.specs.Counts.{takes_begun, times_voided_before_last}
 use Rattle.inode_events.specs.Coverage.{IsCovered}
-use Rattle.inode_events.specs.Files.{held, holds, is_reader, is_writing, writers}
+use Rattle.inode_events.specs.Files.{held, holds, is_reader, writers}
 use Rattle.inode_events.specs.Listing.{IsListed}
 use Rattle.ima_templates.specs.IsEntry.{IsEntry}
 use Rattle.ima_templates.specs.Path.{IsMeasuredPath}
 use Rattle.ima_templates.specs.declared.entry.Entry.{Entry}
 use Rattle.inode_events.specs.declared.told.Told.{Told}
 use Rattle.inode_events.specs.Inode.{Inode}
-use Rattle.inode_events.specs.Integrity.{Collection, Digests, attributes, collecting, in_force, label, labelled_with}
-use Rattle.inode_events.specs.Legal.{IsBorn, Legal}
-use Rattle.inode_events.specs.Stage.{is_collecting, is_gone, stage}
+use Rattle.inode_events.specs.Integrity.{Digests, attributes, in_force, label, labelled_with}
+use Rattle.inode_events.specs.Legal.{Legal}
 use Rattle.inode_events.specs.Marks.{is_passed}
 use Rattle.inode_events.specs.State.{content, metadata}
 use Rattle.inode_events.specs.Verdicts.{Key, fresh_digest, fresh_verdict, verdict_in_force}
@@ -30,32 +29,6 @@ use Rattle.inode_events.specs.declared.deed.Deed.TheVariants as deed
 use Rattle.inode_events.specs.declared.told.Event.{Event}
 use Rattle.inode_events.specs.declared.told.Grant.{Grant}
 use Rattle.inode_events.specs.declared.told.Told.TheVariants as told
-use Rattle.journal_laws.specs.Standing.{IsHeldAsCounted, collecting_stage}
-
--- ---- stages of files
-
--- Every earlier part of a legal journal is legal.
-abbrev pub EarlierLegal : Type 0
-EarlierLegal = (i : Inode) (later p : List Event) → Legal i (later ++ p) → IsBorn p → Legal i p
-
--- A file that isn't gone was counted, and is held in the way that its count says.
-abbrev pub HeldAsCounted : Type 0
-HeldAsCounted = (i : Inode) (p : List Event) (file : ℕ) → Legal i p
-    → is_gone (stage i file p) ≡ false → IsHeldAsCounted file p
-
--- The file of the open collection is at a collecting stage. If the collection is for a close, the
--- file is open for writing.
-abbrev pub CollectionStands : Type 0
-CollectionStands =
-    (i : Inode) (p : List Event) (c : Collection) → Legal i p → collecting i p ≡ Some c
-    → (stage i c.file p ≡ collecting_stage c.closing c.complete)
-    × (c.closing ≡ true → is_writing c.file p ≡ true)
-
--- If a file is at a collecting stage, the open collection is of that file.
-abbrev pub StageCollects : Type 0
-StageCollects =
-    (i : Inode) (p : List Event) (file : ℕ) → Legal i p → is_collecting (stage i file p) ≡ true
-    → (c : Collection) × ((collecting i p ≡ Some c) × (c.file ≡ file))
 
 -- ---- digests and verdicts
 

@@ -6,29 +6,8 @@
 //! stated in `specs/`. Each holds for every journal that a cell or a run keeps legal.
 #![tactic(auto)]
 
-ghost use Rattle.journal_laws.specs.Laws.{Admission, CloseLabel, CollectionStands, Coverage, EarlierLegal, FewCollections, Freshness, HeldAsCounted, StageCollects};
+ghost use Rattle.journal_laws.specs.Laws.{Admission, CloseLabel, Coverage, FewCollections, Freshness};
 ghost use Rattle.journal_laws.specs.Executed.{Executed, NeverBoth};
-
-/// Every earlier part of a legal journal is legal.
-pub fn earlier_legal()
-    ensures { EarlierLegal }
-{}
-
-/// A file that isn't gone was counted, and is held in the way that its count says.
-pub fn held_as_counted()
-    ensures { HeldAsCounted }
-{}
-
-/// The file of the open collection is at a collecting stage. If the collection is for a close, the
-/// file is open for writing.
-pub fn collection_stands()
-    ensures { CollectionStands }
-{}
-
-/// If a file is at a collecting stage, the open collection is of that file.
-pub fn stage_collects()
-    ensures { StageCollects }
-{}
 
 /// Whenever no writer holds an inode, its digest and verdicts in force equal those computed afresh.
 pub fn fresh_in_force()

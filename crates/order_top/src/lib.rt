@@ -14,5 +14,7 @@ mod top;
 mod words;
 
 pub use order_runs as runs;
-pub use status::{DONE, OUT_OF_MEMORY, READ_FAULT, REFUSED, TOO_LONG, TOO_MANY, USAGE, WRITE_FAULT};
+pub use status::{
+    DONE, OUT_OF_MEMORY, READ_FAULT, REFUSED, TOO_LONG, TOO_MANY, USAGE, WRITE_FAULT,
+};
 pub use top::{MOST_INPUT, serve};

@@ -6,6 +6,6 @@ mod appended;
 mod laws;
 mod running;
 
-pub use laws::shown_runs_are_sound;
+pub use laws::{reports_tell_runs, shown_runs_are_sound};
 pub use running::run;
 pub use script_start::{new_tasks, started};

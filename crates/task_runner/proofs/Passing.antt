@@ -16,7 +16,7 @@ use Rattle.run_model.specs.declared.turn.Turn.{Turn}
 use Rattle.task_core.specs.worlds.WorldConsts.{WorldConsts, scene_of}
 use Rattle.task_core.specs.worlds.Tasks.{Tasked}
 use Rattle.task_core.proofs.about_closes.Gets.{get_last, get_set}
-use Rattle.task_runner.specs.Passes.{AreOver, IsPartIn, HasStayed, HavePassed, HaveRunInParts, HaveStepped, IsPartOver, IsPass, SteppedBy, StepsAt}
+use Rattle.task_runner.specs.Passes.{AreOver, HasStayed, HavePassed, HaveRunInParts, HaveStepped, IsInPass, IsPartIn, IsPartOver, IsPartStopped, IsPass, SteppedBy, StepsAt}
 
 -- ---- one step
 
@@ -114,6 +114,26 @@ pass_more consts old mid new k moved moved2 r p s e = record {
       ∙ sym (any_last p.turns r);
 }
 
+-- a pass in which the next task ran out of memory
+pub pass_fails : (consts : WorldConsts) (old mid new : List Tasked) (k : ℕ) (moved : Bool)
+    → k < length old → IsPass consts old mid k moved → StepsAt consts mid new k None
+    → IsInPass consts old new
+pass_fails consts old mid new k moved below p s =
+    let past : slice_get p.turns k ≡ None =
+    slice_get_past p.turns k (omega (arith, p.count)) in
+    record {
+      count = k;
+      moved = moved;
+      left = below;
+      pass = record {
+        turns = p.turns;
+        count = p.count;
+        made = steps_on consts old mid new p.turns p.turns k None p.made s past past
+            (λ j other. refl);
+        moves = p.moves;
+      };
+    }
+
 -- ---- a part
 
 -- one more pass that moved a task
@@ -134,6 +154,30 @@ passed_last consts n old mid new moved h p e = record {
   before = h;
   last = subst (λ (b : Bool). IsPass consts mid new (length mid) b) e p;
 }
+
+-- if an answer is a move, there is an answer
+some_answer : (turns : List Turn) → true ≡ list_any is_moved turns → 0 < length turns
+some_answer [] e = absurd (cc)
+some_answer (r ∷ turns) e = omega arith
+
+-- a part that stops where its next pass would begin
+pub passed_out : (consts : WorldConsts) (n : ℕ) (old new : List Tasked) → 0 < n
+    → HavePassed consts n old new → IsPartStopped consts old new
+passed_out consts zero old new some h = absurd (omega arith)
+passed_out consts (suc n) old new some h =
+    let p : IsPass consts h.0 new (length h.0) true = h.1.1 in
+    let s : 0 < length p.turns = some_answer p.turns p.moves in
+    record {
+      count = suc n;
+      mid = new;
+      before = h;
+      next = record {
+        count = 0;
+        moved = false;
+        left = omega (arith, s, p.count, p.made.even);
+        pass = pass_none consts new;
+      };
+    }
 
 -- all tasks are one part
 pub over_alone : (consts : WorldConsts) (count size : ℕ) (old new : List Tasked) → count ≡ 1

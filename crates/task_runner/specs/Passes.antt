@@ -51,6 +51,13 @@ pub record IsPass (consts : WorldConsts) (old new : List Tasked) (k : ℕ) (move
   pub made : HaveStepped consts old new turns
   pub moves : moved ≡ list_any is_moved turns
 
+-- some first tasks made a turn each, and at least one task made none
+pub record IsInPass (consts : WorldConsts) (old new : List Tasked) : Type 0 where
+  pub count : ℕ
+  pub moved : Bool
+  pub left : count < length old
+  pub pass : IsPass consts old new count moved
+
 -- ---- a part
 
 -- n passes over all tasks, each of which moved one
@@ -65,6 +72,13 @@ pub record IsPartOver (consts : WorldConsts) (old new : List Tasked) : Type 0 wh
   pub mid : List Tasked
   pub before : HavePassed consts count old mid
   pub last : IsPass consts mid new (length mid) false
+
+-- a part that ran out of memory: passes that each moved a task, and some first turns of the next
+pub record IsPartStopped (consts : WorldConsts) (old new : List Tasked) : Type 0 where
+  pub count : ℕ
+  pub mid : List Tasked
+  pub before : HavePassed consts count old mid
+  pub next : IsInPass consts mid new
 
 -- a part of at most this size is over: its tasks before and afterwards
 abbrev pub IsPartIn : WorldConsts → ℕ → List Tasked × List Tasked → Type 0

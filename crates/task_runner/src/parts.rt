@@ -1,10 +1,10 @@
 //! The tasks of one thread, and the threads that run all tasks.
 
-ghost use Rattle.std.specs.Prelude.{◌≡◌, ◌*◌, ◌-◌, ◌<◌, ◌≤◌, Some, All, IfOk, OnOk, length};
+ghost use Rattle.std.specs.Prelude.{◌≡◌, ◌*◌, ◌-◌, ◌<◌, ◌≤◌, None, Some, All, IfOk, OnErr, OnOk, length};
 ghost use denote.Param.Send.{IsSync};
 ghost use Rattle.task_core.specs.worlds.Tasks.{IsTask};
 ghost use Rattle.task_runner.specs.Parts.{HaveGone};
-ghost use Rattle.task_runner.specs.Passes.{AreOver, HaveRunInParts, IsPartOver, IsPass, StepsAt};
+ghost use Rattle.task_runner.specs.Passes.{AreOver, HaveRunInParts, IsInPass, IsPartOver, IsPartStopped, IsPass, StepsAt};
 
 use crate::rounds::has_moved;
 use ima_io::{Gate, Who};
@@ -25,6 +25,7 @@ fn step_at<N: Name, G: Gate, R: Wait>(
     requires tasks { All (IsTask N.consts) tasks.old }
     ensures gone { HaveGone N.consts tasks.old tasks.new }
     ensures step { IfOk result (λ r. StepsAt N.consts tasks.old tasks.new k (Some r)) }
+    ensures err { OnErr result (StepsAt N.consts tasks.old tasks.new k None) }
 {
     let task = &mut tasks[k];
     if let Some(who) = task.who() {
@@ -48,6 +49,7 @@ fn pass_over<N: Name, G: Gate, R: Wait>(
     ensures gone { HaveGone N.consts tasks.old tasks.new }
     ensures pass { IfOk result (λ moved. IsPass N.consts tasks.old tasks.new
         (length tasks.old) moved) }
+    ensures err { OnErr result (IsInPass N.consts tasks.old tasks.new) }
 {
     let mut moved = false;
     for k in 0..tasks.len() {
@@ -66,6 +68,7 @@ fn run_part<N: Name, G: Gate, R: Wait>(
     requires { All (IsTask N.consts) tasks.old }
     ensures gone { HaveGone N.consts tasks.old tasks.new }
     ensures over { OnOk result (IsPartOver N.consts tasks.old tasks.new) }
+    ensures err { OnErr result (IsPartStopped N.consts tasks.old tasks.new) }
 {
     for _ in 0..u64::MAX {
         if !pass_over(rt, world, tasks, gate)? {

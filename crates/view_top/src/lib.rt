@@ -14,5 +14,7 @@ mod status;
 mod top;
 
 pub use command::{Asked, Command, command_of};
-pub use status::{DONE, NO_PLACE, OUT_OF_MEMORY, READ_FAULT, REFUSED, TOO_LONG, USAGE, WRITE_FAULT};
+pub use status::{
+    DONE, NO_PLACE, OUT_OF_MEMORY, READ_FAULT, REFUSED, TOO_LONG, USAGE, WRITE_FAULT,
+};
 pub use top::{MOST_INPUT, serve_view};

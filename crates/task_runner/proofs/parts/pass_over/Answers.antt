@@ -1,8 +1,9 @@
 -- One more task has made a step.
 use Rattle.std.proofs.Common.{◌≡◌, ◌<◌, ℕ, length, sym, ◌∙◌, subst, arith}
+use Rattle.task_core.proofs.SharedSteps.{on_err}
 use Rattle.task_runner.proofs.Going.{gone_all, gone_more, gone_none}
-use Rattle.task_runner.proofs.Passing.{pass_more, pass_none}
-use Rattle.task_runner.specs.Passes.{IsPass}
+use Rattle.task_runner.proofs.Passing.{pass_fails, pass_more, pass_none}
+use Rattle.task_runner.specs.Passes.{IsInPass, IsPass}
 use Rattle.task_runner.proofs.parts.pass_over.Goals as goal
 
 pub loop-k-init : goal.loop-k-init
@@ -25,6 +26,14 @@ pub returns-in_err-step_at-clause-gone : goal.returns-in_err-step_at-clause-gone
 returns-in_err-step_at-clause-gone g c =
     gone_more g.N.Name.consts c.args.tasks.now c.loop-k.tasks c.step_at.new.tasks
     c.loop-k.invariant.gone c.step_at.ensures.gone
+
+pub returns-in_err-step_at-clause-err : goal.returns-in_err-step_at-clause-err
+returns-in_err-step_at-clause-err g c =
+    let below : c.loop-k.k < length c.args.tasks.now =
+    omega (arith, c.loop-k.invariant.gone.even) in
+    on_err c.from_residual.result (IsInPass g.N.Name.consts c.args.tasks.now c.step_at.new.tasks)
+    (pass_fails g.N.Name.consts c.args.tasks.now c.loop-k.tasks c.step_at.new.tasks c.loop-k.k
+    c.loop-k.moved below c.loop-k.invariant.pass c.in_err-step_at.ensures.err)
 
 pub loop-k-preserved : goal.loop-k-preserved
 loop-k-preserved g c = record {

@@ -1,7 +1,9 @@
 -- Another pass over the tasks, or the last one.
-use Rattle.std.proofs.Common.{◌≡◌, true, false, refl, rules}
+use Rattle.std.proofs.Common.{◌≡◌, true, false, refl, arith, rules}
+use Rattle.task_core.proofs.SharedSteps.{on_err}
 use Rattle.task_runner.proofs.Going.{gone_all, gone_more, gone_none}
-use Rattle.task_runner.proofs.Passing.{passed_last, passed_more}
+use Rattle.task_runner.proofs.Passing.{passed_last, passed_more, passed_out}
+use Rattle.task_runner.specs.Passes.{IsPartStopped}
 use Rattle.task_runner.proofs.parts.run_part.Goals as goal
 
 pub loop-init : goal.loop-init
@@ -18,6 +20,16 @@ pub returns-in_err-pass_over-clause-gone : goal.returns-in_err-pass_over-clause-
 returns-in_err-pass_over-clause-gone g c =
     gone_more g.N.Name.consts c.args.tasks.now c.loop.tasks c.pass_over.new.tasks
     c.loop.invariant.gone c.pass_over.ensures.gone
+
+pub returns-in_err-pass_over-clause-err : goal.returns-in_err-pass_over-clause-err
+returns-in_err-pass_over-clause-err g c =
+    on_err c.from_residual.result
+    (IsPartStopped g.N.Name.consts c.args.tasks.now c.pass_over.new.tasks) (record {
+      count = c.loop.counter;
+      mid = c.loop.tasks;
+      before = c.loop.invariant.passes;
+      next = c.in_err-pass_over.ensures.err;
+    })
 
 pub returns-then-not-branch-clause-gone : goal.returns-then-not-branch-clause-gone
 returns-then-not-branch-clause-gone g c =
@@ -43,3 +55,8 @@ loop-preserved g c =
 
 pub returns-clause-gone : goal.returns-clause-gone
 returns-clause-gone g c = c.loop.invariant.gone
+
+pub returns-clause-err : goal.returns-clause-err
+returns-clause-err g c =
+    passed_out g.N.Name.consts c.loop.counter c.args.tasks.now c.loop.tasks (omega arith)
+    c.loop.invariant.passes

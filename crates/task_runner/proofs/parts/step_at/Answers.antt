@@ -1,12 +1,13 @@
 -- The task is one of the world, and still is after its step.
-use Rattle.std.proofs.Common.{Some, get_or, refl}
+use Rattle.std.proofs.Common.{◌≡◌, None, Some, get_or, refl}
 use Rattle.std.specs.Prelude.{slice_set}
-use Rattle.std.proofs.lemmas.Result.{IfOk-weaker}
+use Rattle.std.proofs.lemmas.Result.{IfOk-weaker, on_err_weaker}
 use Rattle.run_model.specs.declared.turn.Turn.{Turn}
 use Rattle.task_core.specs.Shared.{StepsTo}
 use Rattle.task_core.proofs.about_closes.Gets.{got}
 use Rattle.task_runner.proofs.Going.{gone_step}
 use Rattle.task_runner.specs.Passes.{StepsAt}
+use Rattle.world_locks.specs.Met.{mines_of}
 use Rattle.task_runner.proofs.parts.step_at.Goals as goal
 
 pub step_shared-requires-after_bounds : goal.step_shared-requires-after_bounds
@@ -36,3 +37,25 @@ returns-clause-step g c =
       written = refl;
       step = steps;
     }) c.step_shared.ensures.go
+
+pub returns-clause-err : goal.returns-clause-err
+returns-clause-err g c =
+    let tasks = c.args.tasks.now in
+    let d = c.index-tasks-k.result in
+    let t = get_or tasks c.args.k d in
+    let t2 = c.step_shared.new.self in
+    on_err_weaker {Q = StepsAt g.N.Name.consts tasks (slice_set tasks c.args.k t2) c.args.k None}
+    c.step_shared.result
+    (λ (w : (t2.mind.thought ≡ t.mind.thought) × (mines_of t2.passes ≡ mines_of t.passes)).
+    record {
+      before = t;
+      after = t2;
+      at = got tasks c.args.k d c.requires.within;
+      written = refl;
+      step = record {
+        number = c.step_shared.ensures.number;
+        program = c.step_shared.ensures.program;
+        thought = w.0;
+        mines = w.1;
+      };
+    }) c.step_shared.ensures.err
